@@ -31,7 +31,7 @@ found_at P [] i d within here = absurd (omega arith)
 found_at P (a ∷ xs) zero d within here = here
 found_at P (a ∷ xs) (suc i) d within here = found_at P xs i d (omega arith) here
 
--- the item at a place, whatever stands past the end
+-- the item at a place, whatever the default past the end
 pub same_item : {A : Type 0} (xs : List A) (i : ℕ) (d e : A) → i < length xs → get_or xs i d ≡ get_or xs i e
 same_item [] i d e within = absurd (omega arith)
 same_item (a ∷ xs) zero d e within = refl
@@ -41,7 +41,7 @@ same_item (a ∷ xs) (suc i) d e within = same_item xs i d e (omega arith)
 pub any_at : {A : Type 0} (P : A → Type 0) (xs : List A) (i : ℕ) (d : A) → i < length xs → P (get_or xs i d) → Any P xs
 any_at P xs i d within here = (i, get_or xs i d, within, same_item xs i _ d within, here)
 
--- an item of a part stands before the end of the part
+-- an item of a part comes before the end of the part
 pub any_of_range : {A : Type 0} (P : A → Type 0) (xs : List A) (a b : ℕ) → a ≤ b → b ≤ length xs → Any P (slice_range xs a b)
     → Any P (take b xs)
 any_of_range P xs a b order within (k, x, few, is, here) =

@@ -1,4 +1,4 @@
--- Snapshots that a reader is told, one after the other.
+-- Snapshots that a reader receives, one after the other.
 use Rattle.std.proofs.Common.{◌≡◌, ◌≢◌, ◌⊎◌, inl, inr, ℕ, zero, suc, ◌<◌, ◌≤◌, List, [], ◌∷◌, ◌++◌, length, get_or, Some, refl, sym, ap, subst, ◌∙◌, arith}
 use Rattle.std.specs.Prelude.{IfSome, slice_get, slice_set}
 use Rattle.std.proofs.lemmas.Option.{slice_get-get_or, slice_get_within}
@@ -7,7 +7,7 @@ use Rattle.collector_pool.specs.declared.note.Told.{Told}
 use Rattle.collector_pool.specs.declared.note.Told.TheVariants as told
 use Rattle.collector_pool.specs.Notes.{AreSnapsSeen, DoSnapsRise, IsSeenNext}
 
--- what stands in a list that has one item more stood there before, or is that item
+-- what is in a list that has one more item was there before, or is that item
 found_in_more : {A : Type 0} (xs : List A) (x y : A) (i : ℕ) → slice_get (xs ++ x ∷ []) i ≡ Some y
     → (slice_get xs i ≡ Some y) ⊎ ((i ≡ length xs) × (y ≡ x))
 found_in_more [] x y zero at = inr (omega arith, cc)
@@ -18,7 +18,7 @@ found_in_more (a ∷ xs) x y (suc i) at = elim (found_in_more xs x y i at) [
   | inr (last, is) ↦ inr (omega (arith, last), is)
 ]
 
--- what stands in a list one of whose items was set is what was set, or stood there before
+-- what is in a list one of whose items was set is what was set, or was there before
 found_in_set : {A : Type 0} (xs : List A) (k j : ℕ) (x y : A) → slice_get (slice_set xs k x) j ≡ Some y
     → ((j ≡ k) × (y ≡ x)) ⊎ ((j ≢ k) × (slice_get xs j ≡ Some y))
 found_in_set [] k j x y at = absurd (cc)
@@ -87,7 +87,7 @@ snaps_seen_on answers old new (told.Snap looked snap) seen next = λ i tag first
       ]
     ]
 
--- a reader that was told nothing yet
+-- a reader that has received nothing yet
 pub none_rise : DoSnapsRise []
 none_rise = λ i j tag first later before at later_at. absurd (cc)
 

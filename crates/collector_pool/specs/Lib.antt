@@ -2,5 +2,5 @@ pub mod RowAsk
 pub mod Work
 pub mod Refusals
 pub mod Notes
--- what private functions alone cite
+-- modules that only private functions cite
 pub mod SeatedWorkers

@@ -1,4 +1,4 @@
--- What the note of a worker says: of its own work, in order, and how it ended.
+-- What the note of a worker contains: its own work, in order, and how it ended.
 use Rattle.std.specs.Prelude.{◌≡◌, ◌≢◌, ◌⊎◌, ℕ, suc, ◌+◌, ◌<◌, ◌≤◌, true, List, [], ◌∷◌, Any, IfSome, IsSomeAnd, Option, Some, Vec, length, slice_get, slice_index_or, slice_set, drop, fold, take}
 use Rattle.std.specs.declared.alloc.Global.{Global}
 use Rattle.trend_num.specs.declared.archive.Snap.{Snap}
@@ -30,8 +30,8 @@ use Rattle.collector_pool.specs.Refusals.{refusal_of_take, ending_of_commit}
 use Rattle.collector_pool.specs.RowAsk.{RowAsk}
 use Rattle.collector_pool.specs.Work.{worker_count}
 
--- of the first items, in order, there is one of these each, and P holds of the item's number, the item and it; the first
--- item has this number
+-- The second list has one element for each of the first items, in order. P holds of the item's number, the item and its
+-- element. The first item has number n.
 abbrev pub AreOfFirst : {A B : Type 0} → (ℕ → A → B → Type 0) → ℕ → List A → List B → Type 0
 AreOfFirst P n items [] = Unit {0}
 AreOfFirst P n [] (x ∷ xs) = ⊥
@@ -39,7 +39,7 @@ AreOfFirst P n (item ∷ items) (x ∷ xs) = P n item x × AreOfFirst P (suc n) 
 
 -- ---- collectors
 
--- a tag took this row of a collector, and this is the note of it
+-- a tag took this row of a collector, and this is its note
 pub record IsNoteOfTake (D : Type 0) (collector number : ℕ) (row : RawRow) (note : TakeNote) : Type 0 where
   pub tag : note.tag ≡ row.tag
   pub number_is : note.row ≡ number
@@ -57,20 +57,20 @@ pub record RefusesRow (D : Type 0) (row : RawRow) (tag : ℕ) (why : CellNo) : T
   pub refused : take_refusal cell ≡ Some no
   pub why_is : why ≡ refusal_of_take no
 
--- a collector ends so at a refused commit of a tag, which is broken then
+-- the commit of a tag was refused, and a collector ends so; unless there was no memory, the tag is broken
 pub record IsRefusedCommit (D : Type 0) (tag : ℕ) (ending : Ending) : Type 0 where
   pub no : CommitNo
   pub ending_is : ending ≡ ending_of_commit tag no
   pub cell : CellTold D
   pub broken : no ≢ commit.WantOfMemory → cell.journal.failed ≡ true
 
--- a collector ends so at a refused commit of a tag of one of these rows
+-- the commit of a tag of one of these rows was refused, and a collector ends so
 pub record EndsAtCommit (D : Type 0) (rows : List RawRow) (ending : Ending) : Type 0 where
   pub tag : ℕ
   pub of_a_row : Any (λ row. row.tag ≡ tag) rows
   pub refused : IsRefusedCommit D tag ending
 
--- how a collector of these rows ends that has taken so many
+-- how a collector of these rows ends after it has taken so many
 abbrev pub EndsCollector : Type 0 → List RawRow → ℕ → Ending → Type 0
 EndsCollector D rows taken Ended = taken ≡ length rows
 EndsCollector D rows taken Halted = taken < length rows
@@ -88,7 +88,7 @@ pub record IsCollectorNote (D : Type 0) (collector : ℕ) (rows : List RawRow) (
 
 -- ---- readers
 
--- a tag answered this question so, at this place of its tape
+-- a tag gave this answer to this query, and its entry is at this place of the tag's tape
 pub record IsAnswerOf (D : Type 0) (reader number : ℕ) (query : TagQuery) (place : ℕ) (reply : Reply) : Type 0 where
   pub before : CellTold D
   pub after : CellTold D
@@ -96,7 +96,7 @@ pub record IsAnswerOf (D : Type 0) (reader number : ℕ) (query : TagQuery) (pla
   pub answers : Answers before.def.step (closed_points before.state.records before.state.summary.held) query reply
   pub place_is : place ≡ length before.tape
 
--- this was told for a query of a reader
+-- this is what a reader received for its query
 abbrev pub IsToldFor : Type 0 → (RowAsk → ℕ → Option CalcValue → Type 0) → ℕ → ℕ → Query → Told → Type 0
 IsToldFor D tells reader number (ask.Tag tag query) (told.Tag asked place reply) =
     (asked ≡ tag) × IsAnswerOf D reader number query place reply
@@ -105,39 +105,40 @@ IsToldFor D tells reader number (ask.Row group calc k) (told.Row asked place rep
     (asked ≡ group) × tells (record { reader = reader; row = number; group = group; calc = calc; k = k }) place reply
 IsToldFor D tells reader number query other = ⊥
 
--- of two snapshots of one tag among these answers, in order, the later one is not older
+-- of two snapshots of the same tag among these answers, the later one is not older
 abbrev pub DoSnapsRise : List Told → Type 0
 DoSnapsRise answers = (i j tag : ℕ) (first later : Snap) → i < j → slice_get answers i ≡ Some (told.Snap tag first)
     → slice_get answers j ≡ Some (told.Snap tag later) → first.taken ≤ later.taken
 
--- none of these answers is a snapshot newer than the one that was seen last of its tag
+-- no snapshot among these answers is newer than the one of its tag that was seen last
 abbrev pub AreSnapsSeen : List Told → List Snap → Type 0
 AreSnapsSeen answers seen = (i tag : ℕ) (first last : Snap) → slice_get answers i ≡ Some (told.Snap tag first)
     → slice_get seen tag ≡ Some last → first.taken ≤ last.taken
 
--- a look at a tag gave the answer, which is not older than what was seen of it last, and is seen now; or there was no look
+-- If the answer is a snapshot, it is not older than the one of its tag that was seen last, and is now the one seen
+-- last. Otherwise nothing new was seen.
 abbrev pub IsSeenNext : List Snap → List Snap → Told → Type 0
 IsSeenNext old new (told.Snap tag snap) = (tag < length old) × (new ≡ slice_set old tag snap)
     × IfSome (slice_get old tag) (λ last. last.taken ≤ snap.taken)
 IsSeenNext old new answer = new ≡ old
 
--- why a group made no turn, or gave no answer, beside want of memory
+-- why a group made no turn or gave no answer, other than a lack of memory
 abbrev pub IsOfGroup : TurnNo → Type 0
 IsOfGroup turn.WantOfMemory = ⊥
 IsOfGroup why = Unit {0}
 
--- a query to this group
+-- the query is about this group
 abbrev pub AsksGroup : ℕ → Query → Type 0
 AsksGroup group (ask.Row asked calc k) = asked ≡ group
 AsksGroup group query = ⊥
 
--- how a reader ends whose query is refused
+-- how a reader ends when this query is refused
 abbrev pub EndsAtQuery : (ℕ → TurnNo → Type 0) → Query → Ending → Type 0
 EndsAtQuery refuses query WantOfMemory = Unit {0}
 EndsAtQuery refuses query (Group group why) = AsksGroup group query × IsOfGroup why × refuses group why
 EndsAtQuery refuses query ending = ⊥
 
--- how a reader of these queries ends that was told so many
+-- how a reader of these queries ends after it has received so many answers
 abbrev pub EndsReader : (ℕ → TurnNo → Type 0) → List Query → ℕ → Ending → Type 0
 EndsReader refuses queries answered Ended = answered ≡ length queries
 EndsReader refuses queries answered Halted = answered < length queries
@@ -146,7 +147,8 @@ EndsReader refuses queries answered (Group group why) =
     IsSomeAnd (slice_get queries answered) (AsksGroup group) × IsOfGroup why × refuses group why
 EndsReader refuses queries answered (Tag tag why) = ⊥
 
--- the note of a reader of these queries: the first of them were answered, in order, and no tag was shown older than before
+-- The note of a reader of these queries. It has the answers to the first of them, in order. No snapshot of a tag is
+-- older than an earlier one.
 pub record IsReaderNote (D : Type 0) (tells : RowAsk → ℕ → Option CalcValue → Type 0) (refuses : ℕ → TurnNo → Type 0) (reader : ℕ)
     (queries : List Query) (n : WorkerNote) : Type 0 where
   pub told : AreOfFirst (IsToldFor D tells reader) 1 queries n.told.items
@@ -157,7 +159,7 @@ pub record IsReaderNote (D : Type 0) (tells : RowAsk → ℕ → Option CalcValu
 
 -- ---- refreshers
 
--- how a refresher ends that has made so many turns
+-- how a refresher ends after so many turns
 abbrev pub EndsRefresher : (ℕ → TurnNo → Type 0) → Refresh → ℕ → Ending → Type 0
 EndsRefresher refuses refresh turns Ended = turns ≡ refresh.turns
 EndsRefresher refuses refresh turns Halted = turns < refresh.turns
@@ -174,7 +176,8 @@ pub record IsRefresherNote (refuses : ℕ → TurnNo → Type 0) (refresh : Refr
 
 -- ---- a session
 
--- the note of the worker at a place. A collector's work is its rows behind those that it took in an earlier phase
+-- The note of the worker at this place. The work of a collector is its rows after those that it took in an earlier
+-- phase.
 pub record IsNoteAt (D : Type 0) (tells : RowAsk → ℕ → Option CalcValue → Type 0) (refuses : ℕ → TurnNo → Type 0) (w : Work)
     (place : ℕ) (n : WorkerNote) : Type 0 where
   pub numbered : n.worker ≡ place
@@ -187,18 +190,18 @@ pub record IsNoteAt (D : Type 0) (tells : RowAsk → ℕ → Option CalcValue �
       → place ≡ length w.collectors.items + length w.readers.items + refresher
       → IsRefresherNote refuses (slice_index_or w.refreshers.items refresher refresh) n
 
--- the notes of all workers: the collectors, then the readers, then the refreshers
+-- the notes of all workers: first the collectors, then the readers, then the refreshers
 pub record AreNotesOf (D : Type 0) (tells : RowAsk → ℕ → Option CalcValue → Type 0) (refuses : ℕ → TurnNo → Type 0) (w : Work)
     (notes : List WorkerNote) : Type 0 where
   pub count : length notes ≡ worker_count w
   pub each : (place : ℕ) (n : WorkerNote) → place < length notes
       → IsNoteAt D tells refuses w place (slice_index_or notes place n)
 
--- how often a worker that ended so was stopped by its pass
+-- how often the pass of a worker with this ending has stopped it
 abbrev pub halts : Ending → ℕ
 halts Halted = 1
 halts ending = 0
 
--- the stops of passes that had counted so many, with those of these workers
+-- the stops that passes count at first, plus those of these workers
 abbrev pub stops_with : ℕ → List WorkerNote → ℕ
 stops_with stops notes = fold (λ count n. sum_of_fault_counts count (halts n.ending)) stops notes

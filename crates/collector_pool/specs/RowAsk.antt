@@ -1,7 +1,7 @@
--- A question to a group.
+-- A query about a group.
 use Rattle.std.specs.Prelude.{ℕ}
 
--- a reader asks, at a row of its queries, for a calculation of a group in a window
+-- a reader asks, with the query at this row, for a calculation of a group in window k
 pub record RowAsk : Type 0 where
   pub reader : ℕ
   pub row : ℕ

@@ -16,19 +16,19 @@ use Rattle.collector_pool.specs.declared.work.Work.{Work}
 use Rattle.collector_pool.specs.Notes.{IsCollectorNote, IsReaderNote, IsRefresherNote, halts}
 use Rattle.collector_pool.specs.RowAsk.{RowAsk}
 
--- the number of the worker of this role
+-- the number of the worker with this role
 abbrev pub worker_of : Work → Role → ℕ
 worker_of w (Collector collector) = collector
 worker_of w (Reader reader looker) = length w.collectors.items + reader
 worker_of w (Refresher refresher) = length w.collectors.items + length w.readers.items + refresher
 
--- a role of this work, whose looker looks at this board
+-- a role in this work; a reader's looker looks at this board
 abbrev pub IsRoleOf : Work → List TableId → Role → Type 0
 IsRoleOf w board (Collector collector) = collector < length w.collectors.items
 IsRoleOf w board (Reader reader looker) = (reader < length w.readers.items) × LooksAt board looker
 IsRoleOf w board (Refresher refresher) = refresher < length w.refreshers.items
 
--- the note of a worker of this role
+-- the note of a worker with this role
 abbrev pub IsNoteAs : Type 0 → (RowAsk → ℕ → Option CalcValue → Type 0) → (ℕ → TurnNo → Type 0) → Work → Role → WorkerNote → Type 0
 IsNoteAs D tells refuses w (Collector collector) n =
     (rows : Vec RawRow Global)
@@ -44,7 +44,7 @@ pub record IsReady {O : Type 0} (stops : O → ℕ) (w : Work) (board : List Tab
   pub worker : s.note.worker ≡ worker_of w s.role
   pub fresh : stops s.pass ≡ 0
 
--- one more worker has its seat, in this role
+-- one more worker has a seat, with this role
 pub record IsSeatedAs {O : Type 0} (stops : O → ℕ) (role : Role) (old new : List (SessionWorker O)) : Type 0 where
   pub seat : SessionWorker O
   pub seats : new ≡ old ++ seat ∷ []
@@ -52,7 +52,7 @@ pub record IsSeatedAs {O : Type 0} (stops : O → ℕ) (role : Role) (old new : 
   pub worker : seat.note.worker ≡ length old
   pub fresh : stops seat.pass ≡ 0
 
--- the workers of these seats are numbered, and may begin where the lookers look at a board
+-- The workers of these seats are numbered from 0. They may begin if the lookers look at the board.
 pub record AreSeated {O : Type 0} (stops : O → ℕ) (w : Work) (lookers : List Looking) (seats : List (SessionWorker O)) : Type 0 where
   pub numbered : (place : ℕ) (d : SessionWorker O) → place < length seats → (slice_index_or seats place d).note.worker ≡ place
   pub ready : (board : List TableId) → All (LooksAt board) lookers → All (IsReady stops w board) seats

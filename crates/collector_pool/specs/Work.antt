@@ -1,4 +1,4 @@
--- What the workers of a session have to do, and the plants that it is work for.
+-- What the workers of a session have to do, and for which plants it is work.
 use Rattle.std.specs.Prelude.{ℕ, ◌+◌, ◌^◌, ◌<◌, ◌≤◌, All, length}
 use Rattle.trend_num.specs.Queries.{IsTagQuery}
 use Rattle.trend_num.specs.Ranges.{InRange}
@@ -16,14 +16,14 @@ pub record IsRowOf (tags : ℕ) (row : RawRow) : Type 0 where
   pub tag : row.tag < tags
   pub point : InRange row.point
 
--- a query of one of so many tags, with times in range, or of one of so many groups
+-- a query about one of so many tags, with times in range, or about one of so many groups
 abbrev pub IsQueryOf : ℕ → ℕ → Query → Type 0
 IsQueryOf tags groups (Tag tag query) = (tag < tags) × IsTagQuery query
 IsQueryOf tags groups (Snap tag) = tag < tags
 IsQueryOf tags groups (Row group calc k) = group < groups
 
--- work for a plant of so many tags and groups, whose workers have numbers, and whose collectors have the rows that they took
--- in an earlier phase
+-- Work for a plant with so many tags and groups. Its workers can be numbered. Each collector has at least the rows that
+-- it took in an earlier phase.
 pub record IsWorkOf (tags groups : ℕ) (w : Work) : Type 0 where
   pub few : worker_count w < 2 ^ 32
   pub rows : All (λ rows. All (IsRowOf tags) rows.items) w.collectors.items

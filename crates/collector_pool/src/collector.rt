@@ -1,4 +1,4 @@
-// A collector: it takes its rows in order, and commits what it took.
+// A collector: it takes its rows in order, and commits them.
 ghost use Rattle.std.specs.Prelude.{◌≡◌, ◌==◌, ◌||◌, ◌%◌, ℕ, ◌+◌, ◌<◌, ◌≤◌, [], All, Any, IfErr, IfOk, IsErrOf, OnErr, OnOk, Some, MatchResult, None, length, true};
 ghost use Rattle.std.specs.Option.{option_map};
 ghost use Rattle.trend_num.specs.Ranges.{InRange};
@@ -16,10 +16,10 @@ use std::sync::{Mutex, Wait};
 use tag_cell::{Cell, CommitNo};
 use value_rows::RawRow;
 
-// After so many rows a collector commits.
+// A collector commits after this many rows.
 const ROWS_OF_COMMIT: usize = 64;
 
-// The work of a collector.
+// Does the work of a collector, and returns its note.
 pub(crate) fn collect<R: Wait, D: Disk, O: Pass>(
     rt: &R,
     alloc: Global,
@@ -40,7 +40,7 @@ pub(crate) fn collect<R: Wait, D: Disk, O: Pass>(
     note
 }
 
-// Takes the rows, each noted, and answers how the collector ends.
+// Takes the rows in order, adds a note for each, and returns how the collector ends.
 fn take_rows<R: Wait, D: Disk, O: Pass>(
     rt: &R,
     cells: &[Mutex<Cell<D>>],
@@ -79,7 +79,8 @@ fn take_rows<R: Wait, D: Disk, O: Pass>(
     Ending::Ended
 }
 
-// Whether a collector of so many rows commits after this one: a multiple of 64, or the last.
+// Returns whether a collector with so many rows commits after this one: its number is a multiple of 64, or it is the
+// last.
 fn is_due(number: usize, rows: usize) -> bool
     ensures { result ≡ ((number % 64 == 0) || (number == rows)) }
 {
@@ -102,7 +103,7 @@ fn take_row<R: Wait, D: Disk>(
     take_into(rt, &mut cell, collector, number, row)
 }
 
-// Takes a row into the cell of its tag, and makes the note of it.
+// Takes a row into the cell of its tag, and returns the note of it.
 fn take_into<R: Wait, D: Disk>(
     rt: &R,
     cell: &mut Cell<D>,
@@ -125,7 +126,7 @@ fn take_into<R: Wait, D: Disk>(
     })
 }
 
-// Commits each tag of these rows, one after the other, or answers how the collector ends.
+// Commits each tag of these rows, one after the other. If a commit is refused, it returns how the collector ends.
 fn commit_tags<R: Wait, D: Disk>(
     rt: &R,
     cells: &[Mutex<Cell<D>>],

@@ -1,4 +1,4 @@
-// The groups of a plant, as workers call them.
+// The groups of a plant, as workers use them.
 ghost use Rattle.std.specs.Prelude.{ℕ, ◌<◌, IfErr, IfOk, Option};
 
 use disk_model::Disk;
@@ -9,25 +9,25 @@ use trend_num::CalcValue;
 /// Why a group made no turn, or gave no answer.
 #[derive(Clone, Copy, Debug, PartialEq, Eq)]
 pub enum TurnNo {
-    /// The version of an input is above the records that its tag has acknowledged.
+    /// The version of an input is above the number of records that its tag has acknowledged.
     Ahead {
         input: u32,
         version: u32,
         records: u32,
     },
-    /// There would be more cells, complete windows times calculations, than a sheet may have.
+    /// The sheet would have more cells (complete windows times calculations) than it may have; `cells` is how many.
     CellLimit {
         cells: u64,
     },
-    /// There would be more records in all copies together than a sheet may have.
+    /// The copies of a sheet would have more records together than they may have; `records` is how many.
     CopyLimit {
         records: u64,
     },
-    /// An earlier save answered DeviceFault.
+    /// An earlier save returned DeviceFault.
     Broken,
     /// A call of the group's device failed.
     DeviceFault,
-    /// No memory was found.
+    /// There was no memory.
     WantOfMemory,
 }
 
@@ -40,18 +40,20 @@ pub trait GroupTurns<D: Disk>: Sync {
     /// How many groups there are.
     ghost groups: { Self → ℕ };
 
-    /// What is known of an answer, and of the place of its entry on the group's tape. Nothing, where it is not said.
+    /// What is known of an answer, and of the place of its entry on the group's tape. The default is that nothing is
+    /// known.
     ghost Tells: { Self → RowAsk → ℕ → Option CalcValue → Type 0 } = { λ _ _ _ _. Unit {0} };
 
-    /// What is known where a group refuses so. Nothing, where it is not said.
+    /// What is known if a group refuses with this reason. The default is that nothing is known.
     ghost Refuses: { Self → ℕ → TurnNo → Type 0 } = { λ _ _ _. Unit {0} };
 
-    /// One turn of a group: a refresh from these cells, and then a save. Where the save is refused, the refresh stands.
+    /// Makes one turn of a group: a refresh from these cells, and then a save. If the save is refused, the refresh
+    /// remains.
     fn refresh<R: Wait>(&self, rt: &R, group: u32, cells: &[Mutex<Cell<D>>]) -> Result<(), TurnNo>
         requires { group < groups self.now }
         ensures { IfErr result (Refuses self.now group) };
 
-    /// What a calculation of a group gives in its window of number `k`, and the place of the answer on the group's tape.
+    /// Returns the value of a calculation of a group in window `k`, with the place of the answer on the group's tape.
     fn ask<R: Wait>(
         &self,
         rt: &R,

@@ -1,15 +1,15 @@
-//! The workers of a session: collectors, readers and refreshers, beside each other.
+//! The workers of a session: collectors, readers and refreshers, all running at the same time.
 //!
-//! `run_session` runs one worker for each collector, each reader and each refresher, and ends once all of them have ended. A
-//! worker asks its pass before each step, and ends at its first refusal. A collector takes its rows in order, and commits
-//! after every 64 rows and after its last one. A reader answers its queries in order; a snapshot is looked at on the board,
-//! without the tag's lock. A refresher makes its turns, through the trait `GroupTurns`.
+//! `run_session` runs one worker for each collector, each reader and each refresher, and returns once all of them have
+//! ended. A worker asks its pass before each step, and ends at its first refusal. A collector takes its rows in order,
+//! and commits after every 64 rows and after its last one. A reader answers its queries in order. It reads a snapshot
+//! from the board, without the tag's lock. A refresher makes its turns, through the trait `GroupTurns`.
 //!
-//! The model of a session is the list of its notes (`specs/Notes.antt`). Each note is of its worker's own work and in order:
-//! the takes are of the first rows, the answers of the first queries, and the turns are those that were made. A worker that
-//! ended has done all its work; else its ending tells what its pass or the call of its next step answered. So the stops of the
-//! passes rise by just the number of workers that were halted. What happened to a tag or a group under its lock is known by
-//! its own tape and not by a note, and so is which worker came first.
+//! The model of a session is the list of its notes (`specs/Notes.antt`). Each note records its worker's own work, in
+//! order: the takes of the first rows, the answers to the first queries, or the number of turns. A worker whose ending
+//! is `Ended` has done all its work. Any other ending records what its pass, or the call of its next step, answered. So
+//! the number of stops that the passes count rises by exactly the number of halted workers. Notes do not record what
+//! happened to a tag or a group under its lock, nor which worker came first: the tapes of tags and groups do.
 #![tactic(auto)]
 
 mod collector;

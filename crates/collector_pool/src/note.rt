@@ -1,4 +1,4 @@
-// What a worker tells of what it did.
+// What a worker notes of its work.
 ghost use Rattle.std.specs.Prelude.{◌≡◌, ◌+◌, ◌<◌, ◌≤◌, [], IfOk, OnErr, OnOk, vec_capacity, vec_len};
 ghost use Rattle.collector_pool.specs.Refusals.{ending_of_commit, ending_of_turn};
 
@@ -13,28 +13,28 @@ use trend_num::{CalcValue, Point, Snap, WantOfMemory};
 pub struct TakeNote {
     /// The tag, counted from 0.
     pub tag: u32,
-    /// The row of the collector's work, counted from 1 in each phase of a session.
+    /// The row in the collector's work, counted from 1 in each phase of a session.
     pub row: u64,
     pub point: Point,
-    /// Where the entry of the take stands on the tag's tape, counted from 0.
+    /// The place of the take's entry on the tag's tape, counted from 0.
     pub place: u64,
 }
 
-/// What a reader was told.
+/// The answer that a reader received for a query.
 #[derive(Drop)]
 pub enum Told {
-    /// The answer of a tag, and where its entry stands on the tag's tape.
+    /// The answer of a tag, and the place of its entry on the tag's tape.
     Tag {
         tag: u32,
         place: u64,
         reply: Reply,
     },
-    /// The snapshot that the board showed of a tag.
+    /// The snapshot of a tag that the board showed.
     Snap {
         tag: u32,
         snap: Snap,
     },
-    /// The answer of a group, and where its entry stands on the group's tape.
+    /// The answer of a group, and the place of its entry on the group's tape.
     Row {
         group: u32,
         place: u64,
@@ -42,14 +42,14 @@ pub enum Told {
     },
 }
 
-/// Why a tag took no more values, or acknowledged none.
+/// Why a tag refused to take a value or to commit.
 #[derive(Clone, Copy, Debug, PartialEq, Eq)]
 pub enum CellNo {
     /// One more event could bring too many records.
     Full { records: u32 },
-    /// The tape has as many takes as it has room for.
+    /// The tape has no room for another take; `room` is how many takes it had room for.
     RoomFull { room: u32 },
-    /// An earlier commit answered DeviceFault.
+    /// An earlier commit returned DeviceFault.
     Broken,
     /// A call of the device failed.
     DeviceFault,
@@ -64,9 +64,9 @@ pub enum Ending {
     Halted,
     /// A tag refused a value or a commit.
     Tag { tag: u32, why: CellNo },
-    /// A group refused a turn or an answer, and not for want of memory.
+    /// A group refused a turn or an answer, and not for lack of memory.
     Group { group: u32, why: TurnNo },
-    /// No memory was found for its note, or for the call of its next step.
+    /// There was no memory for its note, or for the call of its next step.
     WantOfMemory,
 }
 
@@ -75,17 +75,17 @@ pub enum Ending {
 pub struct WorkerNote {
     /// The worker, counted from 0: the collectors, then the readers, then the refreshers.
     pub worker: u32,
-    /// What it took, as a collector.
+    /// What it took, if it is a collector.
     pub takes: Vec<TakeNote>,
-    /// What it was told, as a reader.
+    /// The answers that it received, if it is a reader.
     pub told: Vec<Told>,
-    /// How many turns it made, as a refresher.
+    /// How many turns it made, if it is a refresher.
     pub turns: u32,
     pub ending: Ending,
 }
 
 impl WorkerNote {
-    // The note of a worker that has not begun.
+    // Returns the note of a worker that has not begun.
     pub(crate) fn new(alloc: Global, worker: u32) -> WorkerNote
         ensures worker { result.worker ≡ worker }
         ensures takes { result.takes.items ≡ [] }
@@ -102,7 +102,7 @@ impl WorkerNote {
     }
 }
 
-// An empty list with room for so many items.
+// Returns an empty list with room for so many items.
 pub(crate) fn with_room<T>(alloc: Global, count: usize) -> Result<Vec<T>, WantOfMemory>
     ensures none { IfOk result (λ list. list.items ≡ []) }
     ensures room { IfOk result (λ list. count ≤ vec_capacity list) }
@@ -110,7 +110,7 @@ pub(crate) fn with_room<T>(alloc: Global, count: usize) -> Result<Vec<T>, WantOf
     Ok(Vec::with_capacity(alloc, count)?)
 }
 
-// Makes room for so many items more. Where there are none, it succeeds.
+// Makes room for so many more items. For 0 items it succeeds always.
 pub(crate) fn make_room<T: Drop>(list: &mut Vec<T>, count: usize) -> Result<(), WantOfMemory>
     ensures same { list.new.items ≡ list.old.items }
     ensures room { OnOk result (vec_len list.old + count ≤ vec_capacity list.new) }
@@ -137,7 +137,7 @@ impl From<TakeNo> for CellNo {
     }
 }
 
-// How a collector ends whose commit of this tag was refused.
+// Returns how a collector ends after this refusal of a tag's commit.
 pub(crate) fn ending_of_commit(tag: u32, no: CommitNo) -> Ending
     ensures { result ≡ ending_of_commit tag no }
 {
@@ -154,7 +154,7 @@ pub(crate) fn ending_of_commit(tag: u32, no: CommitNo) -> Ending
     }
 }
 
-// How a worker ends whom this group refused.
+// Returns how a worker ends after this refusal of a group.
 pub(crate) fn ending_of_turn(group: u32, no: TurnNo) -> Ending
     ensures { result ≡ ending_of_turn group no }
 {

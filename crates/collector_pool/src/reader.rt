@@ -17,7 +17,7 @@ use tag_cell::Cell;
 use trend_num::{TagQuery, WantOfMemory};
 use value_rows::Query;
 
-// The work of a reader.
+// Does the work of a reader, and returns its note.
 pub(crate) fn read<R: Wait, D: Disk, G: GroupTurns<D>, O: Pass>(
     rt: &R,
     alloc: Global,
@@ -53,7 +53,7 @@ pub(crate) fn read<R: Wait, D: Disk, G: GroupTurns<D>, O: Pass>(
     note
 }
 
-// Answers the queries, and answers how the reader ends.
+// Answers the queries in order, adds each answer to `told`, and returns how the reader ends.
 fn answer_all<R: Wait, D: Disk, G: GroupTurns<D>, O: Pass>(
     rt: &R,
     cells: &[Mutex<Cell<D>>],
@@ -99,7 +99,8 @@ fn answer_all<R: Wait, D: Disk, G: GroupTurns<D>, O: Pass>(
     Ending::Ended
 }
 
-// Answers a query: of a tag under its lock, of a snapshot by a look at the board, of a group through the groups.
+// Answers a query: about a tag under the tag's lock, about a snapshot by a look at the board, about a group through
+// `groups`.
 fn answer<R: Wait, D: Disk, G: GroupTurns<D>>(
     rt: &R,
     cells: &[Mutex<Cell<D>>],
@@ -143,7 +144,7 @@ fn answer<R: Wait, D: Disk, G: GroupTurns<D>>(
     }
 }
 
-// Asks a tag under its lock.
+// Asks a tag under its lock, and returns the answer and its place on the tag's tape.
 fn ask_tag<R: Wait, D: Disk>(
     rt: &R,
     cell: &Mutex<Cell<D>>,

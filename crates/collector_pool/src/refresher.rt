@@ -11,7 +11,7 @@ use std::alloc::Global;
 use std::sync::{Mutex, Wait};
 use tag_cell::Cell;
 
-// The work of a refresher.
+// Does the work of a refresher, and returns its note.
 pub(crate) fn refresh<R: Wait, D: Disk, G: GroupTurns<D>, O: Pass>(
     rt: &R,
     alloc: Global,
@@ -32,7 +32,7 @@ pub(crate) fn refresh<R: Wait, D: Disk, G: GroupTurns<D>, O: Pass>(
     note
 }
 
-// Makes the turns, and answers how many were made and how the refresher ends.
+// Makes the turns, and returns how many were made and how the refresher ends.
 fn make_turns<R: Wait, D: Disk, G: GroupTurns<D>, O: Pass>(
     rt: &R,
     cells: &[Mutex<Cell<D>>],

@@ -1,4 +1,4 @@
-// A session: all workers beside each other.
+// A session: all workers, running at the same time.
 ghost use Rattle.std.specs.Prelude.{◌≡◌, ℕ, ◌+◌, ◌^◌, ◌<◌, ◌≤◌, List, [], All, IfOk, OnErr, length, slice_index_or, vec_capacity, vec_len};
 ghost use Rattle.snapshot_table.specs.Boards.{Looking, LooksAt};
 ghost use Rattle.collector_pool.specs.Notes.{AreNotesOf, halts, stops_with};
@@ -22,9 +22,11 @@ use std::thread::Threads;
 use tag_cell::Cell;
 use trend_num::WantOfMemory;
 
-/// Runs the workers of a session beside each other, one for each collector, then each reader, then each refresher, and
-/// answers their notes in this order. There is a looker of this board for each reader. Every worker has ended, and every pass
-/// is given back. After want of memory no worker began and no pass was handed out.
+/// Runs the workers of a session, all at the same time: one for each collector, each reader and each refresher. It
+/// returns their notes in this order, once every worker has ended and every pass is given back. `lookers` has one
+/// looker of this board for each reader.
+///
+/// WantOfMemory: there was no memory; no worker began, and no pass was handed out.
 pub fn run_session<D: Disk + Send, G: GroupTurns<D>, P: Passes, R: Threads + Wait + Sync>(
     rt: &R,
     alloc: Global,
@@ -168,7 +170,7 @@ fn seat<P: Passes>(
     });
 }
 
-// All workers at work beside each other.
+// Runs all workers at the same time.
 fn work_all<D: Disk + Send, G: GroupTurns<D>, O: Pass + Send, R: Threads + Wait + Sync>(
     rt: &R,
     alloc: Global,
@@ -187,7 +189,7 @@ fn work_all<D: Disk + Send, G: GroupTurns<D>, O: Pass + Send, R: Threads + Wait 
     work_each(rt, alloc, cells, board, groups, work, seats.as_mut_slice());
 }
 
-// Each worker of some seats in a thread of its own.
+// Runs each worker of these seats in a thread of its own, and returns once all have ended.
 fn work_each<D: Disk + Send, G: GroupTurns<D>, O: Pass + Send, R: Threads + Wait + Sync>(
     rt: &R,
     alloc: Global,
@@ -219,7 +221,7 @@ fn work_each<D: Disk + Send, G: GroupTurns<D>, O: Pass + Send, R: Threads + Wait
     );
 }
 
-// The work of the worker of a seat.
+// Does the work of the worker on this seat.
 fn work_in<D: Disk, G: GroupTurns<D>, O: Pass, R: Wait>(
     rt: &R,
     alloc: Global,
@@ -247,7 +249,7 @@ fn work_in<D: Disk, G: GroupTurns<D>, O: Pass, R: Wait>(
     );
 }
 
-// The work of a worker in its role.
+// Does the work of a worker with this role, and returns its note.
 fn work_as<D: Disk, G: GroupTurns<D>, O: Pass, R: Wait>(
     rt: &R,
     alloc: Global,

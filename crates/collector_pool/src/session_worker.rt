@@ -3,7 +3,7 @@ use crate::note::WorkerNote;
 use plant_status::Worker;
 use snapshot_table::Looker;
 
-/// What a worker is, with its number among its kind.
+/// The role of a worker, with its number among the workers of that kind.
 #[derive(Drop)]
 pub enum Role {
     Collector(u32),

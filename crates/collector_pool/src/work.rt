@@ -16,19 +16,20 @@ pub struct Refresh {
     pub turns: u32,
 }
 
-/// What each worker has to do: the rows of each collector, the queries of each reader, and the refreshers.
+/// What each worker has to do: the rows of each collector, the queries of each reader, and the turns of each refresher.
 #[derive(Debug, Drop)]
 pub struct Work {
     pub collectors: Vec<Vec<RawRow>>,
     pub readers: Vec<Vec<Query>>,
     pub refreshers: Vec<Refresh>,
-    /// How many of its rows each collector took in an earlier phase of the session; those behind them are its work.
+    /// How many of its rows each collector took in an earlier phase of the session. The rows after them are its work.
     pub earlier: u32,
 }
 
 impl Work {
-    /// Whether it is work for a plant of so many tags and groups: no row, query or turn is of another one, points and times
-    /// are in range, each collector has the rows that it took earlier, and the workers can be numbered.
+    /// Returns whether this is work for a plant with so many tags and groups. Rows, queries and turns name only such
+    /// tags and groups. Points and times are in range. Each collector has at least its `earlier` rows. The workers can
+    /// be numbered.
     pub fn fits(&self, tags: usize, groups: u32) -> bool
         ensures { IsTrue result ↔ IsWorkOf tags groups self.now }
     {
@@ -45,7 +46,7 @@ impl Work {
             && self.refreshers.iter().all(|refresh| refresh.group < groups)
     }
 
-    // The rows that are the work of a collector.
+    // Returns the rows that are the work of a collector.
     pub(crate) fn rows_of(&self, collector: u32) -> &[RawRow]
         requires known { collector < length self.now.collectors.items }
         requires begun { All (λ rows. self.now.earlier ≤ length rows.items) self.now.collectors.items }
@@ -55,7 +56,7 @@ impl Work {
         &self.collectors[collector as usize][self.earlier as usize..]
     }
 
-    // Whether there are fewer than 2^32 workers.
+    // Returns whether there are fewer than 2^32 workers.
     fn can_be_numbered(&self) -> bool
         ensures { IsTrue result ↔ (worker_count self.now < 2 ^ 32) }
     {
@@ -67,7 +68,7 @@ impl Work {
     }
 }
 
-// Whether each row is of one of so many tags, and its point in range.
+// Returns whether each row is of one of so many tags, with a point in range.
 fn rows_fit(tags: usize, rows: &[RawRow]) -> bool
     ensures { IsTrue result ↔ All (IsRowOf tags) rows.now }
 {
@@ -80,7 +81,7 @@ fn row_fits(tags: usize, row: RawRow) -> bool
     (row.tag as usize) < tags && in_range(row.point)
 }
 
-// Whether each query is of one of so many tags or groups, and its times in range.
+// Returns whether each query is about one of so many tags or groups, with times in range.
 fn queries_fit(tags: usize, groups: u32, queries: &[Query]) -> bool
     ensures { IsTrue result ↔ All (IsQueryOf tags groups) queries.now }
 {

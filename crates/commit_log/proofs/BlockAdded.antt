@@ -1,4 +1,4 @@
--- A block behind others: what an image has while it is added.
+-- A block after others: what an image has while it is added.
 use Rattle.std.proofs.Common.{◌≡◌, ◌≢◌, ◌⊎◌, inl, inr, ℕ, ◌+◌, ◌<◌, ◌≤◌, List, [], ◌∷◌, ◌++◌, length, get_or, sym, ap, ◌∙◌, subst, arith, length-append}
 use Rattle.std.proofs.lemmas.Bool.{cases_eq}
 use Rattle.disk_model.specs.Gates.{IsGuarded, IsOpen, IsShut, open_byte}
@@ -17,7 +17,7 @@ begins_before : (from : ℕ) (bs : List (List LogRow)) → from ≤ log_end_of f
 begins_before from [] = omega arith
 begins_before from (b ∷ bs) = let rest = begins_before (from + log_block_size b) bs in omega (arith, rest)
 
--- blocks that end there stand in both
+-- blocks that end there are in both
 pub blocks_same : (n : ℕ) (d c : List ℕ) (tags number at : ℕ) (bs : List (List LogRow)) → SameFront n d c → log_end_of at bs ≤ n
     → HasBlocks d tags number at bs → HasBlocks c tags number at bs
 blocks_same n d c tags number at [] front within has = tt
@@ -36,7 +36,7 @@ blocks_same n d c tags number at (x ∷ bs) front within has = (
     size : length (log_block_image number x) + 1 ≡ log_block_size x
     size = omega (arith, length-block_image number x, length-append (log_block_image number x) (0 ∷ []))
 
--- ---- a block behind a gate
+-- ---- a block after a gate
 
 module _ (plant : List ℕ) (tags : ℕ) (rows : List LogRow) (at : ℕ) (d c : List ℕ) (has : Stores plant tags rows at d) (b : List LogRow)
     (guarded : IsGuarded (at + 1) (log_block_image (length rows) b ++ 0 ∷ []) at d c) where

@@ -119,7 +119,7 @@ module _ (plant : List ℕ) (tags : ℕ) (opening : List LogRow) (moment faults 
   stored : (d : List ℕ) → MayLeave old d → Stores plant tags done end d
   stored d may = ready_now plant tags done end old (kept.ready refl) d may
 
-  -- the rows of the block behind those that were acknowledged
+  -- the rows of the block after those that were acknowledged
   both_are : done ++ block ≡ opening ++ (first ++ block)
   both_are = append_assoc opening first block
 

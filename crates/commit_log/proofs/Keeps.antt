@@ -9,7 +9,7 @@ use Rattle.commit_log.specs.Histories.{IsLogLegal, IsLogSafe}
 use Rattle.commit_log.specs.Told.{HasRoomForPuts, IsKept, Waits}
 use Rattle.commit_log.proofs.Tapes.{puts_parts}
 
--- no more rows are acknowledged than there are, and those behind a place wait
+-- no more rows are acknowledged than there are, and those after a place wait
 pub rest_waits : (opening : List LogRow) (tape rest : List LogTurn) (next acked : ℕ) → Waits opening tape next acked → rest ≡ drop next tape
     → acked + length (puts rest) ≡ length opening + length (puts tape)
 rest_waits opening tape rest next acked waits is =

@@ -95,7 +95,7 @@ pub new_many : (plant : List ℕ) (tags room n : ℕ) (o : Option Trace) → Sho
 new_many plant tags room n None is together = tt
 new_many plant tags room n (Some t) is together = record { rows = []; stands = ByNothing is refl; together = omega (arith, together) }
 
--- what is begun behind a sync stands for no rows
+-- what is begun after a sync stands for no rows
 pub begun_stands : (plant : List ℕ) (tags : ℕ) (rows : List LogRow) (o mid new : Option Trace) → rows ≡ []
     → During o mid (IsLeftOrStands plant tags rows o) → During mid new (LogsNothing plant) → During o new (IsLeftOrStands plant tags rows o)
 begun_stands plant tags rows o mid new none before begun =

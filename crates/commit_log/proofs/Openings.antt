@@ -1,4 +1,4 @@
--- What opening a log answers, and what its type keeps at first.
+-- What opening a log returns, and what its type keeps at first.
 use Rattle.std.proofs.Common.{◌≡◌, ℕ, ◌+◌, ◌<◌, ◌≤◌, false, All, List, [], length, Option, Result, Ok, Err, IfErr, IfOk, IfSome, IsErrOf, OnErr, refl, sym, subst, arith}
 use Rattle.std.proofs.lemmas.List.{append-nil}
 use Rattle.disk_model.specs.Calls.{Shows}
@@ -59,7 +59,7 @@ read_cause plant tags room o mid r (OtherPlant at) is synced damaged other many 
 read_cause plant tags room o mid r (TooMany n) is synced damaged other many = absurd (many n is)
 read_cause plant tags room o mid r WantOfMemory is synced damaged other many = tt
 
--- its rows are too many, or memory is wanting
+-- its rows are too many, or there was no memory
 pub parts_cause : {T : Type 0} (plant : List ℕ) (tags room : ℕ) (o : Option Trace) (r : Result T LogNo) (together : ℕ)
     → ((n : ℕ) → IsErrOf r (TooMany n) → (n ≡ together) × (most_rows < n))
     → ((a : ℕ) (byte : Option ℕ) → IsErrOf r (Damaged a byte) → ⊥) → ((at : ℕ) → IsErrOf r (OtherPlant at) → ⊥)

@@ -12,7 +12,7 @@ use Rattle.commit_log.specs.Histories.{LogTurnsFit, LogTurnFits}
 
 -- ---- walks
 
--- the walk goes on by the turn
+-- the walk continues by the turn
 pub walked-push : (w : LogWalk) (es : List LogTurn) (e : LogTurn) → log_walked w (es ++ e ∷ []) ≡ after_turn (log_walked w es) e
 walked-push w [] e = refl
 walked-push w (x ∷ es) e = walked-push (after_turn w x) es e
@@ -71,11 +71,11 @@ acked_at-most tags w (Commit m a ∷ es) t n le all =
 
 -- ---- parts of a tape
 
--- what is behind a place
+-- what is after a place
 pub rest_is : (es tape : List LogTurn) (next : ℕ) → es ≡ tape → take (length es - next) (drop next es) ≡ drop next tape
 rest_is es tape next same = take_all (length es - next) (drop next es) (omega (arith, length-drop next es)) ∙ ap (drop next) same
 
--- the rows before a place, those of some turns from it on, and those behind them
+-- the rows before a place, those of some turns from it on, and those after them
 pub puts_parts : (tape : List LogTurn) (next turns : ℕ) → puts tape
     ≡ (puts (take next tape) ++ puts (take turns (drop next tape))) ++ puts (drop turns (drop next tape))
 puts_parts tape next turns =

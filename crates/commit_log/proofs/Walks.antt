@@ -1,4 +1,4 @@
--- Blocks one behind the other, and one more.
+-- Blocks one after the other, and one more.
 use Rattle.std.proofs.Common.{◌≡◌, ◌≢◌, ℕ, ◌+◌, ◌<◌, List, [], ◌∷◌, ◌++◌, length, get_or, Option, refl, sym, ap, ◌∙◌, subst, arith, append_assoc, length-append}
 use Rattle.std.proofs.lemmas.List.{append-nil}
 use Rattle.disk_model.specs.Gates.{IsOpen, open_byte}
@@ -17,7 +17,7 @@ pub rows_of-push : (bs : List (List LogRow)) (x : List LogRow) → rows_of (bs +
 rows_of-push [] x = append-nil x
 rows_of-push (y ∷ bs) x = ap (λ l. y ++ l) (rows_of-push bs x) ∙ sym (append_assoc y (rows_of bs) x)
 
--- one more stands behind them
+-- one more comes after them
 pub has_push : (c : List ℕ) (tags number at : ℕ) (bs : List (List LogRow)) (x : List LogRow) → HasBlocks c tags number at bs
     → HasBlock c tags (number + length (rows_of bs)) (log_end_of at bs) x → HasBlocks c tags number at (bs ++ x ∷ [])
 has_push c tags number at [] x has one =
@@ -41,7 +41,7 @@ pub record IsWalked (c : List ℕ) (tags at next : ℕ) (rows : List LogRow) : T
 pub walk_begins : (c : List ℕ) (tags at : ℕ) (rows : List LogRow) → rows ≡ [] → IsWalked c tags at at rows
 walk_begins c tags at rows none = record { blocks = []; has = tt; rows_are = none; end_is = refl }
 
--- one more behind its open gate
+-- one more after its open gate
 pub walk_on : (c : List ℕ) (tags at gate next : ℕ) (old new : List LogRow) → IsWalked c tags at gate old → IsOpen gate c
     → AddsBlock c tags gate old new next → IsWalked c tags at next new
 walk_on c tags at gate next old new so_far opened added = record {
@@ -68,7 +68,7 @@ walk_breaks c tags at gate rows a byte so_far opened breaks = record {
       (subst (λ l. BreaksFirst c (block_fields c tags (length l) gate) a byte) so_far.rows_are breaks);
 }
 
--- there is none behind a closed gate
+-- there is none after a closed gate
 pub walk_ends : (c : List ℕ) (tags at next end : ℕ) (rows : List LogRow) → IsWalked c tags at next rows → end ≡ next
     → next < length c → get_or c next 0 ≢ open_byte → ListsRows c tags at rows end
 walk_ends c tags at next end rows so_far is there closed = record {

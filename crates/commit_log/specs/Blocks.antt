@@ -1,4 +1,4 @@
--- Blocks: the rows that commits left, one block behind the other, each behind its gate.
+-- Blocks: the rows that commits left, one block after the other, each after its gate.
 use Rattle.std.specs.Prelude.{ℕ, zero, suc, ◌+◌, ◌*◌, ◌<◌, ◌≤◌, ◌&&◌, true, List, [], ◌∷◌, ◌++◌, All, length, flat_map, Option, nat_eq, nat_le, nat_lt, unsigned_abs}
 use Rattle.std.specs.Int.{w64, cast_signed}
 use Rattle.trend_num.specs.Ranges.{InRange, last_time, largest_value}
@@ -10,52 +10,52 @@ use Rattle.archive_file.specs.LayoutFields.{BreaksFirst, long_at, short_at}
 
 -- ---- its bytes
 
--- a row: its tag, its collector, its row in the collector's file, its point
+-- the bytes of a row: its tag, its collector, its row in the collector's file, its point
 abbrev pub row_image : LogRow → List ℕ
 row_image r = number_bytes 4 r.tag ++ (number_bytes 4 r.collector ++ (number_bytes 8 r.row ++ point_bytes r.point))
 
 abbrev pub rows_image : List LogRow → List ℕ
 rows_image rows = flat_map row_image rows
 
--- the block of these rows, of which the first has this number
+-- the bytes of a block with these rows; the first row has this number
 abbrev pub log_block_image : ℕ → List LogRow → List ℕ
 log_block_image number rows = number_bytes 8 number ++ (number_bytes 4 (length rows) ++ rows_image rows)
 
--- from its gate to the next one
+-- how many bytes it is from its gate to the next one
 abbrev pub log_block_size : List LogRow → ℕ
 log_block_size rows = 13 + 32 * length rows
 
--- ---- what it may say
+-- ---- what a block may have
 
--- rows that one block has at most
+-- how many rows one block has at most
 abbrev pub most_in_block : ℕ
 most_in_block = 4096
 
--- a row of one of so many tags, whose point is in range
+-- a row of a plant with so many tags: its tag is one of them, and its point is in range
 pub record IsLogRow (tags : ℕ) (r : LogRow) : Type 0 where
   pub tag : r.tag < tags
   pub point : InRange r.point
 
--- the rows of a block
+-- the rows of a block: 1 to 4096 of them, each of such a tag
 pub record AreBlockRows (tags : ℕ) (rows : List LogRow) : Type 0 where
   pub some : 1 ≤ length rows
   pub few : length rows ≤ most_in_block
   pub each : All (IsLogRow tags) rows
 
--- ---- blocks one behind the other
+-- ---- blocks one after the other
 
--- the block of these rows, of which the first has this number, stands behind its open gate
+-- the gate at this place is open, and after it comes the block of these rows, whose first has this number
 pub record HasBlock (c : List ℕ) (tags number at : ℕ) (rows : List LogRow) : Type 0 where
   pub opened : IsOpen at c
   pub spelled : Holds (at + 1) (log_block_image number rows) c
   pub rows_are : AreBlockRows tags rows
 
--- these blocks stand one behind the other from the gate at a place, and their rows are numbered on from one number
+-- these blocks lie one after the other from the gate at a place; their rows are numbered without a gap from this number
 abbrev pub HasBlocks : List ℕ → ℕ → ℕ → ℕ → List (List LogRow) → Type 0
 HasBlocks c tags number at [] = Unit {0}
 HasBlocks c tags number at (b ∷ bs) = HasBlock c tags number at b × HasBlocks c tags (number + length b) (at + log_block_size b) bs
 
--- where they end
+-- the place of the gate after them
 abbrev pub log_end_of : ℕ → List (List LogRow) → ℕ
 log_end_of at [] = at
 log_end_of at (b ∷ bs) = log_end_of (at + log_block_size b) bs
@@ -64,14 +64,15 @@ log_end_of at (b ∷ bs) = log_end_of (at + log_block_size b) bs
 abbrev pub rows_of : List (List LogRow) → List LogRow
 rows_of bs = flat_map (λ b. b) bs
 
--- all blocks from the gate at a place, with rows numbered from 0: the gate behind the last one is there, and closed
+-- these are all blocks from the gate at a place, with rows numbered from 0; the gate after the last one is there, and
+-- closed
 pub record AreBlocks (c : List ℕ) (tags at : ℕ) (bs : List (List LogRow)) : Type 0 where
   pub blocks : HasBlocks c tags 0 at bs
   pub shut : IsShut (log_end_of at bs) c
 
 -- ---- its fields, and where they first break a rule
 
--- the row that stands at a place
+-- the row whose bytes lie at a place
 abbrev pub row_at : List ℕ → ℕ → LogRow
 row_at c at = record {
   tag = short_at c at;
@@ -80,7 +81,7 @@ row_at c at = record {
   point = record { t = long_at c (at + 16); v = cast_signed w64 (long_at c (at + 24)) };
 }
 
--- a row: its tag, its collector, its row in the file, its time, and its value
+-- the fields of a row: its tag, its collector, its row in the file, its time, and its value
 abbrev pub row_fields : ℕ → LogRow → ℕ → List Field
 row_fields tags r at =
     record { place = at; size = 4; is_kept = nat_lt r.tag tags }
@@ -90,13 +91,13 @@ row_fields tags r at =
     ∷ record { place = at + 24; size = 8; is_kept = nat_le (unsigned_abs r.point.v) largest_value }
     ∷ []
 
--- n rows from a place on
+-- the fields of n rows from a place on
 abbrev pub rows_fields : List ℕ → ℕ → ℕ → ℕ → List Field
 rows_fields c tags at zero = []
 rows_fields c tags at (suc n) = row_fields tags (row_at c at) at ++ rows_fields c tags (at + 32) n
 
--- the fields of a block behind the gate at a place, whose first row has this number: that number, how many rows there are,
--- the rows, and the next gate
+-- The fields of the block after the gate at a place, whose first row has this number: that number, how many rows there
+-- are, the rows, and the next gate.
 abbrev pub block_fields : List ℕ → ℕ → ℕ → ℕ → List Field
 block_fields c tags number gate =
     let count = short_at c (gate + 9) in
@@ -105,7 +106,7 @@ block_fields c tags number gate =
     ∷ (rows_fields c tags (gate + 13) count
     ++ record { place = gate + 13 + 32 * count; size = 1; is_kept = true } ∷ [])
 
--- behind whole blocks one breaks a rule
+-- after whole blocks there is one that breaks a rule
 pub record IsBlockDamage (c : List ℕ) (tags at a : ℕ) (byte : Option ℕ) : Type 0 where
   pub blocks : List (List LogRow)
   pub whole : HasBlocks c tags 0 at blocks

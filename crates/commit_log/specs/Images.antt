@@ -7,27 +7,27 @@ use Rattle.archive_file.specs.LayoutFields.{BreaksFirst}
 use Rattle.archive_file.specs.TextHeads.{HasHead, IsEmpty, IsOfText, blocks_at, head_fields, text_in}
 use Rattle.commit_log.specs.Blocks.{AreBlocks, IsBlockDamage, rows_of}
 
--- the letters behind the gate of the layout
+-- the letters after the gate of the layout
 abbrev pub letters : List ℕ
 letters = codes "PHC1"
 
--- two texts differ there first: in a byte, or by the end of the shorter one
+-- the first place where two texts differ: by a byte, or by the end of the shorter one
 pub data DiffersAt (xs ys : List ℕ) (at : ℕ) : Type 0 where
   ByByte : at < length xs → at < length ys → take at xs ≡ take at ys → slice_index xs at ≢ slice_index ys at → DiffersAt xs ys at
   ByEnd : at ≡ min (length xs) (length ys) → take at xs ≡ take at ys → length xs ≢ length ys → DiffersAt xs ys at
 
--- the layout is that of another plant, whose text differs there first
+-- the layout is that of another plant, whose text first differs at this place
 pub record IsOfOther (plant c : List ℕ) (at : ℕ) : Type 0 where
   pub head : HasHead letters c
   pub differs : DiffersAt (text_in c) plant at
 
--- these blocks are those of a plant with so many tags
+-- the image has the log of a plant with so many tags, and these are its blocks
 pub record HasLog (plant : List ℕ) (tags : ℕ) (c : List ℕ) (bs : List (List LogRow)) : Type 0 where
   pub of_plant : IsOfText letters plant c
   pub blocks : AreBlocks c tags (blocks_at (length plant)) bs
 
--- An image stands for rows: no layout was finished, and there are none; or it is that of the plant, no rule is broken, and its
--- blocks list them
+-- An image stands for rows in two cases. If no layout was finished, it stands for none. If it has the plant's log and
+-- breaks no rule, it stands for the rows that its blocks list.
 pub data StandsForRows (plant : List ℕ) (tags : ℕ) (c : List ℕ) (rows : List LogRow) : Type 0 where
   ByNothing : IsNew c → rows ≡ [] → StandsForRows plant tags c rows
   ByBlocks : (bs : List (List LogRow)) → HasLog plant tags c bs → rows ≡ rows_of bs → StandsForRows plant tags c rows
@@ -37,10 +37,10 @@ pub data IsLogDamage (plant : List ℕ) (tags : ℕ) (c : List ℕ) (a : ℕ) (b
   BadHead : IsBegun c → BreaksFirst c (head_fields letters c) a byte → IsLogDamage plant tags c a byte
   BadBlock : IsOfText letters plant c → IsBlockDamage c tags (blocks_at (length plant)) a byte → IsLogDamage plant tags c a byte
 
--- nothing is there, whether or not the layout is
+-- there are no rows, whether or not the layout is finished
 abbrev pub LogsNothing : List ℕ → List ℕ → Type 0
 LogsNothing plant c = IsNew c ⊎ IsEmpty letters plant c
 
--- the points of a tag, in order
+-- the points of a tag among these rows, in order
 abbrev pub log_points_of : ℕ → List LogRow → List Point
 log_points_of tag rows = map (λ r. r.point) (filter (λ r. nat_eq r.tag tag) rows)

@@ -1,4 +1,4 @@
--- What is read of a log's device, what opening it gives, and why it is not opened.
+-- What is read from a log's device, what it is opened as, and why it is not opened.
 use Rattle.std.specs.Prelude.{◌≡◌, ◌⊎◌, ℕ, ◌+◌, ◌*◌, ◌<◌, List, ◌++◌, All, length, Option, None, Some, Err}
 use Rattle.archive_file.specs.declared.failure.ScanNo.{ScanNo}
 use Rattle.archive_file.specs.declared.failure.ScanNo.TheVariants as scan
@@ -15,13 +15,13 @@ use Rattle.archive_file.specs.TextHeads.{IsOfText, blocks_at}
 use Rattle.commit_log.specs.Blocks.{AreBlockRows, AreBlocks, IsLogRow, log_block_image, log_block_size, log_end_of, rows_image, rows_of}
 use Rattle.commit_log.specs.Images.{IsLogDamage, IsOfOther, StandsForRows, letters}
 
--- rows that a log holds at most, with those that it has room for
+-- how many rows a log has at most, together with those that it has room for
 abbrev pub most_rows : ℕ
 most_rows = 4000000
 
 -- ---- what is read
 
--- so many rows that stand at a place were added
+-- so many rows, whose bytes lie at a place, were added to the list
 pub record AddsRows (c : List ℕ) (tags at count : ℕ) (old new : List LogRow) : Type 0 where
   pub more : List LogRow
   pub are : new ≡ old ++ more
@@ -29,7 +29,7 @@ pub record AddsRows (c : List ℕ) (tags at count : ℕ) (old new : List LogRow)
   pub each : All (IsLogRow tags) more
   pub spelled : Spells c at (rows_image more) (at + 32 * count)
 
--- the rows of the block behind a gate were added, which are numbered on from those before
+-- the rows of the block after a gate were added; their numbers follow those of the list
 pub record AddsBlock (c : List ℕ) (tags gate : ℕ) (old new : List LogRow) (next : ℕ) : Type 0 where
   pub block : List LogRow
   pub are : new ≡ old ++ block
@@ -37,53 +37,53 @@ pub record AddsBlock (c : List ℕ) (tags gate : ℕ) (old new : List LogRow) (n
   pub spelled : Spells c (gate + 1) (log_block_image (length old) block) (gate + log_block_size block)
   pub next_is : next ≡ gate + log_block_size block
 
--- the blocks from the gate at a place list these rows, and the next one goes there
+-- the blocks from the gate at a place list these rows, and the next block goes to `end`
 pub record ListsRows (c : List ℕ) (tags at : ℕ) (rows : List LogRow) (end : ℕ) : Type 0 where
   pub blocks : List (List LogRow)
   pub are : AreBlocks c tags at blocks
   pub rows_are : rows ≡ rows_of blocks
   pub end_is : end ≡ log_end_of at blocks
 
--- a plant's log lists them
+-- the image has a plant's log with these rows, and the next block goes to `end`
 pub record Stores (plant : List ℕ) (tags : ℕ) (rows : List LogRow) (end : ℕ) (c : List ℕ) : Type 0 where
   pub of_plant : IsOfText letters plant c
   pub lists : ListsRows c tags (blocks_at (length plant)) rows end
 
--- this was found: no finished layout, or a plant's log
+-- what the reader found: no finished layout, or a plant's log
 abbrev pub IsFound : List ℕ → ℕ → Option Stored → List ℕ → Type 0
 IsFound plant tags None c = IsNew c
 IsFound plant tags (Some s) c = Stores plant tags s.rows.items s.end c
 
--- what was found are rows of so many tags
+-- the rows that the reader found are of a plant with so many tags
 abbrev pub HasRowsOf : ℕ → Option Stored → Type 0
 HasRowsOf tags None = Unit {0}
 HasRowsOf tags (Some s) = All (IsLogRow tags) s.rows.items
 
 -- ---- while a device is opened
 
--- an image is one that a crash might have left before, or stands for these rows
+-- a crash might have left this image before, or it stands for these rows
 abbrev pub IsLeftOrStands : List ℕ → ℕ → List LogRow → Option Trace → List ℕ → Type 0
 IsLeftOrStands plant tags rows o c = MayLeave o c ⊎ StandsForRows plant tags c rows
 
--- it stands for rows for which these bytes stood
+-- the image stands for rows for which these bytes stood before
 pub record StandsSame (plant : List ℕ) (tags : ℕ) (before c : List ℕ) : Type 0 where
   pub rows : List LogRow
   pub stood : StandsForRows plant tags before rows
   pub stands : StandsForRows plant tags c rows
 
--- an image is one that a crash might have left before, or stands for the same
+-- a crash might have left this image before, or it stands for the same rows as the device before
 abbrev pub IsLogLeftOrSame : List ℕ → ℕ → Option Trace → List ℕ → Type 0
 IsLogLeftOrSame plant tags o c = MayLeave o c ⊎ StandsSame plant tags (seen o) c
 
 -- ---- why a device is not opened
 
--- the rows for which these bytes stand are so many together with the room
+-- these bytes stand for rows which, together with the room, are so many
 pub record IsTooMany (plant : List ℕ) (tags room n : ℕ) (c : List ℕ) : Type 0 where
   pub rows : List LogRow
   pub stands : StandsForRows plant tags c rows
   pub together : n ≡ length rows + room
 
--- why a device is not opened, where it tells its calls
+-- why a device is not opened; the trace of its calls decides, if it is known
 abbrev pub IsLogCause : List ℕ → ℕ → ℕ → Option Trace → LogNo → Type 0
 IsLogCause plant tags room o DeviceFault = Unit {0}
 IsLogCause plant tags room o (Damaged a byte) = Shows o (λ c. IsLogDamage plant tags c a byte)
@@ -91,11 +91,11 @@ IsLogCause plant tags room o (OtherPlant at) = Shows o (λ c. IsOfOther plant c 
 IsLogCause plant tags room o (TooMany n) = (most_rows < n) × Shows o (IsTooMany plant tags room n)
 IsLogCause plant tags room o WantOfMemory = Unit {0}
 
--- the faults that are counted until a device is not opened
+-- how the device counts faults until it is refused
 abbrev pub CountsLogRefusal : LogNo → ℕ → ℕ → Type 0
 CountsLogRefusal why before now = CountsFault {T = Unit {0}} (Err why) DeviceFault before now
 
--- the refusal to open what was not read
+-- the refusal to open a device that could not be read
 abbrev pub refusal_of : ScanNo → LogNo
 refusal_of scan.DeviceFault = DeviceFault
 refusal_of (scan.Damaged a byte) = Damaged a byte

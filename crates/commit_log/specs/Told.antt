@@ -1,4 +1,4 @@
--- What a log is seen as, what its type keeps, and what its calls change.
+-- The model of a log, what its type keeps, and what its calls change.
 use Rattle.std.specs.Prelude.{◌≡◌, ◌⊎◌, ℕ, ◌+◌, ◌-◌, ◌≤◌, Bool, true, false, List, [], ◌∷◌, ◌++◌, length, min, take, drop, Option, None, Some, IfSome, nat_eq, nat_le, if◌then◌else◌}
 use Rattle.disk_model.specs.Calls.{Rose, Sees}
 use Rattle.disk_model.specs.Gates.{open_byte}
@@ -17,8 +17,9 @@ use Rattle.commit_log.specs.Openings.{Stores, most_rows}
 use Rattle.commit_log.specs.Tapes.{puts, log_begin, log_walked}
 use Rattle.commit_log.specs.Histories.{IsLogLegal, IsLogSafe}
 
--- a log on a device of this type: the plant's text and its number of tags, the opening's rows, its moment and its faults, the
--- tape, how many puts it has room for, how many rows are acknowledged, where the next block goes, and whether a commit failed
+-- The model of a log on a device of type D: the plant's text and its number of tags; the opening's rows, moment and
+-- faults; the tape, and how many puts it has room for; how many rows are acknowledged, and where the next block goes;
+-- whether a commit failed; and the device.
 pub record ToldLog (D : Type 0) : Type 0 where
   pub plant : List ℕ
   pub tags : ℕ
@@ -34,24 +35,24 @@ pub record ToldLog (D : Type 0) : Type 0 where
 
 -- ---- what its type keeps
 
--- there is room for each put to come, and there are not too many rows
+-- there is room for each put that may still come, and there are not too many rows
 pub record HasRoomForPuts (opening : List LogRow) (tape : List LogTurn) (places count room : ℕ) : Type 0 where
   pub count_is : count ≡ length (puts tape)
   pub within : count ≤ room
   pub tape_room : room + length tape ≤ places + count
   pub few : length opening + room ≤ most_rows
 
--- the turns from one place on wait to be acknowledged
+-- the rows put from place `next` of the tape on wait to be acknowledged
 pub record Waits (opening : List LogRow) (tape : List LogTurn) (next acked : ℕ) : Type 0 where
   pub within : next ≤ length tape
   pub acked_are : acked ≡ length opening + length (puts (take next tape))
 
--- a device that has settled, and stores these rows
+-- the device has settled, and stores these rows
 pub record IsReady (plant : List ℕ) (tags : ℕ) (rows : List LogRow) (end : ℕ) (t : Trace) : Type 0 where
   pub settled : IsSettled (Some t)
   pub stores : Stores plant tags rows end (seen (Some t))
 
--- the device keeps what is acknowledged, for as long as no call of it failed
+-- the device keeps the acknowledged rows as long as no call of it failed
 pub record IsKept (plant : List ℕ) (tags : ℕ) (opening : List LogRow) (moment opened_faults : ℕ) (tape : List LogTurn)
     (next end : ℕ) (failed : Bool) (trace : Option Trace) (ticks faults : ℕ) : Type 0 where
   pub ready : failed ≡ false → IfSome trace (IsReady plant tags (opening ++ puts (take next tape)) end)
@@ -60,9 +61,9 @@ pub record IsKept (plant : List ℕ) (tags : ℕ) (opening : List LogRow) (momen
   pub faultless : failed ≡ false → faults ≡ opened_faults
   pub cause : failed ≡ true → Rose opened_faults faults
 
--- ---- what the calls answer and change
+-- ---- what the calls return and change
 
--- how many rows there are, the opening's among them
+-- how many rows there are, with the opening's
 abbrev pub row_count : {D : Type 0} → ToldLog D → ℕ
 row_count s = length s.opening + length (puts s.tape)
 
@@ -73,15 +74,15 @@ waiting s = drop (s.acked - length s.opening) (puts s.tape)
 abbrev pub rows_waiting : {D : Type 0} → ToldLog D → ℕ
 rows_waiting s = row_count s - s.acked
 
--- why a log does not append a row, if it does not
+-- why a log refuses to append a row, or None if it appends it
 abbrev pub put_refusal : {D : Type 0} → ToldLog D → LogRow → Option PutRowNo
 put_refusal s row =
     if nat_le s.tags row.tag then Some (NoTag s.tags)
     else (if s.failed then Some Broken
     else (if nat_eq (length (puts s.tape)) s.room then Some (RoomFull s.room) else None))
 
--- the rows that have waited longest are acknowledged, as many as a block has at most: the device has them as one block behind
--- the others, and the tape how many rows are acknowledged since, and its clock
+-- The rows that have waited longest are acknowledged, as many as one block may have. The device has them as one block
+-- after the others. The tape has the new number of acknowledged rows, and the device's clock.
 pub record AreRowsAcknowledged {D : Type 0} (trace : D → Option Trace) (ticks : D → ℕ) (a : LogAcked) (old new : ToldLog D) : Type 0 where
   pub rows : List LogRow
   pub rows_are : rows ≡ take most_in_block (waiting old)
@@ -97,15 +98,15 @@ pub record AreRowsAcknowledged {D : Type 0} (trace : D → Option Trace) (ticks 
     dev = new.dev;
   }
 
--- a call of its device failed: nothing else changed
+-- a call of its device failed, and nothing else changed
 pub record IsLogFaulted {D : Type 0} (old new : ToldLog D) : Type 0 where
   pub failed : new.failed ≡ true
   pub changed : new ≡ record old { failed = true; dev = new.dev }
 
--- ---- what a log tells of its history
+-- ---- what a log promises of its history
 
--- The history of a log on a device that tells these calls, this clock and these faults. It is legal; what a crash leaves is
--- safe; no moment is above the clock.
+-- The history of a log on a device with this trace, this clock and this number of faults. It is legal. What a crash
+-- leaves is safe. No moment is later than the clock.
 pub record IsLogHistory (plant : List ℕ) (tags : ℕ) (opening : List LogRow) (moment opened_faults : ℕ) (tape : List LogTurn)
     (acked : ℕ) (trace : Option Trace) (ticks faults : ℕ) : Type 0 where
   pub legal : IsLogLegal tags opening moment tape acked
@@ -115,12 +116,12 @@ pub record IsLogHistory (plant : List ℕ) (tags : ℕ) (opening : List LogRow) 
   pub few : length opening + length (puts tape) ≤ most_rows
   pub faults_since : (faults ≡ opened_faults) ⊎ Rose opened_faults faults
 
--- that of a log
+-- the history of this log
 abbrev pub HasHistory : {D : Type 0} → (D → Option Trace) → (D → ℕ) → (D → ℕ) → ToldLog D → Type 0
 HasHistory trace ticks faults s =
     IsLogHistory s.plant s.tags s.opening s.moment s.faults s.tape s.acked (trace s.dev) (ticks s.dev) (faults s.dev)
 
--- that which is handed out
+-- the history that was returned at the log's end
 abbrev pub IsHandedOut : LogHistory → Option Trace → ℕ → ℕ → Type 0
 IsHandedOut h trace ticks faults =
     IsLogHistory h.plant.items h.tags h.opening.items h.moment h.faults h.tape.items h.acked trace ticks faults

@@ -1,4 +1,4 @@
-// Reading the blocks of an image that is in memory.
+// Reading the blocks of an image in memory.
 ghost use Rattle.std.specs.Prelude.{◌≡◌, ℕ, ◌+◌, ◌^◌, ◌<◌, ◌&&◌, Option, IfOk, IsErrOf, length, nat_le};
 ghost use Rattle.archive_file.specs.declared.failure.ScanNo.TheVariants.{Damaged, DeviceFault};
 ghost use Rattle.archive_file.specs.LayoutFields.{BreaksFirst};
@@ -12,16 +12,16 @@ use archive_file::{Field, ScanNo, byte_at, check, long_at, short_at};
 use disk_model::OPEN;
 use std::alloc::Global;
 
-/// The rows on a device.
+/// The rows that a device stores.
 #[derive(Drop)]
 pub struct Stored {
-    /// The oldest first.
+    /// The rows, the oldest first.
     pub rows: Vec<LogRow>,
-    /// Where the next block goes: the gate in front of it.
+    /// Where the next block goes: the place of its gate.
     pub end: u64,
 }
 
-// Reads the blocks from the gate at a place on, of a plant with so many tags.
+// Reads the blocks from the gate at this place on, of a plant with so many tags.
 pub(crate) fn parse_blocks(alloc: Global, c: &[u8], at: usize, tags: u32) -> Result<Stored, ScanNo>
     requires gate { at < length c.now }
     requires small { length c.now < 2 ^ 63 }
@@ -42,7 +42,8 @@ pub(crate) fn parse_blocks(alloc: Global, c: &[u8], at: usize, tags: u32) -> Res
     })
 }
 
-// Adds the rows of the block behind the gate at a place, which follow these, and answers where the next gate is.
+// Adds the rows of the block after this gate to `rows`, and returns the place of the next gate. The block's first row
+// has the number that comes after those in `rows`.
 fn read_block(c: &[u8], gate: usize, tags: u32, rows: &mut Vec<LogRow>) -> Result<usize, ScanNo>
     requires gate { gate < length c.now }
     requires small { length c.now < 2 ^ 63 }

@@ -1,4 +1,4 @@
-// Rows are acknowledged.
+// Acknowledging rows.
 ghost use Rattle.std.specs.Prelude.{◌≡◌, ◌↔◌, ◌+◌, ◌<◌, ◌≤◌, Ok, IfOk, IsErrOf, OnOk, false, true, vec_capacity, vec_len};
 ghost use Rattle.disk_model.specs.Calls.{CountsFault, Rose};
 ghost use Rattle.commit_log.specs.declared.refusal.LogCommitNo.TheVariants.{Broken, DeviceFault, WantOfMemory as NoMemory};
@@ -23,9 +23,12 @@ impl From<AllocError> for LogCommitNo {
 }
 
 impl<D: Disk> Log<D> {
-    /// Acknowledges the rows that have waited longest, 4,096 at most, as one block. Where nothing waits, nothing is called and nothing
-    /// changes. Broken is answered where an earlier commit answered DeviceFault, and DeviceFault where a call of the device
-    /// fails. Want of memory comes before any call, also where the device would pass 2^64 bytes; the log is then as it was.
+    /// Acknowledges the rows that have waited longest, 4,096 at most, as one block. If no row waits, it makes no call
+    /// of the device and changes nothing. It returns how many rows are acknowledged, and how many still wait.
+    ///
+    /// Broken: an earlier commit returned DeviceFault. DeviceFault: a call of the device failed. WantOfMemory: there
+    /// was no memory, or the block would end beyond 2^64 bytes. WantOfMemory comes before any call of the device, and
+    /// leaves the log unchanged.
     pub fn commit(&mut self) -> Result<LogAcked, LogCommitNo>
         ensures broken { IsErrOf result Broken ↔ (self.old.failed ≡ true) }
         ensures idle { self.old.failed ≡ false → rows_waiting self.old ≡ 0
@@ -76,7 +79,7 @@ impl<D: Disk> Log<D> {
     }
 }
 
-// Makes places on a tape for the puts to come and for one commit.
+// Makes room on a tape for the puts to come and for one commit.
 fn make_places(tape: &mut Vec<LogTurn>, puts_to_come: u32) -> Result<(), AllocError>
     ensures same { tape.new.items ≡ tape.old.items }
     ensures room { OnOk result (vec_len tape.old + puts_to_come + 1 ≤ vec_capacity tape.new) }

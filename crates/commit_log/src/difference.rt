@@ -2,7 +2,8 @@
 ghost use Rattle.std.specs.Prelude.{◌≡◌, ◌≤◌, None, IfSome, length};
 ghost use Rattle.commit_log.specs.Images.{DiffersAt};
 
-// The first place where two texts differ, or the length of the shorter one where they do not differ before it.
+// Returns the first place where two texts differ. If one is the beginning of the other, that is the length of the
+// shorter one. It returns None if they are equal.
 pub(crate) fn first_difference(xs: &[u8], ys: &[u8]) -> Option<usize>
     ensures differs { IfSome result (DiffersAt xs.now ys.now) }
     ensures same { result ≡ None → xs.now ≡ ys.now }

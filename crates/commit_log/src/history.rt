@@ -1,4 +1,4 @@
-// What the calls of a log leave on its tape and answer, and what it hands out at the end.
+// What the calls of a log leave on its tape and return, and what the log returns at its end.
 use crate::row::LogRow;
 
 /// What one call of a log left on its tape.
@@ -10,7 +10,7 @@ pub enum LogTurn {
     Commit {
         /// The device's clock after the last call of this commit.
         moment: u64,
-        /// How many rows are acknowledged since, the opening's among them.
+        /// How many rows are acknowledged from then on, with the opening's.
         acked: u64,
     },
 }
@@ -22,22 +22,22 @@ pub struct LogHistory {
     pub plant: Vec<u8>,
     /// How many tags the plant has.
     pub tags: u32,
-    /// The rows that stood on the device, the oldest first.
+    /// The rows that the device had when it was opened, the oldest first.
     pub opening: Vec<LogRow>,
-    /// The device's clock as the opening ended.
+    /// The device's clock at the end of the opening.
     pub moment: u64,
-    /// How often a call of the device had failed then.
+    /// How often a call of the device had failed by the end of the opening.
     pub faults: u64,
     /// What the calls left, the oldest first.
     pub tape: Vec<LogTurn>,
-    /// How many rows are acknowledged at the end, the opening's among them.
+    /// How many rows are acknowledged at the end, with the opening's.
     pub acked: u64,
 }
 
 /// What is acknowledged after a commit.
 #[derive(Clone, Copy, Debug, PartialEq, Eq)]
 pub struct LogAcked {
-    /// How many rows no crash takes away, the opening's among them.
+    /// How many rows no crash takes away, with the opening's.
     pub acked: u64,
     /// How many rows wait for a later commit.
     pub waiting: u64,

@@ -1,4 +1,4 @@
-// Reading of a log's device.
+// Reading a log's device.
 ghost use Rattle.std.specs.Prelude.{◌≡◌, ℕ, ◌+◌, ◌^◌, ◌<◌, Option, IfOk, IsErrOf, length};
 ghost use Rattle.disk_model.specs.Calls.{CountsFault, Shows};
 ghost use Rattle.commit_log.specs.declared.refusal.LogNo.TheVariants.{Damaged, DeviceFault, OtherPlant, TooMany};
@@ -12,11 +12,11 @@ use archive_file::{read_all, read_head};
 use disk_model::Disk;
 use std::alloc::Global;
 
-// The letters behind the gate of the layout.
+// The letters after the gate of the layout.
 pub(crate) const LETTERS: [u8; 4] = *b"PHC1";
 
-// Reads the log of a plant with this text and so many tags; none is on a new device. Names the first byte of the first field that
-// breaks the layout, or the place where the text differs.
+// Reads the log of a plant with this text and so many tags. A new device has none: it returns None. It returns Damaged
+// with the first byte of the first field that breaks the layout, and OtherPlant with the place where the text differs.
 pub(crate) fn read_log<D: Disk>(
     alloc: Global,
     dev: &mut D,
@@ -37,7 +37,7 @@ pub(crate) fn read_log<D: Disk>(
     parse_log(alloc, &bytes, plant, tags)
 }
 
-// What stands on an image.
+// Reads a log from an image.
 fn parse_log(alloc: Global, c: &[u8], plant: &[u8], tags: u32) -> Result<Option<Stored>, LogNo>
     requires { length c.now < 2 ^ 63 }
     ensures found { IfOk result (λ f. IsFound plant.now tags f c.now) }

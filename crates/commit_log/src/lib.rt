@@ -1,19 +1,26 @@
 //! The log of a plant: the raw values of all its tags, in one order, on one device.
 //!
-//! The device begins with the plant's text, which is the names of its tags; behind it stand blocks, one for each commit, each
-//! behind a gate. A block has the number of its first row and some rows. An image stands for rows (`specs/Images.antt`): for none
-//! where it is new, and else for what its blocks list, in order. Where a device breaks the format is defined over the list of its
-//! fields, as the first that does not keep its rule (`archive_file`).
+//! The device begins with the plant's text, which is the names of its tags. Blocks follow, one for each commit, each
+//! after its gate. A block has the number of its first row, and some rows.
 //!
-//! A log is seen as its opening, the rows that stood on the device, and its tape: each put leaves its row there, and each commit
-//! what is acknowledged since. What is found under a lock is known by its type alone, so the type keeps that the history is legal
-//! (`specs/Histories.antt`), and that what a crash at any moment since the opening leaves stands for the opening followed by the
-//! oldest rows that were put, with all that the last commit at that moment or before it acknowledges. So each tag keeps the first
-//! of its own values, with all that are acknowledged ([`each_tag_keeps_a_prefix`]).
+//! An image stands for rows (`specs/Images.antt`). A new device stands for none. An image of the plant's log that
+//! breaks no rule stands for the rows that its blocks list, in order. A damaged device breaks the format at the first
+//! field that does not keep its rule. The specs define this over the list of its fields (`archive_file`).
 //!
-//! [`open_log`] syncs a device, and begins it or reads it; [`Log::put`] appends one row and takes no memory; [`Log::commit`] writes
-//! the oldest rows that wait as one block, behind a closed gate which it then opens. A commit whose device failed leaves the log
-//! broken. [`Log::into_history`] hands out all that the type keeps.
+//! A log is modelled by its opening and its tape. The opening is the rows that the device had when it was opened. Each
+//! put leaves its row on the tape, and each commit leaves how many rows are acknowledged from then on. Behind a lock
+//! only the type of a log is known, so the type itself keeps these two promises:
+//!
+//! - The history is legal (`specs/Histories.antt`).
+//! - A crash at any moment since the opening leaves an image that stands for the opening followed by the oldest puts.
+//!   All rows that were acknowledged by that moment are among them.
+//!
+//! So after a crash each tag keeps the first of its own values, and all acknowledged ones among them
+//! ([`each_tag_keeps_a_prefix`]).
+//!
+//! [`open_log`] syncs a device, and then reads it, or begins it if it is new. [`Log::put`] appends one row and takes no
+//! memory. [`Log::commit`] writes the oldest rows that wait as one block, after a closed gate, and then opens the gate.
+//! If a call of the device fails in a commit, the log is broken. [`Log::into_history`] returns all that the type keeps.
 #![tactic(auto)]
 
 mod block_reader;

@@ -1,4 +1,4 @@
-// A log: the raw values of a plant with all that lies under its lock.
+// A log: the raw values of a plant, with all that is under its lock.
 ghost use Rattle.std.specs.Prelude.{◌≡◌};
 ghost use Rattle.commit_log.specs.Told.{HasHistory, IsHandedOut};
 
@@ -18,13 +18,13 @@ pub struct Log<D: Disk> {
     pub(crate) moment: u64,
     pub(crate) faults: u64,
     pub(crate) tape: Vec<LogTurn>,
-    // How many puts the tape has, and how many it may have.
+    // How many puts the tape has, and how many it has room for.
     pub(crate) count: u32,
     pub(crate) room: u32,
-    // The turns before this place of the tape are acknowledged, and so many rows are.
+    // The turns before place `next` of the tape are acknowledged; `acked` rows are.
     pub(crate) next: usize,
     pub(crate) acked: u64,
-    // Where the next block goes: the gate in front of it.
+    // Where the next block goes: the place of its gate.
     pub(crate) end: u64,
     pub(crate) failed: bool,
     pub(crate) dev: D,
@@ -61,29 +61,29 @@ impl<D: Disk> Model for Log<D> {
 }
 
 impl<D: Disk> Log<D> {
-    /// The rows that stood on the device as it was opened, the oldest first.
+    /// Returns the rows that the device had when it was opened, the oldest first.
     pub fn opening(&self) -> &[LogRow]
         ensures { result.now ≡ self.now.opening }
     {
         &self.opening
     }
 
-    /// The device's clock as the opening ended.
+    /// Returns the device's clock at the end of the opening.
     pub fn moment(&self) -> u64
         ensures { result ≡ self.now.moment }
     {
         self.moment
     }
 
-    /// How often a call of the device had failed as it was opened.
+    /// Returns how often a call of the device had failed by the end of the opening.
     pub fn faults(&self) -> u64
         ensures { result ≡ self.now.faults }
     {
         self.faults
     }
 
-    /// What the calls so far left, the oldest first. The history is legal, what a crash leaves is safe, and no moment is above the
-    /// device's clock.
+    /// Returns what the calls so far left, the oldest first. The history is legal, and what a crash leaves is safe. No
+    /// moment on the tape is later than the device's clock.
     pub fn tape(&self) -> &[LogTurn]
         ensures tape { result.now ≡ self.now.tape }
         ensures history { HasHistory D.trace D.ticks D.fault_count self.now }
@@ -91,28 +91,28 @@ impl<D: Disk> Log<D> {
         &self.tape
     }
 
-    /// The names of the plant's tags, in base order, with a line feed between two.
+    /// Returns the names of the plant's tags, in base order, with a line feed between two.
     pub fn plant(&self) -> &[u8]
         ensures { result.now ≡ self.now.plant }
     {
         &self.plant
     }
 
-    /// How many tags the plant has.
+    /// Returns how many tags the plant has.
     pub fn tags(&self) -> u32
         ensures { result ≡ self.now.tags }
     {
         self.tags
     }
 
-    /// How often a call of the device has failed.
+    /// Returns how often a call of the device has failed.
     pub fn device_faults(&self) -> u64
         ensures { result ≡ D.fault_count self.now.dev }
     {
         self.dev.faults()
     }
 
-    /// The device, and all that happened to the log since it was opened.
+    /// Returns the device, and all that happened to the log since it was opened.
     pub fn into_history(self) -> (D, LogHistory)
         ensures device { result.0 ≡ self.dev }
         ensures plant { result.1.plant.items ≡ self.plant }

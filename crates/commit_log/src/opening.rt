@@ -1,4 +1,4 @@
-// A log is opened.
+// Opening a log.
 ghost use Rattle.std.specs.Prelude.{◌≡◌, ℕ, ◌+◌, ◌<◌, ◌≤◌, [], All, Option, IfErr, IfOk, IfSome, IsErrOf, OnErr, OnOk, false, length, vec_capacity};
 ghost use Rattle.disk_model.specs.Calls.{CountsFault, Shows};
 ghost use Rattle.disk_model.specs.Gates.{IsNew};
@@ -20,14 +20,18 @@ use archive_file::{PutNo, begin_layout};
 use disk_model::Disk;
 use std::alloc::Global;
 
-// How many rows a log holds at most, with those that it has room for.
+// How many rows a log has at most, together with those that it has room for.
 const MOST_ROWS: u64 = 4_000_000;
 
-/// Opens the log of a plant with this text, the names of its tags in base order with a line feed between two, and so many tags,
-/// with room for so many puts. It begins with a sync; a new device is begun, and another one read. A crash at any moment leaves
-/// what it might have left before, or what stands for the same rows. A device that is not opened is handed back: a call of it
-/// failed, its layout is damaged, it is that of another plant, the rows and the room are more than 4,000,000, or memory is
-/// wanting.
+/// Opens the log of a plant on a device, with room for so many puts. `plant` is the names of its `tags` tags in base
+/// order, with a line feed between two.
+///
+/// It syncs the device first. Then it reads the device, or begins it if it is new. A crash at any moment leaves what a
+/// crash might have left before, or an image that stands for the same rows. If the log is not opened, the device is
+/// returned with the reason.
+///
+/// DeviceFault: a call of the device failed. Damaged: its layout is damaged. OtherPlant: it is that of another plant.
+/// TooMany: its rows and the room together are more than 4,000,000. WantOfMemory: there was no memory.
 pub fn open_log<D: Disk>(
     alloc: Global,
     dev: D,
@@ -35,7 +39,7 @@ pub fn open_log<D: Disk>(
     tags: u32,
     room: u32,
 ) -> Result<Log<D>, LogFail<D>>
-    // It has the rows for which the device's bytes stood.
+    // The log has the rows for which the device's bytes stood.
     ensures opened { IfOk result (λ l. Shows (D.trace dev) (λ c. StandsForRows plant.now tags c l.opening)) }
     ensures any_moment { IfOk result (λ l. During (D.trace dev) (D.trace l.dev) (IsLeftOrStands plant.now tags l.opening (D.trace dev))) }
     ensures any_moment_refused { IfErr result (λ e. During (D.trace dev) (D.trace e.dev) (IsLogLeftOrSame plant.now tags (D.trace dev))) }
@@ -50,7 +54,7 @@ pub fn open_log<D: Disk>(
     ensures moment { IfOk result (λ l. l.moment ≡ D.ticks l.dev) }
     ensures faults { IfOk result (λ l. l.faults ≡ D.fault_count l.dev) }
 
-    // A refusal tells its cause. One fault is counted where a call of the device has failed, and else none.
+    // A refusal states its cause. The device counts one fault if a call of it has failed, and otherwise none.
     ensures cause { IfErr result (λ e. IsLogCause plant.now tags room (D.trace dev) e.why) }
     ensures faultless { IfOk result (λ l. D.fault_count l.dev ≡ D.fault_count dev) }
     ensures counts { IfErr result (λ e. CountsLogRefusal e.why (D.fault_count dev) (D.fault_count e.dev)) }
@@ -62,8 +66,8 @@ pub fn open_log<D: Disk>(
     }
 }
 
-/// What a log needs beside its device: its own copy of the plant's text, the rows on the device and where the next block goes, and
-/// a tape with room.
+/// What a log needs besides its device: its own copy of the plant's text, the rows on the device, where the next block
+/// goes, and a tape with room.
 #[derive(Drop)]
 pub struct Parts {
     pub plant: Vec<u8>,
@@ -72,7 +76,7 @@ pub struct Parts {
     pub tape: Vec<LogTurn>,
 }
 
-// The log on a device that was opened.
+// Returns the log on a device that was opened.
 fn log_of<D: Disk>(alloc: Global, dev: D, tags: u32, room: u32, parts: Parts) -> Log<D>
     requires ready { IfSome (D.trace dev) (IsReady parts.plant.items tags parts.rows.items parts.end) }
     requires rows { All (IsLogRow tags) parts.rows.items }
@@ -114,7 +118,7 @@ fn log_of<D: Disk>(alloc: Global, dev: D, tags: u32, room: u32, parts: Parts) ->
     }
 }
 
-// Syncs and reads a device, and begins it where it is new.
+// Syncs and reads a device, and begins it if it is new.
 fn open_parts<D: Disk>(
     alloc: Global,
     dev: &mut D,
@@ -144,7 +148,7 @@ fn open_parts<D: Disk>(
     }
 }
 
-// What a log needs of what is stored: refuses rows that are too many with the room.
+// Returns what a log needs, from what the device stores. It refuses rows that are too many together with the room.
 fn parts_of(alloc: Global, stored: Stored, plant: &[u8], room: u32) -> Result<Parts, LogNo>
     ensures rows { IfOk result (λ p. p.rows.items ≡ stored.rows.items) }
     ensures end { IfOk result (λ p. p.end ≡ stored.end) }

@@ -1,4 +1,4 @@
-// A row is appended.
+// Appending a row.
 ghost use Rattle.std.specs.Prelude.{◌≡◌, [], ◌∷◌, ◌++◌, None, Some, IfOk, IsErrOf, OnErr, OnOk, MatchResult};
 ghost use Rattle.trend_num.specs.Ranges.{InRange};
 ghost use Rattle.disk_model.specs.Calls.{Rose};
@@ -13,9 +13,11 @@ use crate::row::LogRow;
 use disk_model::Disk;
 
 impl<D: Disk> Log<D> {
-    /// Appends a row, and answers its place among all rows, counted from 0 with the opening's. It is refused where its tag is no tag
-    /// of the plant, else where an earlier commit answered DeviceFault, else where as many rows were put as there is room for; the
-    /// log is then as it was. It takes no memory. The point is in range.
+    /// Appends a row whose point is in range, and returns its place among all rows, counted from 0 with the opening's.
+    /// It takes no memory. A refusal leaves the log unchanged.
+    ///
+    /// NoTag: the plant has no such tag. Broken: an earlier commit returned DeviceFault. RoomFull: the log has no room
+    /// for another put. If several hold, the first of them is returned.
     pub fn put(&mut self, row: LogRow) -> Result<u64, PutRowNo>
         requires { InRange row.point }
         ensures refused { MatchResult result (λ _. put_refusal self.old row ≡ None) (λ e. put_refusal self.old row ≡ Some e) }

@@ -6,21 +6,22 @@ use archive_file::ScanNo;
 pub enum LogNo {
     /// A call of the device failed.
     DeviceFault,
-    /// The byte at `at`, the first of a field, breaks the layout; `None` where the device ends there.
+    /// The byte at `at`, the first of a field, breaks the layout. It is `None` if the device ends there.
     Damaged { at: u64, byte: Option<u8> },
-    /// The device is that of another plant: the place of the first byte in which the two texts differ, or the length of the
-    /// shorter one where they do not differ before it.
+    /// The device is that of another plant. `at` is the place of the first byte in which the two texts differ. If one
+    /// text is the beginning of the other, it is the length of the shorter one.
     OtherPlant { at: u32 },
-    /// The rows on the device and those that there should be room for are more than 4,000,000: how many they are together.
+    /// The rows on the device, together with the puts that there should be room for, are more than 4,000,000. `rows` is
+    /// how many they are.
     TooMany { rows: u64 },
-    /// There was no memory, or the text of the plant of a new device has 2^32 bytes or more.
+    /// There was no memory; or the device is new, and the plant's text has 2^32 bytes or more.
     WantOfMemory,
 }
 
 /// A device that was not opened, and why.
 #[derive(Drop)]
 pub struct LogFail<D> {
-    /// The device, given back.
+    /// The device that was passed in.
     pub dev: D,
     /// Why it was not opened.
     pub why: LogNo,
@@ -29,22 +30,22 @@ pub struct LogFail<D> {
 /// Why a row is not appended.
 #[derive(Clone, Copy, Debug, PartialEq, Eq)]
 pub enum PutRowNo {
-    /// The tag is none of the plant, which has `tags` tags.
+    /// The plant has no such tag; it has `tags` tags.
     NoTag { tags: u32 },
-    /// An earlier commit answered DeviceFault.
+    /// An earlier commit returned DeviceFault.
     Broken,
-    /// As many rows were put as there is room for: `room`.
+    /// The log has no room for another put; `room` is how many it had room for.
     RoomFull { room: u32 },
 }
 
 /// Why nothing is acknowledged.
 #[derive(Clone, Copy, Debug, PartialEq, Eq)]
 pub enum LogCommitNo {
-    /// An earlier commit answered DeviceFault.
+    /// An earlier commit returned DeviceFault.
     Broken,
-    /// A call of the device failed. The device is opened again before it is used.
+    /// A call of the device failed. The device has to be opened again before it is used.
     DeviceFault,
-    /// There was no memory, or the block would end past 2^64 bytes. Nothing was called, and the log is as it was.
+    /// There was no memory, or the block would end beyond 2^64 bytes. No call was made, and the log is unchanged.
     WantOfMemory,
 }
 

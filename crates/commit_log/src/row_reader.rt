@@ -11,7 +11,7 @@ use crate::writer::ROW_LEN;
 use archive_file::{Field, ScanNo, check, long_at, short_at};
 use trend_num::{MAX_DEV, MAX_T, Point};
 
-// Adds so many rows from a place on, each of one of so many tags.
+// Adds so many rows, whose bytes lie from this place on. Each is of a plant with so many tags.
 pub(crate) fn read_rows(
     c: &[u8],
     at: usize,
@@ -38,7 +38,7 @@ pub(crate) fn read_rows(
     Ok(())
 }
 
-// The row at a place.
+// Reads the row at this place.
 fn read_row(c: &[u8], at: usize, tags: u32) -> Result<LogRow, ScanNo>
     requires there { at ≤ length c.now }
     requires small { length c.now < 2 ^ 63 }
@@ -55,7 +55,7 @@ fn read_row(c: &[u8], at: usize, tags: u32) -> Result<LogRow, ScanNo>
     Ok(row)
 }
 
-// What stands at a place, read as a row.
+// Returns the bytes at this place, read as a row.
 fn row_at(c: &[u8], at: usize) -> LogRow
     requires there { at ≤ length c.now }
     requires small { length c.now < 2 ^ 63 }
@@ -72,7 +72,7 @@ fn row_at(c: &[u8], at: usize) -> LogRow
     }
 }
 
-// Refuses a row at a place in the first of its fields that is not there or breaks its rule.
+// Refuses a row at the first of its fields that is not there or breaks its rule.
 fn check_row(c: &[u8], at: usize, tags: u32, row: LogRow) -> Result<(), ScanNo>
     requires there { at ≤ length c.now }
     requires small { length c.now < 2 ^ 63 }

@@ -10,7 +10,7 @@ use archive_file::{put, put_point};
 use arrayvec::ArrayVec;
 use std::alloc::{AllocError, Global};
 
-// The byte of a gate that is not opened yet.
+// The byte of a gate that is closed.
 const CLOSED: u8 = 0;
 
 // How many bytes a block has before its rows: its gate, the number of its first row, and how many rows there are.
@@ -22,14 +22,14 @@ pub(crate) const ROW_LEN: usize = 32;
 // How many rows a block has at most.
 pub(crate) const MOST_IN_BLOCK: u32 = 4_096;
 
-/// The bytes of a block behind its gate, up to the next gate, which is closed, and how many turns were gone over for its rows.
+/// The bytes of a block after its gate, with the next gate, which is closed; and over how many turns its rows reached.
 #[derive(Drop)]
 pub struct BlockBytes {
     pub bytes: Vec<u8>,
     pub turns: usize,
 }
 
-// The block of the first so many rows of these turns, of which the first has this number.
+// Returns the block of the first `count` rows of these turns. The first row has this number.
 pub(crate) fn block_bytes(
     alloc: Global,
     number: u64,
@@ -47,7 +47,7 @@ pub(crate) fn block_bytes(
     Ok(BlockBytes { bytes, turns })
 }
 
-// Adds the first so many rows of these turns at the end, and answers how many turns were gone over.
+// Appends the first `count` rows of these turns, and returns over how many turns they reached.
 fn put_rows(bytes: &mut Vec<u8>, count: u32, rest: &[LogTurn]) -> Result<usize, AllocError>
     requires there { count ≤ length (puts rest.now) }
     ensures { IfOk result (WritesRows count rest.now bytes.old.items bytes.new.items) }
@@ -62,7 +62,7 @@ fn put_rows(bytes: &mut Vec<u8>, count: u32, rest: &[LogTurn]) -> Result<usize, 
     Ok(turns)
 }
 
-// Adds the row of a turn at the end, if it has one, and answers how many rows it has.
+// Appends the row of a turn if it has one, and returns how many rows that were: 0 or 1.
 fn put_turn(bytes: &mut Vec<u8>, turn: &LogTurn) -> Result<u32, AllocError>
     ensures bytes { OnOk result (bytes.new.items ≡ bytes.old.items ++ rows_image (puts (turn.now ∷ []))) }
     ensures count { IfOk result (λ n. n ≡ length (puts (turn.now ∷ []))) }

@@ -14,7 +14,7 @@ use Rattle.archive_file.proofs.Joins.{images_more}
 use Rattle.archive_file.proofs.Points.{point_at-bytes}
 use Rattle.event_queue.specs.Slots.{batch_bytes, slot_points, count_in, batch_in}
 
--- so many points of a batch are written behind its two numbers
+-- so many points of a batch are written after its two numbers
 pub record IsWritten (first : ℕ) (points : List Point) (i : ℕ) (bytes : List ℕ) : Type 0 where
   pub items : bytes ≡ number_bytes 8 first
       ++ (number_bytes 2 (length points) ++ flat_map point_bytes (take i points))

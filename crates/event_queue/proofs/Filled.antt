@@ -1,4 +1,4 @@
--- A lane in use, before and behind an append.
+-- A lane in use, before and after an append.
 use Rattle.std.proofs.Common.{◌≡◌, ◌≢◌, inl, inr, ⊎_elim, ℕ, zero, suc, ◌+◌, ◌-◌, ◌^◌, ◌<◌, ◌≤◌}
 use Rattle.std.proofs.Common.{List, ◌++◌}
 use Rattle.std.proofs.Common.{length, get_or, take, drop, refl, sym, ◌∙◌, ap, subst, arith, length-append}
@@ -55,7 +55,7 @@ pub lane_front : (slots taken n m : ℕ) (c : List ℕ) → m ≤ n → IsLane s
 lane_front slots taken n m c le lane = record
     { sound = λ k below opened. lane.sound k (omega (arith, below, le)) opened }
 
--- where these bytes stand at a slot's beginning, the slot holds their batch
+-- if these bytes lie at a slot's beginning, the slot holds their batch
 pub batch_held : (slots k first : ℕ) (ps : List Point) (c : List ℕ) → first < 2 ^ 64 → length ps ≤ 64
     → All InRange ps
     → take (length (batch_bytes first ps)) (drop (place_of slots k) c) ≡ batch_bytes first ps
@@ -123,7 +123,7 @@ module _ (slots taken used next : ℕ) (held batch : List Point) (old new : List
         same = λ k there opened. slot_same k (was_used k there opened);
       }
 
-  -- where it is open, the lane holds the batch behind that
+  -- where it is open, the lane holds the batch after that
   pub whole : IsOpen (gate_of used) new → IsFilled slots taken (used + 1) (next + length batch) new
       (held ++ batch)
   whole opened = record {

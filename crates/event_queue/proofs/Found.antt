@@ -94,7 +94,7 @@ module _ (slots taken : ℕ) (c : List ℕ) where
       )) (stale_or_used lane slots (omega arith))
 
   module _ (s : Scanned) (read : IsRead slots taken c slots s) (within : IsWithin slots taken slots s) where
-    -- what a scan tells
+    -- what a scan returns
     pub scanned_overtaken : s.stale ≡ true → IsOvertaken slots taken c
     scanned_overtaken told = record {
       lane = read.lane;

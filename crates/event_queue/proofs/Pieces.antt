@@ -1,4 +1,4 @@
--- What stands in a piece that was read stands on the device.
+-- What is in a piece that was read is on the device.
 use Rattle.std.proofs.Common.{◌≡◌, ◌≢◌, ℕ, ◌+◌, ◌*◌, ◌<◌, ◌≤◌, List, length, get_or, take, drop, Result}
 use Rattle.std.proofs.Common.{Ok, Err, IsErrAnd}
 use Rattle.std.proofs.Common.{sym, ◌∙◌, ap, subst, arith, add-zero}

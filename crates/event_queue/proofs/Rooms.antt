@@ -36,7 +36,7 @@ next_shut o slots used gate room free is = record {
 pub gate_outside : (slots used k at n : ℕ) → k < slots → at ≡ place_of slots used → IsOutside at n (gate_of k)
 gate_outside slots used k at n there is = inl (omega arith)
 
--- a batch was written behind the next gate
+-- a batch was written after the next gate
 pub room_guarded : (slots used : ℕ) (bytes d c : List ℕ) → used < slots → HasRoom slots used d
     → IsGuarded (place_of slots used) bytes (gate_of used) d c → HasRoom slots (used + 1) c
 room_guarded slots used bytes d c free has guarded = record {
@@ -48,7 +48,7 @@ room_guarded slots used bytes d c free has guarded = record {
       has.shut k (omega arith) there (sym same ∙ opened);
 }
 
--- so each image has room behind it
+-- so each image has room after it
 pub room_behind : (o new : Option Trace) (slots used at gate : ℕ) (bytes : List ℕ) → used < slots
     → Now o (HasRoom slots used) → at ≡ place_of slots used → gate ≡ gate_of used
     → During o new (FromOld o (IsGuarded at bytes gate)) → Now new (HasRoom slots (used + 1))

@@ -31,14 +31,14 @@ module _ (slots taken : ℕ) (bytes : List ℕ) where
 
   module _ (k : ℕ) (s : Scanned) (read : IsRead slots taken bytes k s) (within : IsWithin slots taken k s)
     where
-      -- where some open slot is stale and was told, all are
+      -- if the scan found stale slots, all open slots are stale
       pub told_stale : s.stale ≡ true → (j : ℕ) → j < k → IsOpen (gate_of j) bytes
           → IsStale taken (batch_at slots bytes j)
       told_stale told j j_in j_open =
           let one = read.stale.0 told in
           all_stale k one.0 j read.lane one.1 j_in one.2 j_open one.3
 
-      -- where it was not told, none is
+      -- if it found none, no open slot is stale
       not_stale : s.stale ≡ false → (j : ℕ) → j < k → IsOpen (gate_of j) bytes
           → IsStale taken (batch_at slots bytes j) → ⊥
       not_stale untold j j_in j_open stale = true≢false (sym (read.stale.1 (j, j_in, j_open, stale)) ∙ untold)
@@ -53,7 +53,7 @@ module _ (slots taken : ℕ) (bytes : List ℕ) where
           (read.lane.sound last in_k open_last).follows
 
       module _ (counted : IsCounted (batch_at slots bytes k)) where
-        -- the test is right where it says yes
+        -- the test is right if it answers yes
         pub fits_follow : (stale : Bool) → ((stale ≡ true) ↔ IsStale taken (batch_at slots bytes k))
             → FitsSlot s k (batch_at slots bytes k).first stale
             → FollowsOn slots bytes taken k
@@ -82,7 +82,7 @@ module _ (slots taken : ℕ) (bytes : List ℕ) where
                 next_beyond (s.lane.used - 1) (last_next untold some)
                 (read.lane.sound (s.lane.used - 1) (omega (arith, some, within.used)) (read.last some)).counted
 
-        -- and where it says no: a stale batch stands behind one that is not
+        -- and if it answers no: a stale batch comes after one that is not
         misfit_stale : IsStale taken (batch_at slots bytes k)
             → (FitsSlot s k (batch_at slots bytes k).first true → ⊥)
             → IsStaleBehind slots bytes taken k → ⊥

@@ -1,4 +1,4 @@
--- What a lane holds depends on which gates are open, and on the slots behind these, alone.
+-- What a lane holds depends only on which gates are open, and on the slots that these gates guard.
 use Rattle.std.proofs.Common.{◌≡◌, inl, inr, ⊎_elim, ℕ, zero, suc, ◌+◌, ◌<◌, ◌≤◌, List, ◌++◌, length}
 use Rattle.std.proofs.Common.{get_or}
 use Rattle.std.proofs.Common.{take, drop, refl, sym, ◌∙◌, ap, subst, arith, length-take, length-drop}

@@ -12,7 +12,7 @@ use Rattle.event_queue.specs.Scans.{IsRead}
 use Rattle.event_queue.specs.Pieces.{IsPiece}
 use Rattle.event_queue.proofs.Steps.{read_shut}
 
--- gates and slots that were read of a device that tells its calls
+-- gates and slots that were read from a device with a known trace
 piece_there : (t : Trace) (slots from : ℕ) (gates piece : List ℕ) → length gates ≡ slots
     → Reads (Some t) (gate_of 0) gates
     → Reads (Some t) (place_of slots from) piece → IsPiece slots (seen (Some t)) gates from piece
@@ -62,7 +62,7 @@ read_on slots taken bytes used (suc m) s read shut =
     (read_shut slots taken bytes (used + m) s (shut (used + m) (omega arith) (omega arith))
     (read_on slots taken bytes used m s read (λ k low below. shut k low (omega arith))))
 
--- behind the last open gate there is nothing
+-- after the last open gate there is nothing
 pub read_all : (o : Option Trace) (slots taken n used : ℕ) (gates lent : List ℕ) (s : Scanned) → n ≡ used
     → used ≤ slots → length gates ≡ slots
     → Reads o (gate_of 0) gates → lent ≡ gates

@@ -1,4 +1,4 @@
--- What was read of the first slots goes on to one slot more.
+-- What was read of the first slots extends to one slot more.
 use Rattle.std.proofs.Common.{◌≡◌, ◌≢◌, ◌↔◌, ⊎_elim, ℕ, ◌+◌, ◌<◌, ◌≤◌, Bool, true}
 use Rattle.std.proofs.Common.{min}
 use Rattle.std.proofs.Common.{List, [], ◌++◌, get_or, take, drop, sym, ◌∙◌, ap, subst, arith}

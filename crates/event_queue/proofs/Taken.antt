@@ -34,7 +34,7 @@ none_there : {X : Type 0} (xs : List X) → length xs ≤ 0 → xs ≡ []
 none_there [] none = refl
 none_there (x ∷ xs) none = absurd (omega (arith, none))
 
--- what holds of the whole, whatever the device, goes on to one open slot more
+-- what holds of the whole, whatever the device, extends to one open slot more
 pub within_more : (slots taken k first count : ℕ) (rest : List ℕ) (s new : Scanned) (stale : Bool)
     → IsWithin slots taken k s
     → FitsSlot s k first stale → count ≤ 64 → All InRange (slot_points count rest) → new.lane.slots ≡ s.lane.slots

@@ -7,18 +7,18 @@ use Rattle.archive_file.specs.Fields.{point_at}
 use Rattle.event_queue.specs.Slots.{gate_of, place_of, slot_at, batch_at}
 use Rattle.event_queue.specs.Lanes.{FollowsOn, IsCounted, IsLane}
 
--- the count of slot k is none, which stands 8 bytes behind its beginning
+-- the count of slot k, 8 bytes after the slot's beginning, is not from 1 to 64
 pub record IsCountBroken (slots : ℕ) (bytes : List ℕ) (k o : ℕ) : Type 0 where
   pub field : o ≡ 8
   pub broken : IsCounted (batch_at slots bytes k) → ⊥
 
--- the count is one, and the first number, which stands at its beginning, does not fit
+-- the count is, but the number of the first raw value, at the slot's beginning, does not fit the slots before
 pub record IsFirstBroken (slots : ℕ) (bytes : List ℕ) (taken k o : ℕ) : Type 0 where
   pub field : o ≡ 0
   pub counted : IsCounted (batch_at slots bytes k)
   pub broken : FollowsOn slots bytes taken k → ⊥
 
--- both are good, and point i is out of range, after others in range
+-- both fields are good, and point i is the first that is out of range
 pub record IsPointBroken (slots : ℕ) (bytes : List ℕ) (taken k o i : ℕ) : Type 0 where
   pub field : o ≡ 10 + 16 * i
   pub counted : IsCounted (batch_at slots bytes k)
@@ -27,13 +27,13 @@ pub record IsPointBroken (slots : ℕ) (bytes : List ℕ) (taken k o i : ℕ) : 
   pub before : All InRange (take i (batch_at slots bytes k).points)
   pub broken : InRange (point_at (drop (10 + 16 * i) (slot_at slots bytes k))) → ⊥
 
--- the first field of slot k that breaks the layout begins so many bytes behind the slot's beginning
+-- the first field of slot k that breaks the layout begins so many bytes after the slot's beginning
 abbrev pub BreaksSlotAt : ℕ → List ℕ → ℕ → ℕ → ℕ → Type 0
 BreaksSlotAt slots bytes taken k o =
     IsCountBroken slots bytes k o
     ⊎ (IsFirstBroken slots bytes taken k o ⊎ ((i : ℕ) × IsPointBroken slots bytes taken k o i))
 
--- slot k is open and breaks the layout, and no open one before it does
+-- slot k is open and breaks the layout, and no open slot before it does
 pub record IsSlotDamaged (slots : ℕ) (bytes : List ℕ) (taken a : ℕ) (byte : Option ℕ) (k o : ℕ) : Type 0 where
   pub within : k < slots
   pub before : IsLane slots bytes taken k

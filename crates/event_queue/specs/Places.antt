@@ -1,4 +1,4 @@
--- A place in a lane: what it needs of a device, and what a lane in use holds.
+-- A lane's places: the room that it needs on a device, and what a lane in use holds.
 use Rattle.std.specs.Prelude.{◌≡◌, ◌≢◌, ℕ, ◌+◌, ◌<◌, ◌≤◌, List, length, slice_index}
 use Rattle.trend_num.specs.declared.point.Point.{Point}
 use Rattle.disk_model.specs.Gates.{open_byte, IsOpen}
@@ -10,7 +10,8 @@ pub record HasRoom (slots used : ℕ) (c : List ℕ) : Type 0 where
   pub long : lane_end slots ≤ length c
   pub shut : (k : ℕ) → used ≤ k → k < slots → slice_index c (gate_of k) ≢ open_byte
 
--- a lane in use: its first `used` slots are open, number on from `taken` to `next`, and hold these points
+-- A lane in use. Its first `used` slots are open. Their raw values are numbered from `taken` up to `next`, and are
+-- these points.
 pub record IsFilled (slots taken used next : ℕ) (c : List ℕ) (held : List Point) : Type 0 where
   pub room : HasRoom slots used c
   pub lane : IsLane slots c taken slots

@@ -1,4 +1,4 @@
--- What a scan answers of a lane.
+-- What a scan returns for a lane.
 use Rattle.std.specs.Prelude.{◌≡◌, ◌≢◌, ◌⊎◌, ◌↔◌, ℕ, ◌+◌, ◌*◌, ◌-◌, ◌<◌, ◌≤◌, Bool, true, false, IsTrue, List}
 use Rattle.std.specs.Prelude.{[], length, slice_index}
 use Rattle.std.specs.List.{All}
@@ -8,7 +8,7 @@ use Rattle.event_queue.specs.declared.reader.Scanned.{Scanned}
 use Rattle.event_queue.specs.Slots.{gate_of, batch_at}
 use Rattle.event_queue.specs.Lanes.{IsStale, points_before, IsLane}
 
--- so much holds of what was read of the first n slots, whatever the device
+-- this holds of what was read from the first n slots, whatever the device has
 pub record IsWithin (slots taken n : ℕ) (s : Scanned) : Type 0 where
   pub slots_same : s.lane.slots ≡ slots
   pub used : s.lane.used ≤ n
@@ -17,8 +17,8 @@ pub record IsWithin (slots taken n : ℕ) (s : Scanned) : Type 0 where
   pub in_range : All InRange s.points.items
   pub none_stale : s.stale ≡ true → s.points.items ≡ []
 
--- this was read of the first n slots: each open one keeps the layout, these are the points, and `used` is one above the
--- last open one, or 0
+-- This was read from the first n slots. Each open one keeps the layout, and these are the points. `used` is the number
+-- of the last open slot plus 1, or 0 if none is open.
 pub record IsRead (slots taken : ℕ) (bytes : List ℕ) (n : ℕ) (s : Scanned) : Type 0 where
   pub lane : IsLane slots bytes taken n
   pub points : s.points.items ≡ points_before slots bytes taken n
@@ -27,7 +27,7 @@ pub record IsRead (slots taken : ℕ) (bytes : List ℕ) (n : ℕ) (s : Scanned)
   pub stale : IsTrue s.stale ↔ ((k : ℕ) × (k < n) × IsOpen (gate_of k) bytes
       × IsStale taken (batch_at slots bytes k))
 
--- a batch with this first number may stand in slot k, behind what was read
+-- a batch whose first raw value has this number may be in slot k, after the slots that were read
 abbrev pub FitsSlot : Scanned → ℕ → ℕ → Bool → Type 0
 FitsSlot s k first true = (s.stale ≡ true) ⊎ (s.lane.used ≡ 0)
 FitsSlot s k first false = (s.stale ≡ false) × (s.lane.used ≡ k) × (s.lane.next ≡ first)

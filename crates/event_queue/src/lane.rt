@@ -1,4 +1,4 @@
-// A place in a lane: batches are put there, and the lane begins anew.
+// A position in a lane: appending batches there, and starting the lane anew.
 ghost use Rattle.std.specs.Prelude.{◌≡◌, ◌↔◌, ◌+◌, ◌*◌, ◌<◌, ◌≤◌, ◌^◌, [], ◌∷◌, length, OnOk, OnErr, IsErrOf};
 ghost use Rattle.std.specs.List.{All};
 ghost use Rattle.trend_num.specs.Ranges.{InRange};
@@ -16,7 +16,7 @@ use crate::{DeviceFault, LaneNo};
 use disk_model::{Disk, close_gates, write_guarded};
 use trend_num::Point;
 
-/// A place in the lane of a tag's device.
+/// A position in the lane of a tag's device: where the next batch goes.
 #[derive(Debug, Clone, Copy, PartialEq, Eq)]
 pub struct Lane {
     /// How many lane slots there are.
@@ -28,9 +28,11 @@ pub struct Lane {
 }
 
 impl Lane {
-    /// Puts a batch of 1 to 64 raw values, which number on from `next`, into the next slot: writes the slot, syncs, opens
-    /// its gate, and syncs. At Ok a crash leaves the batch. LaneFull where no slot is free; then nothing is called. After
-    /// DeviceFault the device is opened again before it is used.
+    /// Writes a batch of 1 to 64 raw values, numbered from `next` on, into the next slot. It writes the slot, syncs,
+    /// opens the slot's gate, and syncs again. After Ok no crash loses the batch.
+    ///
+    /// LaneFull: no slot is free; no call of the device was made. DeviceFault: a call of the device failed; the device
+    /// has to be opened again before it is used.
     pub fn append_batch<D: Disk>(&mut self, dev: &mut D, points: &[Point]) -> Result<(), LaneNo>
         requires some { 1 ≤ length points.now }
         requires few { length points.now ≤ 64 }
@@ -39,8 +41,8 @@ impl Lane {
         requires used { self.old.used ≤ self.old.slots }
         requires room { Now (D.trace dev.old) (HasRoom self.old.slots self.old.used) }
 
-        // A crash at any moment leaves an image from before with this batch whole behind its open gate, or that gate
-        // closed; all other gates and slots are as they were.
+        // A crash at any moment leaves an image from before in which either this batch is whole and its gate is open,
+        // or its gate is closed. All other gates and slots are unchanged.
         ensures any_moment { self.old.used < self.old.slots → During (D.trace dev.old) (D.trace dev.new)
             (FromOld (D.trace dev.old) (IsGuarded (place_of self.old.slots self.old.used)
             (batch_bytes self.old.next points.now) (gate_of self.old.used))) }
@@ -75,15 +77,17 @@ impl Lane {
         Ok(())
     }
 
-    /// Closes those gates of the used slots that read open, and syncs: the next batch is written into the first slot. What
-    /// reads closed is not written, since that might open it in a crash. After DeviceFault the device is opened again
-    /// before it is used.
+    /// Closes the gates of the used slots that read open, and syncs. The next batch then goes into the first slot. It
+    /// does not write gates that read closed, because a crash during the write might open them.
+    ///
+    /// DeviceFault: a call of the device failed; the device has to be opened again before it is used.
     pub fn restart<D: Disk>(&mut self, dev: &mut D) -> Result<(), DeviceFault>
         requires used { self.old.used ≤ self.old.slots }
         requires room { Now (D.trace dev.old) (HasRoom self.old.slots self.old.used) }
         requires gates { Now (D.trace dev.old) (HasGatesOf (seen (D.trace dev.old)) (gate_of 0) self.old.used) }
 
-        // A crash at any moment leaves an image from before with some of the used slots' open gates closed or torn.
+        // A crash at any moment leaves an image from before, in which some of the used slots' open gates are closed or
+        // torn.
         ensures any_moment { During (D.trace dev.old) (D.trace dev.new)
             (FromOld (D.trace dev.old) (IsClosing (gate_of 0) self.old.used)) }
 

@@ -1,14 +1,17 @@
-//! The durable queue of a tag, which is called its lane: raw values that a crash does not lose, in batches.
+//! The durable queue of a tag, called its lane. It keeps raw values in batches, so that a crash does not lose them.
 //!
-//! A lane stands at a fixed place of the tag's device: a gate for each lane slot, and the lane slots, each of which holds
-//! one batch of 1 to 64 raw values. The number of a raw value is its place among the tag's events, counted from 0, so
-//! retunings count too. [`Lane::append_batch`] writes the next lane slot and then opens its gate, so at every moment a
-//! crash leaves the earlier batches, and this one whole or not at all. Once a summary counts all of them,
-//! [`Lane::restart`] closes the gates, and the lane begins anew. [`scan`] reads a lane for a summary that counts the first
-//! `taken` events: its points beyond these, or the first byte of the first field that breaks the layout.
+//! A lane lies at a fixed place of the tag's device. First come the gates, one for each lane slot, and then the lane
+//! slots. A slot holds one batch of 1 to 64 raw values. The number of a raw value is its place among the tag's events,
+//! counted from 0; retunings are events too.
 //!
-//! What a lane holds is defined over bytes alone (`specs/Lanes.antt`), so it is said of each image that a crash may leave:
-//! four laws tell what that is for an append and for a restart, and which lanes there are.
+//! [`Lane::append_batch`] writes the next lane slot, and then opens its gate. So a crash at any moment leaves the
+//! earlier batches, and this one whole or not at all. Once a summary counts all batches, [`Lane::restart`] closes the
+//! gates, and the lane starts anew. [`scan`] reads a lane for a summary that counts the first `taken` events. It
+//! returns the points after these, or the first byte of the first field that breaks the layout.
+//!
+//! What a lane holds is defined over bytes alone (`specs/Lanes.antt`), so the definition applies to each image that a
+//! crash may leave. Four laws state what these images hold during an append and during a restart, and which kinds of
+//! lanes there are.
 #![tactic(auto)]
 
 mod failure;

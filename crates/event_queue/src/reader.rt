@@ -1,4 +1,4 @@
-// What a lane holds, read in large pieces.
+// Reading what a lane holds, in large pieces.
 ghost use Rattle.std.specs.Prelude.{◌≡◌, ◌≢◌, ◌↔◌, ◌+◌, ◌*◌, ◌^◌, ◌<◌, ◌≤◌, ℕ, List, length, take, drop};
 ghost use Rattle.std.specs.Prelude.{slice_index, vec_len, Option, IsTrue, IfOk, IfSome, OnOk, OnErr, IsErrOf};
 ghost use Rattle.disk_model.specs.Traces.{seen};
@@ -33,16 +33,19 @@ const POINTS: usize = 10;
 /// What a lane holds beyond the events that a summary counts.
 #[derive(Drop)]
 pub struct Scanned {
-    /// The place behind the last open slot.
+    /// The position after the last open slot.
     pub lane: Lane,
-    /// The points, in order. There are none where the lane is stale.
+    /// The points, in order. There are none if the lane is stale.
     pub points: Vec<Point>,
-    /// Some slot is open, and the summary counts the raw values of all that are.
+    /// Whether some slot is open, and the summary counts the raw values of all open slots.
     pub stale: bool,
 }
 
-/// Reads a lane of so many lane slots for a summary that counts the first `taken` events, or names the first byte of the
-/// first field that breaks the layout, slot by slot. The device is not written.
+/// Reads a lane of so many lane slots, for a summary that counts the first `taken` events. It does not write to the
+/// device.
+///
+/// Damaged: the first byte of the first field that breaks the layout, slot by slot. DeviceFault: a call of the device
+/// failed. WantOfMemory: there was no memory.
 pub fn scan<D: Disk>(alloc: Global, dev: &mut D, slots: u32, taken: u64) -> Result<Scanned, ScanNo>
     requires room { Reaches (D.trace dev.old) (lane_end slots) }
     requires number { taken < 10 ^ 18 }
@@ -72,7 +75,7 @@ pub fn scan<D: Disk>(alloc: Global, dev: &mut D, slots: u32, taken: u64) -> Resu
     Ok(scanned)
 }
 
-// Cuts a piece to so many bytes, and fills it with those from `at` on.
+// Cuts a piece to `len` bytes, and fills it with the device's bytes from `at` on.
 fn refill<D: Disk>(dev: &mut D, at: u64, len: usize, piece: &mut Vec<u8>) -> Result<(), Failed>
     requires there { Reaches (D.trace dev.old) (at + len) }
     requires room { len ≤ vec_len piece.old }
@@ -86,7 +89,7 @@ fn refill<D: Disk>(dev: &mut D, at: u64, len: usize, piece: &mut Vec<u8>) -> Res
     dev.read(at, piece)
 }
 
-// One more than the number of the last open gate, or 0 where none is open.
+// Returns the number of the last open gate plus 1, or 0 if none is open.
 fn used_of(gates: &[u8]) -> u32
     requires { length gates.now < 2 ^ 32 }
     ensures bound { result ≤ length gates.now }
@@ -102,7 +105,7 @@ fn used_of(gates: &[u8]) -> u32
 }
 
 impl Scanned {
-    // Nothing was read so far. There is room for the points of so many slots.
+    // Returns the result of reading no slot yet. It has room for the points of `room` slots.
     fn new(alloc: Global, slots: u32, taken: u64, room: u32) -> Result<Scanned, ScanNo>
         ensures within { IfOk result (IsWithin slots taken 0) }
         ensures read { (bytes : List ℕ) → IfOk result (IsRead slots taken bytes 0) }
@@ -122,7 +125,7 @@ impl Scanned {
         })
     }
 
-    // Takes in the open ones of the slots that stand in a piece, the first of which is slot `from`.
+    // Takes in the open slots of a piece, which has `count` slots from slot `from` on.
     fn take_piece(
         &mut self,
         taken: u64,
@@ -195,7 +198,7 @@ impl Scanned {
         Ok(())
     }
 
-    // Whether the first number of a batch fits the slots before it.
+    // Returns whether the number of a batch's first raw value fits the slots before it.
     fn follows(&self, k: u32, first: u64, stale: bool) -> bool
         ensures { IsTrue result ↔ FitsSlot self.now k first stale }
     {
@@ -207,7 +210,7 @@ impl Scanned {
     }
 }
 
-// The damage of the slot that stands at a place, so many bytes behind it.
+// Returns the damage at a field of the slot at this place; `field` is the field's offset in the slot.
 fn damage(at: u64, slot: &[u8], field: usize) -> ScanNo
     requires len { length slot.now ≡ 1034 }
     requires within { field < 1034 }
@@ -220,14 +223,14 @@ fn damage(at: u64, slot: &[u8], field: usize) -> ScanNo
     }
 }
 
-// Whether the summary counts all raw values of a batch.
+// Returns whether the summary counts all raw values of a batch.
 fn is_stale(first: u64, count: u16, taken: u64) -> bool
     ensures { IsTrue result ↔ (first + count ≤ taken) }
 {
     first <= taken && u64::from(count) <= taken - first
 }
 
-// The bytes of the i-th slot of a piece.
+// Returns the bytes of the i-th slot of a piece.
 fn slot_of(piece: &[u8], i: u32) -> &[u8]
     requires { 1034 * (i + 1) ≤ length piece.now }
     ensures value { result.now ≡ take 1034 (drop (1034 * i) piece.now) }

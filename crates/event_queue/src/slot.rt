@@ -1,4 +1,4 @@
-// The bytes of a slot, and where it stands.
+// The bytes of a slot, and where it lies.
 ghost use Rattle.std.specs.Prelude.{◌≡◌, ◌+◌, ◌*◌, ◌<◌, ◌≤◌, ◌++◌, length, take, drop, IfSome, IfNone, OnOk};
 ghost use Rattle.std.specs.Int.{w16, from_be_bytes};
 ghost use Rattle.std.specs.List.{All};
@@ -23,14 +23,14 @@ pub(crate) const FIRST_GATE: u64 = 400;
 // How many bytes a point has.
 pub(crate) const POINT_LEN: usize = 16;
 
-// Where slot k begins, of so many.
+// Returns where slot k begins, if there are so many slots.
 pub(crate) fn slot_place(slots: u32, k: u32) -> u64
     ensures { result ≡ place_of slots k }
 {
     FIRST_GATE + u64::from(slots) + SLOT_LEN as u64 * u64::from(k)
 }
 
-// The bytes of a batch: the number of its first raw value, how many there are, and their points.
+// Returns the bytes of a batch: the number of its first raw value, how many there are, and their points.
 pub(crate) fn slot_bytes(first: u64, points: &[Point]) -> ArrayVec<u8, SLOT_LEN>
     requires { length points.now ≤ 64 }
     ensures { result.items ≡ batch_bytes first points.now }
@@ -44,7 +44,7 @@ pub(crate) fn slot_bytes(first: u64, points: &[Point]) -> ArrayVec<u8, SLOT_LEN>
     bytes
 }
 
-// The count that stands in the 2 bytes at the front, and what is behind them.
+// Returns the count in the first 2 bytes, and the bytes after them.
 pub(crate) fn take_count(bytes: &[u8]) -> (u16, &[u8])
     requires { 2 ≤ length bytes.now }
     ensures number { result.0 ≡ from_be_bytes w16 (take 2 bytes.now) }
@@ -57,7 +57,7 @@ pub(crate) fn take_count(bytes: &[u8]) -> (u16, &[u8])
     (u16::from_be_bytes(*count), rest)
 }
 
-// Which of so many points that stand one after the other is the first out of range.
+// Returns which of the first `count` points is the first out of range. The bytes of the points lie one after the other.
 pub(crate) fn first_out_of_range(bytes: &[u8], count: usize) -> Option<usize>
     requires { 16 * count ≤ length bytes.now }
     ensures there { IfSome result (λ i. i < count) }
@@ -76,7 +76,7 @@ pub(crate) fn first_out_of_range(bytes: &[u8], count: usize) -> Option<usize>
     None
 }
 
-// Adds so many points that stand one after the other.
+// Appends the first `count` points, whose bytes lie one after the other.
 pub(crate) fn add_points(
     points: &mut Vec<Point>,
     bytes: &[u8],

@@ -1,4 +1,4 @@
--- A sheet has as many inputs whatever it is told.
+-- A sheet has as many inputs whatever it receives.
 use Rattle.std.proofs.Common.{◌≡◌, List, length, ap, ◌∙◌, Result, Ok, Err, OnOk, OnErr}
 use Rattle.trend_num.specs.declared.archive.Rec.{Rec}
 use Rattle.calc_refresh.specs.Refreshed.{IsRefreshed}

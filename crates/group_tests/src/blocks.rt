@@ -10,10 +10,11 @@ use std::test::Fail;
 // The definition text of a group of one tag and one calculation.
 const TEXT: &[u8; 23] = b"g,0,1000,T1\nm=avg('T1')";
 
-// What stands before the text: the gate, the letters, the length of the text.
+// What comes before the text: the gate, the letters, the length of the text.
 const HEAD: [u8; 9] = [0xa5, b'P', b'H', b'G', b'1', 0, 0, 0, 23];
 
-// Its first block, with the next gate: the number, the version, the windows, how many rows, and the rows 20, 50, 20.
+// Its first block, with the next gate: the number, the version, the windows, how many rows there are, and the rows 20,
+// 50, 20.
 const FIRST: [u8; 72] = [
     0, 0, 0, 0, 0, 0, 0, 1, 0, 0, 0, 3, 0, 0, 0, 3, 0, 0, 0, 3, //
     0, 0, 0, 0, 0, 0, 0, 0, 0, 0, 0, 0, 0, 0, 0, 0, 20, //
@@ -21,8 +22,8 @@ const FIRST: [u8; 72] = [
     0, 0, 0, 0, 0, 0, 0, 2, 0, 0, 0, 0, 0, 0, 0, 0, 20, 0,
 ];
 
-// A place of that device and the value of its byte, and what is read then: the version, the number of the last save, where the
-// next block goes and the rows; or the place of the damage and the byte there.
+// A place on that device, and the value that its byte gets. Then what is read: the version, the number of the last
+// save, where the next block goes, and the rows; or the place of the damage and the byte there.
 const ROWS: &str = "\
 44 3 => version 3 number 1 end 104 rows 20 50 20
 44 5 => version 5 number 1 end 104 rows 20 50 20
@@ -48,7 +49,7 @@ const ROWS: &str = "\
 77 0 => damaged 74 0
 104 165 => damaged 105 none";
 
-// The device after the first save, with another byte at a place.
+// Returns the device after the first save, with another byte at this place.
 fn saved_once(alloc: Global, at: usize, byte: u8) -> Result<MemDisk, Fail> {
     let mut bytes = Vec::new(alloc);
     bytes.extend_from_slice(&HEAD)?;
@@ -61,7 +62,7 @@ fn saved_once(alloc: Global, at: usize, byte: u8) -> Result<MemDisk, Fail> {
     Ok(MemDisk::new(bytes, Vec::new(alloc)))
 }
 
-// What was saved, as a text.
+// Returns what was saved, as a text.
 fn saved_text(alloc: Global, saved: &SavedGroup) -> Result<String, Fail> {
     let version = saved.versions.first().ok_or("a version")?;
     let mut text = format!(in alloc;
@@ -78,7 +79,7 @@ fn saved_text(alloc: Global, saved: &SavedGroup) -> Result<String, Fail> {
     Ok(text)
 }
 
-// What is read of a device, as a text.
+// Reads a device, and returns the result as a text.
 fn read_text(alloc: Global, dev: &mut MemDisk) -> Result<String, Fail> {
     let text = match read_group(alloc, dev, TEXT, 1, 1) {
         Ok(Found::New) => format!(in alloc; "new")?,
@@ -96,7 +97,7 @@ fn read_text(alloc: Global, dev: &mut MemDisk) -> Result<String, Fail> {
     Ok(text)
 }
 
-// Reads the device of a line.
+// Reads the device of a line, and compares the result.
 fn follow(rt: &impl Abort, alloc: Global, line: &str) -> Result<(), Fail> {
     let (change, want) = line.split_once(" => ").ok_or("an arrow")?;
     let (at, byte) = change.split_once(' ').ok_or("a byte")?;

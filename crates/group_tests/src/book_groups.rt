@@ -1,4 +1,4 @@
-// A group of one tag and one calculation, the mean of each second.
+// A group of one tag and one calculation: the mean of each second.
 ghost use Rattle.std.specs.Prelude.{◌≡◌, IfSome};
 ghost use Rattle.calc_refresh.specs.Sheet.{IsGrid, IsGroup, grid_of};
 
@@ -7,7 +7,7 @@ use calc_refresh::{CalcDef, GroupDefParts, check};
 use std::alloc::Global;
 use trend_num::name_from;
 
-/// Its definition.
+/// Returns the definition of that group.
 pub fn means(alloc: Global) -> Option<GroupDefParts>
     ensures group { IfSome result (λ def. IsGroup def.inputs def.calcs) }
     ensures grid { IfSome result (λ def. IsGrid (grid_of def.start def.period)) }

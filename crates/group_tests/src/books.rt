@@ -15,14 +15,15 @@ use tag_cell::{Cell, Receipt, open_cell};
 use test_rig::lone_board;
 use trend_num::{Point, Steps, TagDef, Tuning, in_range, name_from, tuning_ok};
 
-// Steps parted by `/`: values that the tag takes, each a time and a value, and whether they are acknowledged. Behind `=>` the rows
-// that a refresh leaves after each step, and, after `e`, how many values were evaluated.
+// Steps separated by `/`. A step has values that the tag takes, each a time and a value, and whether they are
+// acknowledged. After `=>` come the rows that a refresh leaves after each step. After `e` comes how many values were
+// evaluated.
 const ROWS: &str = "\
 0,0 3000,0 4000,9 commit / 1500,60 commit => 0 0 0 / 20 50 20 / e6
 0,0 3000,0 4000,9 wait / 1500,60 commit => / 20 50 20 / e3
 0,0 3000,0 4000,9 commit / 2500,8 commit / 2500,8 commit => 0 0 0 / 2 5 6 / 2 5 6 / e9";
 
-/// A cell of a tag that keeps each bend, on a new device.
+/// Returns a cell of a tag that keeps each bend, on a new device.
 pub fn cell_of(rt: &impl Wait, alloc: Global) -> Option<Cell<MemDisk>> {
     let def = TagDef {
         name: name_from(b"T1")?,
@@ -44,7 +45,7 @@ pub fn cell_of(rt: &impl Wait, alloc: Global) -> Option<Cell<MemDisk>> {
     open_cell(rt, alloc, dev, &def, 64, 100, board, poster).ok()
 }
 
-// The point that a text `T,V` spells.
+// Returns the point that a text `T,V` spells.
 fn point_of(text: &str) -> Option<Point> {
     let (t, v) = text.split_once(',')?;
     Some(Point {
@@ -68,7 +69,8 @@ fn commit(cell: &mut Cell<MemDisk>) -> Option<()> {
     Some(())
 }
 
-/// Takes the values of a text, up to a word that says whether they are acknowledged.
+/// Takes the values of a text, up to the word `commit` or `wait`. After `commit` the values are acknowledged; after
+/// `wait` they are not.
 pub fn take_all(rt: &impl Wait, cell: &mut Cell<MemDisk>, values: &str) -> Option<()> {
     for value in values.split(' ') {
         match value {
@@ -80,7 +82,7 @@ pub fn take_all(rt: &impl Wait, cell: &mut Cell<MemDisk>, values: &str) -> Optio
     Some(())
 }
 
-/// A cell that has taken the values of a text.
+/// Returns a cell that has taken the values of a text.
 pub fn cell_with(rt: &impl Wait, alloc: Global, values: &str) -> Option<Mutex<Cell<MemDisk>>> {
     let cell = Mutex::new(cell_of(rt, alloc)?);
     take_all(rt, &mut cell.lock(rt), values)?;
@@ -111,7 +113,7 @@ pub fn refresh<R: Wait>(
     refresh_on::<Brand, R>(rt, book, cells, Blank::new(1))
 }
 
-// The value of calculation 0 in a window.
+// Returns the value of calculation 0 in a window.
 fn answer(book: &mut Book<MemDisk>, k: u64) -> Option<CalcValue> {
     match book.ask(0, 1, 0, k) {
         Ok((_, told)) => told,
@@ -119,7 +121,7 @@ fn answer(book: &mut Book<MemDisk>, k: u64) -> Option<CalcValue> {
     }
 }
 
-/// The answers for calculation 0 in the windows from 0 on.
+/// Returns the answers for calculation 0 in the windows from 0 on.
 pub fn answers(alloc: Global, book: &mut Book<MemDisk>) -> Option<String> {
     let mut text = String::new(alloc);
     for k in 0..100 {
@@ -132,20 +134,20 @@ pub fn answers(alloc: Global, book: &mut Book<MemDisk>) -> Option<String> {
     Some(text)
 }
 
-// A book of one tag and one calculation.
+// Returns a book of one tag and one calculation.
 fn book_of(alloc: Global) -> Option<Book<MemDisk>> {
     let def = means(alloc)?;
     let tags = vec![in alloc; 0; 1].ok()?;
     new_book(alloc, 0, &def, tags).ok()
 }
 
-// How many values a book has evaluated.
+// Returns how many values a book has evaluated.
 fn evals_of(book: Book<MemDisk>) -> u64 {
     let (_, history) = book.into_history();
     history.evals
 }
 
-// Takes values and refreshes a book. Tells its answers.
+// Takes values, refreshes a book, and returns its answers.
 fn refreshed(
     rt: &impl Wait,
     alloc: Global,
@@ -159,7 +161,7 @@ fn refreshed(
     answers(alloc, book)
 }
 
-// Follows the steps of a line. Tells the answers after each, and how many values were evaluated.
+// Follows the steps of a line. Returns the answers after each step, and how many values were evaluated.
 fn followed(rt: &impl Wait, alloc: Global, line: &str) -> Option<String> {
     let mut book = book_of(alloc)?;
     let cells = [Mutex::new(cell_of(rt, alloc)?)];
@@ -182,12 +184,12 @@ fn a_refresh_takes_what_is_acknowledged(rt: HostRuntime) -> Result<(), Fail> {
     Ok(())
 }
 
-// Whether one refresh is all that a book's calls have left.
+// Returns whether the tape of a book has one refresh and nothing else.
 fn is_one_refresh(book: &Book<MemDisk>) -> bool {
     matches!(book.tape(), [Turn::Refresh { .. }])
 }
 
-// The answers of a book that is refreshed without a cell.
+// Returns the answers of a book that is refreshed without a cell.
 fn without_a_cell(rt: &impl Wait, alloc: Global) -> Option<String> {
     let mut book = book_of(alloc)?;
     refresh(rt, &mut book, &[]).ok()?;
@@ -204,8 +206,8 @@ fn an_input_without_its_tag_gives_nothing(rt: HostRuntime) -> Result<(), Fail> {
     Ok(())
 }
 
-// Refreshes a book from a cell, and then from one that has taken nothing. Tells why the second is refused, and how long the
-// tape is.
+// Refreshes a book from a cell, and then from a cell that has taken nothing. Returns why the second refresh is refused,
+// and how long the tape is.
 fn ahead(rt: &impl Wait, alloc: Global) -> Option<(Option<RefreshNo>, usize)> {
     let mut book = book_of(alloc)?;
     let cell = cell_with(rt, alloc, "0,0 3000,0 4000,9 commit")?;

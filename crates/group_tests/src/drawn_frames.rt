@@ -1,16 +1,16 @@
-// Drawn changes, beside a list that plain code makes anew.
+// Random changes of a row. The frames are compared with a list that plain code makes anew.
 use crate::spelled_frames::applied;
 use event_frames::{Bad, CalcValue, Change, Edit, Frame, new_frames};
 use std::alloc::{AllocError, Global};
 use std::test::Fail;
 
-// The next of a sequence that is fixed by its first number.
+// Returns the next number of a sequence that is fixed by its first number.
 fn drawn(seed: u64) -> u64 {
     seed.wrapping_mul(6_364_136_223_846_793_005)
         .wrapping_add(1_442_695_040_888_963_407)
 }
 
-// One value in four is 0, and one in eight is bad.
+// Returns a random value: one in four is 0, and one in eight is bad.
 fn value(seed: u64) -> CalcValue {
     match (seed >> 33) % 8 {
         0 | 1 => CalcValue::Num(0),
@@ -19,7 +19,7 @@ fn value(seed: u64) -> CalcValue {
     }
 }
 
-// The frames of a row, by going over all of it.
+// Returns the frames of a row, computed from all of it.
 fn plain(alloc: Global, row: &[CalcValue], least: u64) -> Result<Vec<Frame>, AllocError> {
     let mut frames = Vec::new(alloc);
     let mut long = 0u64;
@@ -41,7 +41,7 @@ fn plain(alloc: Global, row: &[CalcValue], least: u64) -> Result<Vec<Frame>, All
     Ok(frames)
 }
 
-// The edits from one list to another.
+// Returns the edits from one list to another.
 fn edits(alloc: Global, old: &[Frame], new: &[Frame]) -> Result<Vec<Edit>, AllocError> {
     let mut edits = Vec::new(alloc);
     for frame in old {
@@ -57,7 +57,7 @@ fn edits(alloc: Global, old: &[Frame], new: &[Frame]) -> Result<Vec<Edit>, Alloc
     Ok(edits)
 }
 
-// Changes of a row of so many windows: some of them, and up to three new ones; and the row with them.
+// Returns random changes of a row: of some of its windows, and up to three new ones. It also applies them to the row.
 fn draw(alloc: Global, seed: u64, row: &mut Vec<CalcValue>) -> Result<Vec<Change>, AllocError> {
     let mut seed = seed;
     let mut changes = Vec::new(alloc);

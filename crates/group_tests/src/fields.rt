@@ -7,14 +7,14 @@ use std::test::Fail;
 // Twelve bytes.
 const IMAGE: [u8; 12] = [0, 0, 1, 2, 0, 0, 0, 0, 0, 0, 1, 0];
 
-// Places of fields of four bytes, which keep their rule where they begin with a 0; and the first that is refused.
+// Places of fields of four bytes, which keep their rule if they begin with a 0. Then the first field that is refused.
 const ROWS: &str = "\
 0 4 8 => kept
 0 2 8 => 2 byte 1
 4 9 2 => 12 end
 13 2 => 12 end";
 
-// What is told of fields at these places.
+// Checks fields at these places, and returns the first refusal.
 fn told(alloc: Global, places: &str) -> Result<Option<ScanNo>, Fail> {
     let mut fields = Vec::new(alloc);
     for place in places.split(' ') {

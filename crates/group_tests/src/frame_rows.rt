@@ -3,7 +3,7 @@ use crate::spelled_frames::{applied, changes, row, write_edit, write_frame};
 use event_frames::new_frames;
 use std::test::Fail;
 
-// How many windows a frame has at least, the row, and its frames.
+// How many windows a frame has at least, the row, and the row's frames.
 const LISTED: &str = "\
 2 | 1 1 0 1 => 0-1
 1 | 1 1 0 1 => 0-1 3-3*
@@ -14,7 +14,7 @@ const LISTED: &str = "\
 1 | x 1 0 1 1 x => 1-1 3-4
 4294967295 | 1 1 1 =>";
 
-// How many windows a frame has at least, the row, and in turn changes, with what they do to the frames.
+// How many windows a frame has at least, and the row. Then, in turn, changes, and what they do to the frames.
 const CHANGED: &str = "\
 2 | 1 1 0 1 | 2:5 => -0-1 +0-3* | 4:x => -0-3* +0-3
 1 | 1 1 1 1 1 | 2:0 => -0-4* +0-1 +3-4* | 2:1 => -0-1 -3-4* +0-4*

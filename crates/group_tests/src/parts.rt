@@ -1,4 +1,4 @@
-// Random records: rows are the same, however many of these a sheet is told at once.
+// Random records. The rows are the same, however many records a sheet gets at once.
 ghost use Rattle.std.specs.Prelude.{◌<◌, IfOk};
 ghost use Rattle.calc_refresh.specs.Sheet.{IsCopy};
 
@@ -9,14 +9,14 @@ use std::process::Abort;
 use std::test::Fail;
 use trend_num::in_range;
 
-// Numbers that look random, the same ones from the same start.
+// Numbers that look random; the same start gives the same numbers.
 #[derive(Drop)]
 struct Draws {
     state: u64,
 }
 
 impl Draws {
-    // The next one below a bound.
+    // Returns the next number below a bound.
     fn below(&mut self, bound: u32) -> u32
         requires { 0 < bound }
         ensures { result < bound }
@@ -28,7 +28,7 @@ impl Draws {
         (self.state >> 33) as u32 % bound
     }
 
-    // Some ten seconds of records: two in three are Kept, and few of those out of order.
+    // Returns records of some ten seconds. Two in three are Kept, and few of those are out of order.
     fn records(&mut self, alloc: Global) -> Result<Vec<Rec>, AllocError> {
         let mut recs = Vec::new(alloc);
         for i in 0..40 {
@@ -47,7 +47,7 @@ impl Draws {
     }
 }
 
-/// These records once more.
+/// Returns a copy of these records.
 pub fn copy_of(rt: &impl Abort, alloc: Global, recs: &[Rec]) -> Result<Vec<Rec>, Fail>
     ensures { IfOk result (λ copy. IsCopy copy.items) }
 {
@@ -60,7 +60,7 @@ pub fn copy_of(rt: &impl Abort, alloc: Global, recs: &[Rec]) -> Result<Vec<Rec>,
     Ok(copy)
 }
 
-// The rows of a new sheet that is told the records of two inputs in parts of one size.
+// Returns the rows of a new sheet that gets the records of two inputs in parts of one size.
 fn rows_in_parts(
     rt: &impl Abort,
     alloc: Global,

@@ -20,10 +20,10 @@ const TEXT: &[u8; 23] = b"g,0,1000,T1\nm=avg('T1')";
 
 const OTHER: &[u8; 23] = b"h,0,1000,T1\nm=avg('T1')";
 
-// Sessions on one device in turn, parted by `/`: the group, a place of the device and the value that its byte gets before, or a
-// `-`, and all values that the tag has taken. Behind `=>` the version and the rows that were saved; then, after `:`, the rows
-// once the book was refreshed and saved, how many values were evaluated, and the length of the device; or why the device is
-// not opened.
+// Sessions on one device in turn, separated by `/`. A session has the group; then a place on the device and the value
+// that its byte gets before, or a `-`; then all values that the tag has taken. After `=>` comes, for each session,
+// either why the device is not opened; or the saved version and rows, and after `:` what there is once the book was
+// refreshed and saved. That is its rows, how many values were evaluated, and the length of the device.
 const SESSIONS: &str = "\
 g - 0,0 3000,0 4000,9 1500,60 commit => 0 : 20 50 20 e3 105 / \
 g - 0,0 3000,0 4000,9 1500,60 commit => 3 20 50 20 : 20 50 20 e0 126 / \
@@ -37,9 +37,9 @@ g 33=1 0,0 3000,0 4000,9 1500,60 commit => Damaged { at: 33, byte: Some(1) } / \
 h 33=0 0,0 3000,0 4000,9 commit => 0 : 0 0 0 e3 105 / \
 g 32=0 0,0 3000,0 4000,9 commit => 0 : 0 0 0 e3 105";
 
-// The device of the first group once three records and the rows 20, 50, 20 were saved, in digits of base sixteen: the gate, the
-// letters and the text behind its length; the gate of the block, its number, the version, the windows and how many rows; the
-// rows; the next gate.
+// The device of the first group after a save of three records and the rows 20, 50, 20, in hexadecimal digits. It has
+// the gate, the letters, and the text after its length; then the gate of the block, its number, the version, the
+// windows, and how many rows there are; then the rows, and the next gate.
 const FIRST: &str = "\
 a55048473100000017672c302c313030302c54310a6d3d617667282754312729\
 a50000000000000001000000030000000300000003\
@@ -48,7 +48,7 @@ a50000000000000001000000030000000300000003\
 0000000000000002000000000000000014\
 00";
 
-// A device with another byte at a place, where a text tells one.
+// Returns a device with another byte at a place, if the text names one.
 fn changed(alloc: Global, dev: MemDisk, change: &str) -> Option<MemDisk> {
     let Some((at, byte)) = change.split_once('=') else {
         return Some(dev);
@@ -59,14 +59,15 @@ fn changed(alloc: Global, dev: MemDisk, change: &str) -> Option<MemDisk> {
     Some(MemDisk::new(bytes, Vec::new(alloc)))
 }
 
-// The records of a cell.
+// Returns a copy of the records of a cell.
 fn copy_of(alloc: Global, cell: &Cell<MemDisk>) -> Result<Vec<Rec>, AllocError>
     ensures { IfOk result (λ copy. IsCopy copy.items) }
 {
     Vec::from_slice(alloc, cell.recs())
 }
 
-// The book of a group over a device, whose tag recovered the records of a cell; or the device, and why it is not opened.
+// Returns the book of a group over a device, whose tag recovered the records of a cell. If it is not opened, it returns
+// the device and the reason.
 fn loaded(
     alloc: Global,
     dev: MemDisk,
@@ -79,23 +80,23 @@ fn loaded(
     Some(load(alloc, dev, 0, &def, text, tags, &recovered))
 }
 
-// The version that a book was opened with.
+// Returns the version that a book was opened with.
 fn version_of(book: &Book<MemDisk>) -> Option<u32> {
     book.opening().versions.first().copied()
 }
 
-// The device of a book and how many values it evaluated.
+// Returns the device of a book, and how many values the book evaluated.
 fn device_of(book: Book<MemDisk>) -> Option<(MemDisk, u64)> {
     let (dev, history) = book.into_history();
     Some((dev?, history.evals))
 }
 
-// Whether a book is saved.
+// Saves a book, and returns whether that succeeded.
 fn is_saved(book: &mut Book<MemDisk>) -> bool {
     book.save().is_ok()
 }
 
-// Refreshes and saves a book. Tells what was there before and is now.
+// Refreshes and saves a book. Returns, as a text, what was there before and what is there now.
 fn renew<R: Wait>(
     rt: &R,
     alloc: Global,
@@ -112,7 +113,8 @@ fn renew<R: Wait>(
     format!(in alloc; "{version} {before}: {after}").ok()
 }
 
-// Does so, and tells how many values were evaluated and how long the device is.
+// Does the same, and returns the device too. The text also has how many values were evaluated, and how long the device
+// is.
 fn renewed<R: Wait>(
     rt: &R,
     alloc: Global,
@@ -126,7 +128,7 @@ fn renewed<R: Wait>(
     Some((dev, told))
 }
 
-// A session on a device.
+// Runs a session on a device.
 fn session<R: Wait>(rt: &R, alloc: Global, dev: MemDisk, words: &str) -> Option<(MemDisk, String)> {
     let (group, rest) = words.split_once(' ')?;
     let (change, values) = rest.split_once(' ')?;
@@ -154,7 +156,7 @@ fn what_was_saved_is_there_again(rt: HostRuntime) -> Result<(), Fail> {
     Ok(())
 }
 
-// Takes values, refreshes a book and saves it. Tells whether it was saved.
+// Takes values, refreshes a book and saves it. Returns whether it was saved.
 fn saves(
     rt: &impl Wait,
     book: &mut Book<MemDisk>,
@@ -167,8 +169,8 @@ fn saves(
     Some(is_saved(book))
 }
 
-// Tries two saves of a book, up to the first that fails. Tells the last version that was saved, and the one that was being
-// saved.
+// Tries two saves of a book, up to the first that fails. Returns the last version that was saved, and the one that was
+// being saved.
 fn two_saves(rt: &impl Wait, book: &mut Book<MemDisk>, cell: Cell<MemDisk>) -> Option<(u32, u32)> {
     let cells = [Mutex::new(cell)];
     if !saves(rt, book, &cells, "0,0 3000,0 4000,9 commit")? {
@@ -180,7 +182,7 @@ fn two_saves(rt: &impl Wait, book: &mut Book<MemDisk>, cell: Cell<MemDisk>) -> O
     Some((3, 3))
 }
 
-// A device once two saves were tried on it: the last version that was saved, and the one that was being saved.
+// Tries two saves on a device. Returns the device, the last version that was saved, and the one that was being saved.
 fn after_saves(rt: &impl Wait, alloc: Global, dev: MemDisk) -> Option<(MemDisk, u32, u32)> {
     let cell = cell_of(rt, alloc)?;
     match loaded(alloc, dev, TEXT, &cell)? {
@@ -193,7 +195,7 @@ fn after_saves(rt: &impl Wait, alloc: Global, dev: MemDisk) -> Option<(MemDisk, 
     }
 }
 
-// The version that a crash leaves.
+// Returns the version that a crash leaves.
 fn left(rt: &impl Wait, alloc: Global, dev: &MemDisk, pick: Pick) -> Option<u32> {
     let cell = cell_with(rt, alloc, "0,0 3000,0 4000,9 1500,60 commit")?;
     let image = dev.crash(pick).ok()?;
@@ -201,7 +203,7 @@ fn left(rt: &impl Wait, alloc: Global, dev: &MemDisk, pick: Pick) -> Option<u32>
     version_of(&book)
 }
 
-// Tries two saves on a device and crashes it. Tells whether both were saved.
+// Tries two saves on a device and crashes it. Returns whether both were saved.
 fn crashes<R: Abort + Wait>(rt: &R, alloc: Global, dev: MemDisk) -> Option<bool> {
     let (dev, saved, saving) = after_saves(rt, alloc, dev)?;
     for pick in [Pick::Old, Pick::New, Pick::Fill(0), Pick::Fill(0xa5)] {
@@ -211,8 +213,8 @@ fn crashes<R: Abort + Wait>(rt: &R, alloc: Global, dev: MemDisk) -> Option<bool>
     Some(saved == 3)
 }
 
-// Does so on a device that stops for good after so many calls, and on one of which that call alone fails. Tells whether both
-// were saved, where that is the same on each.
+// Does the same on two devices: one stops for good after so many calls, and on the other only that call fails. Returns
+// whether both were saved, which has to be the same on each.
 fn both_crash<R: Abort + Wait>(rt: &R, alloc: Global, calls: u64) -> Option<bool> {
     let mut stops = MemDisk::new(Vec::new(alloc), Vec::new(alloc));
     stops.stop_after(calls);
@@ -233,14 +235,14 @@ fn a_crash_leaves_the_last_save_or_the_next(rt: HostRuntime) -> Result<(), Fail>
     Err("two saves took more than 100 calls".into())
 }
 
-// The definition text of the first group.
+// Returns the definition text of the first group.
 fn text_of(alloc: Global) -> Option<Vec<u8>> {
     let name = name_from(b"g")?;
     let def = means(alloc)?;
     definition_text(alloc, &name, 0, 1000, &def.calcs).ok()
 }
 
-// The bytes that a first save leaves, in digits of base sixteen.
+// Returns the bytes that a first save leaves, in hexadecimal digits.
 fn first(rt: &impl Wait, alloc: Global) -> Option<String> {
     let dev = MemDisk::new(Vec::new(alloc), Vec::new(alloc));
     let (dev, _) = session(rt, alloc, dev, "g - 0,0 3000,0 4000,9 1500,60 commit")?;
@@ -260,7 +262,7 @@ fn a_first_save_has_these_bytes(rt: HostRuntime) -> Result<(), Fail> {
     Ok(())
 }
 
-// The number of the one save of a book, and how many writes and syncs there were from its opening to that.
+// Returns the number of a book's only save, and how many writes and syncs there were from its opening to that save.
 fn save_of(book: &Book<MemDisk>) -> Option<(u64, u64)> {
     match book.tape() {
         [Turn::Save { number, moment }] => {
@@ -270,7 +272,7 @@ fn save_of(book: &Book<MemDisk>) -> Option<(u64, u64)> {
     }
 }
 
-// Saves the book of a new device, and tells of that.
+// Saves the book of a new device, and returns the same of that save.
 fn first_save(rt: &impl Wait, alloc: Global) -> Option<(u64, u64)> {
     let cell = cell_with(rt, alloc, "0,0 3000,0 4000,9 1500,60 commit")?;
     let dev = MemDisk::new(Vec::new(alloc), Vec::new(alloc));

@@ -1,4 +1,4 @@
-// Sheets that are told records in turn: their rows, and how many values they evaluate.
+// Sheets that get records step by step: their rows, and how many values they evaluate.
 ghost use Rattle.std.specs.Prelude.{◌≡◌, ◌^◌, ◌<◌, ◌≤◌, All, IfOk, length};
 ghost use Rattle.calc_refresh.specs.Lists.{lists_of};
 ghost use Rattle.calc_refresh.specs.Sheet.{IsCopy, IsGrid, IsGroup, grid_of};
@@ -12,10 +12,10 @@ use std::sync::ledger::{Blank, Ledger};
 use std::test::Fail;
 use trend_num::{in_range, name_from};
 
-// Each line has how many inputs there are (T1, T2), a period, and the formulas of m and n, parted by `;`. Then steps,
-// parted by `/`: records that are told at once, those of each input behind a bar, and behind `=>` the rows of m and n one
-// after the other and, after `e`, how many values were evaluated so far; or why the sheet was refused. A record is its
-// kind, its time and its value.
+// Each line has how many inputs there are (T1, T2), a period, and the formulas of m and n, separated by `;`. Then come
+// steps, separated by `/`. A step has records that the sheet gets at once; a bar separates those of one input from
+// those of the next. After `=>` come the rows of m and n, one after the other, and after `e` how many values were
+// evaluated so far; or why the sheet refused. A record has its kind, its time and its value.
 const ROWS: &str = "\
 1 1000 avg('T1') : K,0,0 K,3000,0 => 0 0 0 e3 / L,1500,60 => 20 50 20 e6
 1 1000 avg('T1') : K,0,0 K,3000,0 => 0 0 0 e3 / L,2500,8 => 2 5 6 e6 / L,2500,8 => 2 5 6 e9
@@ -30,15 +30,15 @@ const ROWS: &str = "\
 1 1000 avg('T1') ; calc('m') * 2 + 1 : K,0,0 K,3000,0 => 0 0 0 1 1 1 e6 / L,1500,60 => 20 50 20 41 101 41 e12
 1 1 count('T1') : K,0,0 K,3,0 => 1 0 0 e3 / K,2000000,0 => CellLimit { cells: 2000000 } / L,1,5 => 1 1 0 e6";
 
-// Each line has the records of T1 and the row of its means, as they were saved, in windows of 1,000 milliseconds. Then
-// records that are told, and behind `=>` the row then, as above.
+// Each line has the saved records of T1 and the saved row of its means, in windows of 1,000 milliseconds. Then come
+// records that the sheet gets, and after `=>` the row after that, as above.
 const SAVED: &str = "\
 K,0,0 K,3000,0 : 1 2 : => Shape { windows: 3, rows: 2 }
 K,0,0 K,3000,0 : 1 2 3 4 : => Shape { windows: 3, rows: 4 }
 K,0,0 K,2999,0 : 1 2 : => 1 2 e0
 K,0,0 K,1000,0 K,2000,0 K,3000,0 K,4000,0 : 7 7 7 7 : L,1500,60 => 0 30 0 7 e3";
 
-// The record of a word.
+// Returns the record of a word.
 fn record_of(word: &str) -> Result<Rec, Fail> {
     let (kind, point) = word.split_once(',').ok_or("a kind")?;
     let (t, v) = point.split_once(',').ok_or("a point")?;
@@ -51,7 +51,7 @@ fn record_of(word: &str) -> Result<Rec, Fail> {
     })
 }
 
-// The records of a text.
+// Returns the records of a text.
 fn records_of(rt: &impl Abort, alloc: Global, text: &str) -> Result<Vec<Rec>, Fail>
     ensures { IfOk result (λ recs. IsCopy recs.items) }
 {
@@ -65,7 +65,7 @@ fn records_of(rt: &impl Abort, alloc: Global, text: &str) -> Result<Vec<Rec>, Fa
     Ok(recs)
 }
 
-// The records of inputs, behind a bar each.
+// Returns the records of the inputs, which a bar separates.
 fn deltas_of(rt: &impl Abort, alloc: Global, text: &str) -> Result<Vec<Vec<Rec>>, Fail>
     ensures { IfOk result (λ deltas. All IsCopy (lists_of deltas.items)) }
 {
@@ -77,7 +77,7 @@ fn deltas_of(rt: &impl Abort, alloc: Global, text: &str) -> Result<Vec<Vec<Rec>>
     Ok(deltas)
 }
 
-// The definitions of m and n.
+// Returns the definitions of m and n.
 fn calcs_of(rt: &impl Abort, alloc: Global, formulas: &str) -> Result<Vec<CalcDef>, Fail>
     ensures some { IfOk result (λ defs. 1 ≤ length defs.items) }
     ensures few { IfOk result (λ defs. length defs.items ≤ 64) }
@@ -93,7 +93,7 @@ fn calcs_of(rt: &impl Abort, alloc: Global, formulas: &str) -> Result<Vec<CalcDe
     Ok(defs)
 }
 
-/// The definition of a group.
+/// Returns the definition of a group.
 pub fn def_of(
     rt: &impl Abort,
     alloc: Global,
@@ -132,7 +132,7 @@ pub fn push_row(alloc: Global, text: &mut String, sheet: &Sheet, calc: u32) -> R
     Ok(())
 }
 
-// The rows of a sheet and how many values it evaluated.
+// Returns the rows of a sheet, and how many values it evaluated.
 fn told(alloc: Global, sheet: &Sheet) -> Result<String, Fail> {
     let mut text = String::new(alloc);
     push_row(alloc, &mut text, sheet, 0)?;
@@ -141,7 +141,7 @@ fn told(alloc: Global, sheet: &Sheet) -> Result<String, Fail> {
     Ok(text)
 }
 
-// Tells a sheet records, on the ledger of a blank.
+// Passes records to a sheet, on the ledger of a blank.
 fn tell_on<L: Ledger>(sheet: &mut Sheet, deltas: &[Vec<Rec>], blank: Blank) -> Result<(), SheetNo>
     requires inputs { length deltas.now ≡ length sheet.old.copies }
     requires copied { All IsCopy (lists_of deltas.now) }
@@ -154,7 +154,7 @@ fn tell_on<L: Ledger>(sheet: &mut Sheet, deltas: &[Vec<Rec>], blank: Blank) -> R
     sheet.apply(deltas, &mut steps)
 }
 
-/// Tells a sheet records. It has as many inputs then as before.
+/// Passes records to a sheet. The sheet has as many inputs afterwards as before.
 pub fn tell(sheet: &mut Sheet, deltas: &[Vec<Rec>]) -> Result<(), SheetNo>
     requires inputs { length deltas.now ≡ length sheet.old.copies }
     requires copied { All IsCopy (lists_of deltas.now) }
@@ -163,7 +163,7 @@ pub fn tell(sheet: &mut Sheet, deltas: &[Vec<Rec>]) -> Result<(), SheetNo>
     tell_on::<Brand>(sheet, deltas, Blank::new(1))
 }
 
-// Tells a sheet records step by step, and looks at it after each.
+// Passes records to a sheet step by step, and checks the sheet after each step.
 fn follow(
     rt: &impl Abort,
     alloc: Global,
@@ -213,7 +213,7 @@ fn rows_are_as_worked_by_hand(rt: HostRuntime) -> Result<(), Fail> {
     Ok(())
 }
 
-// So many late records at one time.
+// Returns so many late records, all at the same time.
 fn late_records(rt: &impl Abort, alloc: Global, count: usize) -> Result<Vec<Rec>, Fail>
     ensures { IfOk result (λ recs. IsCopy recs.items) }
 {
@@ -237,7 +237,7 @@ fn a_sheet_has_no_more_than_two_million_records(rt: HostRuntime) -> Result<(), F
     Ok(())
 }
 
-// The row of a text.
+// Returns the row of a text.
 fn row_of(rt: &impl Abort, alloc: Global, text: &str) -> Result<Vec<CalcValue>, Fail>
     ensures { IfOk result (λ row. length row.items < 2 ^ 32) }
 {

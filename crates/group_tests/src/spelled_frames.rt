@@ -8,7 +8,7 @@ use std::alloc::{AllocError, Global};
 use std::fmt::Write;
 use std::process::Abort;
 
-// The value that a word spells: a number, or a bad one.
+// Returns the value that a word spells: a number, or a bad value.
 fn value(word: &str) -> CalcValue {
     match word.parse() {
         Ok(n) => CalcValue::Num(n),
@@ -16,7 +16,7 @@ fn value(word: &str) -> CalcValue {
     }
 }
 
-// The row that a text spells.
+// Returns the row that a text spells.
 pub(crate) fn row(alloc: Global, text: &str) -> Result<Vec<CalcValue>, AllocError> {
     let mut row = Vec::new(alloc);
     for word in text.split_whitespace() {
@@ -25,7 +25,7 @@ pub(crate) fn row(alloc: Global, text: &str) -> Result<Vec<CalcValue>, AllocErro
     Ok(row)
 }
 
-// The changes that a text spells, each as WINDOW:VALUE.
+// Returns the changes that a text spells, each as WINDOW:VALUE.
 pub(crate) fn changes(alloc: Global, text: &str) -> Result<Vec<Change>, AllocError> {
     let mut changes = Vec::new(alloc);
     for word in text.split_whitespace() {
@@ -38,13 +38,13 @@ pub(crate) fn changes(alloc: Global, text: &str) -> Result<Vec<Change>, AllocErr
     Ok(changes)
 }
 
-// Writes a frame as its first and its last window, with a star where that is the last one there is.
+// Writes a frame as its first and its last window, with a star if that is the last window there is.
 pub(crate) fn write_frame(told: &mut String, frame: Frame) -> Result<(), AllocError> {
     let mark = if frame.last { "*" } else { "" };
     write!(told, " {}-{}{mark}", frame.from, frame.upto)
 }
 
-// Writes an edit: a frame behind a minus where it is gone, and behind a plus where it is new.
+// Writes an edit: the frame after a minus if it is gone, and after a plus if it is new.
 pub(crate) fn write_edit(told: &mut String, edit: Edit) -> Result<(), AllocError> {
     let (sign, frame) = match edit {
         Edit::Gone(frame) => ("-", frame),
@@ -54,7 +54,7 @@ pub(crate) fn write_edit(told: &mut String, edit: Edit) -> Result<(), AllocError
     write!(told, " {sign}{}-{}{mark}", frame.from, frame.upto)
 }
 
-// Whether the change at a place follows the one before it.
+// Returns whether the change at this place may follow the one before it.
 fn follows(windows: u64, changes: &[Change], i: usize) -> bool
     requires { i < length changes.now }
     ensures first { IsTrue result → i ≡ 0 → (d : Change) → (slice_index_or changes.now i d).k ≤ windows }
@@ -71,7 +71,7 @@ fn follows(windows: u64, changes: &[Change], i: usize) -> bool
     before < window && (window <= windows || window - 1 == before)
 }
 
-// Whether these are changes of a row of so many windows.
+// Returns whether these are changes of a row of so many windows.
 fn are_changes(windows: u64, changes: &[Change]) -> bool
     ensures { IsTrue result → IsChangeList windows changes.now }
 {
@@ -83,7 +83,7 @@ fn are_changes(windows: u64, changes: &[Change]) -> bool
     true
 }
 
-// The edits that changes tell.
+// Applies the changes to the frames, and returns the edits.
 pub(crate) fn applied(
     rt: &impl Abort,
     frames: &mut Frames,

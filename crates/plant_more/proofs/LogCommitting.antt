@@ -45,7 +45,7 @@ none_committed old new is = record {
   same = same_log old new is;
 }
 
--- some commits behind others
+-- some commits after others
 pub committed_on : {D : Type 0} (a b c : ToldLog D) → IsCommitted a b → IsCommitted b c → IsCommitted a c
 committed_on a b c first last = record {
   more = first.more ++ last.more;
@@ -90,7 +90,8 @@ ok_is r a b is was = cc
 err_is_not : {A : Type 0} (r : Result A LogCommitNo) (a : A) → r ≡ Ok a → r ≡ Err Broken → ⊥
 err_is_not r a is was = cc
 
--- a commit that succeeds: the tape is longer by commits, and so many rows wait as it answers; where some do, there are fewer
+-- after a commit that succeeds the tape is longer by commits, and `a.waiting` rows wait; if any wait, they are fewer
+-- than before
 pub record Goes {D : Type 0} (a : LogAcked) (first old new : ToldLog D) : Type 0 where
   pub committed : IsCommitted first new
   pub waiting : rows_waiting new ≡ a.waiting

@@ -31,7 +31,7 @@ refused_at D collector place rows d log why within refused =
 unlike : (b : Bool) → b ≡ true → b ≡ false → ⊥
 unlike b is isnt = cc
 
--- a row that is put, and the commits behind it
+-- a row that is put, and the commits after it
 pub put_at : {D : Type 0} (collector place : ℕ) (rows : List RawRow) (d : RawRow) (old mid new : ToldLog D) → place < length rows
     → mid ≡ record old { tape = old.tape ++ Put (row_of collector (place + 1) (get_or rows place d)) ∷ [] }
     → IsCommitted mid new → rows_waiting new ≡ 0 → is_commit_due (place + 1) (length rows) ≡ true → IsPutAt collector rows place old new
@@ -45,7 +45,7 @@ put_at collector place rows d old mid new within appended committed none due = r
   unchanged = λ is. absurd (unlike _ due is);
 }
 
--- one behind which no commit is due
+-- a row after which no commit is due
 pub put_alone : {D : Type 0} (collector place : ℕ) (rows : List RawRow) (d : RawRow) (old new : ToldLog D) → place < length rows
     → new ≡ record old { tape = old.tape ++ Put (row_of collector (place + 1) (get_or rows place d)) ∷ [] }
     → is_commit_due (place + 1) (length rows) ≡ false → IsPutAt collector rows place old new

@@ -21,7 +21,7 @@ pub same_row : (a b : LogRow) → a.tag ≡ b.tag → a.collector ≡ b.collecto
 same_row a b tag collector row point =
     λ i. record { tag = tag i; collector = collector i; row = row i; point = point i }
 
--- rows that are told alike are one
+-- rows that a status reports alike are one
 pub same_seen : (a b : LogRow) → seen_of a ≡ seen_of b → a ≡ b
 same_seen a b is =
     let tag : a.tag ≡ b.tag = cc in
@@ -44,7 +44,7 @@ row_there collector n (suc place) (r ∷ rows) d few =
     row_there collector (n + 1) place rows d (omega arith)
     ∙ ap (λ (k : ℕ). Some (row_of collector k (get_or rows place d))) (omega arith)
 
--- behind the last one there is none
+-- after the last one there is none
 pub row_past : (collector n place : ℕ) (rows : List RawRow) → length rows ≤ place → slice_get (rows_from collector n rows) place ≡ None
 row_past collector n place rows past = slice_get_past (rows_from collector n rows) place (omega (arith, rows_length collector n rows))
 
@@ -97,7 +97,7 @@ pub file_length : (files : List (Vec RawRow Global)) (collector : ℕ) (d : Vec 
     → length (rows_in (row_lists_of files) collector) ≡ length (get_or files collector d).items
 file_length files collector d few = ap length (rows_of_file files collector d few) ∙ rows_length collector 1 (get_or files collector d).items
 
--- what stands at a place of the file of a collector
+-- what the file of a collector has at a place
 pub next_is : (files : List (Vec RawRow Global)) (collector place : ℕ) (v : Vec RawRow Global) (rows : List RawRow) (o : Option LogRow)
     → collector < length files → v ≡ get_or files collector v → rows ≡ v.items → o ≡ slice_get (rows_from collector 1 rows) place
     → slice_get (rows_in (row_lists_of files) collector) place ≡ o
@@ -124,7 +124,7 @@ total_front (v ∷ files) (suc place) d few =
     total_front files place d (omega arith) in
     omega (arith, here, front, all, rest)
 
--- what is told of a row that is due, or of none
+-- what a status reports of a row that is due, or of none
 pub told_of : {a b : Option LogRow} → a ≡ b → unwrap_or (option_map seen_of a) Nothing ≡ unwrap_or (option_map seen_of b) Nothing
 told_of same = ap (λ (o : Option LogRow). unwrap_or (option_map seen_of o) Nothing) same
 

@@ -1,4 +1,4 @@
--- A log that was held, and what is answered of it.
+-- A log that was held, and what the command returns for it.
 use Rattle.std.proofs.Common.{◌≡◌, ℕ, ◌-◌, ◌^◌, ◌<◌, List, length, Option, Result, Ok, Err, String, refl, sym, ap, ◌∙◌, subst, inl, inr, arith}
 use Rattle.std.specs.Prelude.{◌⊎◌, All, IfErr, IfOk, OnOk, string_bytes}
 use Rattle.std.specs.declared.alloc.Global.{Global}
@@ -52,7 +52,7 @@ rows_known {D} trace ticks faults files e known tags before now ended same = by_
     by_answer (Err why) is = tt
     by_answer (Ok x) is = rows (ended.as_known (λ of. subst (λ (r : Result Unit Status). IsOfOpening r) is of))
 
--- a fault of a device is told where it has counted one
+-- if a device has counted a fault, the status reports it
 fault_of_unit : {D : Type 0} (faults : D → ℕ) (files : List (List RawRow)) (notes : List LogNote) (known : KnownLog) (l : ToldLog D) (unit : Device)
     → IsSettlingRefusal faults files notes known l (DeviceFault unit) → 0 < faults l.dev
 fault_of_unit faults files notes known l unit (OfOpening is) = absurd is.first
@@ -74,14 +74,14 @@ risen_sum before faults now small some is = elim (cases_lt before (2 ^ 64 - 1)) 
 ]
 
 module _ (base : Base) (h : LogHistory) where
-  -- a refused opening is told as one
+  -- a refused opening is returned as one
   opening_told : (came : Result Unit Status) (told : Result (String Global) Status) → IsLogReported base h came told
       → IsOfOpening came → IsOfOpening told
   opening_told (Ok x) told is of = absurd of
   opening_told (Err why) told is of = subst (λ (r : Result (String Global) Status). IsOfOpening r) (sym is.refused) of
 
   module _ {D : Type 0} (rows : List (List RawRow)) (log : ToldLog D) where
-    -- a text is told of a log that is done
+    -- for a log that is done there is a text
     done_told : (came : Result Unit Status) (told : Result (String Global) Status) → IsLogReported base h came told → IsHistoryOfLog log h
         → OnOk came (ArePutsMade rows log) → IfOk told (λ text. IsDone base rows h (string_bytes text))
     done_told (Ok x) (Ok text) is history made = record {
@@ -107,7 +107,7 @@ module _ (base : Base) (h : LogHistory) where
           err_is : (a b : Status) (r : Result (String Global) Status) → r ≡ Err b → r ≡ Err a → a ≡ b
           err_is a b r is same = cc
 
-      -- a fault that is told was counted
+      -- a fault that a status reports was counted
       fault_counted : (unit : Device) → IsUndone faults base rows notes known log h (DeviceFault unit) → 0 < faults log.dev
       fault_counted unit (OfSettling is) = fault_of_unit faults rows notes known log unit is
       fault_counted unit (OfReport made is) = absurd is
@@ -126,7 +126,7 @@ counted_once : (before faults now : ℕ) → before < 2 ^ 64 → (faults ≡ 0) 
 counted_once before faults now small (inl none) is = inl (omega arith)
 counted_once before faults now small (inr one) is = inr (omega arith)
 
--- the log that was held, and what is answered of it
+-- the log that was held, and what the command returns for it
 pub is_run : {D : Type 0} (trace : D → Option Trace) (ticks faults : D → ℕ) (base : Base) (rows : List (List RawRow)) (known : KnownLog)
     (first : ToldLog D) (e : EndedLog D) (old mid new : TracesByName) (before now stops_before stops_now : ℕ) (answer : Result (String Global) Status)
     → IsEnded trace ticks faults rows known stops_before stops_now e

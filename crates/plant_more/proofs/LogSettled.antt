@@ -20,7 +20,7 @@ use Rattle.plant_more.specs.LogKnown.{FirstDiffer, IsAsKnown, IsLogMismatch, fou
 use Rattle.plant_more.specs.LogMaking.{AreRowsFor, IsCommitRefusal}
 use Rattle.plant_more.specs.LogRefusals.{AreUnstopped, ArePutsMade, IsOpening, IsRestRefusal, OfCommit}
 
--- a log that differs from what was kept is told as an opening
+-- a log that differs from what was kept is reported as an opening
 opening_of : (found wanted : List ℕ) (why : Status) → FirstDiffer found wanted why → IsOpening why
 opening_of found wanted (Mismatch (Opening unit) kept told) is = tt
 opening_of found wanted other is = absurd is
@@ -34,7 +34,7 @@ no_puts [] all = refl
 no_puts (Put row ∷ es) all = absurd (all 0 (Put row) (omega arith))
 no_puts (Commit moment acked ∷ es) all = no_puts es (λ k d few. all (suc k) d (omega arith))
 
--- so rows that were put are the same behind them
+-- so rows that were put are the same after them
 whole_on : {D : Type 0} (files : List (List RawRow)) (old new : ToldLog D) → IsCommitted old new → AreWhole files old.tape → AreWhole files new.tape
 whole_on files old new is whole = λ collector.
     ap (λ (l : List LogTurn). rows_by collector (puts l)) is.tape

@@ -7,7 +7,7 @@ use Rattle.std.proofs.lemmas.List.{append-nil}
 use Rattle.trend_num.specs.declared.tag_def.TagDef.{TagDef}
 use Rattle.plant_more.specs.LogTexts.{plant_text}
 
--- the names behind the first one
+-- the names after the first one
 abbrev behind : List TagDef → List ℕ
 behind defs = flat_map (λ (d : TagDef). 10 ∷ d.name) defs
 

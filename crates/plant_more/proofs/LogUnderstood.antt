@@ -138,7 +138,7 @@ after_unopened base rows old new before now (Err why) n is = by_cause is.cause
     by_cause (inl refused) = subst (λ (s : Status). faults_told s n ≡ n) (sym refused.told) (none_read refused.reason n)
     by_cause (inr memory) = subst (λ (s : Status). faults_told s n ≡ n) (sym memory) refl
 
--- what the whole command answers
+-- what the whole command returns
 pub understood : {D : Type 0} (trace : D → Option Trace) (ticks faults : D → ℕ) (base : Base) (rows : List (List RawRow)) (old new : TracesByName)
     (before now stops_before stops_now : ℕ) (answer : Result (String Global) Status) (log : Option LogHistory)
     → IfSome log (IsRun trace ticks faults base rows old new before now stops_before stops_now answer)

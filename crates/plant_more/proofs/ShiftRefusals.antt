@@ -1,4 +1,4 @@
--- Which statuses the command is refused with, and of which file a read fault is told.
+-- Which statuses the command is refused with, and which file a read fault names.
 use Rattle.std.proofs.Common.{◌≡◌, ℕ, List, Option, subst}
 use Rattle.std.specs.Prelude.{◌≢◌}
 use Rattle.byte_io.specs.Files.{FileTold, IsFaultOf}
@@ -48,14 +48,14 @@ calendar_is_no_base : file.Base ≢ file.Calendar
 calendar_is_no_base same = cc
 
 module _ (name calendar_name : List ℕ) (failed : Option (List ℕ)) (why : Status) where
-  -- what is no read fault is told of no file
+  -- a status that is no read fault names no file
   pub of_none : ((which : FileId) → why ≢ ReadFault which) → IsFaultOfRead name calendar_name failed why
   of_none other = record {
     base = λ same. absurd (other file.Base same);
     calendar = λ same. absurd (other file.Calendar same);
   }
 
-  -- the refusal of a base tells of the base
+  -- the refusal of a base names the base
   pub of_base : (t : FileTold) → IsBaseRefusal t why → ((which : FileId) → why ≡ ReadFault which → IsFaultOf failed name)
       → IsFaultOfRead name calendar_name failed why
   of_base t refused whose = record {
@@ -63,7 +63,7 @@ module _ (name calendar_name : List ℕ) (failed : Option (List ℕ)) (why : Sta
     calendar = λ same. absurd (base_is_no_calendar (subst (IsBaseRefusal t) same refused));
   }
 
-  -- that of a calendar tells of the calendar
+  -- the refusal of a calendar names the calendar
   pub of_calendar : (names : List (List ℕ)) (t : FileTold) → IsCalendarRefusal names t why
       → ((which : FileId) → why ≡ ReadFault which → IsFaultOf failed calendar_name) → IsFaultOfRead name calendar_name failed why
   of_calendar names t refused whose = record {

@@ -8,7 +8,7 @@ use Rattle.shift_calendar.specs.Days.{IsDayWord}
 use Rattle.shift_calendar.specs.declared.window.ShiftWindow.{ShiftWindow}
 use Rattle.plant_more.specs.ShiftLines.{AreLines, DatedWindow, dated}
 
--- what is printed of one window more stands behind the rest
+-- what is printed of one more window comes after the rest
 pub window_more : (lines : DatedWindow → List ℕ) (windows : List ShiftWindow) (i : ℕ) (d : ShiftWindow) (word text more : List ℕ)
     → i < length windows → AreLines lines (take i windows) text → IsDayWord word (get_or windows i d).day
     → more ≡ text ++ lines (dated (get_or windows i d) word) → AreLines lines (take (i + 1) windows) more

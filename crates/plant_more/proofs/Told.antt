@@ -1,4 +1,5 @@
--- What the status of a command tells once its answer was printed, and why a refusal of `shifts` is told as it is.
+-- What the status of a command reports once its answer was printed, and why a refusal of `shifts` is reported as it
+-- is.
 use Rattle.std.proofs.Common.{◌≡◌, inl, inr, ℕ, ◌^◌, ◌<◌, List, Result, Ok, Err, IfOk, IfErr, ◌≢◌, String, Global, string_bytes, sym, subst, ap, ◌∙◌}
 use Rattle.byte_io.specs.Outside.{Outside}
 use Rattle.disk_model.specs.Calls.{Rose}
@@ -14,7 +15,7 @@ use Rattle.plant_store.specs.Groups.{DeviceTraces}
 use Rattle.plant_more.specs.Shifts.{IsShiftsRefusal, OfBase, OfCalendar, OfTag, OfMemory}
 use Rattle.plant_more.specs.Endings.{CountsFor}
 
--- the faults of files that an answer tells are those that its status tells, once it was printed
+-- the faults of files that an answer reports are those that its status reports, once it was printed
 pub faults_so : (before now : Outside) (answer : Result (String Global) Status) (status : Status) (old new : ℕ)
     → new ≡ faults_after answer old → IfOk answer (λ text. IsPrintedSo (string_bytes text) before now status)
     → IfErr answer (λ why. (status ≡ why) × IsTold before now why) → new ≡ faults_told status old
@@ -22,7 +23,7 @@ faults_so before now (Ok text) status old new faults (inl done) told = faults �
 faults_so before now (Ok text) status old new faults (inr cut) told = faults ∙ ap (λ s. faults_told s old) (sym cut.0)
 faults_so before now (Err why) status old new faults printed told = faults ∙ ap (λ s. faults_told s old) (sym told.0)
 
--- the faults of the store that an answer tells are those that its status tells, once it was printed
+-- the faults of the store that an answer reports are those that its status reports, once it was printed
 pub counts_so : (IsRefusal : Status → Type 0) (before now : Outside) (answer : Result (String Global) Status) (status : Status)
     (old new : ℕ) → CountsDevices answer old new → IfErr answer IsRefusal
     → ((unit : Unit) → IsRefusal (DeviceFault unit) → Rose old new)
@@ -56,7 +57,7 @@ counts_so IsRefusal before now (Err why) status old new counts refusal rose prin
     of_refusal (OtherPlant at) is counts = same (OtherPlant at) (λ i e. cc) counts
     of_refusal (BadName word) is counts = same (BadName word) (λ i e. cc) counts
 
--- a refusal of `shifts` is not Done, and no fault of the output; a device fault is told where one was counted
+-- a refusal of `shifts` is not Done, and no fault of the output; it reports a device fault if one was counted
 module _ (name calendar : List ℕ) (told : ToldFiles) (old new : DeviceTraces) (before now : ℕ) where
   pub shifts_not_done : IsShiftsRefusal name calendar told old new before now Done → ⊥
   shifts_not_done (OfBase refused same) = refused

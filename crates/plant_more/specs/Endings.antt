@@ -1,4 +1,4 @@
--- How a command ends: what it has read and printed, and what became of the devices, in each status.
+-- How a command ends: what it has read and printed, and what became of the devices, for each status.
 use Rattle.std.specs.Prelude.{◌≡◌, ◌⊎◌, ℕ, ℤ, ◌^◌, ◌<◌, List, Option, None, Some}
 use Rattle.byte_io.specs.Outside.{Outside}
 use Rattle.disk_model.specs.Calls.{Rose}
@@ -13,8 +13,9 @@ use Rattle.shift_calendar.specs.Days.{IsDayWord, IsFirstDay}
 use Rattle.plant_more.specs.Shifts.{IsFaultOfRead, IsShifts, IsShiftsRefusal}
 use Rattle.plant_more.specs.Words.{AskedShifts}
 
--- what a command finds outside: the meaning of the output, what is told of files by name and how often a read of them has failed, and
--- whose failed last where that is told, and the traces of devices by name and how often a call of the store has failed
+-- What a command finds outside: the output's meaning; the files by name, how often a read of them has failed, and, if
+-- known, the name of the file whose read failed last; the traces of devices by name, and how often a call of the store
+-- has failed.
 pub record Scene : Type 0 where
   pub output : Outside
   pub files : ToldFiles
@@ -33,35 +34,36 @@ scene output files file_faults failed_name devices device_faults = record {
   device_faults = device_faults;
 }
 
--- one fault of the store is counted where a device fault is told, and else none
+-- the store counts one fault if the status reports a device fault, and otherwise none
 abbrev pub CountsFor : Status → ℕ → ℕ → Type 0
 CountsFor (DeviceFault unit) before now = Rose before now
 CountsFor status before now = now ≡ before
 
--- a command over the stored archives of a base ends in this status: so many reads of files have failed as it tells, so many calls of
--- the store, where they can be counted, and what it leaves of the devices is durable
+-- A command over the stored archives of a base ends in this status. The number of failed reads of files is the one that
+-- the status reports. So is the number of failed calls of the store, while it can be counted. If the command is done,
+-- what it leaves on the devices is durable.
 pub record EndsOver (base : List ℕ) (before now : Scene) (status : Status) : Type 0 where
   pub durable : WhereDone status (IsDurable base before.files before.devices now.devices)
   pub file_faults : now.file_faults ≡ faults_told status before.file_faults
   pub device_faults : before.device_faults < 2 ^ 64 → CountsFor status before.device_faults now.device_faults
 
--- the line of this status is printed, and nothing else has changed: nothing was read
+-- the command prints the line of this status, reads nothing, and changes nothing else
 pub record IsUnread (before now : Scene) (status : Status) : Type 0 where
   pub told : IsTold before.output now.output status
   pub rest : now ≡ record before { output = now.output }
 
 -- ---- shifts
 
--- no day from 1971-01-01 to 9990-12-31 has this word
+-- this word is no day from 1971-01-01 to 9990-12-31
 abbrev pub IsNoDay : List ℕ → Type 0
 IsNoDay word = (day : ℤ) → IsFirstDay day → IsDayWord word day → ⊥
 
--- words ask for no shifts that there are
+-- the words do not ask for shifts, or their first day is no day
 abbrev pub AsksForNone : Option AskedShifts → Type 0
 AsksForNone None = Unit {0}
 AsksForNone (Some asked) = IsNoDay asked.day
 
--- the shifts that were asked for are told from this day on, and it ends in this status
+-- the command prints the shifts that were asked for, from this day on, and ends in this status
 pub record EndsFrom (asked : AskedShifts) (day : ℤ) (before now : Scene) (status : Status) : Type 0 where
   pub first : IsFirstDay day
   pub named : IsDayWord asked.day day
@@ -71,13 +73,14 @@ pub record EndsFrom (asked : AskedShifts) (day : ℤ) (before now : Scene) (stat
   pub over : EndsOver asked.base before now status
   pub whose : IsFaultOfRead asked.base asked.calendar now.failed_name status
 
--- `shifts` ends in this status, of words that ask for these
+-- `shifts` ends in this status; its words ask for these shifts, or for none
 abbrev pub EndsOfShifts : Option AskedShifts → Scene → Scene → Status → Type 0
 EndsOfShifts None before now status = (status ≡ BadWords) × IsUnread before now status
 EndsOfShifts (Some asked) before now status = ((day : ℤ) × EndsFrom asked day before now status)
     ⊎ (IsNoDay asked.day × (status ≡ BadWords) × IsUnread before now status)
 
--- the devices after it: those of the base are kept, or all are as they were
+-- The devices afterwards. If the words ask for shifts, the devices of the base are kept; otherwise no device has
+-- changed.
 abbrev pub KeepsForShifts : Option AskedShifts → ToldFiles → DeviceTraces → DeviceTraces → Type 0
 KeepsForShifts None files old new = new ≡ old
 KeepsForShifts (Some asked) files old new = AreKept asked.base files old new

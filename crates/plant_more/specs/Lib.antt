@@ -11,7 +11,7 @@ pub mod LogReports
 pub mod LogHeadline
 pub mod LogTurns
 pub mod LogNotes
--- what private functions alone cite
+-- modules that only private functions cite
 pub mod LogCrew
 pub mod CalendarFile
 pub mod ShiftLines

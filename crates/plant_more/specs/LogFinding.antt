@@ -1,4 +1,4 @@
--- The rows of collectors on the tape of a log, and the first put that is another one.
+-- The rows of collectors on the tape of a log, and the first put that is not the expected row.
 use Rattle.std.specs.Prelude.{◌≡◌, ◌≢◌, ℕ, ◌+◌, ◌<◌, ◌≤◌, List, [], ◌∷◌, filter, length, nat_eq, slice_get, slice_index, slice_set, take, Option, Some}
 use Rattle.std.specs.Option.{option_map, option_map_or, unwrap_or}
 use Rattle.plant_status.specs.declared.mismatch.Place.TheVariants.{Log as LogPlace}
@@ -13,14 +13,14 @@ use Rattle.commit_log.specs.declared.row.LogRow.{LogRow}
 use Rattle.commit_log.specs.Tapes.{puts}
 use Rattle.plant_more.specs.LogTurns.{row_of}
 
--- ---- what a log is to have of a collector
+-- ---- what a log has to have of a collector
 
--- the rows of a collector, as a log has them, of which the first one has this number
+-- the rows of a collector as a log has them; the first has this number
 abbrev pub rows_from : ℕ → ℕ → List RawRow → List LogRow
 rows_from collector number [] = []
 rows_from collector number (row ∷ rows) = row_of collector number row ∷ rows_from collector (number + 1) rows
 
--- those of the file of a collector; none where there is no such collector
+-- the rows in the file of a collector, as a log has them; none if there is no such collector
 abbrev pub rows_in : List (List RawRow) → ℕ → List LogRow
 rows_in files collector = option_map_or (rows_from collector 1) (slice_get files collector) []
 
@@ -30,44 +30,44 @@ rows_in files collector = option_map_or (rows_from collector 1) (slice_get files
 abbrev pub rows_by : ℕ → List LogRow → List LogRow
 rows_by collector rows = filter (λ r. nat_eq r.collector collector) rows
 
--- of each collector the first of its rows were put, so many, in their order, and no others
+-- of each collector exactly its first rows were put, in order; `next` has their number, collector by collector
 pub record AreFound (files : List (List RawRow)) (tape : List LogTurn) (next : List ℕ) : Type 0 where
   pub as_many : length next ≡ length files
   pub each : (collector : ℕ) → rows_by collector (puts tape) ≡ take (slice_index next collector) (rows_in files collector)
   pub within : (collector : ℕ) → slice_index next collector ≤ length (rows_in files collector)
 
--- of each collector all rows of its file were put, in their order, each once, and no others
+-- of each collector all rows of its file were put, in order, each once, and no others
 abbrev pub AreWhole : List (List RawRow) → List LogTurn → Type 0
 AreWhole files tape = (collector : ℕ) → rows_by collector (puts tape) ≡ rows_in files collector
 
--- of each other collector as many of its rows were found as before
+-- the numbers of found rows are unchanged for all collectors but this one
 pub record AreOthersSame (collector : ℕ) (old new : List ℕ) : Type 0 where
   pub as_many : length new ≡ length old
   pub same : (w : ℕ) → w ≢ collector → slice_index new w ≡ slice_index old w
 
 -- ---- one put
 
--- a row of a log, as it is told
+-- a row of a log, as a status reports it
 abbrev pub seen_of : LogRow → Seen
 seen_of r = seen.Put r.tag r.collector r.row r.point
 
--- the row of a collector that is due next
+-- the row of a collector that has to come next
 abbrev pub next_of : List (List RawRow) → List ℕ → ℕ → Option LogRow
 next_of files next collector = slice_get (rows_in files collector) (slice_index next collector)
 
--- a row is the next one of its collector
+-- the row is the next one of its collector, and counts as found
 pub record IsFollowed (files : List (List RawRow)) (row : LogRow) (old new : List ℕ) : Type 0 where
   pub there : row.collector < length old
   pub due : next_of files old row.collector ≡ Some row
   pub changed : new ≡ slice_set old row.collector (slice_index old row.collector + 1)
 
--- another row was due, or none
+-- the row is not the next one of its collector; `told` is the next one, or Nothing if there is none
 pub record IsOtherDue (files : List (List RawRow)) (row : LogRow) (next : List ℕ) (told : Seen) : Type 0 where
   pub told_is : told ≡ unwrap_or (option_map seen_of (next_of files next row.collector)) seen.Nothing
   pub differ : seen_of row ≢ told
 
--- The put at a place of a tape is the first that is not its collector's next row. It is kept there, and what was due in its place is
--- told, or that nothing was.
+-- The put at this place of the tape is the first that is not its collector's next row. `kept` is that put. `told` is
+-- the row that was due, or Nothing if none was.
 pub record IsOtherPut (files : List (List RawRow)) (tape : List LogTurn) (place : ℕ) (kept told : Seen) : Type 0 where
   pub row : LogRow
   pub next : List ℕ

@@ -1,4 +1,4 @@
--- What `log` comes to: the history of the log, or why none was opened.
+-- What `log` results in: the history of the log, or why no log was opened.
 use Rattle.std.specs.Prelude.{◌≡◌, ◌⊎◌, ℕ, ◌+◌, ◌-◌, ◌^◌, ◌<◌, ◌≤◌, List, length, Option, Result, Err, IfErr, IfOk, OnOk, String, string_bytes}
 use Rattle.std.specs.declared.alloc.Global.{Global}
 use Rattle.disk_model.specs.Calls.{Rose, Shows}
@@ -38,8 +38,9 @@ pub record IsHistoryOfLog {D : Type 0} (l : ToldLog D) (h : LogHistory) : Type 0
   pub tape : h.tape.items ≡ l.tape
   pub acked : h.acked ≡ l.acked
 
--- A log at its end, of whose opening this was kept: its device and its history, the notes of its workers, and that it has what these
--- had to do, or why it has not. Unless its opening is told to be another, it is as it was kept.
+-- A log at its end: its device, its history, and the notes of its workers. It has all the rows that these had to put,
+-- or there is a refusal. `known` is the copy of its opening. Unless the refusal is a mismatch of the opening, the log
+-- still agrees with that copy.
 pub record IsEnded {D : Type 0} (trace : D → Option Trace) (ticks faults : D → ℕ) (files : List (List RawRow)) (known : KnownLog)
     (before now : ℕ) (e : EndedLog D) : Type 0 where
   pub log : ToldLog D
@@ -54,14 +55,15 @@ pub record IsEnded {D : Type 0} (trace : D → Option Trace) (ticks faults : D �
 
 -- ---- no log
 
--- Why the log of a base is not opened for so many rows: its device is not, or memory is wanting. No device but that of the log has
--- changed, and a crash at any moment since leaves of it what one before might have left, or what stands for the same rows.
+-- Why the log of a base is not opened with room for so many rows: opening its device failed, or there was no memory.
+-- Only the log's device may have changed. A crash at any moment since leaves of it an image that a crash might have
+-- left before, or one that stands for the same rows.
 pub record IsUnopened (base : Base) (rows : ℕ) (old new : TracesByName) (before now : ℕ) (why : Status) : Type 0 where
   pub cause : IsOpeningRefusal (plant_text base.tags.items) (length base.tags.items) rows (old log_name) before now why
       ⊎ (why ≡ WantOfMemory)
   pub kept : IsLogKept (plant_text base.tags.items) (length base.tags.items) old new
 
--- why no collector began: a file is refused, and no device has changed; or the log is not opened
+-- Why no collector began. Either a file is refused, and no device has changed; or the log is not opened.
 pub data IsUnlogged (name plan_name : List ℕ) (told : ToldFiles) (old new : TracesByName) (before now : ℕ) (why : Status) : Type 0 where
   OfFiles : IsCollectingRefusal name plan_name told why → ((n : List ℕ) → new n ≡ old n)
       → IsUnlogged name plan_name told old new before now why
@@ -70,41 +72,43 @@ pub data IsUnlogged (name plan_name : List ℕ) (told : ToldFiles) (old new : Tr
 
 -- ---- a log
 
--- A log that is done: of each collector the rows of its file were put, in their order, each once, and no others; all rows are
--- acknowledged; and this is a line of each tag, of its points in the opening and the puts.
+-- A log that is done. Of each collector the rows of its file were put, in order, each once, and no others. All rows are
+-- acknowledged. The text has a line for each tag, computed from its points in the opening and in the puts.
 pub record IsDone (base : Base) (rows : List (List RawRow)) (h : LogHistory) (text : List ℕ) : Type 0 where
   pub whole : AreWhole rows h.tape.items
   pub acknowledged : length h.opening.items + length (puts h.tape.items) ≤ h.acked
   pub told : IsLineToldOf base.tags.items (log_rows h) text
 
--- the log is that of a base, and its opening has the rows for which its device, whose calls were these, stood before
+-- the log is that of the base, and its opening has the rows for which its device stood before
 pub record IsLogOpenedAs (base : Base) (before : Option Trace) (h : LogHistory) : Type 0 where
   pub plant : h.plant.items ≡ plant_text base.tags.items
   pub tags : h.tags ≡ length base.tags.items
   pub opening : Shows before (λ c. StandsForRows (plant_text base.tags.items) (length base.tags.items) c h.opening.items)
 
--- Why a log is not done: what its workers left is refused beside what was kept of its opening; or nothing is told of it.
+-- Why a log is not done: a refusal after its workers have ended, or no memory or too many records for its report.
 pub data IsUndone {D : Type 0} (faults : D → ℕ) (base : Base) (rows : List (List RawRow)) (notes : List LogNote) (known : KnownLog)
     (l : ToldLog D) (h : LogHistory) (why : Status) : Type 0 where
   OfSettling : IsSettlingRefusal faults rows notes known l why → IsUndone faults base rows notes known l h why
   OfReport : ArePutsMade rows l → IsReportRefusal base.tags.items (log_rows h) why → IsUndone faults base rows notes known l h why
 
--- a count has risen, or stands at the end of its type
+-- a count has risen, or is the largest value of its type
 abbrev pub HasLogCountRisen : ℕ → ℕ → Type 0
 HasLogCountRisen before now = (before < now) ⊎ (now ≡ 2 ^ 64 - 1)
 
--- The faults of a store before a log is opened and after its device is given back: they are no fewer, and have risen where a fault of
--- a device is told. Unless the opening is told to be another, one is counted at most.
+-- The store's fault count before a log is opened, and after its device is given back. It never falls. It has risen, or
+-- is the largest value of its type, if the answer reports a device fault. Unless the answer is a mismatch of the
+-- opening, it rises by one at most.
 pub record CountsLog (answer : Result (String Global) Status) (before now : ℕ) : Type 0 where
   pub later : before ≤ now
   pub told : IfErr answer (λ why. (unit : Device) → why ≡ DeviceFault unit → HasLogCountRisen before now)
   pub once : (IsOfOpening answer → ⊥) → (now ≡ before) ⊎ Rose before now
 
--- A log of a base, into which collectors with these rows put them, and what came of it. It was opened on the device of its name, and
--- is given back there; no other device has changed. Its history is legal, and a crash at any moment since its opening leaves of the
--- device the opening's rows followed by the oldest that were put, with all that are acknowledged. Unless its opening is told to be
--- another, it was opened as what the device stood for. It is done, or there is a cause. The store counted so many faults before, and
--- so many now.
+-- A log of a base, into which collectors put these rows, and what came of it.
+-- It was opened on the device of its name, and given back there. No other device has changed. Its history is legal. A
+-- crash at any moment since its opening leaves of the device the opening's rows followed by the oldest puts, with all
+-- acknowledged rows among them.
+-- Unless the answer is a mismatch of the opening, its opening has the rows for which the device stood. The log is done,
+-- or there is a cause. The store counted `before` faults before it, and counts `now` after it.
 pub record IsRun {D : Type 0} (trace : D → Option Trace) (ticks faults : D → ℕ) (base : Base) (rows : List (List RawRow))
     (old new : TracesByName) (before now : ℕ) (stops_before stops_now : ℕ) (answer : Result (String Global) Status) (h : LogHistory)
     : Type 0 where
@@ -124,7 +128,7 @@ pub record IsRun {D : Type 0} (trace : D → Option Trace) (ticks faults : D →
   pub others : AreOthersSame old new
   pub counts : before < 2 ^ 64 → CountsLog answer before now
 
--- the log of the plan in a file over the base in another, and what came of it
+-- the log of the plan in one file over the base in another, and what came of it
 pub record IsLogged {D : Type 0} (trace : D → Option Trace) (ticks faults : D → ℕ) (name plan_name : List ℕ) (told : ToldFiles)
     (old new : TracesByName) (before now : ℕ) (stops_before stops_now : ℕ) (answer : Result (String Global) Status) (h : LogHistory)
     : Type 0 where
@@ -134,15 +138,16 @@ pub record IsLogged {D : Type 0} (trace : D → Option Trace) (ticks faults : D 
   pub collected : IsCollected name plan_name told base plan rows
   pub run : IsRun trace ticks faults base rows old new before now stops_before stops_now answer h
 
--- what is answered of a log that came to this: the line of each tag, if it is done and they can be told; and else why there is none
+-- The command's answer for a log that ended so. If the log is done, it is a line for each tag, or why these cannot be
+-- made. Otherwise it is the log's own refusal.
 pub record IsLogReported (base : Base) (h : LogHistory) (came : Result Unit Status) (told : Result (String Global) Status) : Type 0 where
   pub text : OnOk came (IfOk told (λ text. IsLineToldOf base.tags.items (log_rows h) (string_bytes text)))
   pub untold : OnOk came (IfErr told (IsReportRefusal base.tags.items (log_rows h)))
   pub refused : IfErr came (λ why. told ≡ Err why)
 
--- ---- what is never told
+-- ---- what this command never returns as a refusal
 
--- no refusal of this command
+-- these statuses are no refusals of this command
 abbrev pub IsOfOthers : Status → Type 0
 IsOfOthers Done = Unit {0}
 IsOfOthers BadWords = Unit {0}

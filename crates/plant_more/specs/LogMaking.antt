@@ -1,4 +1,4 @@
--- What is done with a log that lacks rows, and why it is not.
+-- How a log gets the rows that it lacks, and why it does not get them.
 use Rattle.std.specs.Prelude.{◌≡◌, ℕ, ◌<◌, List, [], ◌∷◌, ◌++◌, All, length, sum_by, ⊤}
 use Rattle.trend_num.specs.Ranges.{InRange}
 use Rattle.plant_status.specs.declared.unit.Unit.TheVariants.{Log as LogUnit}
@@ -21,7 +21,7 @@ pub record IsRowFor (tags : ℕ) (row : RawRow) : Type 0 where
   pub tag : row.tag < tags
   pub point : InRange row.point
 
--- so is each row of the files
+-- each row of the files is such a row
 abbrev pub AreRowsFor : ℕ → List (List RawRow) → Type 0
 AreRowsFor tags files = All (All (IsRowFor tags)) files
 
@@ -29,15 +29,15 @@ AreRowsFor tags files = All (All (IsRowFor tags)) files
 abbrev pub IsRowPut : {D : Type 0} → LogRow → ToldLog D → ToldLog D → Type 0
 IsRowPut row old new = new ≡ record old { tape = old.tape ++ Put row ∷ [] }
 
--- Why a row is not put: the device of the log has counted a fault; or there is room for as many rows as were put, fewer than are to
--- be put in all, and both numbers are told
+-- Why a row is not put. Either the device of the log has counted a fault; or the log has room for no more rows than
+-- were put already, fewer than have to be put in all. The status reports both numbers.
 abbrev pub IsPutRefusal : {D : Type 0} → (D → ℕ) → ℕ → ToldLog D → Status → Type 0
 IsPutRefusal faults total l (DeviceFault LogUnit) = 0 < faults l.dev
 IsPutRefusal faults total l (Mismatch (LogPlace place) (Number kept) (Number told)) =
     (place ≡ length l.tape) × (kept ≡ length (puts l.tape)) × (told ≡ total) × (kept < told)
 IsPutRefusal faults total l other = ⊥
 
--- why rows are not acknowledged: the device of the log has counted a fault, or memory is wanting
+-- why rows are not acknowledged: the device of the log has counted a fault, or there was no memory
 abbrev pub IsCommitRefusal : {D : Type 0} → (D → ℕ) → ToldLog D → Status → Type 0
 IsCommitRefusal faults l (DeviceFault LogUnit) = 0 < faults l.dev
 IsCommitRefusal faults l WantOfMemory = ⊤

@@ -1,4 +1,4 @@
--- The device of a plant's log is opened, or it is not.
+-- Opening the device of a plant's log, and why it fails.
 use Rattle.std.specs.Prelude.{◌≡◌, ◌≢◌, ◌⊎◌, ℕ, ◌^◌, ◌<◌, List, [], false, Option, Result, Ok, Err}
 use Rattle.disk_model.specs.Calls.{Rose, Shows, sum_of_counts}
 use Rattle.disk_model.specs.Moments.{During}
@@ -18,12 +18,13 @@ use Rattle.plant_more.specs.LogTexts.{log_name}
 abbrev pub TracesByName : Type 0
 TracesByName = List ℕ → Option Trace
 
--- no device but that of the log has changed
+-- no device but the log's has changed
 abbrev pub AreOthersSame : TracesByName → TracesByName → Type 0
 AreOthersSame old new = (n : List ℕ) → n ≢ log_name → new n ≡ old n
 
--- The log of a plant of this text and so many tags is opened on a device that told these calls: it has the rows for which the
--- device's bytes stood, and a crash at any moment since left of them what one before might have left, or what stands for the same.
+-- The log of a plant with this text and so many tags is opened on a device with this trace. It has the rows for which
+-- the device's bytes stood. A crash at any moment since left an image that a crash might have left before, or one that
+-- stands for the same rows.
 pub record IsLogOpened {D : Type 0} (trace : D → Option Trace) (ticks faults : D → ℕ) (text : List ℕ) (tags : ℕ) (before : Option Trace)
     (l : ToldLog D) : Type 0 where
   pub plant : l.plant ≡ text
@@ -36,20 +37,21 @@ pub record IsLogOpened {D : Type 0} (trace : D → Option Trace) (ticks faults :
   pub tape : l.tape ≡ []
   pub usable : l.failed ≡ false
 
--- no device but that of the log has changed, and a crash at any moment since leaves of it what one before might have left, or what
--- stands for the same rows
+-- Only the log's device may have changed. A crash at any moment since leaves of it an image that a crash might have
+-- left before, or one that stands for the same rows.
 pub record IsLogKept (text : List ℕ) (tags : ℕ) (old new : TracesByName) : Type 0 where
   pub any_moment : During (old log_name) (new log_name) (IsLogLeftOrSame text tags (old log_name))
   pub others : AreOthersSame old new
 
--- a store that had so many faults has the device of a log back under its name, and has counted its faults too; no other has changed
+-- the store has the log's device back under its name, has added the device's faults to its own, and no other device has
+-- changed
 pub record IsGivenBack {D : Type 0} (trace : D → Option Trace) (faults : D → ℕ) (l : ToldLog D) (old new : TracesByName) (before now : ℕ)
     : Type 0 where
   pub device : new log_name ≡ trace l.dev
   pub others : AreOthersSame old new
   pub counted : now ≡ sum_of_counts before (faults l.dev)
 
--- what a log that is not opened is answered with
+-- the status for a log that is not opened
 abbrev pub status_of : LogNo → Status
 status_of no.DeviceFault = DeviceFault LogUnit
 status_of (no.Damaged at byte) = Damaged LogUnit at byte
@@ -57,15 +59,16 @@ status_of (no.OtherPlant at) = OtherPlant at
 status_of (no.TooMany rows) = Limit Rows rows
 status_of no.WantOfMemory = WantOfMemory
 
--- why a log is not opened on a device that told these calls, with room for so many puts, where the store counted so many faults
--- before and so many now
+-- why a log is not opened on a device with this trace, with room for so many puts; the store counted `before` faults
+-- before it, and counts `now` after it
 pub record IsOpeningRefusal (text : List ℕ) (tags room : ℕ) (o : Option Trace) (before now : ℕ) (why : Status) : Type 0 where
   pub reason : LogNo
   pub told : why ≡ status_of reason
   pub cause : IsLogCause text tags room o reason
   pub risen : reason ≡ no.DeviceFault → before < 2 ^ 64 → Rose before now
 
--- one fault of the store is counted where a call of the log's device has failed, which is told then; and else none
+-- If a call of the log's device failed, the store counts one fault more, and the status reports it. Otherwise it counts
+-- none.
 abbrev pub CountsOpening : {T : Type 0} → Result T Status → ℕ → ℕ → Type 0
 CountsOpening (Ok x) before now = now ≡ before
 CountsOpening (Err why) before now = (now ≡ before) ⊎ ((why ≡ DeviceFault LogUnit) × Rose before now)

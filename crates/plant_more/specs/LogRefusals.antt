@@ -1,4 +1,4 @@
--- What a log comes to once its workers have ended, and why it is refused.
+-- What a log results in once its workers have ended, and why it is refused.
 use Rattle.std.specs.Prelude.{◌≡◌, ◌≢◌, ℕ, ◌<◌, List, All, Any, length, Result, Ok, Err, ⊤}
 use Rattle.std.specs.List.{AllWithin, HoldsAt}
 use Rattle.plant_status.specs.declared.mismatch.Place.TheVariants.{Opening}
@@ -16,12 +16,12 @@ use Rattle.plant_more.specs.LogMaking.{IsCommitRefusal, IsPutRefusal, total_rows
 
 -- ---- the notes of workers
 
--- these are the notes of all workers, of whom as many were stopped as the passes have counted more
+-- these are the notes of all workers; the passes have counted one stop for each halted worker
 pub record AreNotes (D : Type 0) (files : List (List RawRow)) (before now : ℕ) (notes : List LogNote) : Type 0 where
   pub of_all : AreLogNotesOf D files notes
   pub stopped : now ≡ log_stops_with before notes
 
--- the first worker that its pass stopped is told, or else that one found no memory
+-- the status names the first worker that its pass stopped, or reports that a worker found no memory
 abbrev pub IsStop : List LogNote → Status → Type 0
 IsStop notes (status.Halted worker) = (place : ℕ) × (place < length notes)
     × HoldsAt (λ n. (n.worker ≡ worker) × (n.ending ≡ Halted)) notes place × AllWithin (λ n. n.ending ≢ Halted) notes 0 place
@@ -30,25 +30,25 @@ IsStop notes other = ⊥
 
 -- ---- what is done, and why it is not
 
--- of each collector all rows were put, in their order, each once, and no others; and all rows are acknowledged
+-- of each collector all rows were put, in order, each once, and no others; and all rows are acknowledged
 pub record ArePutsMade {D : Type 0} (files : List (List RawRow)) (l : ToldLog D) : Type 0 where
   pub whole : AreWhole files l.tape
   pub none_waits : rows_waiting l ≡ 0
 
--- no worker was stopped, and each found memory
+-- no worker was stopped, and none lacked memory
 pub record AreUnstopped (notes : List LogNote) : Type 0 where
   pub none_halted : All (λ n. n.ending ≢ Halted) notes
   pub all_found : All (λ n. n.ending ≢ WantOfMemory) notes
 
--- the refusals, in their order: a worker was stopped, or found no memory; a row is not put; rows are not acknowledged
+-- the refusals, in order: a worker was stopped or found no memory; a row is not put; rows are not acknowledged
 pub data IsRestRefusal {D : Type 0} (faults : D → ℕ) (files : List (List RawRow)) (notes : List LogNote) (l : ToldLog D) (why : Status)
     : Type 0 where
   OfStop : IsStop notes why → IsRestRefusal faults files notes l why
   OfPut : AreUnstopped notes → IsPutRefusal faults (total_rows files) l why → IsRestRefusal faults files notes l why
   OfCommit : AreUnstopped notes → IsCommitRefusal faults l why → IsRestRefusal faults files notes l why
 
--- the refusals, in their order: the log is not as it was kept; a put is not its collector's next row; one of the refusals above. No
--- memory may be found at any time
+-- The refusals, in order: the log differs from the copy of its opening; a put is not its collector's next row; one of
+-- the refusals above. A lack of memory may come at any time.
 pub data IsSettlingRefusal {D : Type 0} (faults : D → ℕ) (files : List (List RawRow)) (notes : List LogNote) (known : KnownLog)
     (l : ToldLog D) (why : Status) : Type 0 where
   OfOpening : IsLogMismatch l known why → IsSettlingRefusal faults files notes known l why
@@ -56,7 +56,7 @@ pub data IsSettlingRefusal {D : Type 0} (faults : D → ℕ) (files : List (List
   OfRest : IsAsKnown l known → IsRestRefusal faults files notes l why → IsSettlingRefusal faults files notes known l why
   OfMemory : why ≡ status.WantOfMemory → IsSettlingRefusal faults files notes known l why
 
--- a refusal is told of an opening that is not as it was kept
+-- the refusal is a mismatch of the opening
 abbrev pub IsOpening : Status → Type 0
 IsOpening (status.Mismatch (Opening unit) kept told) = ⊤
 IsOpening other = ⊥

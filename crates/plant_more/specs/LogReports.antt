@@ -1,4 +1,4 @@
--- What is told of the rows of a log: a line of each tag.
+-- What the command prints of the rows of a log: one line for each tag.
 use Rattle.std.specs.Prelude.{◌≡◌, ℕ, ◌+◌, ◌<◌, ◌≤◌, List, [], ◌++◌, length, map, take, slice_index_or, ⊤}
 use Rattle.trend_num.specs.Limits.{most_records}
 use Rattle.trend_num.specs.declared.refusal.What.TheVariants.{Records}
@@ -26,7 +26,7 @@ log_origin_of def = record { tuning = def.tuning; step = def.step }
 abbrev pub log_history_of : ℕ → List LogRow → List Event
 log_history_of tag rows = followed [] (map Raw (log_points_of tag rows))
 
--- the core of each tag stands for its points of these rows
+-- for each tag there is a core that stands for the tag's points of these rows
 pub record AreStanding (tags : List TagDef) (rows : List LogRow) (cores : List Core) : Type 0 where
   pub as_many : length cores ≡ length tags
   pub steps : (tag : ℕ) (def : TagDef) (core : Core) → tag < length tags
@@ -34,13 +34,14 @@ pub record AreStanding (tags : List TagDef) (rows : List LogRow) (cores : List C
   pub stand : (tag : ℕ) (def : TagDef) (core : Core) → tag < length tags
       → Stands (log_origin_of (slice_index_or tags tag def)) (log_history_of tag rows) (slice_index_or cores tag core).state
 
--- this is a line of each tag, of an archive that stands for its points of these rows
+-- the text has one line for each tag, of an archive that stands for its points of these rows
 pub record IsLineToldOf (tags : List TagDef) (rows : List LogRow) (text : List ℕ) : Type 0 where
   pub cores : List Core
   pub standing : AreStanding tags rows cores
   pub same : text ≡ check_text tags cores
 
--- an archive that stands for a tag's points of the first of these rows has so many records, and one point more could bring too many
+-- An archive that stands for a tag's points in the first of these rows has so many records. One point more could bring
+-- too many.
 pub record IsTagFull (tags : List TagDef) (rows : List LogRow) (number : ℕ) : Type 0 where
   pub tag : ℕ
   pub count : ℕ
@@ -51,7 +52,7 @@ pub record IsTagFull (tags : List TagDef) (rows : List LogRow) (number : ℕ) : 
   pub number_is : number ≡ length state.records
   pub many : most_records < number + 2
 
--- why nothing is told of them: a tag could have too many records, or memory is wanting
+-- why there is no report of the rows: a tag could get too many records, or there was no memory
 abbrev pub IsReportRefusal : List TagDef → List LogRow → Status → Type 0
 IsReportRefusal tags rows (Limit Records number) = IsTagFull tags rows number
 IsReportRefusal tags rows WantOfMemory = ⊤

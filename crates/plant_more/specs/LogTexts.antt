@@ -1,8 +1,8 @@
--- The text of a plant, by which its log is known.
+-- The text of a plant, by which a device is recognized as its log.
 use Rattle.std.specs.Prelude.{ℕ, List, [], ◌∷◌, ◌++◌, codes, flat_map}
 use Rattle.trend_num.specs.declared.tag_def.TagDef.{TagDef}
 
--- what the device of the log is called
+-- the name of the log's device
 abbrev pub log_name : List ℕ
 log_name = codes "plant.log"
 

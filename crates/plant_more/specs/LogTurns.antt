@@ -10,7 +10,7 @@ use Rattle.commit_log.specs.Told.{ToldLog, rows_waiting}
 abbrev pub row_of : ℕ → ℕ → RawRow → LogRow
 row_of collector number row = record { tag = row.tag; collector = collector; row = number; point = row.point }
 
--- a worker of so many rows commits after the row of this number: a multiple of 64, or the last one
+-- whether a worker with so many rows commits after this one: its number is a multiple of 64, or it is the last
 abbrev pub is_commit_due : ℕ → ℕ → Bool
 is_commit_due number rows = (number % 64 == 0) || (number == rows)
 
@@ -19,7 +19,7 @@ abbrev pub IsCommit : LogTurn → Type 0
 IsCommit (Put row) = ⊥
 IsCommit (Commit moment acked) = ⊤
 
--- the plant of a log, its opening and its room are as they were
+-- the log's plant, opening and room are unchanged
 pub record IsSameLog {D : Type 0} (old new : ToldLog D) : Type 0 where
   pub plant : new.plant ≡ old.plant
   pub tags : new.tags ≡ old.tags
@@ -28,14 +28,14 @@ pub record IsSameLog {D : Type 0} (old new : ToldLog D) : Type 0 where
   pub faults : new.faults ≡ old.faults
   pub room : new.room ≡ old.room
 
--- the tape of a log is longer by commits alone
+-- the tape has grown by commits alone
 pub record IsCommitted {D : Type 0} (old new : ToldLog D) : Type 0 where
   pub more : List LogTurn
   pub each : All IsCommit more
   pub tape : new.tape ≡ old.tape ++ more
   pub same : IsSameLog old new
 
--- the row of a collector at a place is put, and behind it, where that is due, all that rows_waiting is acknowledged
+-- The row of a collector at this place is put. If a commit is due after it, all waiting rows are acknowledged.
 pub record IsPutAt {D : Type 0} (collector : ℕ) (rows : List RawRow) (place : ℕ) (old new : ToldLog D) : Type 0 where
   pub row : RawRow
   pub put : ToldLog D

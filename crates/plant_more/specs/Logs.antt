@@ -1,4 +1,4 @@
--- What `log` comes to: what is printed, and the log.
+-- What `log` results in: the printed text, and the log.
 use Rattle.std.specs.Prelude.{◌≡◌, ◌≢◌, ℕ, ◌^◌, ◌<◌, List, None, Some, Option, Result, String, IfErr, IfOk, IfSome, OnOk, string_bytes}
 use Rattle.std.specs.Option.{IsSome}
 use Rattle.std.specs.declared.alloc.Global.{Global}
@@ -13,9 +13,11 @@ use Rattle.plant_more.specs.LogOpenings.{CountsOpening}
 use Rattle.plant_more.specs.declared.log_command.LogOutcome.{LogOutcome}
 use Rattle.plant_more.specs.Endings.{IsUnread, Scene}
 
--- The logging of the plan in a file over the base in another: a line of each tag is printed, or the line that tells why there is none.
--- Where collectors were started there is a log, whatever came of it; else none was stopped, and there is a cause, which is never the
--- words. So many reads of files have failed as are told, and it is told whose; and so many calls of the log's device.
+-- `log` with the plan in one file, over the base in another. It prints a line for each tag, or a line that states its
+-- refusal.
+-- If collectors were started, the outcome has the log's history, however the command ended. If none was started, no
+-- worker was stopped, and there is a cause, which is never bad words. In that case the counts of failed reads and of
+-- failed device calls rise exactly as the status reports. The failed file is the one that the status names.
 pub record IsLogSo {D : Type 0} (trace : D → Option Trace) (ticks faults : D → ℕ) (base plan : List ℕ) (before now : Scene)
     (stops_before stops_now : ℕ) (o : LogOutcome) : Type 0 where
   pub answer : Result (String Global) Status
@@ -33,14 +35,14 @@ pub record IsLogSo {D : Type 0} (trace : D → Option Trace) (ticks faults : D �
   pub refused : IfErr answer (λ why. (o.status ≡ why) × IsTold before.output now.output why)
   pub understood : o.status ≢ BadWords
 
--- no plan is named: the line of that is told, nothing is read, and no worker is begun
+-- the words name no plan: the command prints the line for bad words, reads nothing, and starts no worker
 pub record IsNoPlan (before now : Scene) (stops_before stops_now : ℕ) (o : LogOutcome) : Type 0 where
   pub status : o.status ≡ BadWords
   pub unread : IsUnread before now BadWords
   pub none : o.log ≡ None
   pub unstopped : stops_now ≡ stops_before
 
--- `log` comes to this, of words that name this base and this plan, or none
+-- `log` results in this; its words name this base and this plan, or none
 abbrev pub EndsOfLog : {D : Type 0} → (D → Option Trace) → (D → ℕ) → (D → ℕ) → Option (List ℕ × List ℕ) → Scene → Scene → ℕ → ℕ
     → LogOutcome → Type 0
 EndsOfLog trace ticks faults None before now stops_before stops_now o = IsNoPlan before now stops_before stops_now o

@@ -1,4 +1,4 @@
--- What is printed of shifts: for each window, and then for each tag, a line.
+-- What `shifts` prints: for each window a line for each tag.
 use Rattle.std.specs.Prelude.{◌≡◌, ℕ, ℤ, List, [], ◌++◌, All, Option, None, codes, if◌then◌else◌, map, nat_lt, slice_get}
 use Rattle.std.specs.Fmt.{decimal}
 use Rattle.std.specs.List.{flat_map}
@@ -15,8 +15,8 @@ use Rattle.shift_calendar.specs.declared.window.ShiftWindow.{ShiftWindow}
 
 -- ---- one tag in one window
 
--- the measure of a tag in a window, as a query for it is answered: of its records, closed by its held point. There is none where the
--- window does not end after its start
+-- The measure of a tag in a window, as the answer to a query: over the tag's records, closed by its held point. There
+-- is none if the window does not end after its start.
 abbrev pub value_in : Measure → ShiftWindow → Core → Option ℤ
 value_in measure w core =
     if nat_lt w.from w.to then window_value core.step measure (points_recovered core) w.from w.to
@@ -50,7 +50,7 @@ abbrev pub window_lines : List TagDef → List Core → CalendarParts → DatedW
 window_lines tags cores cal d =
     flat_map (λ place. shift_line d (shift_name_at tags place) (value_at cores cal.measure d.window place)) cal.tags
 
--- the text is what is printed of these windows, one behind the other, each with the word of its day
+-- the text has the lines of these windows, one window after the other, each with the word of its day
 pub record AreLines (lines : DatedWindow → List ℕ) (windows : List ShiftWindow) (text : List ℕ) : Type 0 where
   pub dated : List DatedWindow
   pub of_windows : map (λ d. d.window) dated ≡ windows

@@ -1,4 +1,4 @@
--- The tags of a calendar, taken from the tags of a base and from what these were opened as.
+-- The tags of a calendar, taken from the tags of a base and their opened cores.
 use Rattle.std.specs.Prelude.{◌≡◌, ℕ, ℤ, List, ◌++◌, codes, Option, None, Some, if◌then◌else◌, nat_lt, slice_get}
 use Rattle.std.specs.Fmt.{decimal}
 use Rattle.std.specs.List.{AllZip, flat_map}
@@ -12,7 +12,7 @@ use Rattle.shift_calendar.specs.declared.window.ShiftWindow.{ShiftWindow}
 use Rattle.plant_more.specs.ShiftLines.{DatedWindow, shift_line}
 use Rattle.plant_more.specs.declared.shift_tag.ShiftTag.{ShiftTag}
 
--- this is the tag at a place
+-- this is the tag of the base at this place
 pub record IsShiftTag (defs : List TagDef) (cores : List Core) (place : ℕ) (tag : ShiftTag) : Type 0 where
   pub def : TagDef
   pub core : Core
@@ -23,17 +23,17 @@ pub record IsShiftTag (defs : List TagDef) (cores : List Core) (place : ℕ) (ta
   pub held : tag.held ≡ core.state.summary.held
   pub content : tag.content.records ≡ listed core.state.records
 
--- these are the tags at places
+-- these are the tags of the base at these places
 abbrev pub AreShiftTags : List TagDef → List Core → List ℕ → List ShiftTag → Type 0
 AreShiftTags defs cores places tags = AllZip (IsShiftTag defs cores) places tags
 
--- its measure in a window
+-- the measure of the tag in a window
 abbrev pub shift_value_of : Measure → ShiftWindow → ShiftTag → Option ℤ
 shift_value_of measure w tag =
     if nat_lt w.from w.to then window_value tag.step measure (points_closed_by tag.held tag.content.records) w.from w.to
     else None
 
--- its line
+-- the line of the tag
 abbrev pub tag_line : Measure → DatedWindow → ShiftTag → List ℕ
 tag_line measure d tag = shift_line d tag.name (shift_value_of measure d.window tag)
 
@@ -41,7 +41,7 @@ tag_line measure d tag = shift_line d tag.name (shift_value_of measure d.window 
 abbrev pub tag_lines : Measure → List ShiftTag → DatedWindow → List ℕ
 tag_lines measure tags d = flat_map (tag_line measure d) tags
 
--- what a line begins with, up to the name of the tag
+-- the beginning of a line, up to the name of the tag
 abbrev pub heading : DatedWindow → List ℕ
 heading d =
     codes "shift " ++ d.word ++ codes " " ++ decimal d.window.shift ++ codes " " ++ decimal d.window.from ++ codes " "

@@ -1,4 +1,4 @@
--- What the command prints, and why it prints nothing.
+-- What `shifts` prints, and why it prints nothing.
 use Rattle.std.specs.Prelude.{◌≡◌, ◌≢◌, ℕ, ℤ, List, Option}
 use Rattle.byte_io.specs.Files.{IsFaultOf}
 use Rattle.tag_core.specs.Core.{Core}
@@ -17,8 +17,8 @@ use Rattle.shift_calendar.specs.declared.window.ShiftWindow.{ShiftWindow}
 use Rattle.plant_more.specs.CalendarFile.{IsCalendarFile, IsCalendarRefusal}
 use Rattle.plant_more.specs.ShiftLines.{AreShiftLines}
 
--- a base was read and opened, the calendar was read of the file of its name, these are the windows of the shifts of so many days from
--- a day on, and the text is their lines
+-- A base was read and opened, and the calendar was read from the file of this name. The windows are those of the shifts
+-- of so many days from this day on. The text has their lines.
 pub record IsShifts (name calendar_name : List ℕ) (day : ℤ) (days : ℕ) (told : ToldFiles) (old : DeviceTraces) (text : List ℕ)
     : Type 0 where
   pub base : Base
@@ -30,8 +30,8 @@ pub record IsShifts (name calendar_name : List ℕ) (day : ℤ) (days : ℕ) (to
   pub shifts : AreWindows cal.zone (shifts_over cal.starts day days) windows
   pub lines : AreShiftLines base.tags.items cores cal windows text
 
--- the refusals, in their order: of the base, of the calendar, of a tag. Before that of a tag no device has changed. No memory may be
--- found at any time
+-- The refusals, in order: of the base, of the calendar, of a tag. No device has changed before a refusal of a tag. A
+-- lack of memory may come at any time.
 pub data IsShiftsRefusal (name calendar_name : List ℕ) (told : ToldFiles) (old new : DeviceTraces) (before now : ℕ) (why : Status)
     : Type 0 where
   OfBase : IsBaseRefusal (told name) why → AreUntouched old new → IsShiftsRefusal name calendar_name told old new before now why
@@ -43,12 +43,12 @@ pub data IsShiftsRefusal (name calendar_name : List ℕ) (told : ToldFiles) (old
       → IsShiftsRefusal name calendar_name told old new before now why
   OfMemory : why ≡ WantOfMemory → IsShiftsRefusal name calendar_name told old new before now why
 
--- where a read fault is told, and it is told whose read failed last, that is the file that is told of
+-- If the status reports a read fault, and it is known whose read failed last, then that is the file in the status.
 pub record IsFaultOfRead (name calendar_name : List ℕ) (failed : Option (List ℕ)) (why : Status) : Type 0 where
   pub base : why ≡ ReadFault file.Base → IsFaultOf failed name
   pub calendar : why ≡ ReadFault file.Calendar → IsFaultOf failed calendar_name
 
--- a status that a command is refused with: the words are good, and nothing was printed yet
+-- a refusal after good words and before anything was printed
 pub record IsCommandRefusal (why : Status) : Type 0 where
   pub no_end : why ≢ Done
   pub no_words : why ≢ BadWords

@@ -14,10 +14,11 @@ use std::alloc::Global;
 use tag_base::Base;
 use trend_num::{TagDef, WantOfMemory};
 
-// The most bytes of a calendar.
+// How many bytes the file of a calendar has at most.
 const MAX_TEXT_BYTES: u64 = 1_048_576;
 
-// The calendar over the tags of a base, read from the file of this name, which has at most 1,048,576 bytes.
+// Reads the calendar from the file of this name, over the names of the base's tags. The file has at most 1,048,576
+// bytes.
 pub(crate) fn calendar_of<F: Files>(
     alloc: Global,
     files: &mut F,
@@ -41,7 +42,7 @@ pub(crate) fn calendar_of<F: Files>(
     }
 }
 
-// All bytes of the file of a calendar.
+// Reads all bytes of a calendar's file.
 fn calendar_bytes<F: Files>(alloc: Global, files: &mut F, name: &str) -> Result<Vec<u8>, Status>
     ensures read { IfOk result (λ v. IsReadWhole (F.told files.old name.now) most_text_bytes v.items) }
     ensures refused { IfErr result (IsReadRefusal FileId.Calendar What.TextBytes most_text_bytes (F.told files.old name.now)) }
@@ -62,7 +63,7 @@ fn calendar_bytes<F: Files>(alloc: Global, files: &mut F, name: &str) -> Result<
     }
 }
 
-// The names of tags.
+// Returns the names of the tags, in order.
 fn names_of_tags(alloc: Global, tags: &[TagDef]) -> Result<Vec<Name>, WantOfMemory>
     ensures names { IfOk result (λ names. names.items ≡ tag_names tags.now) }
     ensures as_many { IfOk result (λ names. vec_len names ≡ length tags.now) }
@@ -74,7 +75,8 @@ fn names_of_tags(alloc: Global, tags: &[TagDef]) -> Result<Vec<Name>, WantOfMemo
     Ok(names)
 }
 
-// The status of a calendar that is refused for this: its rules are of the whole text.
+// Returns the status for a calendar that is refused for this reason. A calendar's rules are about its whole text, so
+// the status names no place.
 fn calendar_status(why: CalNo) -> Status
     ensures { result ≡ calendar_status why }
 {

@@ -1,27 +1,36 @@
-//! The commands `log` and `shifts`, from their words to what is printed.
+//! The commands `log` and `shifts`: from the words of the command line to the printed text.
 //!
-//! **Layer.** [`log`] and [`shifts`] take a whole command line, whose verb the top call has looked at. They refuse words that are not
-//! theirs, and then nothing is read. Else they read the files that the words name, open what they need, and print the text that comes
-//! of it, or the line of its refusal.
+//! **Layer.** [`log`] and [`shifts`] take a whole command line. Their caller has looked at the verb already. If the
+//! words do not fit the command, it refuses them and reads nothing. Otherwise it reads the files that the words name
+//! and opens the devices that it needs. Then it prints its text, or one line that states its refusal.
 //!
-//! **`log BASE PLAN`** puts the rows of a plan's collectors into the one log of a plant. `log_plan` opens the log on its one device.
-//! `run_collectors` puts it under a lock and runs one worker for each collector: it takes the rows of its file in order, asks its pass
-//! before each, puts the row, and after every 64 rows and after its last one commits until nothing waits. It ends at its first refusal.
-//! Once all have ended no worker's word counts but that its pass stopped it, or that it found no memory: the log is compared with what
-//! it was opened as, its tape with the rows of the files, and the rows that the tape lacks are put and acknowledged. Then the device is
-//! given back, and a line of each tag tells the values that the log has of it. No tag's device, no group and no reader's file is looked at.
+//! **`log BASE PLAN`** puts the rows of a plan's collectors into the one log of a plant. `log_plan` opens the log on
+//! its one device. `run_collectors` puts the log under a lock and runs one worker for each collector. A worker takes
+//! the rows of its file in order. It asks its pass before each row, and then puts the row. After every 64 rows, and
+//! after its last row, it commits until nothing waits. It ends at its first refusal.
 //!
-//! Its model is the list of the workers' notes (`specs/LogNotes.antt`): of each its number, how many of its rows are done, and how it
-//! ended; so the passes stop just as often as a worker was halted. What happened to the log under its lock is known by its own tape, and
-//! so is which worker came first. `EndsOfLog` says what was read and printed, and that the log's history is handed out exactly where
-//! collectors were started.
+//! Once all workers have ended, the command believes only two things of their notes: that a pass stopped a worker, and
+//! that a worker found no memory. It compares the log with a copy of its opening, and the log's tape with the rows of
+//! the files. It puts the rows that the tape lacks, and commits them. Then it gives the device back. It prints one line
+//! for each tag, computed from the values that the log has of it. It opens no tag's device and no group, and reads no
+//! reader's file.
 //!
-//! **`shifts BASE CALENDAR DAY DAYS`** tells a figure of each shift of a range of days for each tag of a calendar: the measure of the
-//! window over what the tag has stored, closed by its held point, or `none`. The content of a tag is made once, for all windows, and only
-//! of a tag that the calendar names. No worker is started, and nothing waits. The first refusal counts, in the order base, calendar,
-//! tags; before that of a tag no device has changed. `EndsOfShifts` says what was read and printed in each status, and `KeepsForShifts`
-//! what a crash at any moment leaves of each device: what one before might have left, or what recovers the same, or that as it is opened.
-//! It speaks of devices that tell their calls, and of fewer than 10^18 events.
+//! The model of the run is the list of the workers' notes (`specs/LogNotes.antt`). A note has the worker's number, how
+//! many of its rows are done, and how it ended. So the number of stops that the passes count is exactly the number of
+//! workers that were halted. Notes do not record what happened to the log under its lock, nor which worker came first:
+//! the log's own tape does. `EndsOfLog` states what was read and printed. It also states that the command returns the
+//! log's history exactly if collectors were started.
+//!
+//! **`shifts BASE CALENDAR DAY DAYS`** prints one figure for each shift of a range of days and each tag of a calendar.
+//! The figure is the measure of the shift's window over the stored records of the tag, closed by its held point. If the
+//! window has no measure, it prints `none`. The command builds the content of a tag once for all windows, and only if
+//! the calendar names the tag. It starts no worker and waits for nothing.
+//!
+//! The command reports its first refusal, in the order base, calendar, tags. No device has changed before a refusal of
+//! a tag. `EndsOfShifts` states what was read and printed in each status. `KeepsForShifts` states which images a crash
+//! at any moment leaves of each device. A crash might have left the image before; or it recovers the same state, or
+//! that state as it is opened. `KeepsForShifts` covers devices with a known trace of calls, and fewer than 10^18
+//! events.
 #![tactic(auto)]
 
 mod calendar_file;

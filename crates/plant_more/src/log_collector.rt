@@ -12,10 +12,10 @@ use plant_status::Pass;
 use std::sync::{Mutex, Wait};
 use value_rows::RawRow;
 
-// After so many rows a worker commits.
+// A worker commits after this many rows.
 const ROWS_OF_COMMIT: usize = 64;
 
-// The work of a worker, until it ends.
+// Does the work of a worker until it ends.
 pub(crate) fn collect<R: Wait, D: Disk, O: Pass>(
     rt: &R,
     log: &Mutex<Log<D>>,
@@ -53,7 +53,7 @@ pub(crate) fn collect<R: Wait, D: Disk, O: Pass>(
     }
 }
 
-// Puts the row at a place under the lock of the log, and commits where that is due.
+// Puts the row at this place under the lock of the log, and commits if a commit is due.
 fn put_row<R: Wait, D: Disk>(
     rt: &R,
     log: &Mutex<Log<D>>,
@@ -70,7 +70,7 @@ fn put_row<R: Wait, D: Disk>(
     put_into(&mut log, collector, rows, place)
 }
 
-// The same, of a log that is held alone.
+// Does the same to a log whose lock is held.
 fn put_into<D: Disk>(
     log: &mut Log<D>,
     collector: u32,
@@ -102,14 +102,14 @@ fn put_into<D: Disk>(
     }
 }
 
-// Whether a worker of so many rows commits after this one: a multiple of 64, or the last.
+// Returns whether a worker with so many rows commits after this one: its number is a multiple of 64, or it is the last.
 fn is_due(number: usize, rows: usize) -> bool
     ensures { result ≡ is_commit_due number rows }
 {
     number % ROWS_OF_COMMIT == 0 || number == rows
 }
 
-// How a worker ends whose commit was refused.
+// Returns how a worker ends after this refusal of its commit.
 fn ending_of_commit(why: LogCommitNo) -> LogEnding
     ensures { result ≡ ending_of_commit why }
 {

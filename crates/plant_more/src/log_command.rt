@@ -19,13 +19,13 @@ use std::thread::Threads;
 #[derive(Drop)]
 pub struct LogOutcome {
     pub status: Status,
-    /// What became of the log, where collectors were started.
+    /// All that happened to the log, if collectors were started.
     pub log: Option<LogHistory>,
 }
 
-/// Does what `log BASE PLAN` asks for: the collectors of the plan put their rows into the one log of the plant of the base, and a line
-/// of each tag is printed, of the values that the log has of it. A refusal prints its one line instead. All other words are bad words:
-/// then nothing is read.
+/// Does what `log BASE PLAN` asks for. The plan's collectors put their rows into the one log of the base's plant. Then
+/// the command prints one line for each tag, computed from the values that the log has of it. If it is refused, it
+/// prints one line that states the refusal instead. All other words are bad words: the command then reads nothing.
 pub fn log<F: Files, O: Sink, S: Store, P: Passes, R: Threads + Wait + Sync>(
     rt: &R,
     alloc: Global,
@@ -42,7 +42,7 @@ pub fn log<F: Files, O: Sink, S: Store, P: Passes, R: Threads + Wait + Sync>(
         (S.device_at store.new) (S.fault_count store.new)) (P.stops passes.old) (P.stops passes.new) result }
     ensures files { F.told files.new ≡ F.told files.old }
 
-    // Words that name no plan are refused as such, and nothing but the output changes then.
+    // Words that name no plan are refused as bad words. Then nothing but the output changes.
     ensures bad_words { (result.status ≡ Status.BadWords) ↔ (log_words (map string_bytes words.now) ≡ None) }
     ensures untouched { result.status ≡ Status.BadWords → files.new ≡ files.old }
     ensures kept { result.status ≡ Status.BadWords → store.new ≡ store.old }

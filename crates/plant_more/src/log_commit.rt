@@ -1,4 +1,4 @@
-// What waits on a log is acknowledged.
+// Acknowledging what waits on a log.
 ghost use Rattle.std.specs.Prelude.{◌≡◌, ◌≢◌, ◌<◌, IfErr, OnOk, true};
 ghost use Rattle.commit_log.specs.declared.refusal.LogCommitNo.TheVariants.{WantOfMemory as NoMemory};
 ghost use Rattle.commit_log.specs.Told.{rows_waiting};
@@ -7,8 +7,8 @@ ghost use Rattle.plant_more.specs.LogTurns.{IsCommitted};
 use commit_log::{Log, LogCommitNo};
 use disk_model::Disk;
 
-// Acknowledges all rows that wait, the oldest first. It ends at the first commit that is refused; where that is not for want of
-// memory, the log is broken, and its device has counted a fault.
+// Acknowledges all rows that wait, the oldest first. It returns the error of the first commit that is refused. Unless
+// that is WantOfMemory, the log is broken, and its device has counted a fault.
 pub(crate) fn commit_waiting<D: Disk>(log: &mut Log<D>) -> Result<(), LogCommitNo>
     ensures none_waits { OnOk result (rows_waiting log.new ≡ 0) }
     ensures committed { IsCommitted log.old log.new }

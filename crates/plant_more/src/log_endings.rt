@@ -6,7 +6,8 @@ ghost use Rattle.plant_more.specs.LogRefusals.{IsStop};
 use crate::log_note::{LogEnding, LogNote};
 use plant_status::Status;
 
-// Looks whether the pass of no worker stopped it, and then whether none found no memory. The first that was stopped is told.
+// Returns Halted with the first worker that its pass stopped. If there is none, it returns WantOfMemory if a worker
+// found no memory.
 pub(crate) fn check_endings(notes: &[LogNote]) -> Result<(), Status>
     ensures none_halted { OnOk result (All (λ n. n.ending ≢ Halted) notes.now) }
     ensures all_found { OnOk result (All (λ n. n.ending ≢ NoMemory) notes.now) }

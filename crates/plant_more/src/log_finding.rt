@@ -1,4 +1,4 @@
-// The rows of collectors are found on the tape of a log.
+// Finding the rows of collectors on the tape of a log.
 ghost use Rattle.std.specs.Prelude.{◌≡◌, ◌+◌, ◌^◌, ◌<◌, ◌≤◌, IfErr, IfOk, OnErr, OnOk, OnSome, length, replicate, slice_get};
 ghost use Rattle.plant_more.specs.LogNotes.{row_lists_of};
 ghost use Rattle.plant_more.specs.LogFinding.{AreFound, IsFollowed, IsOtherDue, IsPutMismatch, rows_from, seen_of};
@@ -9,15 +9,15 @@ use std::alloc::Global;
 use trend_num::WantOfMemory;
 use value_rows::RawRow;
 
-// Of each of so many collectors no row is found yet.
+// Returns the numbers of found rows, all 0, for so many collectors.
 pub(crate) fn none_found(alloc: Global, collectors: usize) -> Result<Vec<usize>, WantOfMemory>
     ensures { IfOk result (λ next. next.items ≡ replicate collectors 0) }
 {
     Ok(vec![in alloc; 0usize; collectors]?)
 }
 
-// Finds the puts of a tape among the rows of the collectors' files. `next` tells of each collector how many of its rows were found.
-// It ends at the first put that is not its collector's next row.
+// Finds the puts of a tape among the rows of the collectors' files. `next` counts, for each collector, how many of its
+// rows were found. The first put that is not its collector's next row is returned as a mismatch.
 pub(crate) fn find_puts(
     tape: &[LogTurn],
     files: &[Vec<RawRow>],
@@ -47,7 +47,8 @@ pub(crate) fn find_puts(
     Ok(())
 }
 
-// Finds a row as the next one of its collector, or tells what was due in its place.
+// Counts a row as the next one of its collector. If it is another one, it returns the row that was due, or Nothing if
+// none was.
 fn follow(files: &[Vec<RawRow>], next: &mut [usize], row: LogRow) -> Result<(), Seen>
     requires few { length files.now < 2 ^ 32 }
     requires as_many { length next.old ≡ length files.now }
@@ -71,7 +72,7 @@ fn follow(files: &[Vec<RawRow>], next: &mut [usize], row: LogRow) -> Result<(), 
     }
 }
 
-// The row of a collector at a place of its file, as the log has it.
+// Returns the row at this place of a collector's file, as a log has it.
 pub(crate) fn row_at(rows: &[RawRow], collector: u32, place: usize) -> Option<LogRow>
     ensures row { result ≡ slice_get (rows_from collector 1 rows.now) place }
     ensures within { OnSome result (place < length rows.now) }
@@ -88,7 +89,7 @@ pub(crate) fn row_at(rows: &[RawRow], collector: u32, place: usize) -> Option<Lo
     })
 }
 
-// A row of a log, as it is told.
+// Returns a row of a log as a status reports it.
 fn seen_of(row: LogRow) -> Seen
     ensures { result ≡ seen_of row }
 {

@@ -1,4 +1,4 @@
-// The log of a plant is compared with what was kept of it as it was opened.
+// Comparing the log of a plant with a copy of its opening.
 ghost use Rattle.std.specs.Prelude.{◌≡◌, ◌≤◌, IfErr, IfOk, OnOk, length};
 ghost use Rattle.plant_more.specs.LogKnown.{FirstDiffer, IsAsKnown, IsCommon, IsLogMismatch};
 
@@ -8,8 +8,7 @@ use plant_status::{Place, Seen, Status, Unit};
 use std::alloc::Global;
 use trend_num::WantOfMemory;
 
-// What is kept of a log as it was opened: the plant's text and its number of tags, and the faults, the moment and the rows of the
-// opening.
+// A copy of a log's opening: the plant's text and its number of tags; and the opening's faults, moment and rows.
 #[derive(Drop)]
 pub(crate) struct KnownLog {
     pub(crate) plant: Vec<u8>,
@@ -19,7 +18,7 @@ pub(crate) struct KnownLog {
     pub(crate) rows: Vec<LogRow>,
 }
 
-// Keeps that of a log which was opened for a plant of this text.
+// Copies the opening of a log that was opened for a plant with this text.
 pub(crate) fn known_of<D: Disk>(
     alloc: Global,
     log: &Log<D>,
@@ -41,7 +40,7 @@ pub(crate) fn known_of<D: Disk>(
     })
 }
 
-// Compares a log with what was kept of it. It ends at the first thing that differs.
+// Compares a log with the copy of its opening. The first thing that differs is returned as a mismatch.
 pub(crate) fn compare_log<D: Disk>(log: &Log<D>, known: &KnownLog) -> Result<(), Status>
     ensures same { OnOk result (IsAsKnown log.now known.now) }
     ensures differs { IfErr result (IsLogMismatch log.now known.now) }
@@ -68,7 +67,7 @@ pub(crate) fn compare_log<D: Disk>(log: &Log<D>, known: &KnownLog) -> Result<(),
     compare_numbers(&found, &wanted)
 }
 
-// The first of these that differ, as they are told.
+// Returns the first two numbers that differ as a mismatch.
 fn compare_numbers(found: &[u64; 7], wanted: &[u64; 7]) -> Result<(), Status>
     ensures same { OnOk result (found.now ≡ wanted.now) }
     ensures differs { IfErr result (FirstDiffer found.now wanted.now) }

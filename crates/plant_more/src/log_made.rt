@@ -1,4 +1,4 @@
-// What the workers of a log left undone is done: rows are put, and acknowledged.
+// Doing what the workers of a log left undone: rows are put, and acknowledged.
 ghost use Rattle.std.specs.Prelude.{◌≡◌, ◌+◌, ◌^◌, ◌<◌, IfErr, OnErr, OnOk, length, slice_index, slice_set};
 ghost use Rattle.trend_num.specs.Ranges.{InRange};
 ghost use Rattle.commit_log.specs.Tapes.{puts};
@@ -15,8 +15,8 @@ use disk_model::Disk;
 use plant_status::{Place, Seen, Status, Unit};
 use value_rows::RawRow;
 
-// Puts each row of the collectors' files that the tape of a log lacks, file after file. `next` tells of each collector how many of
-// its rows were found.
+// Puts each row of the collectors' files that the tape of a log lacks, file after file. `next` counts, for each
+// collector, how many of its rows were found.
 pub(crate) fn put_missing<D: Disk>(
     log: &mut Log<D>,
     files: &[Vec<RawRow>],
@@ -37,7 +37,7 @@ pub(crate) fn put_missing<D: Disk>(
     Ok(())
 }
 
-// How many rows the files have together.
+// Returns how many rows the files have together.
 pub(crate) fn row_total(files: &[Vec<RawRow>]) -> u64
     requires small { total_rows (row_lists_of files.now) < 2 ^ 64 }
     ensures { result ≡ total_rows (row_lists_of files.now) }
@@ -49,7 +49,7 @@ pub(crate) fn row_total(files: &[Vec<RawRow>]) -> u64
     total
 }
 
-// Puts the rows of a collector that the tape of a log lacks. So many rows are to be put in all.
+// Puts the rows of a collector that the tape of a log lacks. `total` is the number of rows of all files.
 fn put_file<D: Disk>(
     log: &mut Log<D>,
     files: &[Vec<RawRow>],
@@ -74,7 +74,7 @@ fn put_file<D: Disk>(
     Ok(())
 }
 
-// Puts the next row of a collector. So many rows are to be put in all.
+// Puts the next row of a collector. `total` is the number of rows of all files.
 fn put_next<D: Disk>(
     log: &mut Log<D>,
     files: &[Vec<RawRow>],
@@ -102,7 +102,7 @@ fn put_next<D: Disk>(
     Ok(())
 }
 
-// Puts a row. So many rows are to be put in all, and fewer were.
+// Puts a row. `total` is the number of rows of all files; fewer were put so far.
 fn put_row<D: Disk>(log: &mut Log<D>, row: LogRow, total: u64) -> Result<(), Status>
     requires point { InRange row.point }
     requires tag { row.tag < log.old.tags }
@@ -124,7 +124,7 @@ fn put_row<D: Disk>(log: &mut Log<D>, row: LogRow, total: u64) -> Result<(), Sta
     }
 }
 
-// Acknowledges all rows that wait.
+// Acknowledges all rows that wait, and returns a refusal as a status.
 pub(crate) fn commit_rest<D: Disk>(log: &mut Log<D>) -> Result<(), Status>
     ensures none_waits { OnOk result (rows_waiting log.new ≡ 0) }
     ensures committed { IsCommitted log.old log.new }

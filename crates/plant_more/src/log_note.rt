@@ -1,4 +1,4 @@
-// What a worker tells of what it did.
+// What a worker notes of its work.
 ghost use Rattle.std.specs.Prelude.{◌≡◌};
 
 use commit_log::{LogCommitNo, PutRowNo};
@@ -10,11 +10,11 @@ pub(crate) enum LogEnding {
     Ended,
     /// Its pass did not let it put its next row.
     Halted,
-    /// The log did not append its next row.
+    /// The log refused to append its next row.
     Put(PutRowNo),
-    /// The log acknowledged nothing after its next row, and not for want of memory.
+    /// The log refused the commit after its next row, and not for lack of memory.
     Commit(LogCommitNo),
-    /// No memory was found for the commit after its next row.
+    /// There was no memory for the commit after its next row.
     WantOfMemory,
 }
 
@@ -23,13 +23,13 @@ pub(crate) enum LogEnding {
 pub(crate) struct LogNote {
     /// The worker, counted from 0 as the collectors are.
     pub(crate) worker: u32,
-    /// How many of its rows are done: put, and acknowledged where a commit is due behind them.
+    /// How many of its rows are done: put, and acknowledged if a commit is due after them.
     pub(crate) done: u64,
     pub(crate) ending: LogEnding,
 }
 
 impl LogNote {
-    // The note of a worker that has not begun.
+    // Returns the note of a worker that has not begun.
     pub(crate) fn new(worker: u32) -> LogNote
         ensures { result.worker ≡ worker }
     {

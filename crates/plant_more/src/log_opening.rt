@@ -1,4 +1,4 @@
-// The log of a plant is opened on its device.
+// Opening the log of a plant on its device.
 ghost use Rattle.std.specs.Prelude.{◌≡◌, ◌≢◌, ◌^◌, ◌<◌, IfErr, IfOk, IsTrue, OnErr, OnOk, ℕ, List};
 ghost use Rattle.plant_more.specs.LogOpenings.{IsLogOpened, IsLogKept, IsOpeningRefusal, CountsOpening, status_of};
 ghost use Rattle.plant_more.specs.LogTexts.{log_name};
@@ -8,11 +8,11 @@ use disk_model::Store;
 use plant_status::{Status, Unit, What};
 use std::alloc::Global;
 
-// What the device of the log is called.
+// The name of the log's device.
 pub(crate) const LOG_NAME: &str = "plant.log";
 
-// Takes the device of the log out of a store, and opens it for a plant of this text and so many tags, with room for so many puts. A
-// device that is not opened is given back.
+// Takes the device of the log out of a store, and opens it with room for so many puts. The plant has this text and so
+// many tags. If it is not opened, the device is given back.
 pub(crate) fn take_log<S: Store>(
     alloc: Global,
     store: &mut S,
@@ -41,7 +41,7 @@ pub(crate) fn take_log<S: Store>(
     }
 }
 
-// What a log that is not opened is answered with.
+// Returns the status for a log that is not opened.
 fn status_of(why: LogNo) -> Status
     ensures { result ≡ status_of why }
 {

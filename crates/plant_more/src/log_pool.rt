@@ -1,4 +1,4 @@
-// All workers beside each other.
+// Running all workers of a log at the same time.
 ghost use Rattle.std.specs.Prelude.{◌≡◌, ℕ, ◌^◌, ◌<◌, ◌≤◌, [], All, IfErr, IfOk, OnErr, length, slice_index_or, vec_capacity, vec_len};
 ghost use Rattle.trend_num.specs.Ranges.{InRange};
 ghost use Rattle.plant_more.specs.LogNotes.{AreLogNotesOf, row_lists_of, log_stops_with};
@@ -17,15 +17,15 @@ use std::thread::Threads;
 use trend_num::WantOfMemory;
 use value_rows::RawRow;
 
-// A log at which all workers have ended, and their notes in order.
+// A log after all its workers have ended, and their notes in order.
 pub(crate) struct CollectedLog<D: Disk> {
     pub(crate) log: Log<D>,
     pub(crate) notes: Vec<LogNote>,
 }
 
-// Runs a worker for each collector beside each other, at the log of a plant, and answers the log and their notes. Every worker has
-// ended, and every pass is given back. Where there is no memory for them no worker began and no pass was handed out, and the log
-// is given back as it was. The points of the rows are in range.
+// Runs one worker for each collector, all at the same time, on the log of a plant. It returns the log and their notes
+// once every worker has ended and every pass is given back. If there is no memory for the workers, none begins, no pass
+// is handed out, and the log is returned unchanged. The points of the rows are in range.
 pub(crate) fn run_collectors<D: Disk + Send, P: Passes, R: Threads + Wait + Sync>(
     rt: &R,
     alloc: Global,
@@ -58,7 +58,7 @@ pub(crate) fn run_collectors<D: Disk + Send, P: Passes, R: Threads + Wait + Sync
     })
 }
 
-// An empty list with room for so many items.
+// Returns an empty list with room for so many items.
 fn with_room<T>(alloc: Global, count: usize) -> Result<Vec<T>, WantOfMemory>
     ensures none { IfOk result (λ list. list.items ≡ []) }
     ensures room { IfOk result (λ list. count ≤ vec_capacity list) }
@@ -66,7 +66,7 @@ fn with_room<T>(alloc: Global, count: usize) -> Result<Vec<T>, WantOfMemory>
     Ok(Vec::with_capacity(alloc, count)?)
 }
 
-// Puts a worker into the crew for each collector.
+// Adds a worker to the crew for each collector.
 fn seat_all<P: Passes>(workers: usize, passes: &mut P, crew: &mut Vec<LogWorker<P::One>>)
     requires few { workers < 2 ^ 32 }
     requires none { crew.old.items ≡ [] }
@@ -83,7 +83,7 @@ fn seat_all<P: Passes>(workers: usize, passes: &mut P, crew: &mut Vec<LogWorker<
     }
 }
 
-// Only for the proof: the crew as a slice. All are at work beside each other.
+// Runs the whole crew. It is a function of its own for the proof only, which needs the crew as a slice.
 fn collect_all<D: Disk + Send, O: Pass + Send, R: Threads + Wait + Sync>(
     rt: &R,
     log: &Mutex<Log<D>>,
@@ -98,7 +98,7 @@ fn collect_all<D: Disk + Send, O: Pass + Send, R: Threads + Wait + Sync>(
     collect_each(rt, log, collectors, crew.as_mut_slice());
 }
 
-// Each of the crew in a thread of its own.
+// Runs each worker of the crew in a thread of its own, and returns once all have ended.
 fn collect_each<D: Disk + Send, O: Pass + Send, R: Threads + Wait + Sync>(
     rt: &R,
     log: &Mutex<Log<D>>,
@@ -126,7 +126,7 @@ fn collect_each<D: Disk + Send, O: Pass + Send, R: Threads + Wait + Sync>(
     );
 }
 
-// The work of one of the crew.
+// Does the work of one worker of the crew.
 fn collect_one<D: Disk, O: Pass, R: Wait>(
     rt: &R,
     log: &Mutex<Log<D>>,

@@ -1,4 +1,4 @@
-// What is told of a log: a line of each tag.
+// The report of a log: one line for each tag.
 ghost use Rattle.std.specs.Prelude.{◌≡◌, ◌+◌, ◌^◌, ◌<◌, [], All, IfErr, IfOk, OnOk, length, string_bytes, take, vec_len};
 ghost use Rattle.trend_num.specs.Ranges.{TuningInRange};
 ghost use Rattle.trend_model.specs.State.{Stands};
@@ -14,7 +14,8 @@ use tag_core::TagCore;
 use trend_num::{Steps, TagDef, WantOfMemory};
 use trend_report::check_text;
 
-// The line of each tag, of its values in the log in their order: those of the opening, and those that were put.
+// Returns one line for each tag, computed from its values in the log in order: those of the opening, then those that
+// were put.
 pub(crate) fn report(alloc: Global, tags: &[TagDef], log: &LogHistory) -> Result<String, Status>
     requires tuned { All (λ def. TuningInRange def.tuning) tags.now }
     requires rows { All (IsLogRow (length tags.now)) (log_rows log.now) }
@@ -34,7 +35,7 @@ pub(crate) fn report(alloc: Global, tags: &[TagDef], log: &LogHistory) -> Result
     }
 }
 
-// All rows of a log: those of the opening, and those that were put.
+// Returns all rows of a log: those of the opening, then those that were put.
 fn all_rows(alloc: Global, log: &LogHistory) -> Result<Vec<LogRow>, AllocError>
     ensures { IfOk result (λ rows. rows.items ≡ log_rows log.now) }
 {
@@ -48,7 +49,7 @@ fn all_rows(alloc: Global, log: &LogHistory) -> Result<Vec<LogRow>, AllocError>
     Ok(rows)
 }
 
-// A core for each tag, which has taken nothing, with room for its rows among these.
+// Returns a core for each tag that has taken nothing yet, with room for the tag's values in these rows.
 fn new_cores(alloc: Global, tags: &[TagDef], rows: &[LogRow]) -> Result<Vec<TagCore>, WantOfMemory>
     requires tuned { All (λ def. TuningInRange def.tuning) tags.now }
     requires rows { All (IsLogRow (length tags.now)) rows.now }
@@ -63,7 +64,7 @@ fn new_cores(alloc: Global, tags: &[TagDef], rows: &[LogRow]) -> Result<Vec<TagC
     Ok(cores)
 }
 
-// A core for a tag, which has taken nothing, with room for so many values.
+// Returns a core for a tag that has taken nothing yet, with room for so many values.
 fn new_core(alloc: Global, tag: &TagDef, room: u32) -> Result<TagCore, WantOfMemory>
     requires { TuningInRange tag.now.tuning }
     ensures step { IfOk result (λ core. core.step ≡ tag.now.step) }
@@ -72,7 +73,7 @@ fn new_core(alloc: Global, tag: &TagDef, room: u32) -> Result<TagCore, WantOfMem
     TagCore::new(alloc, tag.tuning, tag.step, room)
 }
 
-// How many of these rows are of each of so many tags.
+// Counts, for each of so many tags, how many of these rows are its own.
 fn rooms_of(alloc: Global, rows: &[LogRow], tags: usize) -> Result<Vec<u32>, WantOfMemory>
     requires { All (IsLogRow tags) rows.now }
     ensures { IfOk result (λ rooms. vec_len rooms ≡ tags) }
@@ -95,7 +96,7 @@ fn take_all(cores: &mut [TagCore], tags: &[TagDef], rows: &[LogRow]) -> Result<(
     take_on::<Brand>(cores, tags, rows, Blank::new(1))
 }
 
-// The same, on the ledger of a blank.
+// Does the same on the ledger of a blank.
 fn take_on<L: Ledger>(
     cores: &mut [TagCore],
     tags: &[TagDef],
@@ -117,7 +118,7 @@ fn take_on<L: Ledger>(
     Ok(())
 }
 
-// Takes the point of the row at a place with the core of its tag, where those before it were taken.
+// Takes the point of the row at this place with the core of its tag. The rows before it were taken already.
 fn take_row<L: Ledger>(
     cores: &mut [TagCore],
     tags: &[TagDef],

@@ -1,4 +1,4 @@
-// The collectors of a plan at an open log, and what is done once they have ended.
+// Running the collectors of a plan on an open log, and ending the log after them.
 ghost use Rattle.std.specs.Prelude.{◌≡◌, ◌^◌, ◌<◌, IfErr, IfOk, OnErr, length};
 ghost use Rattle.plant_more.specs.LogNotes.{row_lists_of};
 ghost use Rattle.plant_more.specs.LogMaking.{AreRowsFor, total_rows};
@@ -15,15 +15,15 @@ use std::sync::Wait;
 use std::thread::Threads;
 use value_rows::RawRow;
 
-// A log at its end: its device, what happened to it, and how it went.
+// A log at its end: its device, what happened to it, and whether it is done or why it is not.
 pub(crate) struct EndedLog<D: Disk> {
     pub(crate) dev: D,
     pub(crate) history: LogHistory,
     pub(crate) answer: Result<(), Status>,
 }
 
-// Lets the collectors put their rows into a log, and brings it to its end. Where there is no memory for their workers none begins, and
-// the log is given back as it was.
+// Runs the collectors on a log, and brings the log to its end. If there is no memory for the workers, none begins, and
+// the log is returned unchanged.
 pub(crate) fn hold<D: Disk + Send, P: Passes, R: Threads + Wait + Sync>(
     rt: &R,
     alloc: Global,

@@ -1,4 +1,4 @@
-// A log whose workers have ended is brought to its end.
+// Bringing a log to its end after its workers have ended.
 ghost use Rattle.std.specs.Prelude.{◌≡◌, ◌^◌, ◌<◌, IfErr, OnOk, length};
 ghost use Rattle.plant_more.specs.LogNotes.{row_lists_of};
 ghost use Rattle.plant_more.specs.LogTurns.{IsSameLog};
@@ -18,8 +18,9 @@ use plant_status::Status;
 use std::alloc::Global;
 use value_rows::RawRow;
 
-// Compares a log with what was kept of it, and its tape with the rows of the collectors' files, and does what the tape lacks. It
-// takes no worker's word but that its pass stopped it, or that it found no memory.
+// Compares a log with the copy of its opening, and its tape with the rows of the collectors' files. Then it puts and
+// commits what the tape lacks. It believes only two things of the notes: that a pass stopped a worker, and that a
+// worker found no memory.
 pub(crate) fn settle<D: Disk>(
     alloc: Global,
     log: &mut Log<D>,
@@ -42,7 +43,7 @@ pub(crate) fn settle<D: Disk>(
     complete(log, files, &mut next, notes)
 }
 
-// Does what the tape of a log lacks, where no worker was stopped and each found memory.
+// Puts and commits what the tape of a log lacks, unless a worker was stopped or found no memory.
 fn complete<D: Disk>(
     log: &mut Log<D>,
     files: &[Vec<RawRow>],

@@ -1,4 +1,4 @@
-// The command `log`: the rows of a plan's collectors into the log of a plant.
+// The command `log`: putting the rows of a plan's collectors into the log of a plant.
 ghost use Rattle.std.specs.Prelude.{◌≡◌, ◌^◌, ◌<◌, ◌≤◌, All, Err, IfErr, IfOk, IfSome, IsTrue, None, OnOk, length};
 ghost use Rattle.std.specs.Option.{IsSome};
 ghost use Rattle.trend_num.specs.Ranges.{TuningInRange};
@@ -33,7 +33,8 @@ use tag_base::Base;
 use trend_num::WantOfMemory;
 use value_rows::RawRow;
 
-// What the command comes to: a line of each tag, or why there is none; and the log's history, where collectors were started.
+// What the command results in: one line for each tag, or why there is none; and the log's history if collectors were
+// started.
 #[derive(Drop)]
 pub(crate) struct Logged {
     pub(crate) answer: Result<String, Status>,
@@ -41,7 +42,7 @@ pub(crate) struct Logged {
 }
 
 impl Logged {
-    // No collector was started.
+    // The result if no collector was started.
     fn refused(why: Status) -> Logged
         ensures answer { result.answer ≡ Err why }
         ensures none { result.log ≡ None }
@@ -53,9 +54,9 @@ impl Logged {
     }
 }
 
-// Puts the rows of the collectors of the plan in the file of the second name, over the base in the file of the first, into the
-// plant's log, which is opened on the store's device of its name. Once the collectors have ended what they left undone is done, and a
-// line of each tag is told. The device is given back.
+// Puts the rows of the collectors of a plan into the log of the plant. `base` and `plan` are the names of the two
+// files. The log is opened on the store's device of its name. Once the collectors have ended, their missing rows are
+// put and committed, and one line for each tag is made. Then the device is given back.
 pub(crate) fn log_plan<F: Files, S: Store, P: Passes, R: Threads + Wait + Sync>(
     rt: &R,
     alloc: Global,
@@ -77,7 +78,8 @@ pub(crate) fn log_plan<F: Files, S: Store, P: Passes, R: Threads + Wait + Sync>(
     ensures understood { IfErr result.answer (λ why. IsOfOthers why → ⊥) }
     ensures stays { F.told files.new ≡ F.told files.old }
 
-    // One fault of the files is counted where a read has failed, and else none; and whose read that was.
+    // If a read has failed, the files count one fault, and its file is the one in the status. Otherwise they count
+    // none.
     ensures file_faults { result.log ≡ None → F.fault_count files.new ≡ faults_after result.answer (F.fault_count files.old) }
     ensures no_file_fault { IsSome result.log → F.fault_count files.new ≡ F.fault_count files.old }
     ensures whose { result.log ≡ None → IfErr result.answer (IsFaultOfPlanned base.now plan.now (F.told files.old)
@@ -89,8 +91,8 @@ pub(crate) fn log_plan<F: Files, S: Store, P: Passes, R: Threads + Wait + Sync>(
     }
 }
 
-// Opens the log of a base, and lets the collectors of a plan put their rows into it. More than 2^32 - 1 collectors are told as memory
-// that is not there.
+// Opens the log of a base, and runs the collectors of a plan on it. More than 2^32 - 1 collectors are refused as
+// WantOfMemory.
 fn log_read<S: Store, P: Passes, R: Threads + Wait + Sync>(
     rt: &R,
     alloc: Global,
@@ -127,7 +129,7 @@ fn log_read<S: Store, P: Passes, R: Threads + Wait + Sync>(
     }
 }
 
-// What a log is opened with: the plant's text, and how many tags and rows there are.
+// What a log is opened with: the plant's text, its number of tags, and the number of rows to put.
 #[derive(Drop)]
 pub(crate) struct PreparedLog {
     pub(crate) text: Vec<u8>,
@@ -135,7 +137,7 @@ pub(crate) struct PreparedLog {
     pub(crate) room: u32,
 }
 
-// Makes that of a base and the rows of its collectors.
+// Returns what the log is opened with, for a base and the rows of its collectors.
 fn prepare(alloc: Global, base: &Base, rows: &[Vec<RawRow>]) -> Result<PreparedLog, WantOfMemory>
     requires few { total_rows (row_lists_of rows.now) ≤ most_collector_rows }
     ensures text { IfOk result (λ p. p.text.items ≡ plant_text base.now.tags.items) }
@@ -153,7 +155,7 @@ fn prepare(alloc: Global, base: &Base, rows: &[Vec<RawRow>]) -> Result<PreparedL
     })
 }
 
-// Gives the device of a log back to which no collector put a row, for want of memory.
+// Gives back the device of a log on which no collector was started, for lack of memory.
 fn unready<S: Store>(store: &mut S, log: Log<S::Dev>) -> Logged
     requires place { IsTrue (S.has_place store.old log_name) }
     ensures answer { result.answer ≡ Err Status.WantOfMemory }
@@ -166,7 +168,7 @@ fn unready<S: Store>(store: &mut S, log: Log<S::Dev>) -> Logged
     Logged::refused(Status::WantOfMemory)
 }
 
-// Lets the collectors put their rows into a log that is open, and gives its device back. Where there is no memory for them none begins.
+// Runs the collectors on an open log, and gives its device back. If there is no memory for the workers, none begins.
 fn log_open<S: Store, P: Passes, R: Threads + Wait + Sync>(
     rt: &R,
     alloc: Global,
@@ -191,7 +193,7 @@ fn log_open<S: Store, P: Passes, R: Threads + Wait + Sync>(
         old (S.device_at store.new) (S.fault_count store.old) (S.fault_count store.new)
         (P.stops passes.old) (P.stops passes.new) result.answer) }
 
-    // No collector was started.
+    // The rest is about a log on which no collector was started.
     ensures answer { result.log ≡ None → result.answer ≡ Err Status.WantOfMemory }
     ensures back { result.log ≡ None → IsGivenBack S.Dev.trace S.Dev.fault_count log (S.device_at store.old) (S.device_at store.new)
         (S.fault_count store.old) (S.fault_count store.new) }
@@ -215,7 +217,7 @@ fn log_open<S: Store, P: Passes, R: Threads + Wait + Sync>(
     }
 }
 
-// A line of each tag, of a log that is done, or why there is none.
+// Returns one line for each tag of a log that is done, or why there is none.
 fn reported(
     alloc: Global,
     base: &Base,

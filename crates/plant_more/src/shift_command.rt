@@ -12,8 +12,9 @@ use plant_status::Status;
 use shift_calendar::day_of_word;
 use std::alloc::Global;
 
-/// Does what `shifts BASE CALENDAR DAY DAYS` asks for: the figures of the calendar's shifts are printed, for DAYS days from DAY on. A
-/// refusal prints its one line instead. All other words are bad words, and so are those of which DAY is no day: then nothing is read.
+/// Does what `shifts BASE CALENDAR DAY DAYS` asks for: it prints the figures of the calendar's shifts for DAYS days
+/// from DAY on. If it is refused, it prints one line that states the refusal instead. All other words are bad words,
+/// and so are words whose DAY is no day. The command then reads nothing.
 pub fn shifts<F: Files, O: Sink, S: Store>(
     alloc: Global,
     words: &[String],
@@ -21,7 +22,7 @@ pub fn shifts<F: Files, O: Sink, S: Store>(
     out: &mut O,
     store: &mut S,
 ) -> Status
-    // What was read and printed where it ends so.
+    // What was read and printed, for each status.
     ensures ends { EndsOfShifts (shift_words (map string_bytes words.now))
         (scene (O.meaning out.old) (F.told files.old) (F.fault_count files.old) (F.failed_name files.old)
         (S.device_at store.old) (S.fault_count store.old))
@@ -33,7 +34,7 @@ pub fn shifts<F: Files, O: Sink, S: Store>(
         (S.device_at store.new) }
     ensures files { F.told files.new ≡ F.told files.old }
 
-    // Words that ask for nothing are refused as such, and nothing is read then.
+    // Words that ask for no shifts are refused as bad words. Then nothing is read.
     ensures bad_words { (result ≡ Status.BadWords) ↔ AsksForNone (shift_words (map string_bytes words.now)) }
     ensures untouched { result ≡ Status.BadWords → files.new ≡ files.old }
     ensures kept { result ≡ Status.BadWords → store.new ≡ store.old }
@@ -44,7 +45,8 @@ pub fn shifts<F: Files, O: Sink, S: Store>(
     }
 }
 
-// Tells the shifts that were asked for, from the day of their word on. Where it is no day nothing is read.
+// Prints the shifts that were asked for, from the day that their word spells. If the word is no day, it is refused, and
+// nothing is read.
 fn from_day<F: Files, O: Sink, S: Store>(
     alloc: Global,
     wanted: &ShiftWords<'_>,

@@ -9,7 +9,7 @@ use std::alloc::Global;
 use tag_core::TagCore;
 use trend_num::{TagDef, WantOfMemory};
 
-// The tags at these places, each with the content of its records.
+// Returns the tags at these places, each with the content of its records.
 pub(crate) fn shift_tags(
     alloc: Global,
     defs: &[TagDef],
@@ -29,7 +29,7 @@ pub(crate) fn shift_tags(
     Ok(tags)
 }
 
-// A tag with the content of its records.
+// Returns a tag with the content of its records.
 fn shift_tag(alloc: Global, def: &TagDef, core: &TagCore) -> Result<ShiftTag, WantOfMemory>
     ensures name { IfOk result (λ tag. tag.name ≡ def.now.name) }
     ensures step { IfOk result (λ tag. tag.step ≡ core.now.step) }

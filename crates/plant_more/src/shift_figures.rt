@@ -1,4 +1,4 @@
-// The command `shifts`.
+// The text that the command `shifts` prints.
 ghost use Rattle.std.specs.Prelude.{◌^◌, ◌<◌, ◌≤◌, ◌≡◌, length, string_bytes, All, IfOk, IfErr, List, OnOk};
 ghost use Rattle.plant_files.specs.Reading.{faults_after};
 ghost use Rattle.plant_store.specs.OpenedBases.{AreKept, CountsDevices, IsDurable};
@@ -21,11 +21,12 @@ use std::alloc::Global;
 use tag_core::TagCore;
 use trend_num::TagDef;
 
-// What `shifts` prints: for each shift of `days` days from `day` on, which is counted from 1970-01-01, and then for each
-// tag of the calendar in the file `calendar_name`, over the base in the file `name`, the line
-// `shift DAY I FROM TO TAG VALUE`. DAY is the word `YYYY-MM-DD`, I counts the shifts of a day from 1, FROM and TO are
-// milliseconds from 1970. VALUE is the calendar's measure of the window from FROM to TO, or `none` where the window has
-// none or does not end after its start. The device of each tag of the base is opened, and made where there is none.
+// Returns what `shifts` prints for `days` days from `day` on. Days are counted from 1970-01-01. `name` is the file of
+// the base, `calendar_name` that of the calendar. For each shift, and then for each tag of the calendar, there is a
+// line `shift DAY I FROM TO TAG VALUE`. DAY is the word `YYYY-MM-DD`. I counts the shifts of a day from 1. FROM and TO
+// are milliseconds from 1970. VALUE is the calendar's measure of the window from FROM to TO. It is `none` if the window
+// has no measure, or does not end after its start. The device of each tag of the base is opened. A device that does not
+// exist is made.
 pub(crate) fn shift_text<F: Files, S: Store>(
     alloc: Global,
     files: &mut F,
@@ -60,7 +61,7 @@ pub(crate) fn shift_text<F: Files, S: Store>(
     }
 }
 
-// The lines of the shifts of so many days from a day on, of tags that were opened.
+// Returns the lines of the shifts of so many days from `day` on, over opened tags.
 fn shift_lines(
     alloc: Global,
     tags: &[TagDef],

@@ -11,7 +11,7 @@ use crate::shift_value::value_of;
 use shift_calendar::{Measure, Name, ShiftWindow, WantOfMemory, word_of_day};
 use std::alloc::{AllocError, Global};
 
-// The lines of the shifts of these windows: of each window one for each of these tags.
+// Returns the lines of these windows: for each window one line for each tag.
 pub(crate) fn lines_of(
     alloc: Global,
     tags: &[ShiftTag],
@@ -43,7 +43,7 @@ fn put_window(
     put_lines(text, tags, measure, window, day.text())
 }
 
-// Adds the lines of a window, whose day is spelled so.
+// Adds the lines of a window whose day has this word.
 fn put_lines(
     text: &mut String,
     tags: &[ShiftTag],
@@ -78,7 +78,7 @@ fn put_line(
     text.push_str("\n")
 }
 
-// Adds what comes before the name of the tag.
+// Adds the beginning of a line, up to the name of the tag.
 fn put_heading(text: &mut String, window: &ShiftWindow, day: &str) -> Result<(), AllocError>
     ensures { OnOk result (string_bytes text.new ≡ string_bytes text.old ++ heading (dated window.now day.now)) }
 {
@@ -91,7 +91,7 @@ fn put_heading(text: &mut String, window: &ShiftWindow, day: &str) -> Result<(),
     write!(text, "shift {day} {shift} {from} {to} ")
 }
 
-// Adds a number, or `none` where there is none.
+// Adds a number, or the word `none`.
 fn put_value(text: &mut String, value: Option<i128>) -> Result<(), AllocError>
     ensures { OnOk result (string_bytes text.new ≡ string_bytes text.old ++ number_text value) }
 {

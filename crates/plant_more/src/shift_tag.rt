@@ -6,11 +6,11 @@ ghost use Rattle.std.specs.Option.{ForSome};
 use late_insert::Content;
 use trend_num::{Name, Point};
 
-// A tag of a calendar, and all that the measure of a window is taken of.
+// A tag of a calendar, with all that its measure of a window is computed from.
 #[derive(Drop)]
 pub(crate) struct ShiftTag {
     pub(crate) name: Name,
-    /// Whether it is a step tag, which goes along a stair.
+    /// Whether it is a step tag, which keeps its value from point to point.
     pub(crate) step: bool,
     /// The point that closes the content.
     pub(crate) held: Option<Point>,

@@ -7,8 +7,8 @@ use crate::shift_tag::ShiftTag;
 use shift_calendar::{Measure, ShiftWindow};
 use weighted_total::window_value;
 
-// The measure of a window: by the line of a tag, or by its stair. None where the window does not end after its start, or has no
-// value.
+// Returns the measure of a tag in a window, by its line or its stair. It returns None if the window has no value, or
+// does not end after its start.
 pub(crate) fn value_of(tag: &ShiftTag, measure: Measure, shift: &ShiftWindow) -> Option<i128>
     requires { shift.now.to ≤ last_time }
     ensures { result ≡ shift_value_of measure shift.now tag.now }

@@ -11,7 +11,7 @@ pub(crate) struct Planned<'w> {
     pub(crate) plan: &'w str,
 }
 
-// The files of a base and of a calendar over its tags, the word of the first day, and of how many days shifts are told.
+// The files of a base and of a calendar over its tags, the word of the first day, and how many days to print shifts of.
 #[derive(Clone, Copy)]
 pub(crate) struct ShiftWords<'w> {
     pub(crate) base: &'w str,
@@ -20,10 +20,10 @@ pub(crate) struct ShiftWords<'w> {
     pub(crate) days: u32,
 }
 
-// Of how many days shifts are told at most.
+// How many days `shifts` covers at most.
 const MOST_DAYS: u32 = 366;
 
-// The files whose collectors these words ask to log, if they are `log BASE PLAN`.
+// Returns the files of these words if they are `log BASE PLAN`.
 pub(crate) fn log_words(words: &[String]) -> Option<Planned<'_>>
     ensures { option_map words_named result ≡ log_words (map string_bytes words.now) }
 {
@@ -36,7 +36,8 @@ pub(crate) fn log_words(words: &[String]) -> Option<Planned<'_>>
     }
 }
 
-// What shifts these words ask to tell, if they are `shifts BASE CALENDAR DAY DAYS`, DAYS being a number from 1 to 366. DAY is any word.
+// Returns the shifts that these words ask for, if they are `shifts BASE CALENDAR DAY DAYS` with DAYS from 1 to 366. DAY
+// may be any word.
 pub(crate) fn shift_words(words: &[String]) -> Option<ShiftWords<'_>>
     ensures words { option_map asked result ≡ shift_words (map string_bytes words.now) }
     ensures days { IfSome result (λ w. (1 ≤ w.days) × (w.days ≤ most_days)) }
@@ -52,7 +53,7 @@ pub(crate) fn shift_words(words: &[String]) -> Option<ShiftWords<'_>>
     }
 }
 
-// The shifts of so many days, where they are a number.
+// Returns the shifts of so many days, if the word for the days is a number.
 fn over_days<'w>(
     base: &'w str,
     calendar: &'w str,

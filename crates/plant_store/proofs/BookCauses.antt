@@ -47,7 +47,7 @@ refused_at trace ticks faults groups records old books g P opened below cause = 
   cause = cause;
 }
 
--- its cause is told
+-- the status reports its cause
 told : {D : Type 0} (trace : D → Option Trace) (ticks faults : D → ℕ) (groups : List GroupDef) (records : List (List Rec))
     (old : DeviceTraces) (books : List (ToldBook D)) (before now : ℕ) (why : LoadNo) (g : GroupDef)
     → AreBooksOpened trace ticks faults groups records old books → length books < length groups
@@ -117,7 +117,7 @@ counted U i before now (Ahead input version found) counts = inl (counts.refused 
 counted U i before now (Shape windows rows) counts = inl (counts.refused (λ is. absurd (cc (is))))
 counted U i before now WantOfMemory counts = inl (counts.refused (λ is. absurd (cc (is))))
 
--- an error is the one that is told
+-- an error is the one that the status reports
 error_is : {T : Type 0} (why told : LoadNo) → IsErrOf {T = T} (Err why) told → why ≡ told
 error_is why told is = cc (is)
 

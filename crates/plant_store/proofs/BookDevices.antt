@@ -1,4 +1,4 @@
--- What is said of groups over some traces, where others are the same at the devices of groups.
+-- Facts about groups over some traces, if other traces are the same at the devices of groups.
 use Rattle.std.proofs.Common.{◌≡◌, ℕ, ◌^◌, ◌<◌, List, get_or, Option, sym, subst}
 use Rattle.trend_num.specs.declared.archive.Rec.{Rec}
 use Rattle.disk_model.specs.Calls.{Rose}
@@ -13,7 +13,7 @@ use Rattle.plant_store.specs.Groups.{AllStaySame, AreBooksOpened, AreGroupsOpene
 use Rattle.plant_store.specs.BookRefusals.{IsRefusal, IsRefusedAt, OfDamage, OfFault, OfMemory, OfVersion, OfWindows}
 use Rattle.plant_store.proofs.BookTurns.{untouched}
 
--- `mid` are the traces over which something is said, and `old` those before
+-- `mid` are the traces of the given facts, and `old` those before
 module _ (gs : List GroupDef) (records : List (List Rec)) (old mid : DeviceTraces) (same : (g : GroupDef) → group_trace_at mid g ≡ group_trace_at old g) where
   -- books are opened so over the traces before
   pub books_before : {D : Type 0} (trace : D → Option Trace) (ticks faults : D → ℕ) (books : List (ToldBook D))

@@ -48,7 +48,7 @@ higher_or_end before now more after sum higher = elim (cases_lt (2 ^ 64 - 1) (no
   | inr below ↦ inl (omega (arith, sum, below, higher))
 ]
 
--- a count that has risen goes on
+-- a count that has risen has still risen after more is added
 risen_more : (before now more after : ℕ) → after ≡ sum_of_counts now more → HasRisen before now → HasRisen before after
 risen_more before now more after sum (inl higher) = higher_or_end before now more after sum (omega (arith, higher))
 risen_more before now more after sum (inr end) = inr (omega (arith, sum, end))

@@ -53,7 +53,7 @@ reached tags i def old now new others tag step n none =
     step n (all_last (λ (d : TagDef). n ≢ device_name d.name) (take i tags) def both)
     ∙ others n (all_before (λ (d : TagDef). n ≢ device_name d.name) (take i tags) def both)
 
--- and so it is where the devices of fewer tags change then
+-- and the same holds if the devices of fewer tags change then
 pub given_later : (tags : List TagDef) (i j : ℕ) (old now new : List ℕ → Option Trace) → AreOtherTagsSame (take i tags) old now
     → AreOtherTagsSame (take j tags) now new → j ≤ i → AreOtherTagsSame (take i tags) old new
 given_later tags i j old now new others later few n none =

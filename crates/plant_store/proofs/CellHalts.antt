@@ -52,7 +52,7 @@ refused_there tags i def cores old new P front cause = record {
   rest = front.rest;
 }
 
--- and the cause of it is told
+-- and the status reports its cause
 pub told : (tags : List TagDef) (i : ℕ) (def : TagDef) (cores : List Core) (old new : List ℕ → Option Trace) (before after : ℕ)
     (why : OpenNo) → IsFront tags i def cores old new → (before < 2 ^ 64 → why ≡ DeviceFault → Rose before after)
     → IsCause def (tag_trace_of old def) why → IsRefusal tags old new before after (status_of i why)
@@ -75,7 +75,7 @@ pub record AreFirst {D : Type 0} (trace : D → Option Trace) (ticks faults : D 
   pub count : length cells ≡ i
   pub few : records_opened cells ≤ most_stored
 
--- their cores stand before the refused tag
+-- their cores are those before the refused tag
 pub front_of : {D : Type 0} (trace : D → Option Trace) (ticks faults : D → ℕ) (tags : List TagDef) (i : ℕ) (def : TagDef)
     (cells : List (ToldCell D)) (old new : List ℕ → Option Trace) → AreFirst trace ticks faults tags i cells old → IsTag tags i def
     → AreOtherTagsSame (take (i + 1) tags) old new → IsFront tags i def (map (core_of {D = D}) cells) old new
@@ -110,7 +110,7 @@ stopped_there trace ticks faults tags i def cells old now mid before count why d
       counts = λ small. counted (Unit {0}) i before count why (counts small);
     }
 
--- a cell that is opened now was opened as what its tag's device told at the beginning
+-- a cell that is opened now was opened as what its tag's device had at the beginning
 pub opened_since : {D : Type 0} (tags : List TagDef) (i : ℕ) (def : TagDef) (text : List ℕ) (old now : List ℕ → Option Trace)
     (new : Option Trace) (ticks faults : ℕ) (c : ToldCell D) → AreOtherTagsSame (take i tags) old now → AreDistinct tags
     → IsTag tags i def → text ≡ device_name def.name → IsCellOpened def (now text) new ticks faults c
@@ -181,7 +181,7 @@ count_kept trace ticks faults tags all old now cells before count after why open
 
 -- ---- one tag more
 
--- it stands behind those before it
+-- it comes after those before it
 pub opened_more : {D : Type 0} (trace : D → Option Trace) (ticks faults : D → ℕ) (tags : List TagDef) (i : ℕ) (def : TagDef)
     (cells more : List (ToldCell D)) (c : ToldCell D) (old : List ℕ → Option Trace) → AreFirst trace ticks faults tags i cells old
     → IsTag tags i def → IsCellOpened def (tag_trace_of old def) (trace c.journal.dev) (ticks c.journal.dev) (faults c.journal.dev) c

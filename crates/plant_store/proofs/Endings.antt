@@ -82,7 +82,7 @@ GroupsCount why before now = groups.CountsStore {T = Unit {0}} (Err why) before 
 abbrev PlantCount : Status → ℕ → ℕ → Type 0
 PlantCount why before now = CountsPlant {T = Unit {0}} (Err why) before now
 
--- a refusal of tags counts what it tells
+-- a refusal of tags counts what it reports
 pub tags_count : (before now : ℕ) (why : Status) → tags.CountsStore {T = Unit {0}} (Err why) before now → PlantCount why before now
 tags_count before now why (inl same) = inl same
 tags_count before now why (inr rose) = inr (Tag rose.0, rose.1, rose.2)

@@ -68,7 +68,7 @@ pub all_left : (tags : List TagDef) (i : ℕ) (old now : List ℕ → Option Tra
 all_left tags i old now cores end left =
     subst (λ (l : List TagDef). AreLeft l old now cores) (take_all i tags end) left
 
--- the cause of its refusal is told
+-- its refusal reports the cause
 pub told : (tags : List TagDef) (i : ℕ) (def : TagDef) (old now new : List ℕ → Option Trace)
     (cores : List Core)
     (before after : ℕ) (why : OpenNo) → IsSoFar tags i old now cores

@@ -45,7 +45,7 @@ begun tags old = record {
 pub one_name : (a b : TagDef) → device_name a.name ≡ device_name b.name → a.name ≡ b.name
 one_name a b same = append_cancel_right a.name b.name (codes ".tag") same
 
--- tag i is this one, whatever stands for one that is not there
+-- tag i is this one, whatever is the default for one that is not there
 pub any_default : (tags : List TagDef) (i : ℕ) (def d : TagDef) → IsTag tags i def → get_or tags i d ≡ def
 any_default tags i def d tag = get_or_default tags i d def tag.there ∙ sym tag.is
 

@@ -8,7 +8,7 @@ use Rattle.group_book.specs.declared.history.GroupHistory.{GroupHistory}
 use Rattle.group_book.specs.Told.{IsBookHistory, IsOnDevice, ToldBook, count_of, trace_of, versions_of}
 use Rattle.plant_store.specs.Groups.{DeviceTraces}
 
--- what happened to the group of a book, as the book tells it
+-- this is the history of the group of a book, on the book's device
 pub record IsHistoryOfBook {D : Type 0} (trace : D → Option Trace) (ticks faults : D → ℕ) (b : ToldBook D) (h : GroupHistory) : Type 0 where
   pub group : h.group ≡ b.group
   pub def : h.def ≡ b.def
@@ -23,34 +23,34 @@ pub record IsHistoryOfBook {D : Type 0} (trace : D → Option Trace) (ticks faul
   pub there : IsOnDevice b.text b.dev
   pub rose : b.failed ≡ true → Rose b.opening.faults (count_of faults b.dev)
 
--- there is one history for each book, in its place
+-- there is one history for each book, at the same place
 pub record AreHistoriesOf {D : Type 0} (trace : D → Option Trace) (ticks faults : D → ℕ) (books : List (ToldBook D))
     (histories : List GroupHistory) : Type 0 where
   pub as_many : length histories ≡ length books
   pub each : (i : ℕ) (b : ToldBook D) (h : GroupHistory) → i < length books
       → IsHistoryOfBook trace ticks faults (slice_index_or books i b) (slice_index_or histories i h)
 
--- the trace of a name after a book's device was given back under it: that of the device, where the book has one
+-- the trace under a name after a book's device was given back under it; the old trace if the book has no device
 abbrev pub trace_after : {D : Type 0} → (D → Option Trace) → Option D → Option Trace → Option Trace
 trace_after trace None old = old
 trace_after trace (Some dev) old = trace dev
 
--- under the name of each book its device was given back
+-- the device of each book was given back under the name at its place
 abbrev pub AreGivenBack : {D : Type 0} → (D → Option Trace) → List (String Global) → List (ToldBook D) → DeviceTraces → DeviceTraces → Type 0
 AreGivenBack {D} trace names books old new = (i : ℕ) (b : ToldBook D) (s : String Global) → i < length books
     → new (string_bytes (slice_index_or names i s))
     ≡ trace_after trace (slice_index_or books i b).dev (old (string_bytes (slice_index_or names i s)))
 
--- a count of faults, to which those of a device are added where there is one
+-- a count of faults plus those of a device, if there is one
 abbrev pub count_after : {D : Type 0} → (D → ℕ) → Option D → ℕ → ℕ
 count_after faults None before = before
 count_after faults (Some dev) before = sum_of_counts before (faults dev)
 
--- and those of the devices of books, in order
+-- a count of faults plus those of the devices of these books, in order
 abbrev pub counts_after : {D : Type 0} → (D → ℕ) → List (ToldBook D) → ℕ → ℕ
 counts_after faults [] before = before
 counts_after faults (b ∷ bs) before = counts_after faults bs (count_after faults b.dev before)
 
--- a count has risen, or stands at the end of its type
+-- a count has risen, or is the largest value of its type
 abbrev pub HasFaultCountRisen : ℕ → ℕ → Type 0
 HasFaultCountRisen before now = (before < now) ⊎ (now ≡ 2 ^ 64 - 1)

@@ -16,7 +16,7 @@ use Rattle.plant_status.specs.declared.status.Status.TheVariants.{DeviceFault, D
 use Rattle.plant_status.specs.declared.unit.Unit.TheVariants.{Group}
 use Rattle.plant_store.specs.Groups.{AreGroupsOpened, DeviceTraces, group_parts_of, input_records_of, group_definition_text, group_trace_at}
 
--- what a group that is not opened is answered with
+-- the status for a group that is not opened
 abbrev pub status_of : ℕ → LoadNo → Status
 status_of i no.DeviceFault = DeviceFault (Group i)
 status_of i (no.Damaged at byte) = Damaged (Group i) at byte
@@ -24,8 +24,8 @@ status_of i (no.Ahead input version records) = Mismatch (Version i input) (Numbe
 status_of i (no.Shape windows rows) = Mismatch (Windows i) (Number windows) (Number rows)
 status_of i no.WantOfMemory = WantOfMemory
 
--- Group i is the first that is refused: those before it are opened. Of it, of the records of its tags, and of the trace of its
--- device P holds.
+-- Group i is the first that is refused; those before it are opened. P holds of the group, of the records of its inputs,
+-- and of the trace of its device.
 pub record IsRefusedAt (groups : List GroupDef) (records : List (List Rec)) (old : DeviceTraces) (i : ℕ)
     (P : GroupDef → List (List Rec) → Option Trace → Type 0) : Type 0 where
   pub g : GroupDef
@@ -36,10 +36,11 @@ pub record IsRefusedAt (groups : List GroupDef) (records : List (List Rec)) (old
   pub front : AreGroupsOpened i groups records old openings
   pub cause : P g (input_records_of records g) (group_trace_at old g)
 
--- Why the groups are not opened, where the store counted so many faults before and so many now: a call of a device has failed;
--- the bytes of one break its layout; a saved version is above the records of a tag, of which the records are told and then the
--- version; a saved row has not one value for each complete window, of which the windows are told and then the values; or memory is
--- wanting.
+-- Why the groups are not opened. The store counted `before` faults before it, and counts `now` after it. There are five
+-- causes: a call of a device failed; the bytes of a device break its layout; a saved version is above the number of
+-- records of its tag; a saved row does not have one value for each complete window; there was no memory. For a version
+-- the status reports the number of records, and then the version. For a row it reports the number of windows, and then
+-- the number of values.
 pub data IsRefusal (groups : List GroupDef) (records : List (List Rec)) (old : DeviceTraces) (before now : ℕ) (why : Status) : Type 0 where
   OfFault : (i : ℕ) → why ≡ DeviceFault (Group i)
       → IsRefusedAt groups records old i (λ g recovered o. before < 2 ^ 64 → Rose before now)
@@ -56,7 +57,8 @@ pub data IsRefusal (groups : List GroupDef) (records : List (List Rec)) (old : D
       → IsRefusal groups records old before now why
   OfMemory : why ≡ WantOfMemory → IsRefusal groups records old before now why
 
--- one fault of the store is counted where a call of a group's device has failed, which is told then; and else none
+-- If a call of a group's device failed, the store counts one fault more, and the status reports it. Otherwise it counts
+-- none.
 abbrev pub CountsStore : {T : Type 0} → Result T Status → ℕ → ℕ → Type 0
 CountsStore (Ok x) before now = now ≡ before
 CountsStore (Err why) before now = (now ≡ before) ⊎ ((i : ℕ) × (why ≡ DeviceFault (Group i)) × Rose before now)

@@ -1,11 +1,11 @@
--- What becomes of cells that are given back.
+-- Giving back the devices of cells.
 use Rattle.std.specs.Prelude.{◌≡◌, ◌≢◌, ◌⊎◌, ℕ, ◌-◌, ◌^◌, ◌<◌, ◌≤◌, true, List, Option, All}
 use Rattle.std.specs.List.{AllZip}
 use Rattle.disk_model.specs.Traces.{Trace}
 use Rattle.tag_cell.specs.declared.history.TagHistory.{TagHistory}
 use Rattle.tag_cell.specs.Told.{ToldCell, IsCellHistory}
 
--- this is the history of a cell, on a device that tells these calls, this clock and these faults
+-- this is the history of a cell, on a device with this trace, this clock and this number of faults
 pub record IsHistoryOfCell {D : Type 0} (trace : Option Trace) (ticks faults : ℕ) (c : ToldCell D) (h : TagHistory) : Type 0 where
   pub def_is : h.def ≡ c.def
   pub opening_is : h.opening ≡ c.opening
@@ -15,28 +15,29 @@ pub record IsHistoryOfCell {D : Type 0} (trace : Option Trace) (ticks faults : �
   pub acked_is : h.acked ≡ c.journal.acked
   pub history : IsCellHistory h trace ticks faults
 
--- there is one history for each of these cells, in its place, over devices whose calls, clock and faults are told so
+-- there is one history for each of these cells, at the same place, on the cell's device
 abbrev pub AreHistoriesOf : {D : Type 0} → (D → Option Trace) → (D → ℕ) → (D → ℕ) → List (ToldCell D) → List TagHistory → Type 0
 AreHistoriesOf {D} trace ticks faults cells histories = AllZip (λ (c : ToldCell D) h. IsHistoryOfCell (trace c.journal.dev)
     (ticks c.journal.dev) (faults c.journal.dev) c h) cells histories
 
--- each history is that of the device which a store has under the name in its place
+-- each history is that of the device that the store has under the name at its place
 abbrev pub AreHistoriesAt : (List ℕ → Option Trace) → List (List ℕ) → List TagHistory → Type 0
 AreHistoriesAt traces names histories =
     AllZip (λ name h. (ticks : ℕ) × (faults : ℕ) × IsCellHistory h (traces name) ticks faults) names histories
 
--- the device of each of these names is that of the cell in the same place, and any other device is as it was
+-- the store has the device of each cell under the name at its place, and any other device is unchanged
 pub record AreGivenBack {D : Type 0} (trace : D → Option Trace) (names : List (List ℕ)) (cells : List (ToldCell D))
     (old new : List ℕ → Option Trace) : Type 0 where
   pub given : AllZip (λ name (c : ToldCell D). new name ≡ trace c.journal.dev) names cells
   pub others : (n : List ℕ) → All (λ name. n ≢ name) names → new n ≡ old n
 
--- a count has risen, or stands at the end of its type
+-- a count has risen, or is the largest value of its type
 abbrev pub HasRisen : ℕ → ℕ → Type 0
 HasRisen before now = (before < now) ⊎ (now ≡ 2 ^ 64 - 1)
 
--- the faults of a store before these cells' devices are given back and after it: they are no fewer; they have risen where the
--- journal of a cell has failed, and are as before where the device of no cell has counted one
+-- The store's fault count before the devices of these cells are given back, and after it. It never falls. It has risen,
+-- or is the largest value of its type, if the journal of a cell has failed. It is unchanged if no device of a cell has
+-- counted a fault.
 pub record CountsCells {D : Type 0} (faults : D → ℕ) (cells : List (ToldCell D)) (before now : ℕ) : Type 0 where
   pub later : before ≤ now
   pub risen : All (λ (c : ToldCell D). c.journal.failed ≡ true → HasRisen before now) cells

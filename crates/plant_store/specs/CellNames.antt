@@ -1,4 +1,4 @@
--- What the devices of tags are called.
+-- The names of the devices of tags.
 use Rattle.std.specs.Prelude.{◌≢◌, ℕ, Bool, IsTrue, List, map, All, AllPairs, String, string_bytes}
 use Rattle.std.specs.declared.alloc.Global.{Global}
 use Rattle.trend_num.specs.declared.tag_def.TagDef.{TagDef}
@@ -8,14 +8,14 @@ use Rattle.plant_store.specs.Tags.{device_name}
 abbrev pub texts : List (String Global) → List (List ℕ)
 texts names = map string_bytes names
 
--- what the devices of these tags are called, in order
+-- the names of the devices of these tags, in order
 abbrev pub device_names_of : List TagDef → List (List ℕ)
 device_names_of tags = map (λ (def : TagDef). device_name def.name) tags
 
--- no two places of the list have one name
+-- all names in the list are different
 abbrev pub AreApart : List (List ℕ) → Type 0
 AreApart names = AllPairs (λ a b. a ≢ b) names
 
--- a store has a place for the device of each of these names
+-- the store has a place for the device of each of these names
 abbrev pub HasPlaces : (List ℕ → Bool) → List (List ℕ) → Type 0
 HasPlaces has_place names = All (λ name. IsTrue (has_place name)) names

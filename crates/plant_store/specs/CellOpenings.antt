@@ -1,4 +1,4 @@
--- What the tags of a base are opened as, as cells over their devices.
+-- The tags of a base, opened as cells over their devices.
 use Rattle.std.specs.Prelude.{◌≡◌, ℕ, false, List, [], length, Option}
 use Rattle.std.specs.List.{AllZip, sum_by}
 use Rattle.trend_num.specs.declared.tag_def.TagDef.{TagDef}
@@ -10,12 +10,13 @@ use Rattle.tag_cell.specs.Tapes.{opened}
 use Rattle.tag_cell.specs.Told.{ToldCell}
 use Rattle.plant_store.specs.Tags.{lane_slots, tag_trace_of, IsOpened, IsLeft}
 
--- the core of a cell as it was opened; for how many records it had memory does not count here
+-- the core that a cell was opened as; its room for records does not matter here and is set to 0
 abbrev pub core_of : {D : Type 0} → ToldCell D → Core
 core_of c = record { state = opened c.opening; step = c.def.step; spare = 0 }
 
--- a cell is that of this tag: it was opened as what the tag's device recovered, which the device keeps, and nothing has
--- happened to it since. The device told such calls before, and tells such calls, such a clock and so many faults now
+-- The cell is that of this tag. It was opened as what the tag's device recovered, the device keeps that, and nothing
+-- has happened to the cell since. `old` is the device's trace before; `new`, `ticks` and `faults` are its trace, its
+-- clock and its number of faults now.
 pub record IsCellOpened {D : Type 0} (def : TagDef) (old new : Option Trace) (ticks faults : ℕ) (c : ToldCell D) : Type 0 where
   pub def_is : c.def ≡ def
   pub found : IsOpened def old (core_of c)
@@ -31,13 +32,13 @@ pub record IsCellOpened {D : Type 0} (def : TagDef) (old new : Option Trace) (ti
   pub opened_faultless : c.opening.faults ≡ 0
   pub faultless : faults ≡ 0
 
--- there is one cell for each of these tags, in its place, over a device that told before what `traces` says by name, and whose
--- calls, clock and faults are told so
+-- There is one cell for each of these tags, at the same place. `traces` has the devices' traces before, by name; the
+-- other functions read a cell's device now.
 abbrev pub AreCellsOpened : {D : Type 0} → (D → Option Trace) → (D → ℕ) → (D → ℕ) → List TagDef → (List ℕ → Option Trace)
     → List (ToldCell D) → Type 0
 AreCellsOpened {D} trace ticks faults tags traces cells = AllZip (λ def (c : ToldCell D). IsCellOpened def (tag_trace_of traces def)
     (trace c.journal.dev) (ticks c.journal.dev) (faults c.journal.dev) c) tags cells
 
--- how many records the cells were opened with in all
+-- how many records the cells were opened with, all together
 abbrev pub records_opened : {D : Type 0} → List (ToldCell D) → ℕ
 records_opened {D} cells = sum_by (λ (c : ToldCell D). length c.opening.recs.items) cells

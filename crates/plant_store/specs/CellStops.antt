@@ -1,4 +1,4 @@
--- Tags that are opened up to a refusal, while the devices of those opened are still out.
+-- Tags that are opened up to a refusal, while the devices of the opened ones are still out.
 use Rattle.std.specs.Prelude.{ℕ, ◌≡◌, ◌^◌, ◌<◌, List, length, take, Option, Err}
 use Rattle.std.specs.List.{AllZip}
 use Rattle.trend_num.specs.declared.tag_def.TagDef.{TagDef}
@@ -8,13 +8,15 @@ use Rattle.tag_cell.specs.Told.{ToldCell}
 use Rattle.plant_store.specs.Tags.{tag_trace_of, AreOtherTagsSame, AllStaySame}
 use Rattle.plant_store.specs.TagRefusals.{IsRefusal, CountsStore}
 
--- the device of each of the first tags, as many as there are cells, is that of the cell in its place
+-- for each of the first tags, as many as there are cells, the trace under its name is that of the cell's device at its
+-- place
 abbrev pub AreTold : {D : Type 0} → (D → Option Trace) → List TagDef → List (ToldCell D) → (List ℕ → Option Trace) → Type 0
 AreTold {D} trace tags cells traces =
     AllZip (λ def (c : ToldCell D). tag_trace_of traces def ≡ trace c.journal.dev) (take (length cells) tags) cells
 
--- why the opening stops that has opened these cells. It is a refusal of the tags, and no crash has left anything else of them,
--- whatever the store tells once it has the devices of these cells back
+-- Why the opening stops after it has opened these cells. Whatever the store has for the devices of these cells once
+-- they are back, it is a refusal of the tags. If they are back as the cells have them, then a crash has left of each
+-- tag's device only what `AllStaySame` allows.
 pub record IsStopped {D : Type 0} (trace : D → Option Trace) (tags : List TagDef) (cells : List (ToldCell D))
     (old now : List ℕ → Option Trace) (before faults : ℕ) (why : Status) : Type 0 where
   pub refused : (new : List ℕ → Option Trace) (after : ℕ) → AreOtherTagsSame (take (length cells) tags) now new

@@ -1,4 +1,4 @@
--- What becomes of a plant whose devices are given back.
+-- Giving back the devices of a plant.
 use Rattle.std.specs.Prelude.{◌≡◌, ◌≢◌, ℕ, ◌<◌, ◌≤◌, true, List, Option, All}
 use Rattle.std.specs.List.{AllZip}
 use Rattle.disk_model.specs.Traces.{Trace}
@@ -10,8 +10,8 @@ use Rattle.plant_store.specs.BookEndings.{AreGivenBack}
 use Rattle.plant_store.specs.Groups.{DeviceTraces}
 use Rattle.plant_store.specs.declared.shelf.Shelf.{Shelf}
 
--- under the name of each tag is the device of its cell, under that of each group the device of its book, where it has one; and any
--- other device is as it was
+-- The store has the device of each cell under the name of its tag. It has the device of each book, if there is one,
+-- under the name of its group. Any other device is unchanged.
 pub record AreDevicesBack {D : Type 0} (trace : D → Option Trace) (shelf : Shelf) (cells : List (Cell D)) (books : List (Book D))
     (old new : DeviceTraces) : Type 0 where
   pub of_tags : AllZip (λ name (c : Cell D). new name ≡ trace c.journal.dev) (texts shelf.tag_names.items) cells
@@ -19,8 +19,9 @@ pub record AreDevicesBack {D : Type 0} (trace : D → Option Trace) (shelf : She
   pub others : (n : List ℕ) → All (λ name. n ≢ name) (texts shelf.tag_names.items)
       → All (λ name. n ≢ name) (texts shelf.group_names.items) → new n ≡ old n
 
--- The faults of a store before these devices are given back and after it: they are no fewer. They have risen, or stand at the end of
--- their type, where the journal of a cell has failed or the device of a book has counted one, and are as before where no device has.
+-- The store's fault count before these devices are given back, and after it. It never falls. If the journal of a cell
+-- has failed, or the device of a book has counted a fault, it has risen or is the largest value of its type. It is
+-- unchanged if no device has counted one.
 pub record CountsClosed {D : Type 0} (faults : D → ℕ) (cells : List (Cell D)) (books : List (Book D)) (before now : ℕ) : Type 0 where
   pub later : before ≤ now
   pub of_cells : All (λ (c : Cell D). c.journal.failed ≡ true → HasRisen before now) cells

@@ -18,48 +18,50 @@ use Rattle.group_book.specs.Told.{ToldBook, count_of, trace_of, versions_of}
 abbrev pub DeviceTraces : Type 0
 DeviceTraces = List ℕ → Option Trace
 
--- what a group's device is called
+-- the name of a group's device
 abbrev pub device_name : List ℕ → List ℕ
 device_name name = name ++ codes ".grp"
 
--- the trace of a group's device, of these traces by name
+-- the trace of a group's device, from these traces by name
 abbrev pub group_trace_at : DeviceTraces → GroupDef → Option Trace
 group_trace_at traces g = traces (device_name g.name)
 
--- these are what the devices of the groups are called, in order
+-- these are the names of the groups' devices, in order
 abbrev pub AreNamesOf : List GroupDef → List (String Global) → Type 0
 AreNamesOf groups names = map string_bytes names ≡ map (λ g. device_name g.name) groups
 
--- no two places of the list have one name
+-- all groups in the list have different names
 abbrev pub AreDistinct : List GroupDef → Type 0
 AreDistinct groups = AllPairs (λ a b. a.name ≢ b.name) groups
 
--- the definition of a group, as its book is made with it
+-- the definition of a group that its book is made with
 abbrev pub group_parts_of : GroupDef → GroupDefParts
 group_parts_of g = record { inputs = length g.inputs.items; start = g.start; period = g.period; calcs = g.calcs }
 
--- the text that tells on a device which group it is of
+-- the text by which a device is recognized as this group's
 abbrev pub group_definition_text : GroupDef → List ℕ
 group_definition_text g = definition_text g.name g.start g.period g.calcs
 
--- of each input of a group the records of its tag
+-- for each input of a group the records of its tag
 abbrev pub input_records_of : List (List Rec) → GroupDef → List (List Rec)
 input_records_of records g = map (λ tag. slice_index_or records tag []) g.inputs.items
 
--- a group is opened so: its device stood for these versions and rows, and no version is above the records of its tag
+-- a group is opened with these versions and rows: its device stood for them, and no version is above the number of
+-- records of its tag
 pub record IsGroupOpening (g : GroupDef) (recovered : List (List Rec)) (o : Option Trace) (opening : GroupOpening) : Type 0 where
   pub stood : Shows o (StandsForGroup (group_definition_text g) (group_parts_of g) opening.versions.items (lists_of opening.rows.items))
   pub within : map length (cut opening.versions.items recovered) ≡ opening.versions.items
   pub faults : opening.faults ≡ 0
 
--- so is each of the first groups
+-- each of the first groups is opened so
 abbrev pub AreGroupsOpened : ℕ → List GroupDef → List (List Rec) → DeviceTraces → List GroupOpening → Type 0
 AreGroupsOpened many groups records old openings = (k : ℕ) (g : GroupDef) (x : GroupOpening) → k < many
     → IsGroupOpening (slice_index_or groups k g) (input_records_of records (slice_index_or groups k g)) (group_trace_at old (slice_index_or groups k g))
     (slice_index_or openings k x)
 
--- A book is that of the group at place i as it is opened: it has what its device stood for, and the first records of its tags. A
--- crash at any moment since left of the device what it might have left before, or what stands for the same.
+-- The book is that of the group at place i as it is opened. It has what its device stood for, and the first records of
+-- its tags. A crash at any moment since left of the device what a crash might have left before, or what stands for the
+-- same.
 pub record IsBookOpened {D : Type 0} (trace : D → Option Trace) (ticks faults : D → ℕ) (i : ℕ) (g : GroupDef)
     (recovered : List (List Rec)) (o : Option Trace) (b : ToldBook D) : Type 0 where
   pub group : b.group ≡ i
@@ -78,19 +80,19 @@ pub record IsBookOpened {D : Type 0} (trace : D → Option Trace) (ticks faults 
   pub faultless : count_of faults b.dev ≡ 0
   pub same : During o (trace_of trace b.dev) (BookStaysSame (group_definition_text g) (group_parts_of g) o)
 
--- the books are those of the first groups, each in its place
+-- the books are those of the first groups, each at its place
 pub record AreBooksOpened {D : Type 0} (trace : D → Option Trace) (ticks faults : D → ℕ) (groups : List GroupDef)
     (records : List (List Rec)) (old : DeviceTraces) (books : List (ToldBook D)) : Type 0 where
   pub each : (i : ℕ) (g : GroupDef) (b : ToldBook D) → i < length books
       → IsBookOpened trace ticks faults i (slice_index_or groups i g) (input_records_of records (slice_index_or groups i g))
       (group_trace_at old (slice_index_or groups i g)) (slice_index_or books i b)
 
--- a crash at any moment since left, of the device of each of these groups, what it might have left before, or what stands for the
--- same
+-- a crash at any moment since left of the device of each group what a crash might have left before, or what stands for
+-- the same
 abbrev pub AllStaySame : List GroupDef → DeviceTraces → DeviceTraces → Type 0
 AllStaySame groups old new =
     All (λ g. During (group_trace_at old g) (group_trace_at new g) (BookStaysSame (group_definition_text g) (group_parts_of g) (group_trace_at old g))) groups
 
--- each device but those of these groups is as it was
+-- each device except those of these groups is unchanged
 abbrev pub AreOtherGroupsSame : List GroupDef → DeviceTraces → DeviceTraces → Type 0
 AreOtherGroupsSame groups old new = (n : List ℕ) → All (λ g. n ≢ device_name g.name) groups → new n ≡ old n

@@ -12,5 +12,5 @@ pub mod CellStops
 pub mod Groups
 pub mod BookRefusals
 pub mod BookEndings
--- what private functions alone cite
+-- modules that only private functions cite
 pub mod BookSteps

@@ -17,7 +17,7 @@ use Rattle.plant_store.specs.Tags.{AllStaySame, AreLeft, AreTagsOpened, AreOther
 abbrev pub AreUntouched : DeviceTraces → DeviceTraces → Type 0
 AreUntouched old new = (n : List ℕ) → new n ≡ old n
 
--- the base was read of the file of this name, and its tags are opened as these cores
+-- the base was read from the file of this name, and its tags are opened as these cores
 pub record IsOpenedBase (name : List ℕ) (told : ToldFiles) (old : DeviceTraces) (base : Base) (cores : List Core) : Type 0 where
   pub read : IsBaseFile (told name) base
   pub opened : AreTagsOpened base.tags.items old cores
@@ -28,21 +28,22 @@ points_recovered core = closed_points core.state.records core.state.summary.held
 
 -- ---- devices
 
--- a base was read and opened, and a crash now leaves of each device what recovers its tag as it is opened; a device that was new
--- has a whole layout
+-- A base was read and opened. A crash now leaves of each device what recovers its tag as it is opened. A device that
+-- was new has a whole layout.
 pub record IsDurable (name : List ℕ) (told : ToldFiles) (old new : DeviceTraces) : Type 0 where
   pub base : Base
   pub cores : List Core
   pub opened : IsOpenedBase name told old base cores
   pub left : AreLeft base.tags.items old new cores
 
--- no device has changed; or those of the base's tags alone have, and a crash at any moment since leaves of each an image that one
--- before might have left, or that recovers the same, or that as it is opened
+-- Either no device has changed; or only those of the base's tags have. In that case a crash at any moment since leaves
+-- of each device one of these images. A crash might have left it before; or it recovers the same state, or that state
+-- as it is opened.
 abbrev pub AreKept : List ℕ → ToldFiles → DeviceTraces → DeviceTraces → Type 0
 AreKept name told old new = AreUntouched old new
     ⊎ ((base : Base) × IsBaseFile (told name) base × AllStaySame base.tags.items old new × AreOtherTagsSame base.tags.items old new)
 
--- one fault of the store is counted where a call of a device has failed, which is told then; and else none
+-- If a call of a device failed, the store counts one fault more, and the status reports it. Otherwise it counts none.
 abbrev pub CountsDevices : {T : Type 0} → Result T Status → ℕ → ℕ → Type 0
 CountsDevices (Ok x) before now = now ≡ before
 CountsDevices (Err why) before now = (now ≡ before) ⊎ ((unit : Unit) × (why ≡ DeviceFault unit) × Rose before now)

@@ -1,4 +1,4 @@
--- What a plant is opened as, and why it is not.
+-- What a plant is opened as, and why it is not opened.
 use Rattle.std.specs.Prelude.{◌≡◌, ◌≢◌, ◌⊎◌, ℕ, List, All, map, Result, Ok, Err}
 use Rattle.trend_num.specs.declared.archive.Rec.{Rec}
 use Rattle.tag_core.specs.Core.{Core}
@@ -18,23 +18,23 @@ use Rattle.plant_store.specs.BookRefusals as groups
 abbrev pub cell_records_in : {D : Type 0} → List (ToldCell D) → List (List Rec)
 cell_records_in {D} cells = map (λ (c : ToldCell D). c.state.records) cells
 
--- and of each opened tag
+-- the records of each opened tag
 abbrev pub opened_records_of : List Core → List (List Rec)
 opened_records_of cores = map (λ (core : Core). core.state.records) cores
 
--- Why a plant is not opened, where the store counted so many faults before and so many now: the tags of its base are refused; or
--- all are opened, and its groups are refused over their records.
+-- Why a plant is not opened. The store counted `before` faults before it, and counts `now` after it. Either the tags of
+-- its base are refused; or they are opened, and its groups are refused over their records.
 pub data IsPlantRefusal (base : Base) (old new : DeviceTraces) (before now : ℕ) (why : Status) : Type 0 where
   OfTags : tags.IsRefusal base.tags.items old new before now why → IsPlantRefusal base old new before now why
   OfGroups : (cores : List Core) → tag.AreTagsOpened base.tags.items old cores
       → groups.IsRefusal base.groups.items (opened_records_of cores) old before now why → IsPlantRefusal base old new before now why
 
--- each device but those of the base's tags and groups is as it was
+-- each device except those of the base's tags and groups is unchanged
 abbrev pub AreRestSame : Base → DeviceTraces → DeviceTraces → Type 0
 AreRestSame base old new = (n : List ℕ) → All (λ def. n ≢ tag.device_name def.name) base.tags.items
     → All (λ g. n ≢ group.device_name g.name) base.groups.items → new n ≡ old n
 
--- one fault of the store is counted where a call of a device has failed, which is told then; and else none
+-- If a call of a device failed, the store counts one fault more, and the status reports it. Otherwise it counts none.
 abbrev pub CountsPlant : {T : Type 0} → Result T Status → ℕ → ℕ → Type 0
 CountsPlant (Ok x) before now = now ≡ before
 CountsPlant (Err why) before now = (now ≡ before) ⊎ ((unit : Device) × (why ≡ DeviceFault unit) × Rose before now)

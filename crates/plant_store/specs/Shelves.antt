@@ -1,4 +1,4 @@
--- What giving a plant's devices back needs.
+-- What is needed to give a plant's devices back.
 use Rattle.std.specs.Prelude.{◌≡◌, ◌≢◌, ◌≤◌, ℕ, Bool, List, [], length, All, AllPairs, string_bytes, vec_capacity}
 use Rattle.tag_base.specs.declared.definition.Base.{Base}
 use Rattle.plant_store.specs.CellNames.{AreApart, HasPlaces, device_names_of, texts}
@@ -6,8 +6,8 @@ use Rattle.plant_store.specs.Groups.{AreNamesOf}
 use Rattle.plant_store.specs.BookSteps.{HavePlaces}
 use Rattle.plant_store.specs.declared.shelf.Shelf.{Shelf}
 
--- no two names of devices are the same, of one kind or of two; and the lists of histories are empty, with room for one for each
--- name
+-- All names of devices are different, those of tags and those of groups. The lists of histories are empty, with room
+-- for one history for each name.
 pub record IsShelf (shelf : Shelf) : Type 0 where
   pub apart : AreApart (texts shelf.tag_names.items)
   pub groups_apart : AllPairs (λ a b. string_bytes a ≢ string_bytes b) shelf.group_names.items
@@ -17,7 +17,7 @@ pub record IsShelf (shelf : Shelf) : Type 0 where
   pub tag_room : length shelf.tag_names.items ≤ vec_capacity shelf.tags
   pub group_room : length shelf.group_names.items ≤ vec_capacity shelf.groups
 
--- the names are those of the devices of a base's tags and groups, in order
+-- the names are those of the devices of the base's tags and groups, in order
 pub record IsShelfFor (base : Base) (shelf : Shelf) : Type 0 where
   pub tag_names_are : texts shelf.tag_names.items ≡ device_names_of base.tags.items
   pub group_names_are : AreNamesOf base.groups.items shelf.group_names.items
@@ -25,7 +25,7 @@ pub record IsShelfFor (base : Base) (shelf : Shelf) : Type 0 where
   pub as_many_groups : length shelf.group_names.items ≡ length base.groups.items
   pub is_shelf : IsShelf shelf
 
--- a store has a place for the device of each of the names
+-- the store has a place for the device of each of the names
 pub record HasPlacesOf (shelf : Shelf) (has_place : List ℕ → Bool) : Type 0 where
   pub for_tags : HasPlaces has_place (texts shelf.tag_names.items)
   pub for_groups : HavePlaces (length shelf.group_names.items) shelf.group_names.items has_place

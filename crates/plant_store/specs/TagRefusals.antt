@@ -18,7 +18,7 @@ use Rattle.plant_status.specs.declared.status.Status.TheVariants.{WantOfMemory}
 use Rattle.trend_num.specs.Limits.{most_stored}
 use Rattle.plant_store.specs.Tags.{tag_trace_of, IsOpened, AreTagsOpened, AreOtherTagsSame, tag_records_in}
 
--- what a tag that is not opened is answered with
+-- the status for a tag that is not opened
 abbrev pub status_of : ℕ → OpenNo → Status
 status_of tag no.DeviceFault = DeviceFault (Tag tag)
 status_of tag (no.Damaged at byte) = Damaged (Tag tag) at byte
@@ -26,8 +26,8 @@ status_of tag (no.OtherTag found wanted) = OtherTag tag found wanted
 status_of tag (no.Full records) = Limit Records records
 status_of tag no.WantOfMemory = WantOfMemory
 
--- tag i is the first that is refused: those before it are opened, and have not too many records; of them, of
--- it, and of the trace of its device P holds; and no device but theirs and its own has changed
+-- Tag i is the first that is refused. Those before it are opened, and do not have too many records. P holds of their
+-- cores, of tag i, and of the trace of its device. No device has changed except theirs and that of tag i.
 pub record IsRefusedAt (tags : List TagDef) (old new : List ℕ → Option Trace) (i : ℕ)
     (P : List Core → TagDef → Option Trace → Type 0) : Type 0 where
   pub def : TagDef
@@ -39,14 +39,14 @@ pub record IsRefusedAt (tags : List TagDef) (old new : List ℕ → Option Trace
   pub cause : P cores def (tag_trace_of old def)
   pub rest : AreOtherTagsSame (take (i + 1) tags) old new
 
--- a tag is opened, and with the records of these there are too many
+-- the tag is opened, and with its records the opened tags have too many
 pub record IsTooMuch (number : ℕ) (cores : List Core) (def : TagDef) (o : Option Trace) : Type 0 where
   pub core : Core
   pub opened : IsOpened def o core
   pub number_is : number ≡ tag_records_in cores + length core.state.records
   pub many : most_stored < number
 
--- why the tags are not opened, where the store counted so many faults before and so many now
+-- why the tags are not opened; the store counted `before` faults before it, and counts `now` after it
 abbrev pub IsRefusal : List TagDef → (List ℕ → Option Trace) → (List ℕ → Option Trace) → ℕ → ℕ → Status
     → Type 0
 IsRefusal tags old new before now (DeviceFault (Tag i)) =
@@ -62,7 +62,8 @@ IsRefusal tags old new before now (Limit StoreRecords number) =
 IsRefusal tags old new before now WantOfMemory = Unit {0}
 IsRefusal tags old new before now other = ⊥
 
--- one fault of the store is counted where a call of a tag's device has failed, which is told then; and else none
+-- If a call of a tag's device failed, the store counts one fault more, and the status reports it. Otherwise it counts
+-- none.
 abbrev pub CountsStore : {T : Type 0} → Result T Status → ℕ → ℕ → Type 0
 CountsStore (Ok x) before now = now ≡ before
 CountsStore (Err why) before now = (now ≡ before) ⊎ ((i : ℕ) × (why ≡ DeviceFault (Tag i)) × Rose before now)

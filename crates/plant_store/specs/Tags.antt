@@ -11,20 +11,20 @@ use Rattle.disk_model.specs.Calls.{Shows}
 use Rattle.crash_recovery.specs.Opening.{IsOpenedAs, StaysSame, RecoversThen, MakesLayout, GainsSync}
 use Rattle.crash_recovery.specs.TagImages.{ImageStands, StandsOpened}
 
--- what a tag's device is called
+-- the name of a tag's device
 abbrev pub device_name : List ℕ → List ℕ
 device_name name = name ++ codes ".tag"
 
--- the trace of a tag's device, of these traces by name
+-- the trace of a tag's device, from these traces by name
 abbrev pub tag_trace_of : (List ℕ → Option Trace) → TagDef → Option Trace
 tag_trace_of traces def = traces (device_name def.name)
 
--- no two places of the list have one name
+-- all tags in the list have different names
 abbrev pub AreDistinct : List TagDef → Type 0
 AreDistinct tags = AllPairs (λ a b. a.name ≢ b.name) tags
 
--- an opened tag has what its device recovers, as it is opened; for each history for which the device stood it stands for that, or
--- for that and a retuning; and it is of the wanted kind
+-- An opened tag has what its device recovers, as it is opened. For each history for which the device stood, the core
+-- stands for that history, or for it followed by a retuning. The core is of the tag's kind.
 pub record IsOpened (def : TagDef) (o : Option Trace) (core : Core) : Type 0 where
   pub state : Shows o (λ c. (s : State) × Recovers def c s × IsOpenedAs def s core.state)
   pub stands : (p : Origin) (h : List Event) → Shows o (λ c. ImageStands def p h c → StandsOpened def p h core.state)
@@ -34,30 +34,30 @@ pub record IsOpened (def : TagDef) (o : Option Trace) (core : Core) : Type 0 whe
 abbrev pub lane_slots : ℕ
 lane_slots = 64
 
--- a crash now leaves of the device what recovers the opened tag; a new device has a whole layout; and one that is neither new nor
--- of a tag that was retuned has gained a sync alone
+-- A crash now leaves of the device what recovers the opened tag. A new device has a whole layout. A device that is
+-- neither new nor of a retuned tag has gained one sync and nothing else.
 pub record IsLeft (def : TagDef) (old new : Option Trace) (core : Core) : Type 0 where
   pub recovers : RecoversThen def old new core.state
   pub made : MakesLayout def lane_slots old new
   pub synced : GainsSync def old new
 
--- so it is of the device of each of these tags
+-- the same holds of the device of each of these tags
 abbrev pub AreLeft : List TagDef → (List ℕ → Option Trace) → (List ℕ → Option Trace) → List Core → Type 0
 AreLeft tags old new cores = AllZip (λ def core. IsLeft def (tag_trace_of old def) (tag_trace_of new def) core) tags cores
 
--- there is one opened tag for each of these, in its place
+-- there is one opened tag for each of these, at the same place
 abbrev pub AreTagsOpened : List TagDef → (List ℕ → Option Trace) → List Core → Type 0
 AreTagsOpened tags traces cores = AllZip (λ def core. IsOpened def (tag_trace_of traces def) core) tags cores
 
--- each device but those of these tags is as it was
+-- each device except those of these tags is unchanged
 abbrev pub AreOtherTagsSame : List TagDef → (List ℕ → Option Trace) → (List ℕ → Option Trace) → Type 0
 AreOtherTagsSame tags old new = (n : List ℕ) → All (λ def. n ≢ device_name def.name) tags → new n ≡ old n
 
--- a crash at any moment since leaves, of the device of each of these tags, an image that one before might
--- have left, or that recovers the same, or that as it is opened
+-- A crash at any moment since leaves of the device of each tag one of these images. A crash might have left it before;
+-- or it recovers the same state, or that state as it is opened.
 abbrev pub AllStaySame : List TagDef → (List ℕ → Option Trace) → (List ℕ → Option Trace) → Type 0
 AllStaySame tags old new = All (λ def. StaysSame def (tag_trace_of old def) (tag_trace_of new def)) tags
 
--- how many records there are in all
+-- how many records there are, all together
 abbrev pub tag_records_in : List Core → ℕ
 tag_records_in cores = sum_by (λ core. length core.state.records) cores

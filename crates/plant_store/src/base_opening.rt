@@ -1,4 +1,4 @@
-// The tags of a base, opened.
+// Opening the tags of a base.
 ghost use Rattle.std.specs.Prelude.{◌≡◌, ◌≢◌, ◌^◌, ◌<◌, ℕ, All, AllPairs, length, IfOk, IfErr};
 ghost use Rattle.trend_num.specs.Ranges.{TuningInRange};
 ghost use Rattle.plant_files.specs.Reading.{faults_told};
@@ -13,9 +13,11 @@ use std::alloc::Global;
 use tag_base::Base;
 use tag_core::TagCore;
 
-/// Opens the tags of a base that was read, each over the device of its name, which is made where there is none. No two of them
-/// have one name, so each device is opened once. A refusal is that of the first tag that does not open: a device that fails, is
-/// damaged or is of another tag, too many records, or want of memory.
+/// Opens the tags of a base that was read, each over the device of its name. A device that does not exist is made. No
+/// two tags have the same name, so each device is opened once.
+///
+/// It returns the refusal of the first tag that is not opened: a call of its device failed, the device is damaged, the
+/// device is that of another tag, there are too many records, or there was no memory.
 pub fn open_base<S: Store>(
     alloc: Global,
     store: &mut S,

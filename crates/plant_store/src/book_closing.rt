@@ -1,4 +1,4 @@
-// The devices of books are given back.
+// Giving back the devices of books.
 ghost use Rattle.std.specs.Prelude.{◌≡◌, ◌≢◌, ℕ, ◌+◌, ◌-◌, ◌^◌, ◌<◌, ◌≤◌, List, [], All, AllPairs, IsTrue, length, slice_index_or, string_bytes, vec_capacity, vec_len};
 ghost use Rattle.group_book.specs.Told.{ToldBook, count_of};
 ghost use Rattle.plant_store.specs.BookEndings.{AreGivenBack, AreHistoriesOf, HasFaultCountRisen, counts_after};
@@ -8,8 +8,8 @@ use crate::single_book::close_book;
 use disk_model::Store;
 use group_book::{Book, GroupHistory};
 
-/// Gives the device of each book back under its name, and adds what happened to its group to the histories, in order. It takes no
-/// memory.
+/// Gives the device of each book back under its name, and appends what happened to its group to `histories`, in order.
+/// It takes no memory.
 pub fn close_books<S: Store>(
     store: &mut S,
     names: &[String],
@@ -22,14 +22,14 @@ pub fn close_books<S: Store>(
     requires places { HavePlaces (length names.now) names.now (S.has_place store.old) }
     requires distinct { AllPairs (λ a b. string_bytes a ≢ string_bytes b) names.now }
 
-    // There is one history for each book, in its place. Its device is back, and no other one has changed.
+    // There is one history for each book, at the same place. Its device is back, and no other device has changed.
     ensures closed { AreHistoriesOf S.Dev.trace S.Dev.ticks S.Dev.fault_count books.items histories.new.items }
     ensures given { AreGivenBack S.Dev.trace names.now books.items (S.device_at store.old) (S.device_at store.new) }
     ensures others { AreOtherNamesSame (length names.now) names.now (S.device_at store.old) (S.device_at store.new) }
     ensures kept_places { (n : List ℕ) → IsTrue (S.has_place store.old n) → IsTrue (S.has_place store.new n) }
 
-    // The faults of the devices are added to the store's, whose count is not below what it was. It rose where a device has counted
-    // one, and is as it was where none has.
+    // The faults of the devices are added to the store's count, which does not fall. It rises, or is the largest value
+    // of its type, if a device has counted a fault. It is unchanged if none has.
     ensures counted { S.fault_count store.new ≡ counts_after S.Dev.fault_count books.items (S.fault_count store.old) }
     ensures later { S.fault_count store.old < 2 ^ 64 → S.fault_count store.old ≤ S.fault_count store.new }
     ensures rose { S.fault_count store.old < 2 ^ 64 → (i : ℕ) (b : ToldBook S.Dev) → i < length books.items
@@ -48,7 +48,7 @@ pub fn close_books<S: Store>(
     rest.destroy_empty();
 }
 
-// Gives the device of each of the first books back under its name.
+// Gives the device of each book back under the name at its place, and drops the histories.
 pub(crate) fn give_back_all<S: Store>(store: &mut S, names: &[String], books: Vec<Book<S::Dev>>)
     requires named { vec_len books ≤ length names.now }
     requires places { HavePlaces (vec_len books) names.now (S.has_place store.old) }

@@ -1,4 +1,4 @@
-// The groups of a base are opened.
+// Opening the groups of a base.
 ghost use Rattle.std.specs.Prelude.{◌≡◌, ℕ, ◌^◌, ◌<◌, ◌≤◌, List, [], All, IfErr, IfOk, IsTrue, OnErr, OnOk, length, map, vec_capacity};
 ghost use Rattle.calc_refresh.specs.Sheet.{IsCopy};
 ghost use Rattle.disk_model.specs.Calls.{CountsFault};
@@ -18,9 +18,10 @@ use std::alloc::Global;
 use tag_base::GroupDef;
 use trend_num::Rec;
 
-/// Opens each group of a base in order over its device, and over the records of its inputs' tags. `records` has of each tag of the
-/// base what it recovered. A device that is not there is made. It stops at the first group that is not opened, and gives every
-/// device back then.
+/// Opens each group of a base in order, over its device and over the records of its inputs' tags. `records` has, for
+/// each tag of the base, the records that it recovered. A device that does not exist is made.
+///
+/// At the first group that is not opened it gives every device back, and returns that group's refusal.
 pub fn open_books<S: Store>(
     alloc: Global,
     store: &mut S,
@@ -34,19 +35,19 @@ pub fn open_books<S: Store>(
     requires names { AreNamesOf groups.now names.now }
     requires copied { All (λ r. IsCopy r.now) records.now }
 
-    // Each book is that of its group, as its device and its tags have it.
+    // Each book is that of its group, with what its device and its tags have.
     ensures opened { IfOk result (λ books. AreBooksOpened S.Dev.trace S.Dev.ticks S.Dev.fault_count groups.now
         (map (λ r. r.now) records.now) (S.device_at store.old) books.items) }
     ensures as_many { IfOk result (λ books. length books.items ≡ length groups.now) }
     ensures places { OnOk result (HavePlaces (length groups.now) names.now (S.has_place store.new)) }
 
-    // A refusal tells its cause, and a crash at any moment leaves of each device what it might have left before, or what stands for
-    // the same.
+    // A refusal states its cause. A crash at any moment then leaves of each device what a crash might have left before,
+    // or what stands for the same.
     ensures refused { IfErr result (IsRefusal groups.now (map (λ r. r.now) records.now) (S.device_at store.old)
         (S.fault_count store.old) (S.fault_count store.new)) }
     ensures any_moment { OnErr result (AllStaySame groups.now (S.device_at store.old) (S.device_at store.new)) }
 
-    // No other device is changed. One fault is counted where a call has failed, and else none.
+    // No other device changes. The store counts one fault if a call has failed, and otherwise none.
     ensures others { AreOtherGroupsSame groups.now (S.device_at store.old) (S.device_at store.new) }
     ensures kept_places { (n : List ℕ) → IsTrue (S.has_place store.old n) → IsTrue (S.has_place store.new n) }
     ensures counts { S.fault_count store.old < 2 ^ 64
@@ -65,7 +66,8 @@ pub fn open_books<S: Store>(
     }
 }
 
-// Opens the groups in order, and keeps the book of each. It stops at the first one that is not opened, whose device is given back.
+// Opens the groups in order, and appends the book of each to `books`. At the first group that is not opened it gives
+// that group's device back, and returns why.
 fn open_all<S: Store>(
     alloc: Global,
     store: &mut S,

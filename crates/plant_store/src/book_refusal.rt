@@ -1,11 +1,11 @@
-// Why a group is not opened becomes a status.
+// Turning the reason why a group is not opened into a status.
 ghost use Rattle.std.specs.Prelude.{◌≡◌};
 ghost use Rattle.plant_store.specs.BookRefusals.{status_of};
 
 use group_book::LoadNo;
 use plant_status::{Place, Seen, Status, Unit};
 
-// What a group that is not opened is answered with.
+// Returns the status for a group that is not opened.
 pub(crate) fn status_of(group: u32, why: LoadNo) -> Status
     ensures { result ≡ status_of group why }
 {

@@ -1,4 +1,4 @@
-// Cells are given back.
+// Giving back the devices of cells.
 ghost use Rattle.std.specs.Prelude.{◌≡◌, ◌≢◌, ℕ, ◌^◌, ◌<◌, ◌≤◌, List, [], IsTrue, true, vec_len, vec_capacity, length};
 ghost use Rattle.disk_model.specs.Calls.{sum_of_counts};
 ghost use Rattle.plant_store.specs.CellClosings.{AreGivenBack, AreHistoriesAt, AreHistoriesOf, CountsCells, IsHistoryOfCell};
@@ -7,8 +7,8 @@ ghost use Rattle.plant_store.specs.CellNames.{AreApart, HasPlaces, texts};
 use disk_model::{Disk, Store};
 use tag_cell::{Cell, TagHistory};
 
-/// Gives the device of each cell back under its name, and adds what happened to its tag to the histories, in order. It takes
-/// no memory.
+/// Gives the device of each cell back under its name, and appends what happened to its tag to `histories`, in order. It
+/// takes no memory.
 pub fn close_cells<S: Store>(
     store: &mut S,
     names: &[String],
@@ -35,7 +35,7 @@ pub fn close_cells<S: Store>(
     rest.destroy_empty();
 }
 
-// Gives the device of a cell back.
+// Gives the device of a cell back under this name, and returns what happened to its tag.
 pub(crate) fn close_cell<S: Store>(store: &mut S, name: &str, cell: Cell<S::Dev>) -> TagHistory
     requires { IsTrue (S.has_place store.old name.now) }
     ensures history { IsHistoryOfCell (S.Dev.trace cell.journal.dev) (S.Dev.ticks cell.journal.dev)
@@ -46,7 +46,7 @@ pub(crate) fn close_cell<S: Store>(store: &mut S, name: &str, cell: Cell<S::Dev>
     ensures counted { S.fault_count store.new ≡ sum_of_counts (S.fault_count store.old) (S.Dev.fault_count cell.journal.dev) }
     ensures faulty { cell.journal.failed ≡ true → 1 ≤ S.Dev.fault_count cell.journal.dev }
 {
-    // The device of a broken cell has counted a fault.
+    // For the proof: the device of a broken cell has counted a fault.
     let _broken = cell.broken();
     let (dev, history) = cell.into_history();
     store.give_back(name, dev);

@@ -1,4 +1,4 @@
-// What the devices of tags are called.
+// The names of the devices of tags.
 ghost use Rattle.std.specs.Prelude.{◌≡◌, IfOk};
 ghost use Rattle.plant_store.specs.CellNames.{AreApart, device_names_of, texts};
 ghost use Rattle.plant_store.specs.Tags.{AreDistinct};
@@ -7,7 +7,7 @@ use crate::tag_device::device_name;
 use std::alloc::Global;
 use trend_num::{TagDef, WantOfMemory};
 
-/// What the devices of tags are called, in order.
+/// Returns the names of the devices of these tags, in order: the name of each, and `.tag`.
 pub fn tag_device_names(alloc: Global, tags: &[TagDef]) -> Result<Vec<String>, WantOfMemory>
     ensures names { IfOk result (λ names. texts names.items ≡ device_names_of tags.now) }
     ensures apart { AreDistinct tags.now → IfOk result (λ names. AreApart (texts names.items)) }

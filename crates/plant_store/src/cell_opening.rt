@@ -1,4 +1,4 @@
-// The tags of a base are opened as cells.
+// Opening the tags of a base as cells.
 ghost use Rattle.std.specs.Prelude.{◌≡◌, ◌^◌, ◌<◌, ◌≤◌, ℕ, List, All, IfErr, IfOk, IsTrue, OnErr, OnOk, length, map};
 ghost use Rattle.std.specs.Arc.{arc_value};
 ghost use Rattle.trend_num.specs.Limits.{most_stored};
@@ -19,9 +19,11 @@ use std::sync::{Arc, Wait};
 use tag_cell::Cell;
 use trend_num::TagDef;
 
-/// Opens each tag of a base in order over its device, as a cell with room for so many takes. A device that is not there is
-/// made, with 64 lane slots. It stops at the first tag that is not opened, and where the tags together have too many records;
-/// every device is given back then. The names are those of the tags' devices, and the posters those of a new board.
+/// Opens each tag of a base in order over its device, as a cell with room for so many takes. A device that does not
+/// exist is made, with 64 lane slots. `names` are those of the tags' devices, and `posters` those of a new board.
+///
+/// It stops at the first tag that is not opened, or with which the tags together have too many records. Then it gives
+/// every device back, and returns the refusal.
 pub fn open_cells<S: Store, R: Wait>(
     rt: &R,
     alloc: Global,
@@ -49,13 +51,13 @@ pub fn open_cells<S: Store, R: Wait>(
     ensures passed { OnOk result (S.fault_count store.new ≡ S.fault_count store.old) }
     ensures places { OnOk result (HasPlaces (S.has_place store.new) (texts names.now)) }
 
-    // A refusal tells its first cause. A crash at any moment has left of each device what one before might have left, or what
-    // recovers the same.
+    // A refusal states the first cause. A crash at any moment has then left of each device what a crash might have left
+    // before, or what recovers the same.
     ensures refused { IfErr result (IsRefusal tags.now (S.device_at store.old) (S.device_at store.new)
         (S.fault_count store.old) (S.fault_count store.new)) }
     ensures any_moment { OnErr result (AllStaySame tags.now (S.device_at store.old) (S.device_at store.new)) }
 
-    // No other device is changed. One fault is counted where a call has failed, and else none.
+    // No other device changes. The store counts one fault if a call has failed, and otherwise none.
     ensures others { AreOtherTagsSame tags.now (S.device_at store.old) (S.device_at store.new) }
     ensures kept_places { (n : List ℕ) → IsTrue (S.has_place store.old n) → IsTrue (S.has_place store.new n) }
     ensures counts { S.fault_count store.old < 2 ^ 64

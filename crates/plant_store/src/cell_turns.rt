@@ -1,4 +1,4 @@
-// Tags are opened one after the other.
+// Opening tags one after the other.
 ghost use Rattle.std.specs.Prelude.{◌≡◌, ◌≢◌, ◌^◌, ◌<◌, ◌≤◌, ℕ, List, [], All, IfErr, IfOk, IsTrue, OnErr, OnOk, length, map, take, vec_len, vec_capacity};
 ghost use Rattle.std.specs.Arc.{arc_value};
 ghost use Rattle.trend_num.specs.Limits.{most_stored};
@@ -26,8 +26,9 @@ use std::sync::{Arc, Wait};
 use tag_cell::{Cell, open_cell};
 use trend_num::TagDef;
 
-// Opens each tag in order, and adds its cell to the list, which has room for all. It stops at the first tag that is not opened, or
-// with which there are too many records. The device of that tag is given back; those of the cells before it are still out then.
+// Opens each tag in order, and appends its cell to `cells`, which has room for all. It stops at the first tag that is
+// not opened, or with which there are too many records. The device of that tag is given back. Those of the cells before
+// it are still out.
 pub(crate) fn open_all<S: Store, R: Wait>(
     rt: &R,
     alloc: Global,
@@ -83,7 +84,7 @@ pub(crate) fn open_all<S: Store, R: Wait>(
     Ok(())
 }
 
-// Opens a tag over the device of this name, which is given back where the tag is not opened.
+// Opens a tag over the device of this name. If the tag is not opened, the device is given back.
 fn open_one<S: Store, R: Wait>(
     rt: &R,
     alloc: Global,

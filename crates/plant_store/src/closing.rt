@@ -1,4 +1,4 @@
-// A plant's devices are given back.
+// Giving back the devices of a plant.
 ghost use Rattle.std.specs.Prelude.{◌≡◌, ◌^◌, ◌<◌, length, vec_len};
 ghost use Rattle.plant_store.specs.CellClosings.{AreHistoriesAt, AreHistoriesOf};
 ghost use Rattle.plant_store.specs.CellNames.{texts};
@@ -14,8 +14,8 @@ use disk_model::Store;
 use group_book::GroupHistory;
 use tag_cell::TagHistory;
 
-/// Gives every device of a plant back under its name, and hands out what happened to each tag and each group, in order. It takes no
-/// memory.
+/// Gives every device of a plant back under its name, and returns what happened to each tag and to each group, in
+/// order. It takes no memory.
 pub fn close_plant<S: Store>(
     store: &mut S,
     shelf: Shelf,
@@ -26,11 +26,11 @@ pub fn close_plant<S: Store>(
     requires groups { length shelf.group_names.items ≡ vec_len plant.books }
     requires places { HasPlacesOf shelf (S.has_place store.old) }
 
-    // There is one history for each cell and each book, in its place.
+    // There is one history for each cell and each book, at the same place.
     ensures tags { AreHistoriesOf S.Dev.trace S.Dev.ticks S.Dev.fault_count plant.cells.items result.0.items }
     ensures groups { AreGroupHistoriesOf S.Dev.trace S.Dev.ticks S.Dev.fault_count plant.books.items result.1.items }
 
-    // The device of each is back under its name, and no other one has changed.
+    // The device of each is back under its name, and no other device has changed.
     ensures back { AreDevicesBack S.Dev.trace shelf plant.cells.items plant.books.items (S.device_at store.old)
         (S.device_at store.new) }
     ensures devices { AreHistoriesAt (S.device_at store.new) (texts shelf.tag_names.items) result.0.items }

@@ -1,4 +1,4 @@
-// What a group's device is called, and what its book is made with.
+// The name of a group's device, and what its book is made with.
 ghost use Rattle.std.specs.Prelude.{◌≡◌, ◌^◌, ◌<◌, [], All, IfOk, length, map, slice_index_or, string_bytes, vec_len};
 ghost use Rattle.calc_refresh.specs.Lists.{lists_of};
 ghost use Rattle.calc_refresh.specs.Sheet.{IsCopy, IsGrid, IsGroup, grid_of};
@@ -11,7 +11,7 @@ use std::alloc::Global;
 use tag_base::GroupDef;
 use trend_num::{Name, Rec, WantOfMemory};
 
-/// What the devices of groups are called, in order: the name of each, and `.grp`.
+/// Returns the names of the devices of these groups, in order: the name of each, and `.grp`.
 pub fn group_device_names(alloc: Global, groups: &[GroupDef]) -> Result<Vec<String>, WantOfMemory>
     ensures names { IfOk result (λ names. AreNamesOf groups.now names.items) }
 {
@@ -23,7 +23,7 @@ pub fn group_device_names(alloc: Global, groups: &[GroupDef]) -> Result<Vec<Stri
     Ok(names)
 }
 
-// What a group's device is called.
+// Returns the name of a group's device.
 fn device_name(alloc: Global, name: &Name) -> Result<String, WantOfMemory>
     ensures { IfOk result (λ text. string_bytes text ≡ device_name name.now) }
 {
@@ -31,7 +31,7 @@ fn device_name(alloc: Global, name: &Name) -> Result<String, WantOfMemory>
     Ok(format!(in alloc; "{name}.grp")?)
 }
 
-/// The definition of a group, as its book is made with it.
+/// Returns the definition of a group that its book is made with.
 pub fn parts_of(group: &GroupDef) -> Result<GroupDefParts, WantOfMemory>
     requires few { vec_len group.now.inputs < 2 ^ 32 }
     ensures parts { IfOk result (λ parts. parts ≡ group_parts_of group.now) }
@@ -44,7 +44,8 @@ pub fn parts_of(group: &GroupDef) -> Result<GroupDefParts, WantOfMemory>
     })
 }
 
-// What a book is opened with beside its device: its definition, the text of it, its tags, and the records of each.
+// What a book is opened with besides its device: its definition, the definition's text, its tags, and the records of
+// each tag.
 #[derive(Drop)]
 pub(crate) struct Prepared {
     pub def: GroupDefParts,
@@ -53,7 +54,7 @@ pub(crate) struct Prepared {
     pub recovered: Vec<Vec<Rec>>,
 }
 
-// Makes that of a group, where each tag of the base has these records.
+// Returns what the book of a group is opened with; `records` has the records of each tag of the base.
 pub(crate) fn prepare(
     alloc: Global,
     group: &GroupDef,
@@ -77,7 +78,7 @@ pub(crate) fn prepare(
     })
 }
 
-// Of each of these tags its records.
+// Returns the records of each of these tags.
 fn records_of(
     alloc: Global,
     tags: &[u32],

@@ -1,23 +1,29 @@
-//! A plant's tags and groups, opened over a store of devices, and given back.
+//! The tags and groups of a plant: opening them over a store of devices, and giving the devices back.
 //!
-//! **Layer.** Below it stand the devices of a tag and of a group (`crash_recovery`, `group_layout`), cells and books
-//! (`tag_cell`, `group_book`); above it the commands. It is given a base, and reads no file.
+//! **Layer.** This crate uses the devices of tags and of groups (`crash_recovery`, `group_layout`), and cells and books
+//! (`tag_cell`, `group_book`). The commands use this crate. Its caller passes in a base; the crate reads no file.
 //!
-//! **One after the other.** [`open_tags`] opens the tags in the order of the base: of each it takes the device by the tag's
-//! name, recovers what it holds, and gives it back at once, whatever came. [`open_base`] does so for a base that was read.
+//! **One after the other.** [`open_tags`] opens the tags in the order of the base. It takes the device of a tag by the
+//! tag's name, and recovers what the device holds. It gives the device back at once, even if the tag is refused.
+//! [`open_base`] does the same for a base that was read.
 //!
-//! **All at once.** A session holds the devices of all tags and groups together. [`shelf_for`] makes what giving them back
-//! needs: the names of the devices, and room for the histories. [`open_plant`] opens the tags as cells ([`open_cells`]), and
-//! then the groups as books over the records of those cells ([`open_books`]). While they are out the store says nothing of
-//! their devices. [`close_plant`] gives every device back and hands out what happened to each tag and group ([`close_cells`],
-//! [`close_books`]). It takes no memory, so it is never refused.
+//! **All at once.** A session holds the devices of all tags and groups together. [`shelf_for`] makes what giving them
+//! back needs: the names of the devices, and room for the histories. [`open_plant`] opens the tags as cells
+//! ([`open_cells`]), and then the groups as books over the records of those cells ([`open_books`]). While a device is
+//! out, the store's model says nothing about it. [`close_plant`] gives every device back, and returns what happened to
+//! each tag and group ([`close_cells`], [`close_books`]). It takes no memory, so it cannot be refused.
 //!
-//! **Promise.** Where no two tags have one name each opened tag is what its device recovers, and each book is over what its
-//! group's device stands for. An opening stops at the first tag or group that is not opened, or at the tag with which all have
-//! too many records. It answers the first cause, and no device is out then. A crash at any moment leaves of each device what
-//! one before might have left, or what recovers or stands for the same, or that state as it is opened: of a device that tells
-//! its calls, and of fewer than 10^18 events. Once the tags are open a crash leaves what recovers them. A device that was given
-//! back is as its cell or book left it, and its faults are added to the store's. No device is both a tag's and a group's.
+//! **Promise.** It holds if no two tags have the same name.
+//!
+//! - Each opened tag is what its device recovers. Each book has what its group's device stands for.
+//! - An opening stops at the first tag or group that is refused, or at the tag with which the tags together have too
+//!   many records. It returns that refusal, and no device is out then.
+//! - A crash at any moment leaves of each device one of these images. A crash might have left it before; or it recovers or
+//!   stands for the same state, or for that state as it is opened. This covers devices with a known trace of calls, and
+//!   fewer than 10^18 events.
+//! - Once the tags are open, a crash leaves what recovers them.
+//! - A device that was given back is as its cell or book left it, and its faults are added to the store's.
+//! - No device is both a tag's and a group's.
 #![tactic(auto)]
 
 mod base_opening;

@@ -1,4 +1,4 @@
-// A plant is opened.
+// Opening a plant.
 ghost use Rattle.std.specs.Prelude.{◌≡◌, ◌^◌, ◌<◌, ◌≤◌, ℕ, List, All, IfErr, IfOk, IsTrue, OnErr, OnOk, length, map};
 ghost use Rattle.std.specs.Arc.{arc_value};
 ghost use Rattle.trend_num.specs.Limits.{most_stored};
@@ -34,9 +34,11 @@ pub struct OpenPlant<D: Disk> {
     pub books: Vec<Book<D>>,
 }
 
-/// Opens the tags of a base in order as cells, each with room for so many takes, and then its groups as books over the records of
-/// those cells. A device that is not there is made. It stops at the first tag or group that is not opened, and where the tags
-/// together have too many records; every device is given back then. The posters are those of a new board.
+/// Opens the tags of a base in order as cells, each with room for so many takes. Then it opens the groups as books over
+/// the records of those cells. A device that does not exist is made. `posters` are those of a new board.
+///
+/// It stops at the first tag or group that is not opened, or at the tag with which the tags together have too many
+/// records. Then it gives every device back, and returns the refusal.
 pub fn open_plant<S: Store, R: Wait>(
     rt: &R,
     alloc: Global,
@@ -56,8 +58,8 @@ pub fn open_plant<S: Store, R: Wait>(
     requires posters { posters.items ≡ new_posters 0 (arc_value board.now) }
     requires places { length base.now.tags.items ≤ length (arc_value board.now) }
 
-    // Each cell is what its tag's device recovers, and each book has what its group's device stands for, over the records of the
-    // cells. The store keeps a place for each device.
+    // Each cell is what its tag's device recovers. Each book has what its group's device stands for, over the records
+    // of the cells. The store keeps a place for each device.
     ensures tags { IfOk result (λ plant. AreCellsOpened S.Dev.trace S.Dev.ticks S.Dev.fault_count base.now.tags.items
         (S.device_at store.old) plant.cells.items) }
     ensures groups { IfOk result (λ plant. AreBooksOpened S.Dev.trace S.Dev.ticks S.Dev.fault_count base.now.groups.items
@@ -68,14 +70,14 @@ pub fn open_plant<S: Store, R: Wait>(
     ensures few_records { IfOk result (λ plant. records_opened plant.cells.items ≤ most_stored) }
     ensures places { OnOk result (HasPlacesOf shelf.now (S.has_place store.new)) }
 
-    // A refusal tells its first cause. A crash at any moment has left of each device what one before might have left, or what
-    // recovers or stands for the same.
+    // A refusal states the first cause. A crash at any moment has then left of each device what a crash might have left
+    // before, or what recovers or stands for the same.
     ensures refused { IfErr result (IsPlantRefusal base.now (S.device_at store.old) (S.device_at store.new)
         (S.fault_count store.old) (S.fault_count store.new)) }
     ensures same_tags { OnErr result (AllStaySame base.now.tags.items (S.device_at store.old) (S.device_at store.new)) }
     ensures same_groups { OnErr result (AllGroupsStaySame base.now.groups.items (S.device_at store.old) (S.device_at store.new)) }
 
-    // No other device is changed. One fault is counted where a call has failed, and else none.
+    // No other device changes. The store counts one fault if a call has failed, and otherwise none.
     ensures others { AreRestSame base.now (S.device_at store.old) (S.device_at store.new) }
     ensures counts { S.fault_count store.old < 2 ^ 64
         → CountsPlant result (S.fault_count store.old) (S.fault_count store.new) }
@@ -94,7 +96,7 @@ pub fn open_plant<S: Store, R: Wait>(
     }
 }
 
-// Opens the groups of a base over the records of the cells of its tags.
+// Opens the groups of a base over the records of its tags' cells.
 fn open_groups<S: Store>(
     alloc: Global,
     store: &mut S,
@@ -123,7 +125,7 @@ fn open_groups<S: Store>(
     open_books(alloc, store, &base.groups, names, &records)
 }
 
-// The records of each cell.
+// Returns the records of each cell.
 fn records_of<'c, D: Disk>(
     alloc: Global,
     cells: &'c [Cell<D>],

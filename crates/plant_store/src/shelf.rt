@@ -1,4 +1,4 @@
-// What giving a plant's devices back needs.
+// What is needed to give a plant's devices back.
 ghost use Rattle.std.specs.Prelude.{◌≡◌, ◌≤◌, [], IfOk, vec_capacity};
 ghost use Rattle.plant_store.specs.Tags.{AreDistinct};
 ghost use Rattle.plant_store.specs.Groups.{AreDistinct as AreDistinctGroups};
@@ -12,8 +12,8 @@ use tag_base::Base;
 use tag_cell::TagHistory;
 use trend_num::WantOfMemory;
 
-/// The names of the devices of a base's tags and groups, and room for their histories. It is made before the devices are taken, so
-/// that giving them back takes no memory.
+/// The names of the devices of a base's tags and groups, and room for their histories. It is made before the devices
+/// are taken, so giving them back takes no memory.
 #[derive(Drop)]
 pub struct Shelf {
     pub tag_names: Vec<String>,
@@ -22,7 +22,7 @@ pub struct Shelf {
     pub groups: Vec<GroupHistory>,
 }
 
-/// Makes the shelf for a base.
+/// Returns the shelf for a base.
 pub fn shelf_for(alloc: Global, base: &Base) -> Result<Shelf, WantOfMemory>
     requires distinct { AreDistinct base.now.tags.items }
     requires distinct_groups { AreDistinctGroups base.now.groups.items }
@@ -40,7 +40,7 @@ pub fn shelf_for(alloc: Global, base: &Base) -> Result<Shelf, WantOfMemory>
     })
 }
 
-// An empty list with room for so many items.
+// Returns an empty list with room for so many items.
 fn list_for<T: Drop>(alloc: Global, count: usize) -> Result<Vec<T>, WantOfMemory>
     ensures none { IfOk result (λ list. list.items ≡ []) }
     ensures room { IfOk result (λ list. count ≤ vec_capacity list) }

@@ -1,4 +1,4 @@
-// One group: its book is opened, and its device given back.
+// One group: opening its book, and giving its device back.
 ghost use Rattle.std.specs.Prelude.{◌≡◌, ◌≢◌, ℕ, ◌^◌, ◌<◌, List, All, IfErr, IfOk, IsTrue, OnErr, OnOk, length, map};
 ghost use Rattle.calc_refresh.specs.Sheet.{IsCopy};
 ghost use Rattle.disk_model.specs.Calls.{CountsFault};
@@ -16,7 +16,8 @@ use std::alloc::Global;
 use tag_base::GroupDef;
 use trend_num::Rec;
 
-// Opens the group at this place of a base over the device of this name. Where it is not opened the device is given back.
+// Opens the group at this place of a base over the device of this name. If the group is not opened, the device is given
+// back.
 pub(crate) fn open_book<S: Store>(
     alloc: Global,
     store: &mut S,
@@ -59,7 +60,7 @@ pub(crate) fn open_book<S: Store>(
     }
 }
 
-// Gives the device of a book back under this name, and hands out what happened to its group.
+// Gives the device of a book back under this name, if it has one, and returns what happened to its group.
 pub(crate) fn close_book<S: Store>(store: &mut S, name: &str, book: Book<S::Dev>) -> GroupHistory
     requires place { IsTrue (S.has_place store.old name.now) }
     ensures history { IsHistoryOfBook S.Dev.trace S.Dev.ticks S.Dev.fault_count book result }

@@ -16,7 +16,7 @@ use trend_num::{Name, TagDef};
 /// How many lane slots a new device gets.
 pub const LANE_SLOTS: u32 = 64;
 
-// Opens the device of a tag, which is made where it is not there, and gives it back whatever came.
+// Opens the device of a tag, and gives it back even if the tag is refused. A device that does not exist is made.
 pub(crate) fn open_device<S: Store>(
     alloc: Global,
     store: &mut S,
@@ -45,7 +45,7 @@ pub(crate) fn open_device<S: Store>(
     opened
 }
 
-/// What a tag's device is called.
+/// Returns the name of a tag's device: the tag's name, and `.tag`.
 pub fn device_name(alloc: Global, name: &Name) -> Result<String, AllocError>
     ensures { IfOk result (λ text. string_bytes text ≡ device_name name.now) }
 {
@@ -53,7 +53,7 @@ pub fn device_name(alloc: Global, name: &Name) -> Result<String, AllocError>
     format!(in alloc; "{name}.tag")
 }
 
-// The tag that a device holds, or why it is not opened; and the device.
+// Returns the device, and the tag that it holds or why it is not opened.
 fn open_core<D: Disk>(alloc: Global, dev: D, def: &TagDef) -> (D, Result<TagCore, OpenNo>)
     requires tuned { TuningInRange def.now.tuning }
     ensures same { StaysSame def.now (D.trace dev) (D.trace result.0) }

@@ -16,9 +16,9 @@ use trend_num::TagDef;
 /// The most records that all tags of a store may have when it is opened.
 pub const MAX_STORE_RECORDS: u64 = 8_388_608;
 
-/// Opens each tag of a base in order, and gives its device back at once. A device that is not there is made,
-/// with 64 lane slots. It stops at the first tag that is not opened, and where the tags together have too
-/// many records.
+/// Opens each tag of a base in order, and gives its device back at once. A device that does not exist is made, with 64
+/// lane slots. It stops at the first tag that is not opened, or with which the tags together have too many records, and
+/// returns the refusal.
 pub fn open_tags<S: Store>(
     alloc: Global,
     store: &mut S,
@@ -27,7 +27,7 @@ pub fn open_tags<S: Store>(
     requires tuned { All (λ def. TuningInRange def.tuning) tags.now }
     requires few { length tags.now < 2 ^ 32 }
 
-    // Where no two tags have one name: each core is what its tag's device recovers.
+    // If no two tags have the same name, each core is what its tag's device recovers.
     ensures opened { AreDistinct tags.now
         → IfOk result (λ cores. AreTagsOpened tags.now (S.device_at store.old) cores.items) }
     ensures left { AreDistinct tags.now
@@ -35,14 +35,14 @@ pub fn open_tags<S: Store>(
     ensures as_many { IfOk result (λ cores. length cores.items ≡ length tags.now) }
     ensures few_records { IfOk result (λ cores. tag_records_in cores.items ≤ most_stored) }
 
-    // A crash at any moment leaves of each device what one before might have left, or what recovers the same.
+    // A crash at any moment leaves of each device what a crash might have left before, or what recovers the same.
     ensures any_moment { AreDistinct tags.now
         → AllStaySame tags.now (S.device_at store.old) (S.device_at store.new) }
     ensures refused { AreDistinct tags.now
         → IfErr result (IsRefusal tags.now (S.device_at store.old) (S.device_at store.new)
         (S.fault_count store.old) (S.fault_count store.new)) }
 
-    // No other device is changed. One fault is counted where a call has failed, and else none.
+    // No other device changes. The store counts one fault if a call has failed, and otherwise none.
     ensures others { AreOtherTagsSame tags.now (S.device_at store.old) (S.device_at store.new) }
     ensures counts { S.fault_count store.old < 2 ^ 64
         → CountsStore result (S.fault_count store.old) (S.fault_count store.new) }
@@ -66,7 +66,7 @@ pub fn open_tags<S: Store>(
     Ok(cores)
 }
 
-/// What a tag that is not opened is answered with.
+/// Returns the status for a tag that is not opened.
 pub fn status_of(tag: u32, why: OpenNo) -> Status
     ensures { result ≡ status_of tag why }
 {
@@ -83,7 +83,7 @@ pub fn status_of(tag: u32, why: OpenNo) -> Status
     }
 }
 
-/// The status of a store whose tags have so many records together, which are too many.
+/// Returns the status for a store whose tags together have too many records; `records` is how many.
 pub fn too_many(records: u64) -> Status
     ensures { result ≡ Status.Limit What.StoreRecords records }
 {

@@ -7,7 +7,7 @@ use std::sync::Wait;
 use std::test::Fail;
 use std::thread::Threads;
 
-// The words, and then the exit code and what is printed; a bar stands for a line feed.
+// The words of a run, then its exit code and what it prints. A bar represents a line feed.
 const DRILLS: &str = "\
 drill 1 1 4 => 0 tag D0 taken=4 records=2 kept=2 late=0 held=2212,-5|group all windows=3 refreshes=2 evals=6|\
 calc all mean 2 -15|calc all spread 2 12|
@@ -21,8 +21,8 @@ drill -1 1 1 => 2 fault: words|
 drill 1 1 => 2 fault: words|
 drill 1 1 1 1 => 2 fault: words|";
 
-// What eight collectors of 20,000 events leave, as plain code has it that was written from docs/FORMATS.md and
-// docs/DEFINITIONS.md and is not kept here.
+// What eight collectors of 20,000 events leave. The expected text is from separate plain code, written from
+// docs/FORMATS.md and docs/DEFINITIONS.md, which is not kept here.
 const LARGE: &str = "\
 0 tag D0 taken=20000 records=11444 kept=10194 late=1250 held=10265411,-1014|\
 tag D1 taken=20000 records=11409 kept=10159 late=1250 held=10227445,2692|\
@@ -34,7 +34,7 @@ tag D6 taken=20000 records=11380 kept=10130 late=1250 held=10233656,-276|\
 tag D7 taken=20000 records=11440 kept=10190 late=1250 held=10297058,1465|\
 group all windows=20423 refreshes=2 evals=40846|calc all mean 20422 -985|calc all spread 20422 14|";
 
-// What a line tells where there is no file and no device.
+// Runs a line without any file or device, and returns its exit code and what it prints.
 fn drilled<R: Threads + Wait + Sync>(rt: &R, alloc: Global, line: &str) -> Result<String, Fail> {
     let mut files = MemFiles::new(Vec::new(alloc), Vec::new(alloc));
     let mut store = MemStore::new(Vec::new(alloc));

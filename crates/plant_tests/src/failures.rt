@@ -1,4 +1,4 @@
-// Sessions of a small plant in which one call after another fails.
+// Sessions of a small plant, in each of which another call fails.
 use crate::plants::{NO_FAULT, only, text, told};
 use byte_io::MemFiles;
 use disk_model::MemStore;
@@ -7,7 +7,7 @@ use std::sync::Wait;
 use std::test::Fail;
 use std::thread::Threads;
 
-// Names and texts of files; a bar stands for a line feed.
+// Names and texts of files. A bar represents a line feed.
 const FILES: &str = "\
 base.toml: [[tag]]|name = \"T1\"|exc_dev = 0|exc_max = 1000000|comp_dev = 0|comp_min = 0|comp_max = 1000000|\
 [[group]]|name = \"g\"|tags = [\"T1\"]|start = 0|period = 1000|[[group.calc]]|name = \"m\"|formula = \"avg('T1')\"|
@@ -15,19 +15,19 @@ plan.toml: [[collector]]|file = \"1.csv\"|[[reader]]|file = \"2.csv\"|
 1.csv: T1,0,0|T1,3000,0|T1,4000,9|T1,1500,60|
 2.csv: row,g,m,3|";
 
-// What is told in turn, as one read after another fails, until none does.
+// What the session prints when the first read fails, when the second read fails, and so on until none fails.
 const READS: &str = "\
 5 fault: read base|5 fault: read plan|5 fault: read collector 1|5 fault: read reader 1|\
 0 tag T1 taken=4 records=3 kept=2 late=1 held=4000,9|reply 1 1 none|group g windows=3 refreshes=1 evals=3|calc g m 2 20|";
 
-// What is told in turn, as one write after another fails, until none does.
+// The same for writes.
 const WRITES: &str = "\
 6 0 tag T1 taken=4 records=3 kept=2 late=1 held=4000,9|reply 1 1 none|group g windows=3 refreshes=1 evals=3|calc g m 2 20|";
 
-// More calls than there are.
+// More calls than a session makes.
 const MOST: u64 = 64;
 
-// What a session tells over new devices, of whose reads and writes those with these numbers fail.
+// Runs a session over new devices in which the read and the write with these numbers fail, and returns what it prints.
 fn ended<R: Threads + Wait + Sync>(
     rt: &R,
     alloc: Global,
@@ -49,7 +49,8 @@ fn ended<R: Threads + Wait + Sync>(
     told(rt, alloc, line, b"", &mut files, &mut store, fail)
 }
 
-// What is told as the read or the write of each number from 0 on fails, until none does; what is told again stands there once.
+// Returns what the session prints when the read or the write of each number from 0 on fails, until none does. Equal
+// texts in a row appear once.
 fn told_in_turn<R: Threads + Wait + Sync>(
     rt: &R,
     alloc: Global,

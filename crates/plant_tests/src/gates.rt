@@ -6,20 +6,21 @@ use plant_run::{Pass, Passes};
 use std::sync::atomic::{AtomicU64, Ordering};
 use test_rig::{PATIENT, comes};
 
-/// What a device and the pass of a reader tell each other: how far the device's sync is, and how far the reader.
+/// What a device and the pass of a reader signal to each other: how far the device's sync is, and how far the reader
+/// is.
 #[derive(Drop)]
 pub struct Signs {
     pub device: AtomicU64,
     pub reader: AtomicU64,
 }
 
-// The device has been opened, and is in a sync.
+// The signals of the device: it has been opened, and it is in a sync.
 const OPENED: u64 = 1;
 
 const IN_SYNC: u64 = 2;
 
-/// Passes of a collector, and of a reader that waits at its first step until the device is in a sync, and says at its second one that
-/// it has come there.
+/// Passes of a collector and of a reader. The reader waits at its first step until the device is in a sync. At its
+/// second step it signals that it has come there.
 #[derive(Drop)]
 pub struct AtSync<'a> {
     pub signs: &'a Signs,
@@ -72,8 +73,8 @@ impl<'a> Passes for AtSync<'a> {
     }
 }
 
-/// A device in memory whose first sync after its opening lasts until the reader has come to its second step. Where it does not come the
-/// sync fails.
+/// A device in memory. Its first sync after its opening lasts until the reader has come to its second step. If the
+/// reader does not come, the sync fails.
 pub struct GateDisk<'a> {
     disk: MemDisk,
     signs: &'a Signs,

@@ -13,7 +13,7 @@ use std::thread::Threads;
 use tag_cell::Entry;
 use test_rig::{Gates, PATIENT, Shut};
 
-// Names and texts of files; a bar stands for a line feed.
+// Names and texts of files. A bar represents a line feed.
 const FILES: &str = "\
 base.toml: [[tag]]|name = \"T1\"|exc_dev = 0|exc_max = 1000000|comp_dev = 0|comp_min = 0|comp_max = 1000000|
 four.toml: [[collector]]|file = \"same.csv\"|[[collector]]|file = \"same.csv\"|[[collector]]|file = \"same.csv\"|\
@@ -26,7 +26,7 @@ each.toml: [[collector]]|file = \"feed.csv\"|[[reader]]|file = \"asks.csv\"|[[re
 feed.csv: T1,0,0|T1,3000,0|T1,4000,9|T1,1500,60|
 asks.csv: row,g,m,3|at,T1,0|";
 
-// The files, with the same row a hundred times and with 65 rising ones.
+// Returns these files, one file with the same row a hundred times, and one with 65 rising rows.
 fn files(alloc: Global) -> Result<MemFiles, Fail> {
     let mut files = Vec::new(alloc);
     for row in FILES.lines() {
@@ -44,7 +44,7 @@ fn files(alloc: Global) -> Result<MemFiles, Fail> {
     Ok(MemFiles::new(files, Vec::new(alloc)))
 }
 
-// Runs words over a store with these passes: how it ended, and what is printed.
+// Runs words over a store with these passes, and returns how the run ended and what it printed.
 fn ended<R: Threads + Wait + Sync, S: Store, P: Passes>(
     rt: &R,
     alloc: Global,
@@ -63,7 +63,7 @@ fn ended<R: Threads + Wait + Sync, S: Store, P: Passes>(
     Ok((outcome, String::from_str(alloc, printed)?))
 }
 
-// The numbers of the rows that the first tag of a session took, in the order of its tape.
+// Returns the numbers of the rows that the first tag of a session took, in the order of its tape.
 fn taken_rows(alloc: Global, ended: &Outcome) -> Result<Vec<u64>, Fail> {
     let session = ended.session.as_ref().ok_or("no session")?;
     let tag = session.tags.first().ok_or("no tag")?;

@@ -1,4 +1,5 @@
-//! Tests of whole runs of the program, over a source, files, a sink and devices in memory; of the log of a plant, and of its shifts.
+//! Tests of whole runs of the program, with input, files, output and devices in memory. There are also tests of the log
+//! of a plant, and of its shifts.
 #![tactic(auto)]
 
 #[cfg(test)]

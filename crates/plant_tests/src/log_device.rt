@@ -1,4 +1,4 @@
-// The bytes of a log's device, and devices that are read, damaged or refused.
+// The bytes of a log's device; and devices that are read, damaged or refused.
 use commit_log::{Log, LogAcked, LogNo, LogRow, Point, open_log};
 use disk_model::{Disk, MemDisk};
 use std::alloc::Global;
@@ -7,23 +7,24 @@ use std::process::Abort;
 use std::test::Fail;
 use trend_num::in_range;
 
-/// The names of the tags of a plant of one tag.
+/// The text of a plant with one tag: the tag's name.
 pub const PLANT: &[u8; 2] = b"T1";
 
-/// Rows to put, each its tag, its collector, its row in the file, its time and its value.
+/// Rows to put: for each its tag, its collector, its row in the file, its time and its value.
 pub const ROWS: &str = "0 0 1 0 5\n0 1 1 1500 -2\n0 0 2 3000 60";
 
-// A new device for that plant: the gate, the letters, the length of the text, the text, and the gate of the first block.
+// A new device of that plant: the gate, the letters, the length of the text, the text, and the gate of the first block.
 const NEW: &str = "a55048433100000002543100";
 
-// The device after a commit of these rows: the number of the first, how many there are, the rows, and the next gate.
+// The device after a commit of these rows. Its block has the number of the first row, how many rows there are, the
+// rows, and the next gate.
 const SAVED: &str = "a550484331000000025431a5000000000000000000000003\
 0000000000000000000000000000000100000000000000000000000000000005\
 0000000000000001000000000000000100000000000005dcfffffffffffffffe\
 000000000000000000000000000000020000000000000bb8000000000000003c00";
 
-// A place of that device and the value of its byte, the text of the plant, and what opening answers: how many rows there are;
-// or why it is refused.
+// A place on that device, the value that its byte gets, and the text of the plant. After the arrow comes what opening
+// returns: how many rows there are, or why it is refused.
 const DEVICES: &str = "\
 0 165 T1 => 3 rows
 0 0 T1 => 0 rows
@@ -43,7 +44,7 @@ const DEVICES: &str = "\
 48 1 T1 => damaged 48 1
 120 165 T1 => damaged 121 none";
 
-// The row of a line.
+// Returns the row of a line.
 fn row_of(line: &str) -> Option<LogRow> {
     let mut fields = line.split(' ');
     Some(LogRow {
@@ -69,7 +70,7 @@ pub fn put_all(log: &mut Log<MemDisk>, rows: &str) -> Result<(), Fail> {
     Ok(())
 }
 
-// These bytes, as a text.
+// Returns these bytes in hexadecimal digits.
 fn hex(alloc: Global, bytes: &[u8]) -> Result<String, Fail> {
     let mut text = String::new(alloc);
     for byte in bytes {
@@ -78,7 +79,7 @@ fn hex(alloc: Global, bytes: &[u8]) -> Result<String, Fail> {
     Ok(text)
 }
 
-// A log on a new device.
+// Returns a log on a new device.
 fn new_log(alloc: Global) -> Result<Log<MemDisk>, Fail> {
     let dev = MemDisk::new(Vec::new(alloc), Vec::new(alloc));
     match open_log(alloc, dev, PLANT, 1, 10) {
@@ -123,7 +124,7 @@ fn a_commit_writes_its_rows_as_one_block(rt: HostRuntime) -> Result<(), Fail> {
     Ok(())
 }
 
-// The bytes of a device after a commit of these rows.
+// Returns the bytes of a device after a commit of these rows.
 fn saved(alloc: Global) -> Result<Vec<u8>, Fail> {
     let mut log = new_log(alloc)?;
     put_all(&mut log, ROWS)?;
@@ -132,7 +133,7 @@ fn saved(alloc: Global) -> Result<Vec<u8>, Fail> {
     Ok(Vec::from_slice(alloc, dev.bytes())?)
 }
 
-// What opening answers, as a text.
+// Opens a device as the log of a plant, and returns the result as a text.
 fn opened(alloc: Global, dev: MemDisk, plant: &str) -> Result<String, Fail> {
     let text = match open_log(alloc, dev, plant.as_bytes(), 1, 10) {
         Ok(log) => format!(in alloc; "{} rows", log.opening().len())?,
@@ -150,7 +151,7 @@ fn opened(alloc: Global, dev: MemDisk, plant: &str) -> Result<String, Fail> {
     Ok(text)
 }
 
-// Opens the device of a line.
+// Opens the device of a line, and compares the result.
 fn follow(rt: &impl Abort, alloc: Global, line: &str) -> Result<(), Fail> {
     let (given, want) = line.split_once(" => ").ok_or("an arrow")?;
     let (at, rest) = given.split_once(' ').ok_or("a byte")?;

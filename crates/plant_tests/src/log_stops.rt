@@ -1,4 +1,4 @@
-// What a stop and a failing call leave of a log's device.
+// What a log's device has after it stopped, or after one of its calls failed.
 use crate::log_device::{PLANT, put_all};
 use commit_log::{Log, open_log};
 use disk_model::{MemDisk, Pick};
@@ -11,14 +11,14 @@ const FIRST: &str = "0 0 1 0 5";
 
 const SECOND: &str = "0 1 1 1500 -2\n0 0 2 3000 60";
 
-// Puts these rows and commits them. Tells whether they are acknowledged.
+// Puts these rows and commits them. Returns whether they are acknowledged.
 fn is_committed(log: &mut Log<MemDisk>, rows: &str) -> Result<bool, Fail> {
     put_all(log, rows)?;
     Ok(log.commit().is_ok())
 }
 
-// Opens a device, and makes two commits, the second one where the first is done. Hands the device back, how many rows are
-// acknowledged, and whether all was done.
+// Opens a device and makes two commits, the second only if the first succeeded. Returns the device, how many rows are
+// acknowledged, and whether both commits succeeded.
 fn session(alloc: Global, dev: MemDisk) -> Result<(MemDisk, u64, bool), Fail> {
     match open_log(alloc, dev, PLANT, 1, 10) {
         Err(fail) => Ok((fail.dev, 0, false)),
@@ -31,7 +31,7 @@ fn session(alloc: Global, dev: MemDisk) -> Result<(MemDisk, u64, bool), Fail> {
     }
 }
 
-// How many rows an image has.
+// Returns how many rows the log has on this crash image of a device.
 fn left(alloc: Global, dev: &MemDisk, pick: Pick) -> Result<u64, Fail> {
     let image = dev.crash(pick).map_err(|_| "no memory")?;
     match open_log(alloc, image, PLANT, 1, 10) {
@@ -40,7 +40,7 @@ fn left(alloc: Global, dev: &MemDisk, pick: Pick) -> Result<u64, Fail> {
     }
 }
 
-// Uses a device and crashes it. Tells how many rows were acknowledged, and whether all was done.
+// Uses a device and crashes it. Returns how many rows were acknowledged, and whether both commits succeeded.
 fn crashes(rt: &impl Abort, alloc: Global, dev: MemDisk) -> Result<(u64, bool), Fail> {
     let (dev, acked, done) = session(alloc, dev)?;
     for pick in [Pick::Old, Pick::New, Pick::Fill(0), Pick::Fill(0xa5)] {

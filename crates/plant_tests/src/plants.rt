@@ -1,4 +1,4 @@
-// What a run of the program is over, and what it tells.
+// What a run of the program needs, and what it prints.
 use byte_io::{MemFiles, MemSink, MemSource};
 use disk_model::MemStore;
 use plant_run::{OpenPasses, run_args};
@@ -8,15 +8,15 @@ use std::sync::Wait;
 use std::test::Fail;
 use std::thread::Threads;
 
-/// No read and no write that fails.
+/// The numbers of a failing read and a failing write that are never reached.
 pub const NO_FAULT: (u64, u64) = (u64::MAX, u64::MAX);
 
-/// The number that a field spells.
+/// Returns the number that a field spells.
 pub fn number(rt: &impl Abort, field: &str) -> u64 {
     field.parse::<u64>().expect(rt, "a number")
 }
 
-/// The text of a field, in which a bar stands for a line feed, and a caret for a carriage return.
+/// Returns the text of a field. In the field a bar represents a line feed, and a caret a carriage return.
 pub fn text(alloc: Global, field: &str) -> Result<String, AllocError> {
     let mut text = String::new(alloc);
     for c in field.chars() {
@@ -29,12 +29,12 @@ pub fn text(alloc: Global, field: &str) -> Result<String, AllocError> {
     Ok(text)
 }
 
-/// A list of one number.
+/// Returns a list of one number.
 pub fn only(alloc: Global, number: u64) -> Result<Vec<u64>, AllocError> {
     Ok(vec![in alloc; number]?)
 }
 
-/// The words of a line.
+/// Returns the words of a line.
 pub fn words(alloc: Global, line: &str) -> Result<Vec<String>, AllocError> {
     let mut words = Vec::new(alloc);
     for word in line.split(' ') {
@@ -43,8 +43,8 @@ pub fn words(alloc: Global, line: &str) -> Result<Vec<String>, AllocError> {
     Ok(words)
 }
 
-/// Runs a line of words, of which the first is the program's name: the exit code, a space, and what is printed. The read of
-/// the input and the write with these numbers fail.
+/// Runs a line of words, of which the first is the program's name. Returns the exit code, a space, and what is printed.
+/// `fail` has the numbers of the read of the input and of the write that fail.
 pub fn told<R: Threads + Wait + Sync>(
     rt: &R,
     alloc: Global,

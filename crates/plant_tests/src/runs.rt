@@ -10,9 +10,9 @@ use std::sync::Wait;
 use std::test::Fail;
 use std::thread::Threads;
 
-// The words, behind them what is read, and then the exit code and what is printed; a bar stands for a line feed, and a caret
-// for a carriage return. First what is kept of values, worked by hand; then input at the edge; lines that are no points; and
-// words that are refused.
+// The words, the input after `<`, and then the exit code and what is printed. A bar represents a line feed, and a caret
+// a carriage return. The lines come in this order: which values are kept, worked by hand; input at the limits; lines
+// that are no points; words that are refused.
 const RUNS: &str = "\
 pack 0 1000000 0 0 1000000 < => 0
 pack 0 1000000 0 0 1000000 < 0,5| => 0 kept,0,5|held,0,5|
@@ -58,7 +58,7 @@ check base.toml plan.toml < => 2 fault: words|
 trend base.toml < => 2 fault: words|
 trend base.toml plan.toml plan.toml < => 2 fault: words|";
 
-// The read and the write that fail, for four lines that are packed, and for words that are refused.
+// The numbers of the read and of the write that fail, for four lines that are packed, and for words that are refused.
 const FAULTS: &str = "\
 9 9 pack 0 1000000 1 0 1000000 => 0 kept,0,0|kept,1,0|kept,2,3|held,3,0|
 0 9 pack 0 1000000 1 0 1000000 => 5 fault: read input|
@@ -66,14 +66,14 @@ const FAULTS: &str = "\
 9 0 pack 0 1000000 1 0 1000000 => 6
 9 0 pack 0 => 2";
 
-// How often a line is read, what is read behind it, and how what is told ends.
+// How often a line is read, what is read after that, and the end of what is printed.
 const LONG: &str = "\
 1048575 => |late,0,0|held,0,0|
 1048576 => 10 fault: limit records 1048575|
 1048576 x => 4 fault: row input 1048577 fields|
 4000001 => 10 fault: limit rows 4000001|";
 
-// What a line tells on an input, where there is no file and no device.
+// Runs a line on an input without any file or device, and returns its exit code and what it prints.
 fn alone<R: Threads + Wait + Sync>(
     rt: &R,
     alloc: Global,

@@ -1,4 +1,4 @@
-// Calendars with each rule broken, first alone and then beside another one.
+// A calendar that breaks no rule. The rows below break each rule, first alone and then together with another one.
 use shift_calendar::{CalNo, Name, read_calendar};
 use std::alloc::{AllocError, Global};
 use std::fmt::Write;
@@ -12,8 +12,8 @@ tags = ["T3", "T1"]
 measure = "total"
 "#;
 
-// Texts of the calendar that are replaced, where they come first; then the places of its tags and its measure, or the rule
-// that is broken.
+// Texts of the calendar and what replaces their first occurrence. After the double arrow come the places of its tags
+// and its measure, or the number of the rule that is broken.
 const ROWS: &str = r#"zone -> zone => [2, 0] Total
 zone = -> zone == => 1
 zone = -> zones = => 2
@@ -61,12 +61,12 @@ fn names(rt: &impl Abort) -> [Name; 3] {
     [name(rt, "T1"), name(rt, "V2"), name(rt, "T3")]
 }
 
-// A name.
+// Returns the name that a text spells.
 fn name(rt: &impl Abort, text: &str) -> Name {
     name_from(text.as_bytes()).expect(rt, "a name")
 }
 
-// A text in which each first text of a pair was replaced, where it comes first, by the second.
+// Returns the calendar after these edits. Each edit replaces the first occurrence of a text.
 fn edited(alloc: Global, edits: &str) -> Result<String, Fail> {
     let mut whole = String::from_str(alloc, CALENDAR)?;
     for edit in edits.split(" & ") {
@@ -78,7 +78,7 @@ fn edited(alloc: Global, edits: &str) -> Result<String, Fail> {
     Ok(whole)
 }
 
-// What is told of a text.
+// Reads a calendar, and returns the result as a text.
 fn told(alloc: Global, text: &[u8], names: &[Name; 3]) -> Result<String, AllocError> {
     match read_calendar(alloc, text, names) {
         Ok(calendar) => format!(in alloc; "{:?} {:?}", calendar.tags(), calendar.measure()),
@@ -101,7 +101,7 @@ fn a_calendar_is_refused_for_the_first_rule_that_it_breaks(rt: HostRuntime) -> R
     Ok(())
 }
 
-// A calendar with so many shifts and tags.
+// Returns a calendar with so many shifts and tags.
 fn large(alloc: Global, starts: u32, tags: u32) -> Result<String, AllocError> {
     let mut text = String::from_str(alloc, "zone = \"EST5\"\nmeasure = \"low\"\nstarts = [")?;
     for i in 0..starts {
@@ -115,7 +115,7 @@ fn large(alloc: Global, starts: u32, tags: u32) -> Result<String, AllocError> {
     Ok(text)
 }
 
-// How many shifts and tags there are.
+// How many shifts and tags there are, and what reading the calendar returns.
 const SIZES: &str = "\
 24 64 => ok 64
 25 64 => 4

@@ -1,4 +1,5 @@
-// Windows of shifts on days on which the clock is set, and on others: instants of an independent program.
+// Windows of shifts on days on which the clock is set, and on other days. The expected times are from an independent
+// program.
 ghost use Rattle.shift_calendar.specs.Days.{IsFirstDay};
 
 use shift_calendar::{
@@ -10,8 +11,9 @@ use std::process::Abort;
 use std::test::Fail;
 use trend_num::name_from;
 
-// A zone, the starts of its shifts (or of each hour), a day and how many days: how many windows there are, the first and the
-// last. On 2024-03-31 the clock goes from 02:00 to 03:00, and on 2024-10-27 from 03:00 to 02:00.
+// A zone, the starts of its shifts (`hours` is each hour), a day, and how many days. Then how many windows there are,
+// the first one, and the last one. On 2024-03-31 the clock goes from 02:00 to 03:00. On 2024-10-27 it goes from 03:00
+// to 02:00.
 const ROWS: &str = "\
 CET-1CEST,M3.5.0,M10.5.0/3 06:00 2024-03-30 1 => 1; 2024-03-30 1 1711774800000 1711857600000; 2024-03-30 1 1711774800000 1711857600000
 CET-1CEST,M3.5.0,M10.5.0/3 06:00 2024-10-26 1 => 1; 2024-10-26 1 1729915200000 1730005200000; 2024-10-26 1 1729915200000 1730005200000
@@ -24,7 +26,7 @@ EST5 00:00,12:00 2024-02-28 3 => 6; 2024-02-28 1 1709096400000 1709139600000; 20
 UTC0 23:59 1971-01-01 1 => 1; 1971-01-01 1 31622340000 31708740000; 1971-01-01 1 31622340000 31708740000
 UTC0 23:59 9990-12-31 366 => 366; 9990-12-31 1 253118303940000 253118390340000; 9991-12-31 1 253149839940000 253149926340000";
 
-// The text of a calendar.
+// Returns the text of a calendar.
 fn calendar_text(alloc: Global, zone: &str, starts: &str) -> Result<String, AllocError> {
     let mut text = format!(in alloc;
         "zone = \"{zone}\"\nmeasure = \"low\"\ntags = [\"T1\"]\nstarts = ["
@@ -42,7 +44,7 @@ fn calendar_text(alloc: Global, zone: &str, starts: &str) -> Result<String, Allo
     Ok(text)
 }
 
-// The word of the day of a window.
+// Returns the word of the day of a window.
 fn word(day: i32) -> DayWord {
     if 0 <= day && day <= 2_932_896 {
         word_of_day(day)
@@ -51,7 +53,7 @@ fn word(day: i32) -> DayWord {
     }
 }
 
-// The line of a window.
+// Returns the line of a window.
 fn line(
     rt: &impl Abort,
     alloc: Global,
@@ -63,7 +65,7 @@ fn line(
     format!(in alloc; "{} {shift} {from} {to}", word.text())
 }
 
-// How many windows there are, the first and the last.
+// Returns how many windows there are, the first one, and the last one.
 fn told(
     rt: &impl Abort,
     alloc: Global,

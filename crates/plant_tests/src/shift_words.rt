@@ -3,7 +3,7 @@ use shift_calendar::{day_of_word, word_of_day};
 use std::alloc::{AllocError, Global};
 use std::test::Fail;
 
-// A text, and the number of its day from 1970-01-01.
+// A text, and the number of the day that it spells, counted from 1970-01-01.
 const WORDS: &str = "\
 1971-01-01 => 365
 1970-12-31 => none
@@ -25,7 +25,7 @@ const WORDS: &str = "\
 2024-03-30  => none
  => none";
 
-// The number of the day of a word, which is the word of that day.
+// Returns the number of the day of a word. It also checks that the word is the word of that day.
 fn told(alloc: Global, word: &str) -> Result<String, AllocError> {
     let Some(day) = day_of_word(word) else {
         return String::from_str(alloc, "none");

@@ -1,4 +1,4 @@
-// Sessions whose devices all stop at one call, and what a crash then leaves.
+// Sessions whose devices all stop at the same call, and what a crash then leaves.
 use crate::plants::{NO_FAULT, text, told, words};
 use byte_io::{MemFiles, MemSink, MemSource};
 use disk_model::{MemStore, Pick, Store};
@@ -9,7 +9,7 @@ use std::sync::Wait;
 use std::test::Fail;
 use std::thread::Threads;
 
-// Names and texts of files; a bar stands for a line feed. Two tags and a group of one of them, and two sessions.
+// Names and texts of files. A bar represents a line feed. There are two tags, a group of one of them, and two sessions.
 const FILES: &str = "\
 base.toml: [[tag]]|name = \"T1\"|exc_dev = 0|exc_max = 1000000|comp_dev = 0|comp_min = 0|comp_max = 1000000|\
 [[tag]]|name = \"S1\"|exc_dev = 0|exc_max = 1000000|comp_dev = 2|comp_min = 0|comp_max = 1000000|step = true|\
@@ -22,7 +22,7 @@ first.csv: T1,0,0|S1,0,10|T1,3000,0|S1,10,11|
 second.csv: T1,4000,9|S1,20,15|T1,1500,60|S1,30,14|
 asks.csv: row,g,m,0|row,g,m,1|row,g,m,2|snap,T1|snap,S1|";
 
-// How many values of a tag are there after the crash, and what is told of the tag and its group then.
+// How many values of a tag there are after the crash, and what is then printed of the tag and its group.
 const LINES: &str = "\
 2 reply 1 1 none|reply 1 2 none|reply 1 3 none|reply 1 4 snap 2 0,0|
 4 reply 1 1 20|reply 1 2 50|reply 1 3 20|reply 1 4 snap 4 4000,9|";
@@ -34,7 +34,7 @@ const STEPS: &str = "\
 // More calls than the devices of the second session have.
 const MOST: u64 = 96;
 
-// The files.
+// Returns the files.
 fn files(alloc: Global) -> Result<MemFiles, Fail> {
     let mut files = Vec::new(alloc);
     for row in FILES.lines() {
@@ -68,7 +68,7 @@ fn ended<R: Threads + Wait + Sync>(
     ))
 }
 
-// What a crash leaves of the devices of a store.
+// Returns a store of what a crash leaves of the devices of this store.
 fn crashed(alloc: Global, store: &mut MemStore, pick: Pick) -> Result<MemStore, Fail> {
     let mut devices = Vec::new(alloc);
     for name in "T1.tag S1.tag g.grp".split(' ') {
@@ -80,7 +80,7 @@ fn crashed(alloc: Global, store: &mut MemStore, pick: Pick) -> Result<MemStore, 
     Ok(MemStore::new(devices))
 }
 
-// Whether one of the rows is told that has so many values at least.
+// Returns whether the text of one of these rows is printed that has at least `least` values.
 fn is_told(rows: &str, least: u64, printed: &str, alloc: Global) -> Result<bool, Fail> {
     for row in rows.lines() {
         let (count, told) = row.split_once(' ').ok_or("row")?;
@@ -92,12 +92,13 @@ fn is_told(rows: &str, least: u64, printed: &str, alloc: Global) -> Result<bool,
     Ok(false)
 }
 
-// Whether this is what one of the two sessions saved: the second one where all was done, and else either of them.
+// Returns whether this is the save of one of the two sessions. If the second session is done, it has to be the second
+// one's.
 fn is_a_save(version: &str, done: bool) -> bool {
     version == "true [3]" || (!done && version == "true [1]")
 }
 
-// Whether a session is done, and how many records its group had of its tag when it was last saved before.
+// Returns whether a session is done, and how many records of its tag its group had in the save that it was opened with.
 fn saved(alloc: Global, opened: &Outcome) -> Result<String, Fail> {
     match &opened.session {
         Some(session) if session.groups.len() == 1 => {
@@ -108,7 +109,7 @@ fn saved(alloc: Global, opened: &Outcome) -> Result<String, Fail> {
     }
 }
 
-// How many values of the tags are acknowledged; two are where no session was held.
+// Returns how many values of each tag are acknowledged. If no session was held, there are the two of the first session.
 fn acknowledged(ended: &Outcome) -> (u64, u64) {
     match &ended.session {
         Some(session) if session.tags.len() == 2 => (session.tags[0].acked, session.tags[1].acked),
@@ -116,9 +117,12 @@ fn acknowledged(ended: &Outcome) -> (u64, u64) {
     }
 }
 
-// The second session, whose devices stop after so many calls: whether it is done, as no call was stopped. Whatever the crash
-// leaves is opened again, and tells a first part of the values with all that were acknowledged, the group's rows from
-// scratch, and, of the group, the version that was saved last or the one that was being saved.
+// Runs the second session on devices that stop after so many calls. Returns whether it is done, which means that no
+// call was stopped.
+//
+// It opens again whatever the crash leaves. Each tag must have the first of its values, with all acknowledged ones
+// among them. The group's rows must be those computed from scratch. The group's version must be the one saved last, or
+// the one being saved.
 fn stopped_at<R: Threads + Wait + Sync>(rt: &R, alloc: Global, most: u64) -> Result<bool, Fail> {
     let mut store = MemStore::new(Vec::new(alloc));
     ended(rt, alloc, "run base.toml first.toml", &mut store)?;

@@ -11,8 +11,8 @@ use std::process::Abort;
 use std::test::Fail;
 use trend_num::{Point, TagDef, Tuning, in_range, name_from, tuning_ok};
 
-// Names and texts of files; a bar stands for a line feed. The tag T1 is one of lines, of the CompDev 0 or 5, and S1 a step
-// tag of the CompDev 2.
+// Names and texts of files. A bar represents a line feed. The tag T1 is one of lines, with CompDev 0 or 5. S1 is a step
+// tag with CompDev 2.
 const FILES: &str = "\
 base.toml: [[tag]]|name = \"T1\"|exc_dev = 0|exc_max = 1000000|comp_dev = 0|comp_min = 0|comp_max = 1000000|\
 [[tag]]|name = \"S1\"|exc_dev = 0|exc_max = 1000000|comp_dev = 2|comp_min = 0|comp_max = 1000000|step = true|
@@ -77,7 +77,8 @@ swapped.toml: zone = \"CET-1CEST,M3.5.0,M10.5.0/3\"|starts = [\"14:00\", \"06:00
 berlin.toml: zone = \"Europe/Berlin\"|starts = [\"06:00\"]|tags = [\"T1\"]|measure = \"total\"|
 stairs.toml: zone = \"UTC0\"|starts = [\"00:00\"]|tags = [\"S1\", \"T1\"]|measure = \"avg\"|";
 
-// What the devices hold, the read of a file that fails, and the words; then the exit code and what is printed.
+// What the devices hold, the number of the read of a file that fails, and the words. Then the exit code and what is
+// printed.
 const RUNS: &str = "\
 new 99 check base.toml => 0 tag T1 taken=0 records=0 kept=0 late=0 held=none|tag S1 taken=0 records=0 kept=0 late=0 held=none|
 new 99 check group.toml => 0 tag T1 taken=0 records=0 kept=0 late=0 held=none|
@@ -126,8 +127,9 @@ kept 3 trend base.toml plan.toml => 5 fault: read plan|
 kept 5 trend base.toml plan.toml => 5 fault: read reader 1|
 kept 6 trend base.toml plan.toml => 5 fault: read reader 2|";
 
-// Runs one after the other: whether the devices are new, those that the run before left, or those with fewer records of the tag; the
-// write that fails, and the words; then the exit code and what is printed.
+// Runs one after the other. A line has the devices: new, those that the run before left, or those with fewer records of
+// the tag. Then come the number of the write that fails, and the words. After the arrow come the exit code and what is
+// printed.
 const SESSIONS: &str = "\
 new 99 run flow.toml fill.toml => 0 tag FIC101.PV taken=7 records=2 kept=2 late=0 held=1700000300000,1240|
 new 99 run base.toml whole.toml => 0 tag T1 taken=4 records=3 kept=3 late=0 held=30,5|\
@@ -186,7 +188,8 @@ left 99 log base.toml two.toml => 15 fault: other plant 2|
 left 99 log alone.toml lost.toml => 5 fault: read collector 2|
 new 0 log alone.toml two.toml => 6";
 
-// How often a line stands in one file more, the line, the words of a run over new devices, and how what is told ends.
+// How often a line occurs in one more file, the line, the words of a run over new devices, and the end of what is
+// printed.
 const LARGE: &str = "\
 4096 snap,T1| trend base.toml many.toml => |reply 1 4096 snap 0 none|
 4097 snap,T1| trend base.toml many.toml => 10 fault: limit queries 4097|
@@ -194,7 +197,7 @@ const LARGE: &str = "\
 1048577 | check more => 10 fault: limit text_bytes 1048577|
 1048577 | trend base.toml more => 10 fault: limit text_bytes 1048577|";
 
-// The tag of a name and a kind.
+// Returns the tag with this name and kind.
 fn tag(rt: &impl Abort, name: &str, step: bool) -> TagDef {
     TagDef {
         name: name_from(name.as_bytes()).expect(rt, "a name"),
@@ -209,7 +212,7 @@ fn tag(rt: &impl Abort, name: &str, step: bool) -> TagDef {
     }
 }
 
-// A device of so many lane slots that keeps values of a tag, as many as are spelled.
+// Returns a device with so many lane slots that keeps these values of a tag.
 fn kept(rt: &impl Abort, alloc: Global, def: &TagDef, slots: u32, values: &str) -> MemDisk {
     let dev = MemDisk::new(Vec::new(alloc), Vec::new(alloc));
     assert!(rt; tuning_ok(&def.tuning));
@@ -231,7 +234,7 @@ fn kept(rt: &impl Abort, alloc: Global, def: &TagDef, slots: u32, values: &str) 
     journal.into_device()
 }
 
-// The values 0 and 10 in turn, 2,000 of them.
+// Returns the values 0 and 10 in turn, 2,000 of them.
 fn in_turn(alloc: Global) -> Result<String, Fail> {
     let mut values = String::new(alloc);
     for i in 0..1000u64 {
@@ -240,7 +243,7 @@ fn in_turn(alloc: Global) -> Result<String, Fail> {
     Ok(values)
 }
 
-// The devices of the tags T1 and S1.
+// Returns the devices of the tags T1 and S1.
 fn devices(rt: &impl Abort, alloc: Global, kind: &str) -> Result<(MemDisk, MemDisk), Fail> {
     let line = tag(rt, "T1", false);
     let step = tag(rt, "S1", true);
@@ -263,7 +266,7 @@ fn devices(rt: &impl Abort, alloc: Global, kind: &str) -> Result<(MemDisk, MemDi
     Ok((first, second))
 }
 
-// A store of these devices.
+// Returns a store with these devices.
 fn store(alloc: Global, first: MemDisk, second: MemDisk) -> Result<MemStore, Fail> {
     let mut devices = Vec::new(alloc);
     devices.push((String::from_str(alloc, "T1.tag")?, first))?;
@@ -271,7 +274,7 @@ fn store(alloc: Global, first: MemDisk, second: MemDisk) -> Result<MemStore, Fai
     Ok(MemStore::new(devices))
 }
 
-// The files, of which one read fails, and one more of this text.
+// Returns the files, of which one read fails, and one more file with this text.
 fn files(rt: &impl Abort, alloc: Global, fail: u64, more: &str) -> Result<MemFiles, Fail> {
     let mut files = Vec::new(alloc);
     for row in FILES.lines() {
@@ -296,7 +299,7 @@ fn stored_archives_are_told(rt: HostRuntime) -> Result<(), Fail> {
         let line = format!(in alloc; "historian {line}")?;
         let (first, second) = devices(&rt, alloc, kind)?;
         let mut store = store(alloc, first, second)?;
-        // A run that comes after finds what the first one left, and collectors feed the same values once more.
+        // A later run finds what the first one left, and its collectors feed the same values once more.
         let runs = match kind {
             "failing" | "once" | "later" => 1,
             _ => 2,
@@ -318,7 +321,8 @@ fn stored_archives_are_told(rt: HostRuntime) -> Result<(), Fail> {
     Ok(())
 }
 
-// The store that a run begins with, after one that left this one. Where the tag has fewer records, the group's device is as it was left.
+// Returns the store that a run begins with, after a run that left this one. If the tag gets fewer records, the group's
+// device stays as it was left.
 fn store_of(
     rt: &impl Abort,
     alloc: Global,

@@ -5,10 +5,10 @@ use plant_status::{Pass, Passes};
 use std::sync::atomic::{AtomicU64, Ordering};
 use std::thread;
 
-/// How often one looks whether another has come, where it comes, before one gives up.
+/// How often a worker looks for another one that is sure to come, before it gives up.
 pub const PATIENT: u64 = 50_000_000;
 
-/// Whether a word comes to be so much while one looks so often.
+/// Returns whether `word` reaches `least` within so many looks.
 pub fn comes(word: &AtomicU64, least: u64, looks: u64) -> bool {
     for _ in 0..looks {
         if word.load(Ordering::SeqCst) >= least {
@@ -19,8 +19,8 @@ pub fn comes(word: &AtomicU64, least: u64, looks: u64) -> bool {
     false
 }
 
-/// Passes that hold each worker, at each step but its first, until so many workers have asked for their step of that number.
-/// One that has looked so often is stopped.
+/// Passes that hold each worker at each step except its first. They hold it until all `workers` workers have asked for
+/// their step of that number. A worker that has looked `looks` times in vain is stopped.
 #[derive(Drop)]
 pub struct Gates<'a> {
     pub asked: &'a AtomicU64,
@@ -29,7 +29,7 @@ pub struct Gates<'a> {
     pub stops: u64,
 }
 
-/// The pass of a worker that is held. None may be dropped, so each has to be given back.
+/// The pass of a worker that is held. It cannot be dropped, so it has to be given back.
 pub struct Gate<'a> {
     asked: &'a AtomicU64,
     workers: u64,

@@ -1,4 +1,4 @@
-//! What tests of sessions share: passes that hold or stop workers, and the board of a tag that is alone.
+//! What tests of sessions share: passes that hold or stop workers, and the board of a single tag.
 #![tactic(auto)]
 
 mod gates;

@@ -1,4 +1,4 @@
-// The board of a tag that is alone.
+// The board of a single tag.
 ghost use Rattle.std.specs.Prelude.{◌≡◌, All, IfOk, length};
 ghost use Rattle.snapshot_table.specs.Boards.{LooksAt, PostsTo};
 ghost use Rattle.snapshot_table.specs.Snaps.{nothing};
@@ -8,7 +8,7 @@ use std::alloc::Global;
 use std::sync::Wait;
 use trend_num::WantOfMemory;
 
-/// A board of one tag, its poster, who has posted nothing, and so many lookers.
+/// Returns a board of one tag, the tag's poster, which has posted nothing, and `readers` lookers.
 pub fn lone_board(
     rt: &impl Wait,
     alloc: Global,

@@ -9,7 +9,7 @@ pub struct Shut {
     pub stops: u64,
 }
 
-/// The pass of a worker that is stopped, or of another one.
+/// The pass of worker 0, which is stopped, or of another worker.
 pub struct ShutPass {
     shut: bool,
     stops: u64,

@@ -6,7 +6,7 @@ use Rattle.commit_log.proofs.BlockLaws.{at_first, at_gate, at_rows, block_added,
 use Rattle.commit_log.proofs.block_reader.read_block.Goals as goal
 use Rattle.commit_log.proofs.block_reader.read_block.Goals.{After-check, After-read_rows}
 
--- the first fields are those of a block behind the rows so far
+-- the first fields are those of a block after the rows so far
 heads : (c : After-check)
     → c.new.result ∷ c.new-2.result ∷ []
     ≡ first_fields c.args.c.now c.args.tags c.args.gate (length c.args.rows.now.items) c.short_at-count.result c.short_at-count.ensures

@@ -22,7 +22,7 @@ use Rattle.plant_store.proofs.Endings.{count_kept, given_up_counts, given_up_gro
 use Rattle.plant_store.proofs.Labels.{groups_same}
 use Rattle.plant_store.proofs.opening.open_plant.Goals as goal
 
--- ---- memory is wanting before a device is taken
+-- ---- there is no memory before a device is taken
 
 pub returns-in_default-clause-refused : goal.returns-in_default-clause-refused
 returns-in_default-clause-refused g c = OfTags tt

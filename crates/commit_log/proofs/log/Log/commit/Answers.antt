@@ -97,7 +97,7 @@ longer g c =
     ∙ (ap (λ (l : List LogTurn). l ++ Commit c.clock.result acked ∷ []) c.make_places.ensures.same
     ∙ ap (λ (m : ℕ). tape ++ Commit m acked ∷ []) c.clock.ensures)
 
--- and the end lies behind the block
+-- and the end lies after the block
 ends : (g : given.Over) (c : After-push_reserved g)
     → IsBlockOf c.self.inside.acked c.min-count.result (drop c.self.inside.next c.self.inside.tape.items) c.deref-2.result.now
     c.in_ok-block.block.turns
