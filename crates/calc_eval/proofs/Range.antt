@@ -89,7 +89,7 @@ element_range vs all None i there = tt
 element_range vs all (Some v) i there =
     subst IsInRange (get_or_from_slice_get vs i v v there) (all i v (slice_get_within vs i v there))
 
--- what stands at a name
+-- what is at a name
 named_range : (names : List (List ℕ)) (vs : List CalcValue) → All IsInRange vs → (name : List ℕ)
     → IfSome (at_name names vs name) IsInRange
 named_range names vs all name = at_place (position (bytes_eq name) names)

@@ -5,10 +5,10 @@ ghost use Rattle.sheet_law.specs.Number.{bounded, measured_value, floor_div, flo
 use calc_parser::{Cmp, Op};
 use trend_num::{Bad, CalcValue};
 
-// The greatest amount of a value.
+// How far from 0 a value may be.
 const LARGEST: u128 = 1_000_000_000_000_000_000;
 
-// A number as a value.
+// Returns a number as a value, or `Range` if it is too far from 0.
 pub(crate) fn bounded(n: i128) -> CalcValue
     ensures { result ≡ bounded n }
 {
@@ -19,7 +19,7 @@ pub(crate) fn bounded(n: i128) -> CalcValue
     }
 }
 
-// The value of a measure.
+// Returns the value of a measure, or `NoData` if it has no number.
 pub(crate) fn measured_value(measure: Option<i128>) -> CalcValue
     ensures { result ≡ measured_value measure }
 {
@@ -29,7 +29,7 @@ pub(crate) fn measured_value(measure: Option<i128>) -> CalcValue
     }
 }
 
-// The floor of a quotient.
+// Returns the floor of a quotient.
 fn floor_div(a: i64, b: i64) -> i128
     requires { b ≢ pos 0 }
     ensures { result ≡ floor_div a b }
@@ -43,7 +43,7 @@ fn floor_div(a: i64, b: i64) -> i128
     }
 }
 
-// What the floor of a quotient leaves.
+// Returns the remainder that the floor of a quotient leaves.
 fn floor_rem(a: i64, b: i64) -> i128
     requires { b ≢ pos 0 }
     ensures { result ≡ floor_rem a b }
@@ -51,7 +51,7 @@ fn floor_rem(a: i64, b: i64) -> i128
     i128::from(a) - i128::from(b) * floor_div(a, b)
 }
 
-// The floor of a quotient as a value.
+// Returns the floor of a quotient as a value, or `DivZero`.
 fn quotient(a: i64, b: i64) -> CalcValue
     ensures { result ≡ divided b (floor_div a b) }
 {
@@ -62,7 +62,7 @@ fn quotient(a: i64, b: i64) -> CalcValue
     }
 }
 
-// What the floor of a quotient leaves, as a value.
+// Returns the remainder as a value, or `DivZero`.
 fn remainder(a: i64, b: i64) -> CalcValue
     ensures { result ≡ divided b (floor_rem a b) }
 {
@@ -73,7 +73,7 @@ fn remainder(a: i64, b: i64) -> CalcValue
     }
 }
 
-// An operation on two numbers.
+// Returns the value of an operation on two numbers.
 pub(crate) fn operated(op: Op, a: i64, b: i64) -> CalcValue
     ensures { result ≡ operated op a b }
 {
@@ -102,7 +102,7 @@ fn holds(cmp: Cmp, a: i64, b: i64) -> bool
     }
 }
 
-// A comparison of two numbers.
+// Returns the value of a comparison of two numbers: 1 if it holds, else 0.
 pub(crate) fn compared(cmp: Cmp, a: i64, b: i64) -> CalcValue
     ensures { result ≡ compared cmp a b }
 {

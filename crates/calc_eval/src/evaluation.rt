@@ -13,7 +13,7 @@ use std::sync::ledger::Ledger;
 use trend_num::{Bad, CalcValue, Measure, Name, Steps};
 use weighted_total::window;
 
-// What the names of a group stand for in a window.
+// The meaning of the names of a group in a window.
 #[derive(Clone, Copy)]
 struct Scope<'a> {
     inputs: &'a [Name],
@@ -24,8 +24,8 @@ struct Scope<'a> {
     to: u64,
 }
 
-/// The value of a calculation in the window from one time to another. `lower` has the values of the calculations
-/// before it in the same window. One step. It takes no memory.
+/// Returns the value of a calculation in the window from one time to another, in milliseconds from 1970. `lower` has
+/// the values of the calculations before it in the same window. The call takes one step and no memory.
 #[tactic(auto, using(crate::proofs::Growth::within_defs))]
 pub fn eval<'a, L: Ledger>(
     checked: &'a Checked,
@@ -58,7 +58,7 @@ pub fn eval<'a, L: Ledger>(
     value(&names, &calcs[index as usize].expr)
 }
 
-// The value of a measure.
+// Returns the value of a measure.
 fn measured(names: &Scope<'_>, measure: Measure, name: &Name) -> CalcValue
     requires rises { names.now.from < names.now.to }
     requires times { names.now.to ≤ last_time }
@@ -75,7 +75,7 @@ fn measured(names: &Scope<'_>, measure: Measure, name: &Name) -> CalcValue
     }
 }
 
-// The value of an earlier calculation.
+// Returns the value of an earlier calculation.
 fn earlier(names: &Scope<'_>, name: &Name) -> CalcValue
     ensures { let group = group_of names.now.inputs.now names.now.calcs.now in
         let points = points_in names.now.contents.now in
@@ -90,7 +90,7 @@ fn earlier(names: &Scope<'_>, name: &Name) -> CalcValue
     }
 }
 
-// The value of a tree.
+// Returns the value of a tree.
 fn value(names: &Scope<'_>, e: &Expr) -> CalcValue
     requires rises { names.now.from < names.now.to }
     requires times { names.now.to ≤ last_time }

@@ -9,13 +9,13 @@ ghost use Rattle.calc_parser.specs.Tree.{Tree};
 ghost use Rattle.calc_check.specs.Group.{Group};
 ghost use Rattle.sheet_law.specs.Value.{Scope, measure_of, value, values};
 
-/// The divisor times the quotient, and the remainder, make up the dividend. The remainder is 0 or has the divisor's
-/// sign, and is nearer to 0.
+/// The divisor times the quotient, plus the remainder, is the dividend. The remainder is 0 or has the divisor's sign,
+/// and is nearer to 0 than the divisor.
 pub fn division()
     ensures { (a b : ℤ) → b ≢ pos 0 → IsFloorDivision a b (floor_div a b) (floor_rem a b) }
 {}
 
-/// The values of a group's calculations are at most 10^18 from 0, or Bad.
+/// Each value of a group's calculations is at most 10^18 from 0, or Bad.
 pub fn values_are_in_range()
     ensures { (g : Group) (points : List (List Point)) (from to : ℕ) → All IsInRange (values g points from to) }
 {}

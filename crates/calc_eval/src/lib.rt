@@ -1,8 +1,8 @@
 //! The calculation language: the values of checked formulas.
 //!
-//! Its model is the value of a tree in a window, which `sheet_law` defines over the points of the inputs and the values
-//! of earlier calculations; the values of a group are those of its calculations in order, each by the ones before
-//! it. `eval` gives the value of one calculation of a checked group in one step, without memory.
+//! The model is the value of a tree in a window. `sheet_law` defines it over the points of the inputs and the values of
+//! earlier calculations. The values of a group are those of its calculations in order, each with the values of the ones
+//! before it. `eval` returns the value of one calculation of a checked group. It takes one step and no memory.
 #![tactic(auto)]
 
 mod arithmetic;

@@ -59,7 +59,7 @@ between a b t x y no_word fits z e =
       y.apart z e,
     )
 
--- what stands before others begins as before
+-- what is before others begins as before
 starts_first : {left : Level} (a : Reading left) (ys : List Token) → LiesApart a → (z : Token)
     → is_comparing (next_of (words a ++ ys) z) ≡ false
 starts_first a ys x z = ap is_comparing (next-append (words a) ys z) ∙ x.starts (next_of ys z)

@@ -11,7 +11,7 @@ use Rattle.calc_parser.specs.Formulas.{IsTree}
 use Rattle.calc_parser.specs.Grammar.{Level, formula, sums, terms, factor, Reading, plain, compared, one_term, more_terms, one_factor, more_factors, negated, numeral, grouped, measured, calculated, absolute, picked, chosen, words, tree, sum_op, product_op, pick_op}
 use Rattle.calc_parser.specs.Tree.{Tree, num, window, calc, neg, abs, two, compare, choose}
 
--- what waits for the tree that is read: a sign before it; what stands before it in its formula; the bracket that it is in
+-- what waits for the tree that is read: a sign before it; what is before it in its formula; the bracket that it is in
 data Hole : Type 0 where
   signed : Hole
   going : Option (Tree × Cmp) → Option (Tree × Sum) → Option (Tree × Product) → Hole
@@ -35,7 +35,7 @@ data State : Type 0 where
 abbrev fresh : Hole
 fresh = going None None None
 
--- the tree with what stands before it
+-- the tree with what is before it
 abbrev comparison : Option (Tree × Cmp) → Tree → Tree
 comparison None v = v
 comparison (Some p) v = compare p.1 p.0 v
@@ -50,7 +50,7 @@ abbrev product : Option (Tree × Product) → Tree → Tree
 product None v = v
 product (Some p) v = two (product_op p.1) p.0 v
 
--- a term is read: its formula goes on, or is whole
+-- a term is read: its formula continues, or is whole
 abbrev grow : Option (Tree × Cmp) → Option (Tree × Sum) → Tree → List Hole → (Tree → State) → Token → State
 grow c s v k whole (Multiplying sign) = wants (going c s (Some (v, sign)) ∷ k)
 grow c s v k whole (Summing sign) = wants (going c (Some (sum s v, sign)) None ∷ k)
@@ -124,7 +124,7 @@ NoSign (Summing sign ∷ rest) = ⊥
 NoSign (Comparing cmp ∷ rest) = ⊥
 NoSign rest = Unit {0}
 
--- what was read joins what stood before it
+-- what was read joins what was before it
 
 -- the sign before an operand
 with_sign : (k : List Hole) (v : Tree) (rest : List Token)

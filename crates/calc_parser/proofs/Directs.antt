@@ -1,4 +1,4 @@
--- The derivation of a tree that has the tokens of its canonical text: brackets stand only where they are needed.
+-- The derivation of a tree that has the tokens of its canonical text: brackets occur only where they are needed.
 use Rattle.std.proofs.Common.{◌≡◌, [], ◌∷◌, ◌++◌, refl, ap, ◌∙◌}
 use Rattle.calc_parser.specs.declared.tree.Op.{Op}
 use Rattle.calc_parser.specs.declared.tree.Op.TheVariants.{Add, Sub, Mul, Div, Rem, Min, Max}

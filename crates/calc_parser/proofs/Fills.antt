@@ -1,4 +1,4 @@
--- What may stand can be completed: tokens that lead somewhere begin some formula.
+-- What may occur can be completed: tokens that lead somewhere begin some formula.
 use Rattle.std.proofs.Common.{◌≡◌, ℕ, ◌+◌, true, false, pos, List, [], ◌∷◌, ◌++◌, None, Some, refl, sym, ap, ◌∙◌, subst, append_assoc}
 use Rattle.std.proofs.lemmas.List.{append-nil}
 use Rattle.calc_parser.specs.declared.token.Sum.{Sum}
@@ -11,7 +11,7 @@ use Rattle.calc_parser.specs.Grammar.{formula, sums, factor, Reading, plain, com
 use Rattle.calc_parser.specs.Scan.{Stack, Next, operand, more, bracket, name, comma, close, whole, step}
 use Rattle.calc_parser.proofs.Walks.{Walked, prepend, onward, walk}
 
--- these tokens are what may come, and where a formula may go on, a formula with what was read of it
+-- these tokens are what may come, and where a formula may continue, a formula with what was read of it
 abbrev Fills : Stack → List Token → Type 0
 Fills [] ts = ts ≡ []
 Fills (operand n ∷ k) ts = (d : Reading factor) × (rest : List Token) × (ts ≡ words d ++ rest) × Fills k rest
@@ -82,7 +82,7 @@ abbrev FillsNext : Next → List Token → Type 0
 FillsNext None ts = ⊥
 FillsNext (Some next) ts = Fills next.1 ts
 
--- a sum goes on with a sign, and with a factor or its last term
+-- a sum continues with a sign, and with a factor or its last term
 summed : (s : Reading sums) (sign : Sum) (d : Reading factor) (ts rest end : List Token) → ts ≡ words d ++ rest
     → words (more_terms s sign (one_factor d)) ++ rest ≡ end → words s ++ Summing sign ∷ ts ≡ end
 summed s sign d ts rest end cut is = ap (λ l. words s ++ Summing sign ∷ l) cut
@@ -94,7 +94,7 @@ multiplied s sign d ts rest end cut is = ap (λ l. words s ++ Multiplying sign �
     ∙ sym (append_assoc (words s) (Multiplying sign ∷ words d) rest)
     ∙ ap (λ l. l ++ rest) (sym (extended_words s sign d)) ∙ is
 
--- one token back: a token that may stand, before what may come after it
+-- one token back: a token that may occur, before what may come after it
 back : (k : Stack) (t : Token) (ts : List Token) → FillsNext (step k t) ts → Fills k (t ∷ ts)
 back [] t ts f = absurd f
 back (operand n ∷ k) (Number m) ts f = (numeral m, ts, refl, f)
@@ -204,7 +204,7 @@ all_back k (t ∷ front) ts f = back k t (front ++ ts) (go (step k t) (λ next. 
     go None rest f = f
     go (Some next) rest f = rest next.1 (before next.0 (walk next.1 front) f)
 
--- tokens that may stand begin a formula
+-- tokens that may occur begin a formula
 pub begins : (front : List Token) (levels : List ℕ) (left : Stack)
     → walk (whole 0 []) front ≡ Some (levels, left) → Begins front
 begins front levels left walked =

@@ -7,7 +7,7 @@ use Rattle.std.specs.List.{list_all, prefix_len}
 use Rattle.calc_parser.specs.declared.token.Token.{Token}
 use Rattle.calc_parser.specs.Tokens.{Lexeme, token_at, lexemes, tokens_of, places_of}
 
--- what stands before the first byte that fails a test passes it
+-- what is before the first byte that fails a test passes it
 pub run_passes : {X : Type 0} (p : X → Bool) (xs : List X) (n : ℕ) → n ≤ prefix_len p xs
     → list_all p (take n xs) ≡ true
 run_passes p xs zero few = refl

@@ -34,7 +34,7 @@ one_more_byte base name before after i c all below so_far byte written =
     ∙ append_assoc base (take i name) (get_or name i 0 ∷ [])
     ∙ ap (λ l. base ++ l) (sym (take_more name i 0 below))
 
--- the test tells which bytes are a name
+-- the test decides which bytes are a name
 pub name_decides : (bytes : List ℕ) → Decides (is_name bytes) (IsName bytes)
 name_decides bytes = (
   λ test.

@@ -1,4 +1,4 @@
--- From the verdict on a text's tokens to what is told of the text.
+-- From the verdict on a text's tokens to the answer for the text.
 use Rattle.std.proofs.Common.{◌≡◌, ℕ, ◌-◌, ◌≤◌, List, [], ◌∷◌, ◌++◌, length, drop, get_or, Err, sym, ap, ◌∙◌, subst, arith, length-append}
 use Rattle.std.proofs.lemmas.List.{append-nil}
 use Rattle.std.proofs.Math.Seq.{drop-append_seam}
@@ -13,7 +13,7 @@ use Rattle.calc_parser.specs.Tree.{Tree}
 use Rattle.calc_parser.proofs.Builds.{same_tree}
 use Rattle.calc_parser.proofs.Verdicts.{IsAt, IsStuck, PlungesAt, Explains, explains, shallow, cannot_follow, opens_too_deep, deep_in_none, front_begins, deep_begins, all_shallow}
 
--- tokens that all may stand, and spell a tree, make a formula
+-- tokens that all may occur, and spell a tree, make a formula
 pub is_formula : (text : List ℕ) (tokens : List Token) (t : Tree) → tokens ≡ tokens_of text
     → length text ≤ most_bytes
     → SpellsTokens formula tokens [] t → scan (whole 0 []) tokens ≡ fine → IsFormula text t
@@ -32,7 +32,7 @@ pub only_formula : (text : List ℕ) (t u : Tree) → IsFormula text t → IsFor
 only_formula text t u p q = sym p.tree_is ∙ same_tree p.reading q.reading (p.spelled ∙ sym q.spelled)
     ∙ q.tree_is
 
--- how many tokens stand before those that are left
+-- how many tokens are before those that are left
 front_length : (tokens front rest : List Token) → tokens ≡ front ++ rest
     → length tokens - length rest ≡ length front
 front_length tokens front rest cut = omega (arith, ap length cut, length-append front rest)
@@ -94,7 +94,7 @@ module _ (text : List ℕ) (tokens : List Token) (places : List ℕ) (lexed : to
       (short, deep_at rest e.0 e.1)
   has_cause stop.WantOfMemory rest short verdict = tt
 
--- what is stuck or too deep stands in no formula that may be read
+-- what is stuck or too deep occurs in no formula that may be read
 stuck_in_none : (text : List ℕ) (tokens rest : List Token) (t : Tree) → tokens ≡ tokens_of text
     → (a : IsAt (whole 0 []) tokens rest)
     → IsStuck a.left rest → IsFormula text t → ⊥

@@ -346,7 +346,7 @@ breaks_comparison (Multiplying Times ∷ ts) can e = (refl, refl)
 breaks_comparison (Multiplying Over ∷ ts) can e = (refl, refl)
 breaks_comparison (Multiplying Modulo ∷ ts) can e = (refl, refl)
 
--- a test beside none
+-- if a test or `false` is false, the test is false
 word_ends : (b : Bool) → (b || false) ≡ false → b ≡ false
 word_ends true e = e
 word_ends false e = refl

@@ -206,7 +206,7 @@ highest-append : (xs ys : List ℕ) → highest (xs ++ ys) ≡ max (highest xs) 
 highest-append [] ys = omega arith
 highest-append (x ∷ xs) ys = omega (arith, highest-append xs ys)
 
--- the highest of two derivations beside each other
+-- the highest of two derivations next to each other
 opened_beside : {K L : Level} (a : Reading K) (b : Reading L) (n : ℕ) → max n (highest (opens n a)) ≡ n + height a
     → max n (highest (opens n b)) ≡ n + height b
     → max n (highest (opens n a ++ 0 ∷ opens n b)) ≡ n + max (height a) (height b)
@@ -279,7 +279,7 @@ pub spelled_length : (xs ys : List Token)
     → length (spelled (xs ++ ys)) ≡ length (spelled xs) + length (spelled ys)
 spelled_length xs ys = ap length (flat_map-append spelling xs ys) ∙ length-append (spelled xs) (spelled ys)
 
--- two formulas and what stands behind them
+-- two formulas and what is after them
 two_weigh : (a b : Reading formula) → length (spelled (words a)) ≡ weight a → length (spelled (words b)) ≡ weight b
     → length (spelled (words a ++ Comma ∷ (words b ++ Close ∷ []))) ≡ weight a + weight b + 2
 two_weigh a b first second =

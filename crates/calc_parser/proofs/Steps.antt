@@ -13,7 +13,7 @@ use Rattle.calc_parser.specs.Grammar.{Level, formula, sums, terms, factor, plain
 use Rattle.calc_parser.specs.Tree.{Tree, num, window, calc, neg, abs, two, compare, choose}
 use Rattle.calc_parser.specs.Scan.{head, Stack, operand, more, scan, refused, SpellsTokens, SpellsFirst, SpellsNext, SpellsAfter, EndsTerms, EndsSums}
 
--- the tokens before the rest spell a sum or a term, and may stand where an operand is expected
+-- the tokens before the rest spell a sum or a term, and may occur where an operand is expected
 pub record IsReadSoFar (level : Level) (n : ℕ) (tokens rest : List Token) (t : Tree) : Type 0 where
   pub spells : SpellsTokens level tokens rest t
   pub follows : (k : Stack) (c : Bool) → scan (operand n ∷ more n c ∷ k) tokens ≡ scan (more n c ∷ k) rest
@@ -199,7 +199,7 @@ term_ends [] differs = tt
 term_ends (Multiplying sign ∷ ts) differs = absurd (differs sign refl)
 term_ends (token ∷ ts) differs = tt
 
--- tokens that are left after a formula may not stand there
+-- tokens that are left after a formula may not occur there
 pub left_over : (ts : List Token) → (length ts == 0) ≡ false → scan [] ts ≡ refused ts
 left_over [] differs = cc
 left_over (token ∷ ts) differs = refl

@@ -11,7 +11,7 @@ use Rattle.calc_parser.specs.Scan.{Stack, Next, more, whole, step, may_end, Verd
 use Rattle.calc_parser.proofs.Walks.{Walked, prepend, onward, walk, further, walk-append, IsAsLong, walk-length, passes}
 use Rattle.calc_parser.proofs.Fills.{begins}
 
--- the tokens before the rest may stand, and none of them opens a level that is too deep
+-- the tokens before the rest may occur, and none of them opens a level that is too deep
 pub record IsAt (k : Stack) (tokens rest : List Token) : Type 0 where
   pub front : List Token
   pub levels : List ℕ
@@ -44,7 +44,7 @@ at_next k t tokens rest next stepped low a = record {
   shallow = All-cons (λ level. level ≤ deepest) next.0 a.levels low a.shallow;
 }
 
--- what comes next may not stand there, or opens a level that is too deep
+-- what comes next may not occur there, or opens a level that is too deep
 abbrev pub IsStuck : Stack → List Token → Type 0
 IsStuck k [] = may_end k ≡ false
 IsStuck k (t ∷ rest) = step k t ≡ None
@@ -121,7 +121,7 @@ walks_whole d =
           ∙ ap (λ l. Some (l, more 0 p.0 ∷ [])) (append-nil (opens 0 d));
     }
 
--- where a formula begins with tokens that may stand, its levels begin with theirs
+-- where a formula begins with tokens that may occur, its levels begin with theirs
 record BeginsWith (d : Reading formula) (levels : List ℕ) (left : Stack) (rest : List Token) : Type 0 where
   later : List ℕ
   end : Stack
@@ -161,7 +161,7 @@ levels_length : (front : List Token) (levels : List ℕ) (left : Stack)
     → walk (whole 0 []) front ≡ Some (levels, left) → length levels ≡ length front
 levels_length front levels left walked = subst (λ w. IsAsLong w front) walked (walk-length (whole 0 []) front)
 
--- tokens that may stand and are shallow
+-- tokens that may occur and are shallow
 pub shallow : (tokens rest : List Token) (a : IsAt (whole 0 []) tokens rest) → IsShallow a.front
 shallow tokens rest a = λ d more spelled.
     let b = begins_with d a.front more a.levels a.left a.walked spelled in
@@ -226,7 +226,7 @@ deep_in_none tokens rest t a plunges d later spelled low =
     let small : get_or (opens 0 d) (length a.levels) 0 ≤ deepest = low (length a.levels) 0 within in
     omega (arith, plunges.too_deep)
 
--- tokens that may stand begin a formula
+-- tokens that may occur begin a formula
 pub front_begins : (tokens rest : List Token) (a : IsAt (whole 0 []) tokens rest) → Begins a.front
 front_begins tokens rest a = begins a.front a.levels a.left a.walked
 
@@ -240,7 +240,7 @@ deep_begins tokens rest t a plunges =
     (walk-append (whole 0 []) a.front (t ∷ []) ∙ ap (λ w. further w (t ∷ [])) a.walked
     ∙ ap (prepend a.levels) here)
 
--- tokens that all may stand are those of a shallow formula
+-- tokens that all may occur are those of a shallow formula
 all_at_end : (d : Reading formula) (a : IsAt (whole 0 []) (words d) [])
     → All (λ level. level ≤ deepest) (opens 0 d)
 all_at_end d a =

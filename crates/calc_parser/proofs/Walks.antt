@@ -29,7 +29,7 @@ pub prepend-append : (xs ys : List ℕ) (w : Walked) → prepend xs (prepend ys 
 prepend-append xs ys None = refl
 prepend-append xs ys (Some p) = ap (λ l. Some (l, p.1)) (sym (append_assoc xs ys p.0))
 
--- the walk goes on over more tokens
+-- the walk continues over more tokens
 abbrev pub further : Walked → List Token → Walked
 further None tokens = None
 further (Some p) tokens = prepend p.0 (walk p.1 tokens)
@@ -39,7 +39,7 @@ prepend-nil : (w : Walked) → w ≡ prepend [] w
 prepend-nil None = refl
 prepend-nil (Some p) = refl
 
--- levels before a walk that goes on
+-- levels before a walk that continues
 further-prepend : (xs : List ℕ) (w : Walked) (tokens : List Token)
     → prepend xs (further w tokens) ≡ further (prepend xs w) tokens
 further-prepend xs None tokens = refl
@@ -75,7 +75,7 @@ walk-length k (x ∷ xs) = go (step k x) (λ next. walk-length next xs)
     go None rest = tt
     go (Some next) rest = longer next.0 (walk next.1 xs) (rest next.1)
 
--- the tokens of a derivation may stand, and open its levels
+-- the tokens of a derivation may occur, and open its levels
 abbrev Passes : (level : Level) → Reading level → Type 0
 Passes formula d = (n : ℕ) (k : Stack) (rest : List Token)
     → (c : Bool) × (walk (whole n k) (words d ++ rest) ≡ prepend (opens n d) (walk (more n c ∷ k) rest))
@@ -91,7 +91,7 @@ joined : (xs ys : List ℕ) (w : Walked)
     → prepend xs (prepend (0 ∷ []) (prepend ys w)) ≡ prepend (xs ++ 0 ∷ ys) w
 joined xs ys w = ap (prepend xs) (prepend-append (0 ∷ []) ys w) ∙ prepend-append xs (0 ∷ ys) w
 
--- a word, its bracket, and what stands in it
+-- a word, its bracket, and what is in it
 in_bracket : (n : ℕ) (xs : List ℕ) (w : Walked)
     → prepend (0 ∷ []) (prepend (n ∷ []) (prepend xs w)) ≡ prepend (0 ∷ n ∷ xs) w
 in_bracket n xs w = ap (prepend (0 ∷ [])) (prepend-append (n ∷ []) xs w) ∙ prepend-append (0 ∷ []) (n ∷ xs) w
@@ -116,7 +116,7 @@ up_to_comma : (a : Reading formula) → Passes formula a → (n : ℕ) (k : Stac
     ++ Comma ∷ rest) ≡ prepend (opens n a) (prepend (0 ∷ []) (walk k rest))
 up_to_comma a passes_a n k rest = let p = passes_a n (comma ∷ k) (Comma ∷ rest) in p.1
 
--- each derivation's tokens may stand
+-- each derivation's tokens may occur
 pub passes : {level : Level} (d : Reading level) → Passes level d
 passes (plain s) = λ n k rest. (true, passes s n true k rest)
 passes (compared a cmp b) = λ n k rest. (

@@ -10,7 +10,7 @@ use Rattle.calc_parser.specs.Grammar.{Level, Reading, plain, compared, one_term,
 use Rattle.calc_parser.specs.Tokens.{is_name, largest_number}
 use Rattle.calc_parser.specs.Tree.{Tree, num, window, calc, neg, abs, two, compare, choose}
 
--- numbers, names and measures are those of a text; `Others` tells whether it may be no token
+-- numbers, names and measures are those of a text; `Others` says whether it may be no token
 abbrev pub IsWritten : Type 0 → Token → Type 0
 IsWritten Others (Number n) = (m : ℕ) × (n ≡ pos m) × (m ≤ largest_number)
 IsWritten Others (Quoted bytes) = is_name bytes ≡ true

@@ -25,7 +25,7 @@ op_binds Rem = 3
 op_binds Min = 5
 op_binds Max = 5
 
--- and a tree's outermost part
+-- how tightly a tree's outermost part holds together
 abbrev pub binds : Tree → ℕ
 binds (compare cmp a b) = 1
 binds (two op a b) = op_binds op
@@ -46,7 +46,7 @@ op_token Rem = Multiplying Modulo
 op_token Min = Picking Least
 op_token Max = Picking Greatest
 
--- a tree's tokens, in brackets where the tree holds together less tightly than is needed
+-- a tree's tokens, in brackets if the tree holds together less tightly than is needed
 abbrev pub fit : ℕ → Tree → List Token → List Token
 fit need t tokens = if nat_lt (binds t) need then Open ∷ tokens ++ Close ∷ [] else tokens
 

@@ -1,4 +1,4 @@
--- Which texts are formulas, and which token of another decides.
+-- Which texts are formulas, and which token decides against any other text.
 use Rattle.std.specs.Prelude.{◌≡◌, ℕ, ◌<◌, ◌≤◌, List, [], ◌∷◌, ◌++◌, length, take, slice_index_or, All, Result, Ok, Err}
 use Rattle.calc_parser.specs.declared.refusal.SyntaxKind.{SyntaxKind}
 use Rattle.calc_parser.specs.declared.refusal.SyntaxKind.TheVariants as kind
@@ -11,7 +11,7 @@ use Rattle.calc_parser.specs.Grammar.{Reading, formula, words, tree, opens}
 use Rattle.calc_parser.specs.Tokens.{tokens_of, places_of}
 use Rattle.calc_parser.specs.Tree.{Tree, tree_of}
 
--- the most bytes of a formula
+-- how many bytes a formula may have
 abbrev pub most_bytes : ℕ
 most_bytes = 1024
 
@@ -19,13 +19,14 @@ most_bytes = 1024
 abbrev pub deepest : ℕ
 deepest = 32
 
--- the text has the tokens of a derivation, and this is its tree
+-- the text's tokens are those of a derivation, and this is the derivation's tree
 pub record IsTree (text : List ℕ) (t : Tree) : Type 0 where
   pub reading : Reading formula
   pub spelled : words reading ≡ tokens_of text
   pub tree_is : tree reading ≡ t
 
--- the text is no longer than a formula may be, and has the tokens of a derivation with this tree that is no deeper than one
+-- the text is no longer than a formula may be. Its tokens are those of a derivation with this tree, no deeper than one
+-- may be
 pub record IsFormula (text : List ℕ) (t : Tree) : Type 0 where
   pub reading : Reading formula
   pub spelled : words reading ≡ tokens_of text
@@ -33,18 +34,18 @@ pub record IsFormula (text : List ℕ) (t : Tree) : Type 0 where
   pub shallow : All (λ level. level ≤ deepest) (opens 0 reading)
   pub short : length text ≤ most_bytes
 
--- some rest makes these tokens a formula, whatever its length and nesting
+-- more tokens can be added to make these a formula, of any length and nesting
 pub record Begins (front : List Token) : Type 0 where
   pub reading : Reading formula
   pub more : List Token
   pub spelled : words reading ≡ front ++ more
 
--- in no formula that begins with these tokens does one of them open a level that is too deep
+-- no formula that begins with these tokens has a token among them that opens a level that is too deep
 abbrev pub IsShallow : List Token → Type 0
 IsShallow front = (d : Reading formula) (more : List Token) → words d ≡ front ++ more
     → All (λ level. level ≤ deepest) (take (length front) (opens 0 d))
 
--- what comes next follows these tokens in no formula; where nothing comes, they are none
+-- what comes next follows these tokens in no formula. If nothing comes next, these tokens are no formula
 abbrev pub CannotFollow : List Token → List Token → Type 0
 CannotFollow front [] = (d : Reading formula) → words d ≡ front → ⊥
 CannotFollow front (next ∷ rest) = (d : Reading formula) (more : List Token) → words d ≡ front ++ next ∷ more → ⊥
@@ -55,7 +56,7 @@ kind_of [] = kind.End
 kind_of (Ill why ∷ rest) = why
 kind_of (token ∷ rest) = kind.Token
 
--- the first token that is refused is ill formed or cannot follow those before it, or the text ends too soon
+-- the first refused token is ill formed or cannot follow those before it, or the text ends too soon
 pub record IsSyntax (text : List ℕ) (place : ℕ) (why : SyntaxKind) : Type 0 where
   pub front : List Token
   pub rest : List Token
@@ -66,7 +67,7 @@ pub record IsSyntax (text : List ℕ) (place : ℕ) (why : SyntaxKind) : Type 0 
   pub placed : place ≡ slice_index_or (places_of text) (length front) (length text)
   pub kind_is : why ≡ kind_of rest
 
--- the first token that is refused can follow those before it, and opens a level that is too deep
+-- the first refused token can follow those before it, but opens a level that is too deep
 pub record IsDeep (text : List ℕ) (place : ℕ) : Type 0 where
   pub front : List Token
   pub next : Token
@@ -85,7 +86,7 @@ HasFormulaCause text (Deep place) = (length text ≤ most_bytes) × IsDeep text 
 HasFormulaCause text (Syntax place why) = (length text ≤ most_bytes) × IsSyntax text place why
 HasFormulaCause text WantOfMemory = Unit {0}
 
--- this tree is given, or no memory was found
+-- the result is this tree, or no memory was found
 abbrev pub Gives : Result Expr ParseNo → Tree → Type 0
 Gives (Ok e) t = tree_of e ≡ t
 Gives (Err WantOfMemory) t = Unit {0}

@@ -21,7 +21,8 @@ pub data Level : Type 0 where
   terms : Level
   factor : Level
 
--- a derivation at a level. Sums and terms group to the left, and at most one comparison stands in a formula
+-- a derivation at a level. Sums and terms group to the left, and a formula has at most one comparison outside its
+-- brackets
 pub data Reading : Level → Type 0 where
   plain : Reading sums → Reading formula
   compared : Reading sums → Cmp → Reading sums → Reading formula
@@ -68,7 +69,7 @@ abbrev pub pick_op : Pick → Op
 pick_op Least = op.Min
 pick_op Greatest = op.Max
 
--- its tree, in which brackets leave no mark
+-- the tree of a derivation, in which brackets leave no mark
 abbrev pub tree : {level : Level} → Reading level → Tree
 tree (plain s) = tree s
 tree (compared a cmp b) = compare cmp (tree a) (tree b)
@@ -85,8 +86,9 @@ tree (absolute a) = abs (tree a)
 tree (picked pick a b) = two (pick_op pick) (tree a) (tree b)
 tree (chosen c a b) = choose (tree c) (tree a) (tree b)
 
--- for each of its tokens, the nesting level that the token opens, or 0 where it opens none. A level is opened by a bracket,
--- until it is closed, and by a sign before an operand, until the operand is complete. `n` levels are open before it
+-- for each token of a derivation, the nesting level that the token opens, or 0 if it opens none. A bracket opens a
+-- level until it is closed. A sign before an operand opens one until the operand is complete. `n` levels are open
+-- before
 abbrev pub opens : {level : Level} → ℕ → Reading level → List ℕ
 opens n (plain s) = opens n s
 opens n (compared a cmp b) = opens n a ++ 0 ∷ opens n b

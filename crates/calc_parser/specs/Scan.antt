@@ -1,5 +1,5 @@
--- What private functions alone cite: what may still come after the tokens so far, as a stack, and where tokens leave
--- it. It is a means of their proofs, and says of no tree how its parts group.
+-- Definitions that only private functions cite: what may still come after the tokens so far, as a stack, and how tokens
+-- change the stack. They serve the proofs alone. They do not say how the parts of a tree group.
 use Rattle.std.specs.Prelude.{◌≡◌, ℕ, ◌+◌, Bool, true, false, nat_le, List, [], ◌∷◌, ◌++◌, Option, None, Some, Result, Ok, Err, if◌then◌else◌}
 use Rattle.calc_parser.specs.declared.token.Sum.TheVariants.{Minus}
 use Rattle.calc_parser.specs.declared.token.Token.{Token}
@@ -12,13 +12,13 @@ use Rattle.calc_parser.specs.Formulas.{deepest, kind_of}
 use Rattle.calc_parser.specs.Grammar.{Level, formula, factor, Reading, words, tree}
 use Rattle.calc_parser.specs.Tree.{Tree}
 
--- the next token, where one is left
+-- the next token, or `End` if none is left
 abbrev pub head : List Token → Token
 head [] = End
 head (token ∷ tokens) = token
 
--- what may come: an operand at a nesting level; what goes on after one, a comparison too or not; the bracket of a call; a
--- quoted name; a comma; a closing bracket
+-- what may come: an operand at a nesting level; what continues after an operand, with a comparison allowed or not; the
+-- bracket of a call; a quoted name; a comma; a closing bracket
 pub data Part : Type 0 where
   operand : ℕ → Part
   more : ℕ → Bool → Part
@@ -34,7 +34,7 @@ Stack = List Part
 abbrev pub whole : ℕ → Stack → Stack
 whole n k = operand n ∷ more n true ∷ k
 
--- the level that a token opens, or 0, and what may come after it; none where the token may not stand there
+-- the level that a token opens, or 0, and what may come after it; `None` if the token may not occur there
 abbrev pub Next : Type 0
 Next = Option (ℕ × Stack)
 
@@ -49,7 +49,7 @@ at_operand n k (Picking pick) = Some (0, bracket n ∷ whole (n + 1) (comma ∷ 
 at_operand n k Choice = Some (0, bracket n ∷ whole (n + 1) (comma ∷ whole (n + 1) (comma ∷ whole (n + 1) (close ∷ k))))
 at_operand n k token = None
 
--- `after` is what the token does where the formula does not go on
+-- `after` is what the token does if it does not continue the formula
 abbrev pub at_more : ℕ → Bool → Stack → Next → Token → Next
 at_more n c k after (Summing sign) = Some (0, operand n ∷ more n c ∷ k)
 at_more n c k after (Multiplying sign) = Some (0, operand n ∷ more n c ∷ k)
@@ -87,7 +87,7 @@ may_end [] = true
 may_end (more n c ∷ k) = may_end k
 may_end k = false
 
--- all may stand; the first of these may not; or it opens a level that is too deep
+-- all tokens may occur; or the first of these may not; or the first of these opens a level that is too deep
 pub data Verdict : Type 0 where
   fine : Verdict
   refused : List Token → Verdict
@@ -101,7 +101,7 @@ abbrev pub scan : Stack → List Token → Verdict
 scan k [] = if may_end k then fine else refused []
 scan k (token ∷ tokens) = judged (step k token) (token ∷ tokens) (λ next. scan next tokens)
 
--- a derivation's tokens stand before the rest, and this is its tree
+-- a derivation's tokens come before the rest, and this is its tree
 pub record SpellsTokens (level : Level) (tokens rest : List Token) (t : Tree) : Type 0 where
   pub reading : Reading level
   pub cut : tokens ≡ words reading ++ rest
@@ -119,7 +119,7 @@ pub record SpellsNext (tokens rest : List Token) (t : Tree) : Type 0 where
   pub cut : tokens ≡ Comma ∷ words reading ++ rest
   pub tree_is : tree reading ≡ t
 
--- an operand's tokens, where this one stands before them, and then the rest
+-- an operand's tokens, the first of which is this one, and then the rest
 pub record SpellsAfter (first : Token) (tokens rest : List Token) (t : Tree) : Type 0 where
   pub reading : Reading factor
   pub cut : first ∷ tokens ≡ words reading ++ rest
@@ -131,7 +131,7 @@ Stops stop.Off all rest = all ≡ refused rest
 Stops stop.Deep all rest = all ≡ deep rest
 Stops stop.WantOfMemory all rest = Unit {0}
 
--- where a call succeeds its tokens leave that verdict, and else they have the one of its refusal
+-- if a call succeeds, what it leaves has the verdict of the whole. Otherwise the whole has the verdict of the refusal
 abbrev pub LeavesVerdict : {A : Type 0} → Result A Stop → Verdict → Verdict → List Token → Type 0
 LeavesVerdict (Ok x) all left rest = all ≡ left
 LeavesVerdict (Err why) all left rest = Stops why all rest
@@ -147,7 +147,7 @@ EndsSums (Multiplying sign ∷ rest) = ⊥
 EndsSums (Summing sign ∷ rest) = ⊥
 EndsSums tokens = Unit {0}
 
--- what is told of a refusal, at its place and before what comes next
+-- the error of a refusal, at its place and before what comes next
 abbrev pub refusal_of : Stop → ℕ → List Token → ParseNo
 refusal_of stop.Off place rest = Syntax place (kind_of rest)
 refusal_of stop.Deep place rest = Deep place

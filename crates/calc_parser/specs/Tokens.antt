@@ -20,7 +20,7 @@ use Rattle.calc_parser.specs.declared.token.Token.TheVariants.{Number, Quoted, M
 abbrev pub Piece : Type 0
 Piece = Token × ℕ
 
--- what is no token takes all the bytes that are left: no token is read after it
+-- bytes that are no token: they take all that is left, so no token is read after them
 abbrev pub ill : SyntaxKind → List ℕ → Piece
 ill why bytes = (Ill why, length bytes)
 
@@ -28,7 +28,7 @@ ill why bytes = (Ill why, length bytes)
 abbrev pub largest_number : ℕ
 largest_number = 10 ^ 18
 
--- the numeral of so many digits
+-- the numeral with so many digits
 abbrev pub numeral_of : ℕ → List ℕ → Piece
 numeral_of n bytes = if nat_le (digits_value (take n bytes)) largest_number then (Number (pos (digits_value (take n bytes))), n)
     else ill kind.Number bytes
@@ -67,7 +67,7 @@ abbrev pub or_ill : Option Token → ℕ → SyntaxKind → List ℕ → Piece
 or_ill None n why bytes = ill why bytes
 or_ill (Some token) n why bytes = (token, n)
 
--- the word of so many letters
+-- the word with so many letters
 abbrev pub word_at : ℕ → List ℕ → Piece
 word_at n bytes = or_ill (word_of (take n bytes)) n kind.Word bytes
 
@@ -83,14 +83,14 @@ abbrev pub quoted_of : Option ℕ → List ℕ → Piece
 quoted_of None bytes = ill kind.Name bytes
 quoted_of (Some n) bytes = or_ill (name_of (take n (drop 1 bytes))) (n + 2) kind.Name bytes
 
--- the comparison that `<` or `>` begins, by the byte after it: the longer one where both can be
+-- the comparison that `<` or `>` begins, by the byte after it. If two are possible, it is the longer one
 abbrev pub less_of : ℕ → Piece
 less_of next = if nat_eq next 61 then (Comparing Le, 2) else if nat_eq next 62 then (Comparing Ne, 2) else (Comparing Lt, 1)
 
 abbrev pub greater_of : ℕ → Piece
 greater_of next = if nat_eq next 61 then (Comparing Ge, 2) else (Comparing Gt, 1)
 
--- any other sign
+-- the token of any other sign
 abbrev pub sign_of : ℕ → Option Token
 sign_of b =
     if nat_eq b 40 then Some Open
@@ -103,7 +103,7 @@ sign_of b =
     else if nat_eq b 37 then Some (Multiplying Modulo)
     else if nat_eq b 61 then Some (Comparing Eq) else None
 
--- the token that bytes begin with, the first of which is no space
+-- the token that bytes begin with. The first byte is no space
 abbrev pub token_at : List ℕ → Piece
 token_at bytes = let b = slice_index bytes 0 in
     if is_ascii_digit b then numeral_of (prefix_len is_ascii_digit bytes) bytes
@@ -118,7 +118,7 @@ pub record Lexeme : Type 0 where
   pub token : Token
   pub place : ℕ
 
--- the tokens of bytes that begin at a place of the text, the first `skip` of which belong to the token before. Spaces mean
+-- the tokens of bytes that begin at a place of the text. The first `skip` bytes belong to the token before. Spaces mean
 -- nothing
 abbrev pub lexemes : ℕ → ℕ → List ℕ → List Lexeme
 lexemes place skip [] = []

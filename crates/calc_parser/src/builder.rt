@@ -1,4 +1,4 @@
-// The trees of larger formulas from those of smaller ones.
+// Building the trees of larger formulas from those of smaller ones.
 
 ghost use Rattle.std.specs.Prelude.{◌≡◌, IfOk, IfErr};
 ghost use Rattle.calc_parser.specs.Grammar.{sum_op, product_op, pick_op};
@@ -11,7 +11,7 @@ use crate::{Cmp, Expr, Op};
 use std::alloc::Global;
 use trend_num::WantOfMemory;
 
-// A tree in a box.
+// Puts a tree into a box.
 fn boxed(alloc: Global, e: Expr) -> Result<Box<Expr>, WantOfMemory>
     ensures { IfOk result (λ b. b.value ≡ e) }
 {

@@ -12,16 +12,17 @@ use crate::token::{Lexed, Token};
 use crate::{Expr, ParseNo, SyntaxKind};
 use std::alloc::Global;
 
-// The most bytes of a formula.
+// How many bytes a formula may have.
 const MAX_BYTES: usize = 1024;
 
-/// The tree of a formula, or why the text is none. A place that is told is that of the first token that is refused.
+/// Returns the tree of a formula, or why the text has none. A place in an error is the first byte of the refused token,
+/// counted from the text's start.
 pub fn parse(alloc: Global, text: &str) -> Result<Expr, ParseNo>
-    // A tree is the text's, which is short and shallow enough.
+    // A returned tree is that of the text, which is short and shallow enough.
     ensures tree { IfOk result (λ e. IsFormula text.now (tree_of e)) }
-    // Such a text's tree is given, unless no memory is found.
+    // The tree of such a text is returned, unless no memory is found.
     ensures only { (t : Tree) → IsFormula text.now t → Gives result t }
-    // A text that is too long is told as such, whatever memory there is.
+    // A text that is too long is refused as `Long`, whether there is memory or not.
     ensures long { most_bytes < length text.now → result ≡ Err (Long (length text.now)) }
     // What each refusal means.
     ensures refused { IfErr result (HasFormulaCause text.now) }
@@ -40,7 +41,7 @@ pub fn parse(alloc: Global, text: &str) -> Result<Expr, ParseNo>
     }
 }
 
-// The refusal at the token before which so many are left, of a text of `end` bytes.
+// Returns the refusal at the first of the `left` last tokens, of a text of `end` bytes.
 fn refusal(stop: Stop, lexed: &Lexed, left: usize, end: usize) -> ParseNo
     requires { end ≤ 1024 }
     ensures { let tokens = lexed.now.tokens.items in let i = length tokens - left in

@@ -1,4 +1,4 @@
-// What holds of all texts.
+// What holds of all texts. The body is empty: the law is a contract.
 
 ghost use Rattle.std.specs.Prelude.{◌≡◌, ℕ, List};
 ghost use Rattle.calc_parser.specs.Formulas.{IsTree};

@@ -14,7 +14,7 @@ use trend_num::{Measure, WantOfMemory, name_from};
 // The greatest number of a numeral.
 const MAX_NUMBER: u64 = 1_000_000_000_000_000_000;
 
-// The tokens of a text, up to its end or to the first that is ill formed, with that one.
+// Returns the tokens of a text, up to its end, or up to and with the first ill-formed one.
 pub(crate) fn lexed(alloc: Global, text: &[u8]) -> Result<Lexed, WantOfMemory>
     requires { length text.now ≤ 1024 }
     ensures tokens { IfOk result (λ l. l.tokens.items ≡ tokens_of text.now) }
@@ -34,7 +34,7 @@ pub(crate) fn lexed(alloc: Global, text: &[u8]) -> Result<Lexed, WantOfMemory>
     Ok(lexed)
 }
 
-// The token that a text begins with, and how many bytes it takes.
+// Returns the token that a text begins with, and how many bytes it takes.
 fn token_at(text: &[u8]) -> (Token, usize)
     requires { 0 < length text.now }
     ensures piece { result ≡ token_at text.now }
@@ -55,7 +55,7 @@ fn token_at(text: &[u8]) -> (Token, usize)
     }
 }
 
-// The numeral that a text begins with, all of its digits.
+// Returns the numeral that a text begins with, with all of its digits.
 fn numeral_at(text: &[u8]) -> (Token, usize)
     requires { 0 < prefix_len is_ascii_digit text.now }
     ensures piece { result ≡ numeral_of (prefix_len is_ascii_digit text.now) text.now }
@@ -79,7 +79,7 @@ fn digits_len(text: &[u8]) -> usize
     text.iter().take_while(|b| b.is_ascii_digit()).count()
 }
 
-// The number that digits spell, or one above the greatest where it is above it.
+// Returns the number that digits spell. A number above the greatest one counts as one above it.
 fn capped_value(digits: &[u8]) -> u64
     requires { list_all is_ascii_digit digits.now ≡ true }
     ensures { result ≡ min (digits_value digits.now) (MAX_NUMBER + 1) }
@@ -91,7 +91,7 @@ fn capped_value(digits: &[u8]) -> u64
     n
 }
 
-// The word that a text begins with, all of its letters.
+// Returns the word that a text begins with, with all of its letters.
 fn word_at(text: &[u8]) -> (Token, usize)
     requires { 0 < prefix_len is_letter text.now }
     ensures piece { result ≡ word_at (prefix_len is_letter text.now) text.now }
@@ -113,7 +113,7 @@ fn letters_len(text: &[u8]) -> usize
     text.iter().take_while(|b| b.is_ascii_lowercase()).count()
 }
 
-// The token of a word of the language.
+// Returns the token of a word of the language, or `None` for any other word.
 fn word_of(word: &[u8]) -> Option<Token>
     ensures { result ≡ word_of word.now }
 {
@@ -123,7 +123,7 @@ fn word_of(word: &[u8]) -> Option<Token>
     }
 }
 
-// The measure that a word names.
+// Returns the measure that a word names, if it names one.
 fn measure_of(word: &[u8]) -> Option<Measure>
     ensures { result ≡ measure_word_of word.now }
 {
@@ -146,7 +146,7 @@ fn measure_of(word: &[u8]) -> Option<Measure>
     }
 }
 
-// The token of a word that names no measure.
+// Returns the token of a word that names no measure, if the language has the word.
 fn other_word(word: &[u8]) -> Option<Token>
     ensures { result ≡ other_word word.now }
 {
@@ -165,7 +165,7 @@ fn other_word(word: &[u8]) -> Option<Token>
     }
 }
 
-// The quoted name that a text begins with.
+// Returns the quoted name that a text begins with.
 fn quoted_at(text: &[u8]) -> (Token, usize)
     requires { 0 < length text.now }
     ensures piece { result ≡ quoted_of (position (λ c. nat_eq c 39) (drop 1 text.now)) text.now }
@@ -182,7 +182,7 @@ fn quoted_at(text: &[u8]) -> (Token, usize)
     }
 }
 
-// Where the next quote stands.
+// Returns the place of the next quote.
 fn find_quote(text: &[u8]) -> Option<usize>
     ensures place { result ≡ position (λ c. nat_eq c 39) text.now }
     ensures within { IfSome result (λ end. end < length text.now) }
@@ -190,7 +190,7 @@ fn find_quote(text: &[u8]) -> Option<usize>
     text.iter().position(|b| *b == b'\'')
 }
 
-// The token of a name, or none where the bytes are no name.
+// Returns the token of a name, or `None` if the bytes are no name.
 fn name_of(bytes: &[u8]) -> Option<Token>
     ensures { result ≡ name_of bytes.now }
 {
@@ -200,7 +200,7 @@ fn name_of(bytes: &[u8]) -> Option<Token>
     }
 }
 
-// The comparison that `<` begins, by the byte after it.
+// Returns the comparison that `<` begins, by the byte after it, and how many bytes it takes.
 fn less_of(next: u8) -> (Token, usize)
     ensures { result ≡ less_of next }
 {
@@ -211,7 +211,7 @@ fn less_of(next: u8) -> (Token, usize)
     }
 }
 
-// The comparison that `>` begins, by the byte after it.
+// Returns the comparison that `>` begins, by the byte after it, and how many bytes it takes.
 fn greater_of(next: u8) -> (Token, usize)
     ensures { result ≡ greater_of next }
 {
@@ -221,7 +221,7 @@ fn greater_of(next: u8) -> (Token, usize)
     }
 }
 
-// The token of any other sign.
+// Returns the token of any other sign.
 fn sign_of(b: u8) -> Option<Token>
     ensures { result ≡ sign_of b }
 {

@@ -1,9 +1,10 @@
 //! The calculation language: from a text to its tree, and from a tree to its canonical text.
 //!
-//! Its model is a grammar of derivations in `specs/`, apart from any parser: a text is a formula where it has the
-//! tokens of one, and the derivation tells the tree. `parse` gives that tree, or the first token that decides
-//! against the text: one that is ill formed, that follows the tokens before it in no formula, or that nests too
-//! deep. What `print` writes of a formula's tree is a formula again, with the same tree.
+//! The model is a grammar of derivations in `specs/`, independent of any parser. A text is a formula if its tokens are
+//! those of a derivation, and the derivation gives the tree. `parse` returns that tree, or reports the first token that
+//! decides against the text. Such a token is ill formed, or follows the tokens before it in no formula, or nests too
+//! deep. `print` writes the canonical text of a tree. If the tree is that of a formula, this text is again a formula,
+//! with the same tree.
 #![tactic(auto)]
 
 mod builder;

@@ -19,9 +19,9 @@ const DEEPEST: u32 = 32;
 // Why no tree is read.
 #[derive(Clone, Copy, Debug, PartialEq, Eq)]
 pub(crate) enum Stop {
-    /// The token cannot stand there.
+    /// The token cannot occur at its place.
     Off,
-    /// It opens a level that is too deep.
+    /// The token opens a level that is too deep.
     Deep,
     /// No memory was found.
     WantOfMemory,
@@ -38,7 +38,7 @@ impl From<WantOfMemory> for Stop {
     }
 }
 
-// The tokens that are left. A method that refuses one of them stays at it.
+// A parser: the tokens that are left. A method that refuses a token stays at it.
 #[derive(Drop)]
 pub(crate) struct Parser<'t> {
     alloc: Global,
@@ -62,7 +62,7 @@ impl<'t> Parser<'t> {
         self.rest.len()
     }
 
-    // The next token, or that none is left.
+    // Returns the next token, or `End` if none is left.
     fn peek(&self) -> Token
         ensures { result ≡ head self.now.rest.now }
     {
@@ -72,7 +72,7 @@ impl<'t> Parser<'t> {
         }
     }
 
-    // Passes over the next token.
+    // Skips the next token.
     fn advance(&mut self)
         requires { 0 < length self.old.rest.now }
         ensures { self.new.rest.now ≡ drop 1 self.old.rest.now }
@@ -80,7 +80,7 @@ impl<'t> Parser<'t> {
         self.rest = &self.rest[1..];
     }
 
-    // A whole formula, with nothing after it.
+    // Reads a whole formula, with nothing after it.
     pub(crate) fn all(&mut self) -> Result<Expr, Stop>
         ensures parsed { IfOk result (λ e. SpellsTokens formula self.old.rest.now [] (tree_of e)) }
         ensures follows { LeavesVerdict result (scan (whole 0 []) self.old.rest.now) fine self.new.rest.now }
@@ -93,7 +93,7 @@ impl<'t> Parser<'t> {
         }
     }
 
-    // A formula: a sum, or a comparison of two.
+    // Reads a formula: a sum, or a comparison of two.
     #[cycle(parser)]
     fn formula(&mut self, level: u32) -> Result<Expr, Stop>
         requires { level ≤ deepest }
@@ -111,7 +111,7 @@ impl<'t> Parser<'t> {
         }
     }
 
-    // Terms with `+` or `-` between them.
+    // Reads terms with `+` or `-` between them.
     #[cycle(parser)]
     fn sum(&mut self, level: u32) -> Result<Expr, Stop>
         requires { level ≤ deepest }
@@ -130,7 +130,7 @@ impl<'t> Parser<'t> {
         Ok(sum)
     }
 
-    // Factors with `*`, `/` or `%` between them.
+    // Reads factors with `*`, `/` or `%` between them.
     #[cycle(parser)]
     fn term(&mut self, level: u32) -> Result<Expr, Stop>
         requires { level ≤ deepest }
@@ -149,7 +149,7 @@ impl<'t> Parser<'t> {
         Ok(term)
     }
 
-    // An operand, with or without a sign before it.
+    // Reads an operand, with or without a sign before it.
     #[cycle(parser)]
     fn factor(&mut self, level: u32) -> Result<Expr, Stop>
         requires { level ≤ deepest }
@@ -191,7 +191,7 @@ impl<'t> Parser<'t> {
         }
     }
 
-    // A sign that is next, and the operand after it.
+    // Reads the next token, which is a sign, and the operand after it.
     #[cycle(parser)]
     fn signed(&mut self, sign: Sum, level: u32) -> Result<Expr, Stop>
         requires level { level ≤ deepest }
@@ -213,7 +213,7 @@ impl<'t> Parser<'t> {
         }
     }
 
-    // A formula in brackets.
+    // Reads a formula in brackets.
     #[cycle(parser)]
     fn bracketed(&mut self, level: u32) -> Result<Expr, Stop>
         requires { level ≤ deepest }
@@ -226,7 +226,7 @@ impl<'t> Parser<'t> {
         Ok(inner)
     }
 
-    // Two formulas in brackets, of which a word picks one.
+    // Reads two formulas in brackets. A word before them picks one of the two values.
     #[cycle(parser)]
     fn picked(&mut self, pick: Pick, level: u32) -> Result<Expr, Stop>
         requires { level ≤ deepest }
@@ -241,7 +241,7 @@ impl<'t> Parser<'t> {
         two(self.alloc, pick_op(pick), a, b)
     }
 
-    // Three formulas in brackets: a condition, and two of which it chooses one.
+    // Reads three formulas in brackets: a condition, and the two that it chooses from.
     #[cycle(parser)]
     fn chosen(&mut self, level: u32) -> Result<Expr, Stop>
         requires { level ≤ deepest }
@@ -257,7 +257,7 @@ impl<'t> Parser<'t> {
         chosen(self.alloc, condition, a, b)
     }
 
-    // An opening bracket, and the formula after it.
+    // Reads an opening bracket, and the formula after it.
     #[cycle(parser)]
     fn first(&mut self, level: u32) -> Result<Expr, Stop>
         requires { level ≤ deepest }
@@ -270,7 +270,7 @@ impl<'t> Parser<'t> {
         self.formula(level + 1)
     }
 
-    // A comma, and the formula after it.
+    // Reads a comma, and the formula after it.
     #[cycle(parser)]
     fn next(&mut self, level: u32) -> Result<Expr, Stop>
         requires { level < deepest }
@@ -282,7 +282,7 @@ impl<'t> Parser<'t> {
         self.formula(level + 1)
     }
 
-    // A quoted name in brackets.
+    // Reads a quoted name in brackets.
     fn named(&mut self, level: u32) -> Result<Name, Stop>
         requires { level ≤ deepest }
         ensures parsed { IfOk result (λ n. self.old.rest.now ≡ Open ∷ Quoted n ∷ Close ∷ self.new.rest.now) }
@@ -295,7 +295,7 @@ impl<'t> Parser<'t> {
         Ok(name)
     }
 
-    // An opening bracket, which opens the next level.
+    // Reads an opening bracket, which opens the next level.
     fn open(&mut self, level: u32) -> Result<(), Stop>
         requires { level ≤ deepest }
         ensures parsed { OnOk result (self.old.rest.now ≡ Open ∷ self.new.rest.now) }
@@ -315,7 +315,7 @@ impl<'t> Parser<'t> {
         }
     }
 
-    // A closing bracket.
+    // Reads a closing bracket.
     fn close(&mut self) -> Result<(), Stop>
         ensures parsed { OnOk result (self.old.rest.now ≡ Close ∷ self.new.rest.now) }
         ensures follows { (k : Stack) → LeavesVerdict result (scan (close ∷ k) self.old.rest.now)
@@ -330,7 +330,7 @@ impl<'t> Parser<'t> {
         }
     }
 
-    // A comma.
+    // Reads a comma.
     fn comma(&mut self) -> Result<(), Stop>
         ensures parsed { OnOk result (self.old.rest.now ≡ Comma ∷ self.new.rest.now) }
         ensures follows { (k : Stack) → LeavesVerdict result (scan (comma ∷ k) self.old.rest.now)
@@ -345,7 +345,7 @@ impl<'t> Parser<'t> {
         }
     }
 
-    // A quoted name.
+    // Reads a quoted name.
     fn quoted(&mut self) -> Result<Name, Stop>
         ensures parsed { IfOk result (λ n. self.old.rest.now ≡ Quoted n ∷ self.new.rest.now) }
         ensures follows { (k : Stack) → LeavesVerdict result (scan (name ∷ k) self.old.rest.now)

@@ -10,10 +10,12 @@ use crate::{Cmp, Expr, Op};
 use std::alloc::{AllocError, Global};
 use trend_num::{Measure, Name, WantOfMemory};
 
-/// The canonical text of a tree: no spaces, and brackets only where its reading needs them.
+/// Returns the canonical text of a tree: no spaces, and brackets only where the reading needs them. The only error is
+/// want of memory.
 pub fn print(alloc: Global, e: &Expr) -> Result<String, WantOfMemory>
     ensures canonical { IfOk result (λ s. string_bytes s ≡ text_of (tree_of e.now)) }
-    // The tree of a formula, as each that `parse` gives, is read back: it is the tree of what is printed.
+    // If the tree is that of a formula, as each tree that `parse` returns, what is printed is a formula with the same
+    // tree.
     ensures again { IfOk result (λ s. (text : List ℕ) → IsFormula text (tree_of e.now)
         → IsFormula (string_bytes s) (tree_of e.now)) }
 {
@@ -22,7 +24,7 @@ pub fn print(alloc: Global, e: &Expr) -> Result<String, WantOfMemory>
     Ok(text)
 }
 
-// Puts a tree's text behind a text.
+// Appends a tree's text.
 #[cycle(printer)]
 fn put(text: &mut String, e: &Expr) -> Result<(), AllocError>
     ensures { OnOk result (string_bytes text.new ≡ string_bytes text.old ++ text_of (tree_of e.now)) }
@@ -65,7 +67,7 @@ fn put(text: &mut String, e: &Expr) -> Result<(), AllocError>
     }
 }
 
-// The same, in brackets where the tree holds together less tightly than is needed.
+// Appends the same, in brackets if the tree holds together less tightly than is needed.
 #[cycle(printer)]
 fn put_fit(text: &mut String, need: u8, e: &Expr) -> Result<(), AllocError>
     ensures { OnOk result (string_bytes text.new
@@ -80,7 +82,7 @@ fn put_fit(text: &mut String, need: u8, e: &Expr) -> Result<(), AllocError>
     }
 }
 
-// Puts `before`, and then the tree's text, behind a text.
+// Appends `before`, and then the tree's text.
 #[cycle(printer)]
 fn put_after(text: &mut String, before: &str, e: &Expr) -> Result<(), AllocError>
     ensures { OnOk result (string_bytes text.new ≡ string_bytes text.old ++ (before.now ++ text_of (tree_of e.now))) }
@@ -89,7 +91,7 @@ fn put_after(text: &mut String, before: &str, e: &Expr) -> Result<(), AllocError
     put(text, e)
 }
 
-// A word, and a quoted name in brackets.
+// Appends a word, and a quoted name in brackets.
 fn put_name(text: &mut String, word: &str, name: &Name) -> Result<(), AllocError>
     ensures { OnOk result (string_bytes text.new
         ≡ string_bytes text.old ++ (word.now ++ (codes "('" ++ (name.now ++ codes "')")))) }
@@ -100,7 +102,7 @@ fn put_name(text: &mut String, word: &str, name: &Name) -> Result<(), AllocError
     text.push_str("')")
 }
 
-// The bytes of a name.
+// Appends the bytes of a name.
 fn put_bytes(text: &mut String, name: &[u8]) -> Result<(), AllocError>
     requires { IsName name.now }
     ensures { OnOk result (string_bytes text.new ≡ string_bytes text.old ++ name.now) }
@@ -111,8 +113,8 @@ fn put_bytes(text: &mut String, name: &[u8]) -> Result<(), AllocError>
     Ok(())
 }
 
-// How tightly a tree's outermost part holds together: a comparison 1, a sum 2, a term 3, a sign before an operand 4, and
-// all else 5.
+// Returns how tightly a tree's outermost part holds together: a comparison 1, a sum 2, a term 3, a sign before an
+// operand 4, and all else 5.
 fn binds(e: &Expr) -> u8
     ensures { result ≡ binds (tree_of e.now) }
 {

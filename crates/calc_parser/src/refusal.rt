@@ -13,22 +13,22 @@ pub enum SyntaxKind {
     Number,
     /// A `'` that begins no quoted name.
     Name,
-    /// A word that is none of the language.
+    /// A word that the language does not have.
     Word,
-    /// A token that cannot stand there.
+    /// A token that cannot occur at its place.
     Token,
-    /// The end of the text, where the formula is not complete.
+    /// The text ends before the formula is complete.
     End,
 }
 
-/// Why a text has no tree. Places are bytes from the text's start.
+/// Why a text has no tree. `at` is a byte, counted from the text's start.
 #[derive(Clone, Copy, Debug, PartialEq, Eq)]
 pub enum ParseNo {
-    /// It has more than 1,024 bytes: so many.
+    /// The text has more than 1,024 bytes. `len` is how many it has.
     Long { len: u64 },
-    /// The first token that is refused would open nesting level 33.
+    /// The first refused token would open nesting level 33.
     Deep { at: u32 },
-    /// The first token that is refused is ill formed, or follows the tokens before it in no formula.
+    /// The first refused token is ill formed, or follows the tokens before it in no formula; or the text ends too soon.
     Syntax { at: u32, kind: SyntaxKind },
     /// No memory was found.
     WantOfMemory,

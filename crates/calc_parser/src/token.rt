@@ -6,7 +6,7 @@ use crate::{Cmp, SyntaxKind};
 use std::alloc::Global;
 use trend_num::{Measure, Name, WantOfMemory};
 
-// A sign between terms. `-` also stands before an operand.
+// A sign between terms. `-` may also come before an operand.
 #[derive(Clone, Copy, Debug, PartialEq, Eq)]
 pub(crate) enum Sum {
     Plus,
@@ -51,7 +51,7 @@ pub(crate) enum Token {
     Summing(Sum),
     Multiplying(Product),
     Comparing(Cmp),
-    /// What is no token, and why.
+    /// Bytes that are no token, and why.
     Ill(SyntaxKind),
     /// No token: nothing is left.
     End,
@@ -75,7 +75,7 @@ impl Lexed {
         }
     }
 
-    // One more token, and the byte at which it begins.
+    // Adds one more token, and the byte at which it begins.
     pub(crate) fn push(&mut self, token: Token, place: u32) -> Result<(), WantOfMemory>
         ensures tokens { OnOk result (self.new.tokens.items ≡ self.old.tokens.items ++ token ∷ []) }
         ensures places { OnOk result (self.new.places.items ≡ self.old.places.items ++ place ∷ []) }

@@ -21,7 +21,7 @@ pub enum Op {
     Mul,
     /// The floor of the quotient.
     Div,
-    /// What the floor of the quotient leaves.
+    /// The dividend less the divisor times the floor of the quotient.
     Rem,
     Min,
     Max,
@@ -40,6 +40,6 @@ pub enum Expr {
     Abs(Box<Expr>),
     Two(Op, Box<Expr>, Box<Expr>),
     Compare(Cmp, Box<Expr>, Box<Expr>),
-    /// The second where the first is not 0, else the third.
+    /// The value of the second formula if that of the first is not 0, and otherwise the value of the third.
     If(Box<Expr>, Box<Expr>, Box<Expr>),
 }

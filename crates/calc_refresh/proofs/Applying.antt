@@ -40,7 +40,7 @@ cells_fit a b first second =
     let two : a * 64 ≤ last_time * 64 = omega arith in
     omega arith
 
--- what is not told was not reached
+-- a limit that is not reported was not reached
 pub limits_hold : (cells records : ℕ) → limit_fault cells records ≡ None → (cells ≤ most_cells) × (records ≤ most_copies)
 limits_hold cells records none =
     elim (cases_lt most_cells cells) [

@@ -18,7 +18,7 @@ use Rattle.sheet_law.specs.Windows.{complete_windows}
 use Rattle.sheet_law.specs.Scratch.{IsScratch}
 use Rattle.calc_refresh.specs.Refreshed.{IsRefreshToldOf, shape_fault}
 
--- where no row is told each has its length
+-- where no row is reported each has its length
 pub shapes_hold : (windows : ℕ) (rows : List (List CalcValue)) → shape_fault windows rows ≡ None
     → All (λ row. length row ≡ windows) rows
 shapes_hold windows [] none = All-nil (λ row. length row ≡ windows)
@@ -49,7 +49,7 @@ empty_is_scratch g w n = record {
   values = λ k within. absurd (omega (arith, none_complete w n, within));
 }
 
--- a value stands in a row exactly at a calculation and a complete window
+-- a value is in a row exactly at a calculation and a complete window
 pub row_there : (rows : List (List CalcValue)) (calcs n i k : ℕ) (o : Option CalcValue)
     → o ≡ option_and_then (λ row. slice_get row k) (slice_get rows i) → length rows ≡ calcs
     → All (λ row. length row ≡ n) rows → IsSome o ↔ ((i < calcs) × (k < n))
@@ -82,7 +82,7 @@ few_by (v ∷ rows) n bound some long short =
     let few = All-head (λ row. vec_len row < bound) v rows short in
     omega (arith, is, few)
 
--- a fault that is there is what is told
+-- a fault that is there is what is reported
 pub told_of : (o : Option SheetNo) (why : SheetNo) → o ≡ Some why → IsRefreshToldOf o why
 told_of o (Shape windows rows) is = is
 told_of o (CellLimit cells) is = is

@@ -1,4 +1,4 @@
--- Columns of rows: what stands in each row at one place.
+-- Columns of rows: what each row has at one place.
 use Rattle.std.proofs.Common.{◌≡◌, ◌≢◌, ℕ, zero, suc, ◌+◌, ◌<◌, ◌≤◌, List, [], ◌∷◌, ◌++◌, Some, length, get_or, map, take, set, fold, All, refl, sym, ap, ◌∙◌, arith}
 use Rattle.std.specs.Prelude.{slice_get, Vec, vec_len}
 use Rattle.std.specs.declared.alloc.Global.{Global}
@@ -12,7 +12,7 @@ use Rattle.trend_num.specs.declared.value.CalcValue.{CalcValue}
 use Rattle.sheet_law.specs.Scratch.{column}
 use Rattle.calc_refresh.specs.Lists.{lists_of}
 
--- what stands at a place that was written, and at another one
+-- what is at a place that was written, and at another one
 pub get-set_same : {A : Type 0} → (xs : List A) (i : ℕ) (x : A) → i < length xs → slice_get (set xs i x) i ≡ Some x
 get-set_same [] i x within = absurd (omega arith)
 get-set_same (y ∷ xs) zero x within = refl
@@ -26,7 +26,7 @@ get-set_other (y ∷ xs) zero (suc j) x other = refl
 get-set_other (y ∷ xs) (suc i) zero x other = refl
 get-set_other (y ∷ xs) (suc i) (suc j) x other = get-set_other xs i j x (λ same. other (ap suc same))
 
--- what stands in a list that was made longer
+-- what is in a list that was made longer
 pub get-longer : {A : Type 0} → (xs ys : List A) (n k : ℕ) → k < length xs → k < n
     → slice_get (take n xs ++ ys) k ≡ slice_get xs k
 get-longer [] ys n k within below = absurd (omega arith)

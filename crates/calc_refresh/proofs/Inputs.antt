@@ -71,7 +71,7 @@ pub total-push : {A : Type 0} → (xss : List (List A)) (xs : List A)
 total-push [] xs = omega arith
 total-push (ys ∷ xss) xs = (let rest = total-push xss xs in omega arith)
 
--- ---- what stands at one place in lists that go side by side
+-- ---- what is at one place in lists that go side by side
 
 same_length : {A B C : Type 0} (f : A → C) (g : B → C) (xs : List A) (ys : List B) → map f xs ≡ map g ys
     → length xs ≡ length ys

@@ -43,7 +43,7 @@ marks_span ms i b c k within is =
     seen : (k i b f : ℕ) → i ≤ k → nat_lt k (max f b) ≡ (nat_lt k f || (nat_le i k && nat_lt k b))
     seen k i b f after = grind (arith, nat_tests)
 
--- a span that begins behind all windows marks none
+-- a span that begins after all windows marks none
 pub marks_none : (ms : List ℕ) (i b k : ℕ) → length ms ≤ i → k < length ms
     → is_marked ms k ≡ (is_marked ms k || (nat_le i k && nat_lt k b))
 marks_none ms i b k behind within = unseen k i b (furthest (take (k + 1) ms)) (omega arith)
@@ -63,7 +63,7 @@ unmarked n k = none (k + 1) n
     none : (m n : ℕ) → nat_lt k (furthest (take m (replicate n 0))) ≡ false
     none m n = (let zero_is = furthest-zeros m n in grind (arith, nat_tests))
 
--- whether the last mark reaches beyond a window tells whether it is marked
+-- a window is marked exactly if the last mark reaches beyond it
 pub marked_now : (ms : List ℕ) (k b : ℕ) → b ≡ furthest (take (k + 1) ms) → k < b → is_marked ms k ≡ true
 marked_now ms k b is below = lt-ltb k (furthest (take (k + 1) ms)) (omega arith)
 

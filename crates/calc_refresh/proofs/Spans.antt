@@ -54,7 +54,7 @@ last_met w hi k some =
     below : (a b : ℕ) → nat_lt a b ≡ nat_le (a + 1) b
     below a b = grind (arith, nat_tests)
 
--- the windows that meet a stretch stand one after another
+-- the windows that meet a stretch lie one after another
 pub met_are : (w : Grid) (lo hi k first behind : ℕ) → 0 < w.period → first ≡ (lo - w.start - 1) / w.period
     → behind ≡ (hi + w.period - w.start) / w.period
     → (nat_le first k && nat_lt k behind) ≡ (nat_le lo (window_to w k) && nat_le (window_from w k) hi)
@@ -82,7 +82,7 @@ not_above t m d (x ∷ l) low each =
       | inr after ↦ rw (le-ltb (time x) t after) (not_above t m d l low rest)
     ]
 
--- nor where m is one of the times, whatever stood there
+-- nor where m is one of the times, whatever was there
 no_later : (t m d : ℕ) (l : List Rec) → IsAmong m (times_of l) → m < t → All (λ r. time r < t → time r ≤ m) l
     → last_or d (filter (λ n. nat_lt n t) (times_of l)) ≤ m
 no_later t m d [] in_it before each = absurd in_it

@@ -49,7 +49,7 @@ newest-is r (x ∷ rs) =
     by_kind true a n = refl
     by_kind false a n = grind (arith, nat_tests)
 
--- a Kept record touches every window where the Kept ones end behind its time, and else none
+-- a Kept record touches every window where the Kept ones end after its time, and else none
 pub kept-touches : (rs : List Rec) (r : Rec) (end from to : ℕ) → r.kind ≡ Kept → end ≡ kept_end rs
     → touches rs r from to ≡ nat_lt r.point.t end
 kept-touches rs r end from to is end_is =
@@ -75,7 +75,7 @@ older_touches_all rs r end from to k far is end_is older below =
     by_test : (k far t e : ℕ) → k < far → t < e → (nat_le 0 k && nat_lt k far) ≡ nat_lt t e
     by_test k far t e h g = grind (arith, nat_tests)
 
--- one record more is looked at behind the others
+-- one more record comes after the others
 pub is_touched-push : (rs more : List Rec) (r : Rec) (from to : ℕ)
     → is_touched rs (more ++ r ∷ []) from to ≡ (is_touched rs more from to || touches (rs ++ more) r from to)
 is_touched-push rs [] r from to =

@@ -1,4 +1,4 @@
--- What more records make of a sheet, and when it is refused.
+-- What more records do to a sheet, and when the sheet refuses them.
 use Rattle.std.specs.Prelude.{◌≡◌, ℕ, ◌+◌, ◌-◌, ◌*◌, ◌^◌, ◌<◌, ◌≤◌, min, false, not, ◌==◌, List, length, map, find, Option, None, Some, nat_lt, if◌then◌else◌, All, Vec, vec_len, vec_capacity, slice_index_or}
 use Rattle.std.specs.Option.{option_map}
 use Rattle.std.specs.declared.alloc.Global.{Global}
@@ -22,15 +22,15 @@ most_cells = 1048576
 abbrev pub most_copies : ℕ
 most_copies = 2097152
 
--- a sheet as it is when it is made
+-- a sheet that has just been made: nothing is evaluated yet
 abbrev pub fresh : Group → Grid → List (List Rec) → List (List CalcValue) → SheetState
 fresh g w copies rows = record { group = g; grid = w; copies = copies; rows = rows; evals = 0 }
 
--- what is told of saved rows: the first of them that has not one value for each of so many windows
+-- the fault of saved rows: the first row that has not one value for each of so many windows
 abbrev pub shape_fault : ℕ → List (List CalcValue) → Option SheetNo
 shape_fault windows rows = option_map (Shape windows) (find (λ n. not (n == windows)) (map length rows))
 
--- what is told of so many cells and copied records: cells come first
+-- the fault of so many cells and copied records. The limit of cells comes first
 abbrev pub limit_fault : ℕ → ℕ → Option SheetNo
 limit_fault cells records =
     if nat_lt most_cells cells then Some (CellLimit cells)
@@ -40,28 +40,28 @@ limit_fault cells records =
 abbrev pub cells_after : SheetState → List (List Rec) → ℕ
 cells_after s mores = complete_windows s.grid (longer s.copies mores) * length s.group.calcs
 
--- what is told where a sheet cannot take more records
+-- why a sheet cannot take more records, if it cannot
 abbrev pub fault_after : SheetState → List (List Rec) → Option SheetNo
 fault_after s mores = limit_fault (cells_after s mores) (total_length (longer s.copies mores))
 
--- a fault is what decides; want of memory may come at any time
+-- a fault decides the refusal. Want of memory may come at any time
 abbrev pub IsRefreshToldOf : Option SheetNo → SheetNo → Type 0
 IsRefreshToldOf fault (Shape windows rows) = fault ≡ Some (Shape windows rows)
 IsRefreshToldOf fault (CellLimit cells) = fault ≡ Some (CellLimit cells)
 IsRefreshToldOf fault (CopyLimit records) = fault ≡ Some (CopyLimit records)
 IsRefreshToldOf fault WantOfMemory = Unit {0}
 
--- how many values more records make a sheet evaluate: that of each calculation in each window that is due
+-- how many values more records make a sheet evaluate: one for each calculation in each window that is due
 abbrev pub evaluated : SheetState → List (List Rec) → ℕ
 evaluated s mores =
     due_below s.grid s.copies mores (complete_windows s.grid (longer s.copies mores)) * length s.group.calcs
 
--- t is the sheet s with these records more
+-- t is the sheet s with these additional records
 pub record IsRefreshed (s t : SheetState) (mores : List (List Rec)) : Type 0 where
   pub group : t.group ≡ s.group
   pub grid : t.grid ≡ s.grid
   pub copies : t.copies ≡ longer s.copies mores
-  -- rows from scratch stay so
+  -- rows that were from scratch are still so
   pub scratch : IsScratch s.group s.grid s.copies s.rows → IsScratch t.group t.grid t.copies t.rows
   -- a window that was complete and is not touched keeps its values
   pub others : (k : ℕ) → k < complete_windows s.grid s.copies
@@ -69,7 +69,7 @@ pub record IsRefreshed (s t : SheetState) (mores : List (List Rec)) : Type 0 whe
       → column k t.rows ≡ column k s.rows
   pub evals : t.evals ≡ min (s.evals + evaluated s mores) (2 ^ 64 - 1)
 
--- rows and copies of a group with these records more, for which so many windows were due
+-- rows and copies of a group with these additional records, for which so many windows were due
 pub record IsSheetAfter (g : Group) (w : Grid) (copies : List (List Rec)) (rows : List (List CalcValue))
     (copies_after : List (List Rec)) (rows_after : List (List CalcValue)) (mores : List (List Rec)) (due : ℕ) : Type 0 where
   pub copied : copies_after ≡ longer copies mores

@@ -1,4 +1,4 @@
--- What a sheet is seen as, and what it keeps.
+-- What a clause sees of a sheet, and what a sheet keeps.
 use Rattle.std.specs.Prelude.{◌≡◌, ℕ, ◌^◌, ◌<◌, ◌≤◌, List, length, map, All}
 use Rattle.trend_num.specs.declared.archive.Rec.{Rec}
 use Rattle.trend_num.specs.declared.value.CalcValue.{CalcValue}
@@ -17,7 +17,7 @@ pub record SheetState : Type 0 where
   pub rows : List (List CalcValue)
   pub evals : ℕ
 
--- the grid of windows that start there and are so long
+-- the grid whose first window starts at `start`, and whose windows are `period` milliseconds long
 abbrev pub grid_of : ℕ → ℕ → Grid
 grid_of start period = record { start = start; period = period }
 
@@ -27,7 +27,7 @@ pub record IsGrid (w : Grid) : Type 0 where
   pub some : 1 ≤ w.period
   pub bound : w.period ≤ 10 ^ 12
 
--- so many inputs and calculations as a group may have
+-- a group may have so many inputs and calculations
 pub record IsGroup (inputs : ℕ) (g : Group) : Type 0 where
   pub named : length g.inputs ≡ inputs
   pub some_inputs : 1 ≤ inputs
@@ -40,8 +40,8 @@ pub record IsCopy (rs : List Rec) : Type 0 where
   pub short : length rs < 2 ^ 32
   pub range : All (λ r. InRange r.point) rs
 
--- what a sheet keeps: of each input its content and the end of its Kept records, and rows as long as there are
--- complete windows
+-- what a sheet keeps: the content of each input and the end of its Kept records, and rows as long as there are complete
+-- windows
 pub record IsSheet (g : Group) (w : Grid) (copies : List (List Rec)) (contents : List ContentState)
     (ends : List ℕ) (rows : List (List CalcValue)) : Type 0 where
   pub group : IsGroup (length copies) g

@@ -1,12 +1,12 @@
-// The definition of a group, as its sheet is handed it.
+// The definition of a group, as its sheet gets it.
 ghost use Rattle.std.specs.Prelude.{◌≡◌};
 ghost use Rattle.calc_refresh.specs.Sheet.{grid_of};
 
 use calc_eval::Checked;
 use sheet_law::Grid;
 
-/// The parts of a group's definition: 1 to 64 inputs, 1 to 64 calculations that were checked with so many, and a grid
-/// of windows.
+/// The parts of a group's definition: 1 to 64 inputs, 1 to 64 calculations that were checked with as many inputs, and a
+/// grid of windows.
 #[derive(Drop)]
 pub struct GroupDefParts {
     /// How many inputs there are.
@@ -15,7 +15,7 @@ pub struct GroupDefParts {
     pub start: u64,
     /// How long a window is, 1 to 10^12 milliseconds.
     pub period: u64,
-    /// The calculations in order.
+    /// The calculations, in order.
     pub calcs: Checked,
 }
 

@@ -1,4 +1,4 @@
-// Rows: longer ones, and the values of the windows that are marked.
+// Rows: making them longer, and evaluating the windows that are marked.
 ghost use Rattle.std.specs.Prelude.{◌≡◌, ◌≢◌, ℕ, ◌+◌, ◌*◌, ◌^◌, ◌<◌, ◌≤◌, true, false, List, length, map, All, Some, count_by};
 ghost use Rattle.std.specs.Prelude.{vec_len, vec_capacity};
 ghost use Rattle.std.specs.List.{range_with_len};
@@ -16,7 +16,7 @@ use sheet_law::Grid;
 use std::sync::ledger::Ledger;
 use trend_num::Steps;
 
-// Puts places for more windows into the rows.
+// Lengthens the rows to places for so many windows.
 pub(crate) fn lengthen(rows: &mut [Vec<CalcValue>], windows: usize)
     requires { All (λ row. windows ≤ vec_capacity row) rows.old }
     ensures windows { All (λ row. vec_len row ≡ windows) rows.new }
@@ -28,8 +28,8 @@ pub(crate) fn lengthen(rows: &mut [Vec<CalcValue>], windows: usize)
     }
 }
 
-// Evaluates all calculations in the window from one time to another, each by the ones before it, and writes their
-// values into the rows at its place.
+// Evaluates all calculations in the window from one time to another, each with the values of the ones before it. Writes
+// their values into the rows at place `k`.
 fn evaluate_window<L: Ledger>(
     calcs: &Checked,
     contents: &[Content],
@@ -59,7 +59,7 @@ fn evaluate_window<L: Ledger>(
     }
 }
 
-// Evaluates the windows that are marked. Returns how many they were.
+// Evaluates the windows that are marked. Returns how many there were.
 pub(crate) fn evaluate<L: Ledger>(
     calcs: &Checked,
     grid: Grid,

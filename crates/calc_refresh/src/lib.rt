@@ -1,15 +1,16 @@
 //! A group's sheet: its calculated rows, kept up to date.
 //!
-//! Its model is the group, its grid, the records of the inputs that were taken into account, the rows, and how many values
-//! were evaluated. `sheet_law` defines what rows are from scratch, and which windows records touch. `apply` takes more
-//! records of each input. Where the rows were from scratch before, they are so afterwards, and only the windows that are
-//! newly complete or touched are evaluated: the content of each input is kept beside its records, and tells the stretch of
-//! a late record before it is put in. All memory is taken before anything changes, so a sheet that is refused stands as it
-//! was.
+//! A clause sees of a sheet the group, its grid, the records of the inputs that were taken into account, the rows, and
+//! how many values were evaluated. `sheet_law` defines what rows are from scratch, and which windows records touch.
 //!
-//! How long that takes, which no clause says: it goes once over the new records and once over the complete windows, and
-//! evaluates those that are due. A content without room for the new records is made anew from all records of its input,
-//! with room for a quarter more.
+//! `apply` takes more records of each input. If the rows were from scratch before, they are from scratch afterwards.
+//! Only the windows that are newly complete or touched are evaluated. The sheet keeps the content of each input next to
+//! its records. The content gives the stretch of a late record before the record is put in. `apply` takes all memory
+//! before it changes anything, so a refused call leaves the sheet as it was.
+//!
+//! No clause states how long a call takes. The code goes once over the new records and once over the complete windows,
+//! and evaluates the windows that are due. A content without room for the new records is made anew from all records of
+//! its input, with room for a quarter more.
 #![tactic(auto)]
 
 mod definition;

@@ -1,4 +1,4 @@
-// How much a sheet would have with more records, and whether that is too much.
+// How large a sheet would be with more records, and whether that is too large.
 ghost use Rattle.std.specs.Prelude.{◌≡◌, ℕ, ◌+◌, ◌*◌, ◌^◌, ◌<◌, ◌≤◌, ◌++◌, List, length, map, max, All, MatchResult, Some, None};
 ghost use Rattle.trend_num.specs.declared.archive.Rec.{Rec};
 ghost use Rattle.trend_num.specs.Ranges.{InRange, last_time};
@@ -20,7 +20,7 @@ const MOST_CELLS: u64 = 1_048_576;
 // How many records all copies of a sheet may have together.
 const MOST_COPIES: u64 = 2_097_152;
 
-// The time behind the last Kept record, with more records.
+// Returns the time after the last Kept record, with more records.
 pub(crate) fn kept_end_after(end: u64, recs: &[Rec]) -> u64
     requires { All (λ r. InRange r.point) recs.now }
     ensures { (rs : List Rec) → end ≡ kept_end rs → result ≡ kept_end (rs ++ recs.now) }
@@ -32,7 +32,8 @@ pub(crate) fn kept_end_after(end: u64, recs: &[Rec]) -> u64
     end
 }
 
-// How many windows are complete with more records. `ends` has the time behind the last Kept record before of each input.
+// Returns how many windows are complete with more records. `ends` has, for each input, the time after its last Kept
+// record so far.
 pub(crate) fn windows_after(grid: Grid, ends: &[u64], deltas: &[Vec<Rec>]) -> u64
     requires grid { IsGrid grid }
     requires some { 1 ≤ length ends.now }
@@ -48,7 +49,7 @@ pub(crate) fn windows_after(grid: Grid, ends: &[u64], deltas: &[Vec<Rec>]) -> u6
     least
 }
 
-// How many records all copies have together, with more records.
+// Returns how many records all copies together have, with more records.
 pub(crate) fn records_after(copies: &[Vec<Rec>], deltas: &[Vec<Rec>]) -> u64
     requires inputs { length deltas.now ≡ length copies.now }
     requires few { length copies.now ≤ 64 }

@@ -20,8 +20,8 @@ use std::alloc::{AllocError, Global};
 use std::sync::ledger::Ledger;
 use trend_num::{Rec, Steps};
 
-// Takes more records and evaluates the windows that they make due. Returns how many these are. The marks stand for the
-// windows that are complete then, and none is marked.
+// Takes more records and evaluates the windows that they make due. Returns how many these are. `marks` has a place for
+// each window that is then complete, and no window is marked yet.
 pub(crate) fn refreshed<L: Ledger>(
     calcs: &Checked,
     grid: Grid,
@@ -59,8 +59,8 @@ pub(crate) fn refreshed<L: Ledger>(
     evaluate(calcs, grid, contents, rows, marks, steps)
 }
 
-// Takes more records, with which so many windows are complete, and evaluates the windows that they make due. Returns how
-// many these are. All memory is taken before anything changes.
+// Takes more records, with which so many windows are complete, and evaluates the windows that they make due. Returns
+// how many these are. It takes all memory before it changes anything.
 pub(crate) fn bring<L: Ledger>(
     alloc: Global,
     calcs: &Checked,

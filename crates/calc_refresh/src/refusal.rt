@@ -1,4 +1,4 @@
-// Why a sheet is refused.
+// Why a sheet refuses a call.
 ghost use Rattle.std.specs.Prelude.{◌≡◌};
 ghost use Rattle.calc_refresh.specs.declared.refusal.SheetNo.TheVariants.{WantOfMemory};
 
@@ -7,12 +7,12 @@ use std::alloc::AllocError;
 /// Why a sheet is not made, or not changed.
 #[derive(Clone, Copy, Debug, PartialEq, Eq)]
 pub enum SheetNo {
-    /// The first calculation whose saved row has not one value for each complete window: how many windows are complete,
-    /// and how many values it has.
+    /// A saved row has not one value for each complete window. `windows` is how many windows are complete, and `rows`
+    /// is how many values the first such row has.
     Shape { windows: u64, rows: u64 },
-    /// There would be more cells, complete windows times calculations, than a sheet may have: so many.
+    /// The sheet would have this many cells (complete windows times calculations), more than it may have.
     CellLimit { cells: u64 },
-    /// There would be more records in all copies together than a sheet may have: so many.
+    /// All copies together would have this many records, more than a sheet may have.
     CopyLimit { records: u64 },
     /// No memory was found.
     WantOfMemory,

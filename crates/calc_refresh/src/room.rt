@@ -1,4 +1,4 @@
-// Memory for more records and windows, all of it before anything changes.
+// Memory for more records and windows. All of it is taken before anything changes.
 ghost use Rattle.std.specs.Prelude.{◌≡◌, ℕ, ◌+◌, ◌^◌, ◌<◌, ◌≤◌, List, length, map, All, IfOk, OnOk};
 ghost use Rattle.std.specs.Prelude.{slice_index_or, vec_len, vec_capacity};
 ghost use Rattle.std.specs.Prelude.{Vec};
@@ -28,8 +28,8 @@ pub(crate) fn room_in_copies(copies: &mut [Vec<Rec>], deltas: &[Vec<Rec>]) -> Re
     Ok(())
 }
 
-// A content of these records, with room for so many more, and for a quarter of all beside: so a content that grows is
-// seldom made anew.
+// Makes a content of these records, with room for so many more and for a quarter of all besides. So a content that
+// grows is seldom made anew.
 fn roomy(alloc: Global, copy: &[Rec], more: usize) -> Result<Content, AllocError>
     requires copy { IsCopy copy.now }
     requires more { more < 2 ^ 32 }
@@ -98,7 +98,7 @@ pub(crate) fn room_in_rows(rows: &mut [Vec<CalcValue>], windows: usize) -> Resul
     Ok(())
 }
 
-// Makes room for more records of each input, and for so many windows. Nothing else changes, whatever comes.
+// Makes room for more records of each input, and for so many windows. Nothing else changes, not even after an error.
 pub(crate) fn make_room(
     alloc: Global,
     copies: &mut [Vec<Rec>],

@@ -19,8 +19,9 @@ use sheet_law::Grid;
 use std::alloc::{AllocError, Global};
 use trend_num::Rec;
 
-/// The sheet of a group with copies and rows as they were saved. It fails at the first row that has not one value for
-/// each complete window of the copies, else where memory is wanting. The values themselves are taken as they are.
+/// Makes the sheet of a group with copies and rows as they were saved. Returns `Shape` with the first row that has not
+/// one value for each complete window of the copies. Otherwise returns `WantOfMemory` if no memory is found. The values
+/// themselves are taken as they are.
 pub fn from_saved(
     alloc: Global,
     def: &GroupDefParts,
@@ -36,7 +37,7 @@ pub fn from_saved(
     ensures saved { IfOk result (λ s. s ≡ fresh def.now.calcs (grid_of def.now.start def.now.period)
         (lists_of copies.items) (lists_of rows.items)) }
 
-    // A row of another length is told whatever memory there is.
+    // A row of another length is reported whether there is memory or not.
     ensures shape { let grid = grid_of def.now.start def.now.period in (why : SheetNo)
         → shape_fault (complete_windows grid (lists_of copies.items)) (lists_of rows.items) ≡ Some why → result ≡ Err why }
     ensures fault { let grid = grid_of def.now.start def.now.period in
@@ -51,7 +52,7 @@ pub fn from_saved(
     }
 }
 
-// The sheet of copies and rows that fit together.
+// Makes the sheet of copies and rows that fit together.
 pub(crate) fn restored(
     alloc: Global,
     def: &GroupDefParts,
@@ -86,7 +87,7 @@ pub(crate) fn restored(
     }
 }
 
-// How many windows of these records are complete.
+// Returns how many windows of these records are complete.
 fn windows_of(grid: Grid, copies: &[Vec<Rec>]) -> u64
     requires grid { IsGrid grid }
     requires some { 1 ≤ length copies.now }
@@ -100,7 +101,7 @@ fn windows_of(grid: Grid, copies: &[Vec<Rec>]) -> u64
     least
 }
 
-// What is told of the first row that has not so many values.
+// Returns the fault of the first row that has not `windows` values, if there is one.
 fn shape_fault(windows: u64, rows: &[Vec<CalcValue>]) -> Option<SheetNo>
     ensures { result ≡ shape_fault windows (lists_of rows.now) }
 {
@@ -115,7 +116,7 @@ fn shape_fault(windows: u64, rows: &[Vec<CalcValue>]) -> Option<SheetNo>
     None
 }
 
-// What the copies read as.
+// Makes the contents of the copies.
 fn contents_of(alloc: Global, copies: &[Vec<Rec>]) -> Result<Vec<Content>, AllocError>
     requires { All IsCopy (lists_of copies.now) }
     ensures { IfOk result (λ v. map (λ c. c.records) v.items ≡ map listed (lists_of copies.now)) }
@@ -130,7 +131,7 @@ fn contents_of(alloc: Global, copies: &[Vec<Rec>]) -> Result<Vec<Content>, Alloc
     Ok(contents)
 }
 
-// The times behind the last Kept records of the copies.
+// Returns the time after the last Kept record of each copy.
 fn ends_of(alloc: Global, copies: &[Vec<Rec>]) -> Result<Vec<u64>, AllocError>
     requires { All IsCopy (lists_of copies.now) }
     ensures { IfOk result (λ v. v.items ≡ map kept_end (lists_of copies.now)) }

@@ -30,9 +30,9 @@ pub struct Sheet {
     pub(crate) grid: Grid,
     // The records of each input that were taken into account.
     pub(crate) copies: Vec<Vec<Rec>>,
-    // What they read as.
+    // The content that these records give, for each input.
     pub(crate) contents: Vec<Content>,
-    // The time behind the last Kept one of each input.
+    // The time after the last Kept record of each input.
     pub(crate) ends: Vec<u64>,
     // The values of each calculation, window by window.
     pub(crate) rows: Vec<Vec<CalcValue>>,
@@ -62,13 +62,13 @@ impl Model for Sheet {
 /// The copies and the rows of a sheet.
 #[derive(Drop)]
 pub struct SheetParts {
-    /// Of each input the records that were taken into account, the oldest first.
+    /// The records of each input that were taken into account, the oldest first.
     pub copies: Vec<Vec<Rec>>,
-    /// Of each calculation its values in the windows 0, 1 and so on.
+    /// The values of each calculation in the windows 0, 1 and so on.
     pub rows: Vec<Vec<CalcValue>>,
 }
 
-/// The sheet of a group at version 0: no records, and no rows.
+/// Makes the sheet of a group at version 0, with no records and no rows. The only error is want of memory.
 pub fn new_sheet(alloc: Global, def: &GroupDefParts) -> Result<Sheet, WantOfMemory>
     requires group { IsGroup def.now.inputs def.now.calcs }
     requires grid { IsGrid (grid_of def.now.start def.now.period) }
@@ -84,7 +84,7 @@ pub fn new_sheet(alloc: Global, def: &GroupDefParts) -> Result<Sheet, WantOfMemo
     }
 }
 
-// So many copies without records.
+// Makes so many copies without records.
 fn empty_copies(alloc: Global, inputs: usize) -> Result<Vec<Vec<Rec>>, WantOfMemory>
     ensures { IfOk result (λ copies. lists_of copies.items ≡ replicate inputs []) }
 {
@@ -96,7 +96,7 @@ fn empty_copies(alloc: Global, inputs: usize) -> Result<Vec<Vec<Rec>>, WantOfMem
     Ok(copies)
 }
 
-// So many rows without values.
+// Makes so many rows without values.
 fn empty_rows(alloc: Global, calcs: usize) -> Result<Vec<Vec<CalcValue>>, WantOfMemory>
     ensures { IfOk result (λ rows. lists_of rows.items ≡ replicate calcs []) }
 {
@@ -108,7 +108,7 @@ fn empty_rows(alloc: Global, calcs: usize) -> Result<Vec<Vec<CalcValue>>, WantOf
     Ok(rows)
 }
 
-// The value at a place of a row, if there are such a row and such a place.
+// Returns the value at a place of a row, if there is such a row and such a place.
 fn value_at(rows: &[Vec<CalcValue>], calc: usize, k: usize) -> Option<CalcValue>
     ensures { result ≡ option_and_then (λ row. slice_get row k) (slice_get (lists_of rows.now) calc) }
 {
@@ -117,9 +117,10 @@ fn value_at(rows: &[Vec<CalcValue>], calc: usize, k: usize) -> Option<CalcValue>
 }
 
 impl Sheet {
-    /// Takes more records of each input, and evaluates the windows that are newly complete or touched. It fails where
-    /// the sheet would have more than 1,048,576 cells, else where it would have more than 2,097,152 records; and where
-    /// memory is wanting. It is then as it was.
+    /// Takes more records of each input, and evaluates the windows that are newly complete or touched. Returns
+    /// `CellLimit` if the sheet would have more than 1,048,576 cells. Otherwise returns `CopyLimit` if it would have
+    /// more than 2,097,152 records. Returns `WantOfMemory` if no memory is found. After an error the sheet is
+    /// unchanged.
     pub fn apply<L: Ledger>(
         &mut self,
         deltas: &[Vec<Rec>],
@@ -132,7 +133,7 @@ impl Sheet {
         ensures unchanged { OnErr result (self.new ≡ self.old) }
         ensures no_steps { OnErr result (steps.new ≡ steps.old) }
 
-        // The limits are told whatever memory there is.
+        // A limit is reported whether there is memory or not.
         ensures limit { (why : SheetNo) → fault_after self.old (lists_of deltas.now) ≡ Some why → result ≡ Err why }
         ensures fault { IfErr result (IsRefreshToldOf (fault_after self.old (lists_of deltas.now))) }
     {
@@ -155,7 +156,7 @@ impl Sheet {
         Ok(())
     }
 
-    /// How many records of an input were taken into account.
+    /// Returns how many records of an input were taken into account.
     pub fn versions(&self, i: u32) -> u32
         requires { i < length self.now.copies }
         ensures { (d : List Rec) → result ≡ length (slice_index_or self.now.copies i d) }
@@ -163,7 +164,7 @@ impl Sheet {
         self.copies[i as usize].len() as u32
     }
 
-    /// The records of an input that were taken into account, the oldest first.
+    /// Returns the records of an input that were taken into account, the oldest first.
     pub fn copied(&self, i: u32) -> &[Rec]
         requires { i < length self.now.copies }
         ensures { (d : List Rec) → result.now ≡ slice_index_or self.now.copies i d }
@@ -171,14 +172,15 @@ impl Sheet {
         &self.copies[i as usize]
     }
 
-    /// How many windows are complete.
+    /// Returns how many windows are complete.
     pub fn windows(&self) -> u32
         ensures { result ≡ complete_windows self.now.grid self.now.copies }
     {
         self.rows[0].len() as u32
     }
 
-    /// The value of a calculation in a window. None where there is no such calculation, or the window is not complete.
+    /// Returns the value of a calculation in a window, or `None` if there is no such calculation or the window is not
+    /// complete.
     pub fn row(&self, calc: u32, k: u64) -> Option<CalcValue>
         ensures value { result ≡ option_and_then (λ row. slice_get row k) (slice_get self.now.rows calc) }
         ensures there { IsSome result ↔ ((calc < length self.now.group.calcs) × (k < complete_windows self.now.grid self.now.copies)) }
@@ -186,7 +188,7 @@ impl Sheet {
         value_at(&self.rows, calc as usize, k as usize)
     }
 
-    /// Of each calculation its values in the windows 0, 1 and so on.
+    /// Returns the values of each calculation in the windows 0, 1 and so on.
     pub fn rows(&self) -> &[Vec<CalcValue>]
         ensures rows { lists_of result.now ≡ self.now.rows }
         ensures calcs { length result.now ≡ length self.now.group.calcs }
@@ -195,14 +197,14 @@ impl Sheet {
         &self.rows
     }
 
-    /// How many values `apply` has evaluated since the sheet was made. The count stays at 2^64 - 1.
+    /// Returns how many values `apply` has evaluated since the sheet was made. The count stays at 2^64 - 1.
     pub fn evals(&self) -> u64
         ensures { result ≡ self.now.evals }
     {
         self.evals
     }
 
-    /// The copies and the rows.
+    /// Returns the copies and the rows.
     pub fn into_parts(self) -> SheetParts
         ensures copies { lists_of result.copies.items ≡ self.copies }
         ensures rows { lists_of result.rows.items ≡ self.rows }

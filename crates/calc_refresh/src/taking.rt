@@ -1,4 +1,4 @@
-// Records of an input as they come: each is looked at in the content before it, then put in.
+// Records of an input as they come. The content before a record gives what it touches; then the record is put in.
 ghost use Rattle.std.specs.Prelude.{◌≡◌, ℕ, ◌+◌, ◌^◌, ◌<◌, ◌≤◌, [], ◌∷◌, ◌++◌, ◌&&◌, ◌||◌, List, length, map, All};
 ghost use Rattle.std.specs.Prelude.{nat_le, nat_lt, slice_index_or, vec_len, vec_capacity};
 ghost use Rattle.std.specs.Prelude.{Vec};
@@ -18,7 +18,7 @@ use late_insert::Content;
 use sheet_law::Grid;
 use trend_num::{Kind, Rec};
 
-// The time behind the last Kept record, with one record more.
+// Returns the time after the last Kept record, with one more record.
 pub(crate) fn kept_end_on(end: u64, rec: Rec) -> u64
     requires { rec.point.t ≤ last_time }
     ensures { (rs : List Rec) → end ≡ kept_end rs → result ≡ kept_end (rs ++ rec ∷ []) }
@@ -29,8 +29,8 @@ pub(crate) fn kept_end_on(end: u64, rec: Rec) -> u64
     }
 }
 
-// The windows that a record touches as it comes, behind records with this content. `end` is the time behind the last Kept
-// one of these.
+// Returns the windows that a record touches when it comes after records with this content. `end` is the time after the
+// last Kept record of these.
 fn touched(grid: Grid, content: &Content, end: u64, rec: Rec) -> Span
     requires grid { IsGrid grid }
     requires rising { IsRising content.now.records }
@@ -56,8 +56,8 @@ fn touched(grid: Grid, content: &Content, end: u64, rec: Rec) -> Span
     }
 }
 
-// Takes records of an input: marks the windows that they touch in turn, and puts them into its copy and its content.
-// Returns where its Kept records end then.
+// Takes records of an input: marks the windows that they touch, one record after the other, and puts the records into
+// its copy and its content. Returns the time after the last Kept record then.
 fn take_records(
     grid: Grid,
     copy: &mut Vec<Rec>,

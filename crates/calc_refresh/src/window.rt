@@ -1,4 +1,4 @@
-// Windows of a grid by times: how many end before one, and which meet a stretch.
+// Windows of a grid by times: how many end before a time, and which meet a stretch.
 ghost use Rattle.std.specs.Prelude.{◌≡◌, ℕ, ◌+◌, ◌<◌, ◌≤◌, ◌&&◌, All, nat_le, nat_lt};
 ghost use Rattle.trend_num.specs.Ranges.{last_time};
 ghost use Rattle.trend_model.specs.Contents.{IsRising};
@@ -9,7 +9,7 @@ ghost use Rattle.calc_refresh.specs.Sheet.{IsGrid};
 use late_insert::Content;
 use sheet_law::Grid;
 
-// How many windows end before a time.
+// Returns how many windows end before a time.
 pub(crate) fn windows_before(grid: Grid, end: u64) -> u64
     requires { IsGrid grid }
     ensures { result ≡ windows_before grid end }
@@ -17,14 +17,14 @@ pub(crate) fn windows_before(grid: Grid, end: u64) -> u64
     end.saturating_sub(1).saturating_sub(grid.start) / grid.period
 }
 
-// Windows one after another: the first of them, and the one behind the last.
+// Successive windows: the first of them, and the one after the last.
 #[derive(Clone, Copy)]
 pub(crate) struct Span {
     pub first: u64,
     pub behind: u64,
 }
 
-// The windows that meet the closed stretch from one time to another.
+// Returns the windows that meet the closed stretch from one time to another.
 pub(crate) fn met(grid: Grid, from: u64, to: u64) -> Span
     requires grid { IsGrid grid }
     requires from { from ≤ last_time }
@@ -38,7 +38,8 @@ pub(crate) fn met(grid: Grid, from: u64, to: u64) -> Span
     }
 }
 
-// Where the stretch of a time starts in a content: at the last point before it, else there.
+// Returns where the stretch of a time starts in a content: at the last point before the time, or else at the time
+// itself.
 pub(crate) fn stretch_from(content: &Content, t: u64) -> u64
     requires rising { IsRising content.now.records }
     ensures value { result ≡ stretch_from content.now.records t }
@@ -53,7 +54,7 @@ pub(crate) fn stretch_from(content: &Content, t: u64) -> u64
     }
 }
 
-// Where the stretch of a time ends in a content: at the first point after it, else there.
+// Returns where the stretch of a time ends in a content: at the first point after the time, or else at the time itself.
 pub(crate) fn stretch_to(content: &Content, t: u64) -> u64
     requires time { t ≤ last_time }
     requires times { All (λ r. r.point.t ≤ last_time) content.now.records }

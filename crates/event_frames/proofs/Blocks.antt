@@ -1,4 +1,4 @@
--- Levels after a write, and the window behind the true ones.
+-- Levels after a write, and the window after the true ones.
 use Rattle.std.proofs.Common.{◌≡◌, ℕ, zero, suc, ◌+◌, ◌*◌, ◌/◌, ◌<◌, ◌≤◌, Bool, true, false, List, [], ◌∷◌, ◌++◌, length, set, get_or}
 use Rattle.std.proofs.Common.{inl, inr, refl, sym, ap, ◌∙◌, subst, arith}
 use Rattle.std.specs.Prelude.{IsTrue, ◌↔◌}
@@ -22,7 +22,7 @@ over_same below above below' above' low high over = record {
   up = λ b all. high b ∙ over.up b (λ k at. sym (low k) ∙ all k at);
 }
 
--- a flag behind the others that is set changes nothing
+-- a flag after the others that is set changes nothing
 pub set_behind : (flags : List Bool) (k : ℕ) → is_set (flags ++ true ∷ []) k ≡ is_set flags k
 set_behind [] zero = refl
 set_behind [] (suc k) = refl
@@ -100,7 +100,7 @@ levels_pushed truths blocks groups truths' room capacity capacity' is less pushe
       group_room = is.group_room;
     }
 
--- a gap is behind the true windows
+-- a gap is after the true windows
 pub behind_gap : (truths : List Bool) (at gap : ℕ) → IsGapFrom truths at gap → IsBehind truths at gap
 behind_gap truths at gap is =
     let there = gap_within truths gap is.unset in

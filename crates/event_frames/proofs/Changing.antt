@@ -56,7 +56,7 @@ changed_more old now cs i k v here within is =
           ];
     }
 
--- whether the last window of a frame is the last one there is, where rows differ neither in it nor in the one behind
+-- whether the last window of a frame is the last one there is, where rows differ neither in it nor in the one after it
 same_end : (C : ℕ → Type 0) (m n u : ℕ) → ((j : ℕ) → m ≤ j → j < n → C j) → ((j : ℕ) → n ≤ j → j < m → C j)
     → ((j : ℕ) → u ≤ j → j ≤ u + 1 → C j → ⊥) → (u + 1 == m) ≡ (u + 1 == n)
 same_end C m n u more less apart =
@@ -194,7 +194,7 @@ changes_more old now new cs i v is inside value put was =
       most = omega (arith, long, size.1, was.most);
     }
 
--- the windows of changes are not far behind the last one there is
+-- the windows of changes are not far after the last one there is
 pub window_bound : (windows : ℕ) (cs : List Change) → IsChangeList windows cs → (i : ℕ) (d : Change) → i < length cs
     → (get_or cs i d).k ≤ windows + i
 window_bound windows cs is zero d inside = let first = is.first d inside in omega (arith, first)

@@ -17,7 +17,7 @@ use Rattle.event_frames.proofs.Changing.{near_or_stays, near_or_stood}
 abbrev IsMissing : List Frame → List Frame → ℕ → Frame → Type 0
 IsMissing frames others n f = IsEarly frames n f × ¬ Contains others f
 
--- a frame that does not stand where it would is not among others
+-- a frame that is not where it would be is not among others
 pub not_among : (others : List Frame) (f : Frame) (place : ℕ) → AllPairs (λ g h. g.from < h.from) others
     → ((j : ℕ) → j < place → (get_or others j f).from < f.from)
     → (place < length others → f.from ≤ (get_or others place f).from)
@@ -163,7 +163,7 @@ pub record IsMissingSoFar (before now : List Edit) (came : Bool) (frames others 
   pub within : place ≤ length others
   pub low : (j m : ℕ) (d : Frame) → j < place → i ≤ m → m < length frames → (get_or others j d).from < (get_or frames m d).from
 
--- one frame more, that is told where it is not among the others
+-- one more frame, which is reported if it is not among the others
 pub missing_step : (before now new : List Edit) (came : Bool) (frames others : List Frame) (i place next : ℕ) (tells : Bool) (f : Frame)
     → AllPairs (λ g h. g.from < h.from) frames → AllPairs (λ g h. g.from < h.from) others → i < length frames
     → get_or frames i f ≡ f → IsMissingSoFar before now came frames others i place → next ≤ length others

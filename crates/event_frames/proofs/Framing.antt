@@ -31,7 +31,7 @@ frame_made truths least at behind some first is long =
       last = ap (λ n. n == length truths) back;
     }
 
--- a frame ends before the window that is behind the true ones
+-- a frame ends before the window that is after the true ones
 pub frame_ends : (truths : List Bool) (least at behind : ℕ) (f : Frame) → IsBehind truths at behind → IsFrame truths least f
     → f.from ≡ at → f.upto < behind
 frame_ends truths least at behind f is frame from =
@@ -48,7 +48,7 @@ pub frame_short : (truths : List Bool) (least at behind : ℕ) (f : Frame) → I
 frame_short truths least at behind f is few frame from =
     let ends = frame_ends truths least at behind f is frame from in omega (arith, frame.long, is.order)
 
--- a frame does not go on behind another one with the same first window
+-- a frame does not continue after another one with the same first window
 not_longer : (truths : List Bool) (least : ℕ) (f g : Frame) → IsFrame truths least f → IsFrame truths least g
     → f.from ≡ g.from → f.upto < g.upto → ⊥
 not_longer truths least f g first second from less =

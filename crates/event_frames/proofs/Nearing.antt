@@ -24,14 +24,14 @@ pub record IsBefore (truths : List Bool) (least k seen : ℕ) (o : Option Frame)
   pub upto : IfSome o (λ f. f.from ≤ k)
   pub all : (f : Frame) → IsFrame truths least f → IsNear k f → seen ≤ f.from → f.from ≤ k → o ≡ Some f
 
--- what the search behind a window gives
+-- what the search after a window gives
 pub record IsAfter (truths : List Bool) (least k : ℕ) (o : Option Frame) : Type 0 where
   pub frame : IfSome o (IsFrame truths least)
   pub near : IfSome o (λ f. k ≤ f.upto + 1)
   pub at : IfSome o (λ f. f.from ≡ k + 1)
   pub all : (f : Frame) → IsFrame truths least f → k ≤ f.upto + 1 → f.from ≡ k + 1 → o ≡ Some f
 
--- the frames near the changes so far, or near the next one and not behind it
+-- the frames near the changes so far, or near the next one and not after it
 abbrev IsMid : List Bool → ℕ → List Change → ℕ → ℕ → Frame → Type 0
 IsMid truths least cs i k f = IsNearFrame truths least cs i f ⊎ (IsFrame truths least f × (IsNear k f × (f.from ≤ k)))
 
@@ -167,7 +167,7 @@ listed_back truths least at behind o is all f frame early =
           ]
     ]
 
--- the windows from a first one on, up to the one behind the true ones
+-- the windows from a first one on, up to the one after the true ones
 pub listed_more : (truths : List Bool) (least at behind : ℕ) (fs : List Frame) (o : Option Frame) → IsListed truths least at fs
     → IsBehind truths at behind → IfSome o (IsFrame truths least) → IfSome o (λ f. f.from ≡ at)
     → ((f : Frame) → IsFrame truths least f → f.from ≡ at → o ≡ Some f)
@@ -180,7 +180,7 @@ listed_more truths least at behind fs o is end frame from all = record {
   start = λ j is. subst (λ n. is_true_in truths n ≡ false) (let e : behind ≡ j = omega arith in e) end.gap;
 }
 
--- behind the last window all are listed
+-- after the last window all are listed
 pub listed_all : (truths : List Bool) (least at : ℕ) (fs : List Frame) → length truths ≤ at → IsListed truths least at fs
     → IsListOf (IsFrame truths least) fs
 listed_all truths least at fs past is =

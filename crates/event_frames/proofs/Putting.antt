@@ -1,11 +1,11 @@
--- A list with something at a place of it, or behind it.
+-- A list with something at a place of it, or after its end.
 use Rattle.std.proofs.Common.{◌≡◌, ℕ, ◌+◌, ◌<◌, ◌≤◌, inl, inr, cond, List, [], ◌∷◌, ◌++◌, length, get_or, set, map, sym, ap, ◌∙◌, subst, arith}
 use Rattle.std.specs.Prelude.{nat_lt}
 use Rattle.std.proofs.lemmas.Bool.{cases_lt, cases_order, cond_both, cond-true, cond-false, lt-ltb, le-ltb, ltb-true, ltb-false}
 use Rattle.std.proofs.lemmas.List.{get_or_past, get_or_append_left, get_or-set_other, length-set, length-map, length_push, map-set, map-append, set_at}
 use Rattle.event_frames.specs.Row.{put_at}
 
--- how long a list is with something at a place of it, or behind it
+-- how long a list is with something at a place of it, or after its end
 pub length-put_at : {X : Type 0} (xs : List X) (k : ℕ) (x : X) → k ≤ length xs
     → (length xs ≤ length (put_at xs k x)) × (length (put_at xs k x) ≤ length xs + 1) × (k < length (put_at xs k x))
     × (length xs ≤ k → length (put_at xs k x) ≡ length xs + 1) × (k < length xs → length (put_at xs k x) ≡ length xs)
@@ -36,7 +36,7 @@ get_or-put_at {X} xs k j x d within other =
           get_or_past (xs ++ x ∷ []) j d last ∙ sym (get_or_past xs j d behind)
     ])
 
--- behind the last one it is put there
+-- after the last one it is put there
 pub put_at-behind : {X : Type 0} (xs : List X) (k : ℕ) (x : X) → k ≡ length xs → put_at xs k x ≡ xs ++ x ∷ []
 put_at-behind xs k x is = cond-false (nat_lt k (length xs)) (set xs k x) (xs ++ x ∷ []) (le-ltb k (length xs) (omega (arith, is)))
 

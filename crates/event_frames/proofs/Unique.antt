@@ -7,13 +7,13 @@ use Rattle.event_frames.specs.declared.frame.Edit.TheVariants.{Gone, New}
 use Rattle.event_frames.specs.Frames.{IsFrame, IsListOf}
 use Rattle.event_frames.specs.Edits.{AreEdits}
 
--- a frame that begins behind the first one of a list is among the others
+-- a frame that begins after the first one of a list is among the others
 tail_at : (x : Frame) (xs : List Frame) (f : Frame) → x.from < f.from → (i : ℕ) → i < length (x ∷ xs)
     → get_or (x ∷ xs) i f ≡ f → Contains xs f
 tail_at x xs f less zero inside is = let same : x.from ≡ f.from = ap (λ (g : Frame). g.from) is in absurd (omega (arith, same))
 tail_at x xs f less (suc i) inside is = (i, omega arith, is)
 
--- the others are those that begin behind the first one
+-- the others are those that begin after the first one
 tail_list : (P : Frame → Type 0) (x : Frame) (xs : List Frame) → IsListOf P (x ∷ xs)
     → IsListOf (λ f. P f × (x.from < f.from)) xs
 tail_list P x xs is = record {

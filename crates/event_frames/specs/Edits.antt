@@ -5,8 +5,8 @@ use Rattle.event_frames.specs.declared.frame.Edit.{Edit}
 use Rattle.event_frames.specs.declared.frame.Edit.TheVariants.{Gone, New}
 use Rattle.event_frames.specs.Frames.{IsFrame, IsListOf}
 
--- these edits tell first the frames of the one row that the other has not, by their first window, and then those of the
--- other that the one has not
+-- these edits list first the frames of the old row that the new row has not, and then those of the new row that the old
+-- row has not, both ordered by first window
 pub record AreEdits (old new : List Bool) (least : ℕ) (edits : List Edit) : Type 0 where
   pub gone : List Frame
   pub came : List Frame

@@ -3,8 +3,8 @@ use Rattle.std.specs.Prelude.{◌≡◌, ℕ, ◌+◌, ◌<◌, ◌≤◌, ◌==
 use Rattle.event_frames.specs.declared.frame.Frame.{Frame}
 use Rattle.event_frames.specs.Row.{is_true_in}
 
--- a longest run of windows in which the calculation is true, of at least so many: it is not true in the window before,
--- nor in the one behind
+-- a longest run of windows in which the calculation is true, with at least so many windows. The calculation is not true
+-- in the window before the run, nor in the one after it
 pub record IsFrame (truths : List Bool) (least : ℕ) (f : Frame) : Type 0 where
   pub order : f.from ≤ f.upto
   pub inside : (k : ℕ) → f.from ≤ k → k ≤ f.upto → is_true_in truths k ≡ true
@@ -13,7 +13,7 @@ pub record IsFrame (truths : List Bool) (least : ℕ) (f : Frame) : Type 0 where
   pub long : least + f.from ≤ f.upto + 1
   pub last : f.last ≡ (f.upto + 1 == length truths)
 
--- these are the frames of which something is so, and no others, by their first window
+-- these are all frames with the property P, and no others, ordered by first window
 pub record IsListOf (P : Frame → Type 0) (fs : List Frame) : Type 0 where
   pub by_from : AllPairs (λ f g. f.from < g.from) fs
   pub only : All P fs
@@ -23,7 +23,7 @@ pub record IsListOf (P : Frame → Type 0) (fs : List Frame) : Type 0 where
 abbrev pub AreFrames : List Bool → ℕ → List Frame → Type 0
 AreFrames truths least fs = IsListOf (IsFrame truths least) fs
 
--- of each window of a row whether its calculation is true, and how many windows a frame has at least
+-- whether, in each window of a row, the calculation is true, and how many windows a frame has at least
 pub record FramesState : Type 0 where
   pub truths : List Bool
   pub least : ℕ

@@ -11,15 +11,15 @@ abbrev pub is_true : CalcValue → Bool
 is_true (Num n) = if int_eq n (pos 0) then false else true
 is_true (Bad b) = false
 
--- of each window of a row, whether the calculation is true in it
+-- for each window of a row, whether the calculation is true in it
 abbrev pub truths_of : List CalcValue → List Bool
 truths_of row = map is_true row
 
--- whether it is true in a window; in one that is not there it is not
+-- whether the calculation is true in a window. It is not true in a window that is not there
 abbrev pub is_true_in : List Bool → ℕ → Bool
 is_true_in truths k = slice_index_or truths k false
 
--- a list with this at a place: in place of what stands there, or behind the last
+-- a list with this element at a place: it replaces the one there, or comes after the last
 abbrev pub put_at : {X : Type 0} → List X → ℕ → X → List X
 put_at xs k x = if nat_lt k (length xs) then slice_set xs k x else xs ++ x ∷ []
 
@@ -27,7 +27,7 @@ put_at xs k x = if nat_lt k (length xs) then slice_set xs k x else xs ++ x ∷ [
 abbrev pub row_with : List CalcValue → List Change → List CalcValue
 row_with row cs = fold (λ values c. put_at values c.k c.value) row cs
 
--- in which windows the calculation is true then
+-- the windows in which the calculation is true after these changes
 abbrev pub truths_with : List Bool → List Change → List Bool
 truths_with truths cs = fold (λ ts c. put_at ts c.k (is_true c.value)) truths cs
 

@@ -5,7 +5,7 @@ ghost use Rattle.event_frames.specs.Near.{AddsMissing, edit_of};
 
 use crate::frame::{Edit, Frame};
 
-// A frame that came, or went, as an edit.
+// Returns the edit of a frame that came, or went.
 fn edit(came: bool, frame: Frame) -> Edit
     ensures { result ≡ edit_of came frame }
 {
@@ -16,7 +16,7 @@ fn edit(came: bool, frame: Frame) -> Edit
     }
 }
 
-// The first place from one on whose frame does not begin before a window.
+// Returns the first place, not before `place`, whose frame does not begin before the window `from`.
 fn place_from(frames: &[Frame], place: usize, from: u64) -> usize
     requires { place ≤ length frames.now }
     ensures order { place ≤ result }
@@ -32,7 +32,7 @@ fn place_from(frames: &[Frame], place: usize, from: u64) -> usize
     frames.len()
 }
 
-// Whether there is no such frame at a place.
+// Whether the frame at a place is another one, or there is none.
 fn is_missing_at(frames: &[Frame], place: usize, frame: Frame) -> bool
     requires { place ≤ length frames.now }
     ensures missing { result ≡ true → place < length frames.now → slice_index_or frames.now place frame ≡ frame → ⊥ }
@@ -41,7 +41,7 @@ fn is_missing_at(frames: &[Frame], place: usize, frame: Frame) -> bool
     place == frames.len() || frames[place] != frame
 }
 
-// Puts an edit behind others, if it is to be told.
+// Appends an edit, if it is to be reported.
 fn push_if(edits: &mut Vec<Edit>, tells: bool, edit: Edit)
     requires { vec_len edits.old < vec_capacity edits.old }
     ensures told { tells ≡ true → edits.new.items ≡ edits.old.items ++ edit ∷ [] }
@@ -54,7 +54,7 @@ fn push_if(edits: &mut Vec<Edit>, tells: bool, edit: Edit)
     }
 }
 
-// Puts the frames that are not among others behind the edits, as ones that came or went.
+// Appends an edit for each frame that is not among `others`, as one that came or went.
 pub(crate) fn push_missing(frames: &[Frame], others: &[Frame], came: bool, edits: &mut Vec<Edit>)
     requires frames { AllPairs (λ f g. f.from < g.from) frames.now }
     requires others { AllPairs (λ f g. f.from < g.from) others.now }

@@ -8,14 +8,14 @@ pub struct Frame {
     pub from: u64,
     /// The last window.
     pub upto: u64,
-    /// Whether `upto` is the last window that there is.
+    /// Whether `upto` is the last window of the row.
     pub last: bool,
 }
 
-/// A window of a row, and the calculation's value in it from now on.
+/// A window of a row, and the calculation's new value in it.
 #[derive(Clone, Copy, Debug, PartialEq, Eq)]
 pub struct Change {
-    /// The window's number, counted from 0.
+    /// The window, counted from 0.
     pub k: u64,
     /// The value.
     pub value: CalcValue,
@@ -24,8 +24,8 @@ pub struct Change {
 /// What became of a frame.
 #[derive(Clone, Copy, Debug, PartialEq, Eq)]
 pub enum Edit {
-    /// It is no more.
+    /// The frame went: it is no frame any more.
     Gone(Frame),
-    /// It came.
+    /// The frame came: it was no frame before.
     New(Frame),
 }

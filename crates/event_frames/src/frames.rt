@@ -35,7 +35,7 @@ impl Model for Frames {
     ghost invariant = { λ s. 1 ≤ s.least };
 }
 
-/// The frames of a row that have at least so many windows.
+/// Makes the frames of a row that have at least `least` windows. The only error is want of memory.
 pub fn new_frames(alloc: Global, least: u32, row: &[CalcValue]) -> Result<Frames, WantOfMemory>
     requires { 1 ≤ least }
     ensures truths { IfOk result (λ frames. frames.truths ≡ truths_of row.now) }
@@ -61,7 +61,7 @@ fn is_true(value: CalcValue) -> bool
     }
 }
 
-// Puts the windows of a row down, one behind another.
+// Puts the windows of a row into the levels, one after the other.
 fn put_all(levels: &mut Levels, row: &[CalcValue])
     requires empty { length levels.old.truths ≡ 0 }
     requires room { length row.now ≤ levels.old.room }
@@ -72,7 +72,7 @@ fn put_all(levels: &mut Levels, row: &[CalcValue])
     }
 }
 
-// Puts changes down.
+// Puts changes into the levels.
 fn put_changes(levels: &mut Levels, changes: &[Change])
     requires changes { IsChangeList (length levels.old.truths) changes.now }
     requires room { length levels.old.truths + length changes.now ≤ levels.old.room }
@@ -85,14 +85,14 @@ fn put_changes(levels: &mut Levels, changes: &[Change])
 }
 
 impl Frames {
-    /// Changes the row: each change is of a window that there is, or of the one behind the last. Returns the frames that
-    /// went, and then those that came, each by their first window; at most four a change. Where memory is wanting, nothing
-    /// is changed.
+    /// Changes the row. Each change is of an existing window, or of the one after the last. Returns the frames that
+    /// went, and then the frames that came, each group ordered by first window. There are at most four edits for each
+    /// change. The only error is want of memory; nothing is then changed.
     pub fn apply(&mut self, changes: &[Change]) -> Result<Vec<Edit>, WantOfMemory>
         requires { IsChangeList (length self.old.truths) changes.now }
         ensures truths { OnOk result (self.new.truths ≡ truths_with self.old.truths changes.now) }
 
-        // Those are the windows of the row with these changes in which the calculation is true.
+        // They say in which windows of the row with these changes the calculation is true.
         ensures row { (row : List CalcValue) → self.old.truths ≡ truths_of row
             → OnOk result (self.new.truths ≡ truths_of (row_with row changes.now)) }
         ensures edits { IfOk result (λ edits. AreEdits self.old.truths self.new.truths self.old.least edits.items) }
@@ -113,7 +113,7 @@ impl Frames {
         Ok(edits)
     }
 
-    /// The frames of the row, by their first window.
+    /// Returns the frames of the row, ordered by first window. The only error is want of memory.
     pub fn list(&self) -> Result<Vec<Frame>, WantOfMemory>
         ensures { IfOk result (λ frames. AreFrames self.now.truths self.now.least frames.items) }
     {
@@ -122,7 +122,7 @@ impl Frames {
         Ok(frames)
     }
 
-    /// How many windows there are.
+    /// Returns how many windows the row has.
     pub fn windows(&self) -> u64
         ensures { result ≡ length self.now.truths }
     {

@@ -1,11 +1,11 @@
-// Gaps among flags: flags that are not set. One that is not there counts as set.
+// Gaps among flags: flags that are not set. A flag that is not there counts as set.
 ghost use Rattle.std.specs.Prelude.{◌≡◌, ℕ, ◌+◌, ◌*◌, ◌/◌, ◌<◌, ◌≤◌, true, IsTrue, IfNone, IfSome, ◌↔◌, length};
 ghost use Rattle.event_frames.specs.Levels.{AreSet, IsGapBefore, IsGapFrom, is_set};
 
 // How many flags a block has.
 pub(crate) const BLOCK: usize = 128;
 
-// The first gap from a place on, before another.
+// Returns the first gap from `start` on and before `end`.
 pub(crate) fn first_gap(flags: &[bool], start: usize, end: usize) -> Option<usize>
     ensures gap { IfSome result (IsGapFrom flags.now start) }
     ensures within { IfSome result (λ gap. gap < length flags.now) }
@@ -20,7 +20,7 @@ pub(crate) fn first_gap(flags: &[bool], start: usize, end: usize) -> Option<usiz
     None
 }
 
-// The last gap before a place, from another on.
+// Returns the last gap before `end` and from `start` on.
 pub(crate) fn last_gap(flags: &[bool], start: usize, end: usize) -> Option<usize>
     ensures gap { IfSome result (IsGapBefore flags.now end) }
     ensures within { IfSome result (λ gap. gap < length flags.now) }

@@ -8,13 +8,13 @@ use crate::gap::{BLOCK, first_gap, is_whole, last_gap};
 use std::alloc::{AllocError, Global};
 use std::marker::Model;
 
-// Of each window of a row, whether its calculation is true in it.
+// Whether a calculation is true in each window of its row.
 #[derive(Drop)]
 pub(crate) struct Levels {
     truths: Vec<bool>,
-    // Of each block of 128 windows, whether the calculation is true in all of them that there are.
+    // Whether, for each block of 128 windows, the calculation is true in all windows of it that there are.
     blocks: Vec<bool>,
-    // Of each group of 128 blocks, whether this is so in all of them.
+    // Whether, for each group of 128 blocks, this is so in all of its blocks.
     groups: Vec<bool>,
     // For how many windows there is memory.
     room: usize,
@@ -44,7 +44,7 @@ impl Levels {
         }
     }
 
-    // How many windows there are.
+    // Returns how many windows there are.
     pub(crate) fn len(&self) -> usize
         ensures value { result ≡ length self.now.truths }
         ensures bound { result < 2 ^ 63 }
@@ -52,7 +52,7 @@ impl Levels {
         self.truths.len()
     }
 
-    // Takes memory for so many windows more.
+    // Takes memory for so many more windows.
     pub(crate) fn reserve(&mut self, more: usize) -> Result<(), AllocError>
         requires { more < 2 ^ 63 }
         ensures same { self.new.truths ≡ self.old.truths }
@@ -68,7 +68,7 @@ impl Levels {
         Ok(())
     }
 
-    // Puts down whether the calculation is true in a window: in one that there is, or in one more.
+    // Records whether the calculation is true in a window: an existing one, or one more after the last.
     pub(crate) fn put(&mut self, k: usize, holds: bool)
         requires window { k ≤ length self.old.truths }
         requires room { length self.old.truths < self.old.room }
@@ -81,7 +81,7 @@ impl Levels {
         self.write(k, holds);
     }
 
-    // Puts down whether it is true in a window that there is.
+    // Records whether the calculation is true in an existing window.
     fn write(&mut self, k: usize, holds: bool)
         requires { k < length self.old.truths }
         ensures truths { self.new.truths ≡ slice_set self.old.truths k holds }
@@ -95,7 +95,8 @@ impl Levels {
         raise(&mut self.blocks, &mut self.groups, k / BLOCK, whole);
     }
 
-    // The first window from one on in which the calculation is not true, or the one behind the last.
+    // Returns the first window, from `at` on, in which the calculation is not true. If there is none, returns the one
+    // after the last.
     pub(crate) fn behind(&self, at: usize) -> usize
         requires { at ≤ length self.now.truths }
         ensures { IsBehind self.now.truths at result }
@@ -106,7 +107,7 @@ impl Levels {
         }
     }
 
-    // The first of the windows right before k in all of which the calculation is true, or k where there is none.
+    // Returns the first of the windows right before `k` that are all true, or `k` if there is none.
     pub(crate) fn start(&self, k: usize) -> usize
         ensures { IsStart self.now.truths k result }
     {
@@ -116,14 +117,14 @@ impl Levels {
         }
     }
 
-    // Whether there is a window, and the calculation is not true in the one before it.
+    // Whether the window exists, and the calculation is not true in the one before it.
     pub(crate) fn is_first(&self, at: usize) -> bool
         ensures { IsTrue result ↔ ((at < length self.now.truths) × ((j : ℕ) → j + 1 ≡ at → is_true_in self.now.truths j ≡ false)) }
     {
         at < self.truths.len() && (at == 0 || !self.truths[at - 1])
     }
 
-    // The first gap from a place on.
+    // Returns the first gap from a place on.
     fn next(&self, k: usize) -> Option<usize>
         requires { k ≤ length self.now.truths }
         ensures gap { IfSome result (IsGapFrom self.now.truths k) }
@@ -138,7 +139,7 @@ impl Levels {
         first_gap(&self.truths, block * BLOCK, block * BLOCK + BLOCK)
     }
 
-    // The last gap before a place.
+    // Returns the last gap before a place.
     fn previous(&self, k: usize) -> Option<usize>
         ensures gap { IfSome result (IsGapBefore self.now.truths k) }
         ensures set { IfNone result (AreSet self.now.truths 0 k) }
@@ -153,7 +154,7 @@ impl Levels {
     }
 }
 
-// Puts flags that are set behind the others, until there are so many.
+// Appends flags that are set, until there are `count`.
 fn widen(flags: &mut Vec<bool>, count: usize) -> Result<(), AllocError>
     ensures same { (k : ℕ) → is_set flags.new.items k ≡ is_set flags.old.items k }
     ensures longer { vec_len flags.old ≤ vec_len flags.new }
@@ -166,7 +167,7 @@ fn widen(flags: &mut Vec<bool>, count: usize) -> Result<(), AllocError>
     Ok(())
 }
 
-// Writes a flag, and the one over its block.
+// Writes a flag, and then the flag of its block in the level above.
 fn raise(below: &mut [bool], above: &mut [bool], k: usize, set: bool)
     requires over { IsOver below.old above.old }
     requires within { k < length below.old }
@@ -178,7 +179,7 @@ fn raise(below: &mut [bool], above: &mut [bool], k: usize, set: bool)
     above[k / BLOCK] = is_whole(below, k / BLOCK);
 }
 
-// The first block from one on that is not whole.
+// Returns the first block, from `k` on, that is not whole.
 fn next_block(blocks: &[bool], groups: &[bool], k: usize) -> Option<usize>
     requires over { IsOver blocks.now groups.now }
     requires bound { k < 2 ^ 60 }
@@ -195,7 +196,7 @@ fn next_block(blocks: &[bool], groups: &[bool], k: usize) -> Option<usize>
     first_gap(blocks, group * BLOCK, group * BLOCK + BLOCK)
 }
 
-// The last block before one that is not whole.
+// Returns the last block, before `k`, that is not whole.
 fn previous_block(blocks: &[bool], groups: &[bool], k: usize) -> Option<usize>
     requires over { IsOver blocks.now groups.now }
     ensures gap { IfSome result (IsGapBefore blocks.now k) }

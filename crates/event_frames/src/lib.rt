@@ -1,10 +1,12 @@
 //! Frames of a calculation: the times in which it stays true, such as a pump alarm that lasts.
 //!
-//! The model is of each window of a row whether the calculation is true in it, and how many windows a frame has at least.
-//! A frame is a longest run of true windows. `list` gives all of them. `apply` takes changes of the row, of windows there
-//! are and of new ones behind them, and tells exactly which frames went and which came. It looks at the neighbours of
-//! changed windows alone: two levels of flags over the row say of whole blocks of windows that all of them are true, so
-//! the ends of a run are found without going over it. All memory is taken before anything changes.
+//! The model has two parts: for each window of a row, whether the calculation is true in it, and how many windows a
+//! frame has at least. A frame is a longest run of true windows. `list` returns all frames.
+//!
+//! `apply` takes changes of the row. A change is of an existing window, or of a new one after the last. The call
+//! returns exactly the frames that went and the frames that came. It looks only at the neighbours of changed windows.
+//! Over the row lie two levels of flags, which say of whole blocks of windows whether all of them are true. So `apply`
+//! finds the ends of a run without going over it. It takes all memory before it changes anything.
 #![tactic(auto)]
 
 mod difference;

@@ -11,8 +11,8 @@ use crate::frame::{Change, Frame};
 use crate::levels::Levels;
 use std::alloc::AllocError;
 
-// The frame of the windows from `at` on, before `behind`, if they are `least` or more. The calculation is true in all of
-// them, and neither in the window before them nor in the one behind.
+// Returns the frame of the windows from `at` on and before `behind`, if there are at least `least`. The calculation is
+// true in all of them. It is not true in the window before them, nor in the window after them.
 fn frame_between(levels: &Levels, least: u32, at: usize, behind: usize) -> Option<Frame>
     requires some { 1 ≤ least }
     requires first { (j : ℕ) → j + 1 ≡ at → is_true_in levels.now.truths j ≡ false }
@@ -32,7 +32,7 @@ fn frame_between(levels: &Levels, least: u32, at: usize, behind: usize) -> Optio
     })
 }
 
-// The frame that begins in a window and is near another, if there is one.
+// Returns the frame that begins in the window `at`, if there is one and it ends right before the window `k` or later.
 fn frame_at(levels: &Levels, least: u32, at: usize, k: u64) -> Option<Frame>
     requires some { 1 ≤ least }
     ensures frame { IfSome result (IsFrame levels.now.truths least) }
@@ -51,7 +51,8 @@ fn frame_at(levels: &Levels, least: u32, at: usize, k: u64) -> Option<Frame>
     }
 }
 
-// The frame that is near a window and begins there or before it, but not before another one.
+// Returns the frame that is near the window `k` and begins there or before it, if there is one that begins at `seen` or
+// later.
 fn frame_before(levels: &Levels, least: u32, k: u64, seen: u64) -> Option<Frame>
     requires some { 1 ≤ least }
     ensures frame { IfSome result (IsFrame levels.now.truths least) }
@@ -68,7 +69,7 @@ fn frame_before(levels: &Levels, least: u32, k: u64, seen: u64) -> Option<Frame>
     }
 }
 
-// Puts a frame behind others, if it is there.
+// Appends a frame, if there is one.
 fn push_some(frames: &mut Vec<Frame>, frame: Option<Frame>)
     requires { vec_len frames.old < vec_capacity frames.old }
     ensures items { frames.new.items ≡ frames.old.items ++ option_to_list frame }

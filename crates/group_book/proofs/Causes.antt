@@ -32,7 +32,7 @@ pull_refused versions (CellLimit cells) cause = absurd cause
 pull_refused versions (CopyLimit records) cause = absurd cause
 pull_refused versions WantOfMemory cause = tt
 
--- a limit that is told was passed
+-- a limit that is reported was passed
 limit_cells : (cells records told : ℕ) → limit_fault cells records ≡ Some (sheet.CellLimit told) → most_cells < told
 limit_cells cells records told is = go (nat_lt most_cells cells) (nat_lt most_copies records) refl is
   where
@@ -105,7 +105,7 @@ none_more tags cells ps one none is i rs low beyond = elim (cases_lt i (length p
     long : length (pulled_records ps) ≡ length ps
     long = length-map ps (λ p. p.recs.items)
 
--- ---- what was pulled goes on from the copies
+-- ---- what was pulled continues from the copies
 
 version_at : (copies : List (List Rec)) (i : ℕ) (rs : List Rec) → i < length copies
     → get_or (map length copies) i 0 ≡ length (get_or copies i rs)

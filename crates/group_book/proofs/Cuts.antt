@@ -18,7 +18,7 @@ never_trans a b c ab bc = record {
       omega (arith, first, second);
 }
 
--- behind the first one
+-- after the first one
 tail_rises : (v u : ℕ) (vs us : List ℕ) → NeverFall (v ∷ vs) (u ∷ us) → NeverFall vs us
 tail_rises v u vs us never = record {
   inputs = let same = never.inputs in omega arith;

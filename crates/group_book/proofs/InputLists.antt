@@ -16,7 +16,7 @@ use Rattle.group_book.specs.Told.{GoesOn, ToldBook, pulled_records, versions_of}
 use Rattle.group_book.proofs.Causes.{goes_from, goes_more}
 use Rattle.group_book.proofs.Cuts.{part_more}
 
--- ---- what is behind the first records
+-- ---- what is after the first records
 
 -- both together are the lists
 pub longer-uncut : (vs : List ℕ) (rss : List (List Rec)) → length rss ≡ length vs → longer (cut vs rss) (uncut vs rss) ≡ rss
@@ -70,7 +70,7 @@ pulls_all lists versions i ps same end so =
     subst (λ l. ArePullsOf l versions ps) (take_all i lists end)
     (subst (λ l. ArePullsOf (take i lists) l ps) (take_all i versions (omega (arith, end, same))) so)
 
--- it goes on from the copies
+-- it continues from the copies
 pub pulls_go_on : (lists : List (List Rec)) (versions : List ℕ) (copies : List (List Rec)) (ps : List Pulled) → versions ≡ map length copies
     → length lists ≡ length copies → ArePullsOf lists versions ps → GoesOn copies ps
 pulls_go_on lists versions copies ps are same so = goes_from versions copies ps are (so.as_many ∙ same) so.goes_on

@@ -95,7 +95,7 @@ row_is calcs windows calc k (Bad NoData) low within in_range = record { calc = l
 row_is calcs windows calc k (Bad DivZero) low within in_range = record { calc = low; window = within; kind = omega arith; value = refl }
 row_is calcs windows calc k (Bad Range) low within in_range = record { calc = low; window = within; kind = omega arith; value = refl }
 
--- a row behind others
+-- a row after others
 listed_push : (rows : List BlockRow) (calc k x y : ℕ) (v : CalcValue)
     → listed_from None (rows ++ row_of calc k v ∷ []) x y ≡ (if nat_eq calc x && nat_eq k y then Some v else listed_from None rows x y)
 listed_push rows calc k x y v =

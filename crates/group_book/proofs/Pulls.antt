@@ -1,4 +1,4 @@
--- What was pulled of each input goes on from its copies.
+-- What was pulled of each input continues from its copies.
 use Rattle.std.proofs.Common.{◌≡◌, ℕ, suc, Bool, Option, List, [], ◌∷◌, ◌++◌, length, map, Vec, refl, sym, ap, ◌∙◌, subst, arith, length-append}
 use Rattle.trend_num.specs.declared.archive.Rec.{Rec}
 use Rattle.tag_cell.specs.declared.entry.Pulled.{Pulled}
@@ -19,7 +19,7 @@ use Rattle.group_book.specs.declared.turn.Turn.{Turn}
 use Rattle.group_book.specs.declared.turn.Turn.TheVariants.{Refresh}
 use Rattle.group_book.specs.Told.{GoesOn, IsDefined, IsKept, IsPublished, Saved, ToldBook, pulled_records}
 
--- behind the first input
+-- after the first input
 tail_goes : (rs : List Rec) (copies : List (List Rec)) (p : Pulled) (ps : List Pulled) → GoesOn (rs ∷ copies) (p ∷ ps)
     → GoesOn copies ps
 tail_goes rs copies p ps goes = record { upto = λ i d none low. goes.upto (suc i) d none (omega arith) }

@@ -222,7 +222,7 @@ module _ (text : List ℕ) (def : GroupDefParts) (o : GroupOpening) (tape : List
   abbrev pub next_saved : Saved
   next_saved = record { number = b.number; versions = versions; rows = rows; end = saved.end + block_size b }
 
-  -- behind its open gate it is saved
+  -- after its open gate it is saved
   holds_next : IsFine → (d c : List ℕ) → HoldsBlocks text def saved d → IsGuarded (saved.end + 1) (block_image b ++ 0 ∷ []) saved.end d c
       → IsOpen saved.end c → HoldsBlocks text def next_saved c
   holds_next right d c h guarded opened = record {
@@ -333,7 +333,7 @@ module _ (text : List ℕ) (def : GroupDefParts) (o : GroupOpening) (tape : List
         next None last = tt
         next (Some n) last = is.number ∙ ap (λ k. k + 1) (sym last)
 
-    -- an image now has the block behind its open gate
+    -- an image now has the block after its open gate
     holds_settled : IsFine → (c : List ℕ) → MayLeave new c → HoldsBlocks text def next_saved c
     holds_settled right c may =
         let from = (during_now old new (IsWriting b saved.end old) during).each c may in

@@ -11,7 +11,7 @@ use Rattle.group_book.specs.declared.history.GroupOpening.{GroupOpening}
 use Rattle.group_book.specs.Tapes.{cut, versions_since}
 use Rattle.group_book.specs.Histories.{IsRight}
 
--- an image stands for one of these versions, and for the rows from scratch at it
+-- an image stands for one of these versions, and for the rows from scratch at that version
 pub record StandsForOne (text : List ℕ) (g : Group) (grid : Grid) (copies : List (List Rec)) (since : List (List ℕ))
     (c : List ℕ) : Type 0 where
   pub versions : List ℕ
@@ -20,9 +20,9 @@ pub record StandsForOne (text : List ℕ) (g : Group) (grid : Grid) (copies : Li
   pub stands : StandsFor text (length g.inputs) (length g.calcs) c versions rows
   pub scratch : IsScratch g grid (cut versions copies) rows
 
--- At each moment since the opening an image that a crash then might have left, which `left` tells, stands for the versions and
--- rows of the last save at that moment or before it, or of a refresh since; before the first save, for those of the opening or
--- of a refresh. This is said where the opening is right.
+-- `left` says which images a crash might have left at a moment. Each such image since the opening stands for the
+-- versions and rows of the last save at that moment or before it, or of a refresh since. Before the first save, it
+-- stands for those of the opening or of a refresh. All this holds only if the opening is right.
 pub record IsBookSafe (text : List ℕ) (g : Group) (grid : Grid) (o : GroupOpening) (copies : List (List Rec)) (tape : List Turn)
     (left : ℕ → List ℕ → Type 0) : Type 0 where
   pub images : IsRight g grid o copies → (t : ℕ) (c : List ℕ) → o.moment ≤ t → left t c

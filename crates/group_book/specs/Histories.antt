@@ -1,4 +1,4 @@
--- Group histories whose turns say what is so.
+-- Legal group histories: each turn on the tape is true.
 use Rattle.std.specs.Prelude.{◌≡◌, ℕ, ◌+◌, ◌<◌, ◌≤◌, List, [], ◌∷◌, length, map, slice_index, slice_get, Option, None, IfSome, nat_lt, if◌then◌else◌}
 use Rattle.trend_num.specs.declared.archive.Rec.{Rec}
 use Rattle.trend_num.specs.declared.value.CalcValue.{CalcValue}
@@ -30,20 +30,21 @@ pub record IsNextSave (w : BookWalk) (number moment : ℕ) : Type 0 where
   pub next : IfSome w.number (λ last. number ≡ last + 1)
   pub later : w.moment < moment
 
--- a turn at a place of the tape: an answer is the value from scratch at the versions there, where the opening is right
+-- a turn is true at its place on the tape. If the opening is right, an answer is the value from scratch at the versions
+-- there
 abbrev pub BookTurnFits : Group → Grid → GroupOpening → List (List Rec) → BookWalk → Turn → Type 0
 BookTurnFits g grid o copies w (Refresh versions) = NeverFall w.versions versions.items
 BookTurnFits g grid o copies w (Ask reader row calc k reply) =
     IsRight g grid o copies → reply ≡ scratch_at g grid (cut w.versions copies) calc k
 BookTurnFits g grid o copies w (Save number moment) = IsNextSave w number moment
 
--- each of these turns
+-- each of these turns is true at its place
 abbrev pub BookTurnsFit : Group → Grid → GroupOpening → List (List Rec) → BookWalk → List Turn → Type 0
 BookTurnsFit g grid o copies w [] = Unit {0}
 BookTurnsFit g grid o copies w (e ∷ es) = BookTurnFits g grid o copies w e × BookTurnsFit g grid o copies (after_turn w e) es
 
--- A legal group history. At the end the versions are those of the last refresh, each copy has so many records, and where the
--- opening is right the rows are from scratch.
+-- A legal group history. At the end the versions are those of the last refresh, and each copy has as many records as
+-- its version says. If the opening is right, the rows are from scratch.
 pub record IsBookLegal (g : Group) (grid : Grid) (o : GroupOpening) (tape : List Turn) (versions : List ℕ)
     (copies : List (List Rec)) (rows : List (List CalcValue)) : Type 0 where
   pub turns : BookTurnsFit g grid o copies (book_start o) tape

@@ -10,18 +10,18 @@ use Rattle.group_book.specs.declared.refusal.RefreshNo.TheVariants.{Ahead, CellL
 use Rattle.group_book.specs.Tapes.{uncut}
 use Rattle.group_book.specs.Told.{ToldBook, pulled_records, versions_of}
 
--- the lists of these tags, of one list for each tag of a plant
+-- the lists of these tags, taken from one list for each tag of a plant
 abbrev pub lists_at : List (List Rec) → List ℕ → List (List Rec)
 lists_at records tags = map (λ tag. slice_index_or records tag []) tags
 
--- what was pulled of a list is what it has behind so many records
+-- what was pulled from a list is what it has after the first `from` records
 pub record IsPullOf (list : List Rec) (from : ℕ) (p : Pulled) : Type 0 where
   pub ends : p.upto ≡ length list
   pub records : p.recs.items ≡ drop from list
   pub copied : IsCopy p.recs.items
   pub goes_on : p.upto ≡ from + length p.recs.items
 
--- so it is of each of these lists, of which so many records were taken into account
+-- the same of each of these lists, where `versions` says how many records of each were taken into account
 pub record ArePullsOf (lists : List (List Rec)) (versions : List ℕ) (ps : List Pulled) : Type 0 where
   pub as_many : length ps ≡ length lists
   pub records : pulled_records ps ≡ uncut versions lists
@@ -38,7 +38,7 @@ IsPullRefusal list input from (CellLimit cells) = ⊥
 IsPullRefusal list input from (CopyLimit records) = ⊥
 IsPullRefusal list input from WantOfMemory = Unit {0}
 
--- so it is of one of these lists
+-- the same of one of these lists
 abbrev pub IsPullAhead : List (List Rec) → List ℕ → RefreshNo → Type 0
 IsPullAhead lists versions (Ahead input version records) = (input < length lists) × (version ≡ slice_index versions input)
     × (records ≡ length (slice_index_or lists input [])) × (records < version)
@@ -46,8 +46,8 @@ IsPullAhead lists versions (CellLimit cells) = ⊥
 IsPullAhead lists versions (CopyLimit records) = ⊥
 IsPullAhead lists versions WantOfMemory = Unit {0}
 
--- why a book does not take these lists into account: the version of an input is above its list; or the sheet would have so many
--- cells, or so many records, with those that it lacks
+-- why a book does not take these lists into account: the version of an input is above the length of its list, or the
+-- sheet would have this many cells or records, too many, with the records that it lacks
 abbrev pub IsListsRefusal : {D : Type 0} → List (List Rec) → ToldBook D → RefreshNo → Type 0
 IsListsRefusal lists book (Ahead input version records) = IsPullAhead lists (versions_of book) (Ahead input version records)
 IsListsRefusal lists book (CellLimit cells) =

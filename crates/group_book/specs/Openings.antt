@@ -1,4 +1,4 @@
--- What opening a group's device gives, and why one is not opened.
+-- What the opening of a group's device gives, and why a device is not opened.
 use Rattle.std.specs.Prelude.{◌≡◌, ℕ, ◌<◌, ◌≤◌, List, length, slice_index, slice_index_or, Option, Some, Err}
 use Rattle.trend_num.specs.declared.archive.Rec.{Rec}
 use Rattle.trend_num.specs.declared.value.CalcValue.{CalcValue}
@@ -21,11 +21,11 @@ use Rattle.group_book.specs.Tapes.{cut}
 abbrev pub StandsForGroup : List ℕ → GroupDefParts → List ℕ → List (List CalcValue) → List ℕ → Type 0
 StandsForGroup text def versions rows c = StandsFor text def.inputs (length def.calcs.calcs) c versions rows
 
--- it is one that a crash might have left before, or stands for the same
+-- an image is one that a crash might have left before, or stands for the same
 abbrev pub BookStaysSame : List ℕ → GroupDefParts → Option Trace → List ℕ → Type 0
 BookStaysSame text def o c = IsLeftOrSame text def.inputs (length def.calcs.calcs) o c
 
--- the first input whose version is above the records that were recovered
+-- the first input whose version is above the number of records that were recovered
 pub record IsAhead (versions : List ℕ) (recovered : List (List Rec)) (input version records : ℕ) : Type 0 where
   pub within : input < length versions
   pub version_is : version ≡ slice_index versions input
@@ -41,7 +41,7 @@ pub record SavesAhead (text : List ℕ) (def : GroupDefParts) (recovered : List 
   pub stands : StandsForGroup text def versions rows c
   pub ahead : IsAhead versions recovered input version records
 
--- these bytes stand for rows of another length than there are complete windows
+-- these bytes stand for rows that have not one value for each complete window
 pub record SavesShape (text : List ℕ) (def : GroupDefParts) (recovered : List (List Rec)) (windows size : ℕ) (c : List ℕ)
     : Type 0 where
   pub versions : List ℕ
@@ -49,7 +49,7 @@ pub record SavesShape (text : List ℕ) (def : GroupDefParts) (recovered : List 
   pub stands : StandsForGroup text def versions rows c
   pub shape : shape_fault (complete_windows (grid_of def.start def.period) (cut versions recovered)) rows ≡ Some (sheet.Shape windows size)
 
--- why a device is not opened, where it tells its calls
+-- why a device is not opened, where its trace is known
 abbrev pub IsBookCause : List ℕ → GroupDefParts → List (List Rec) → Option Trace → LoadNo → Type 0
 IsBookCause text def recovered o DeviceFault = Unit {0}
 IsBookCause text def recovered o (Damaged a byte) = Shows o (λ c. IsGroupDamage text def.inputs (length def.calcs.calcs) c a byte)
@@ -57,13 +57,13 @@ IsBookCause text def recovered o (Ahead input version records) = Shows o (SavesA
 IsBookCause text def recovered o (Shape windows size) = Shows o (SavesShape text def recovered windows size)
 IsBookCause text def recovered o WantOfMemory = Unit {0}
 
--- the faults that are counted until a device is not opened
+-- a refused device has counted one fault if a call of it failed, and none otherwise
 abbrev pub CountsBookRefusal : LoadNo → ℕ → ℕ → Type 0
 CountsBookRefusal why before now = CountsFault {T = Unit {0}} (Err why) DeviceFault before now
 
 -- ---- why what was saved makes no sheet
 
--- a version is too high, or memory is wanting
+-- a version is too high, or no memory was found
 abbrev pub IsAheadOrMemory : List ℕ → List (List Rec) → LoadNo → Type 0
 IsAheadOrMemory versions recovered DeviceFault = ⊥
 IsAheadOrMemory versions recovered (Damaged a byte) = ⊥
@@ -71,7 +71,7 @@ IsAheadOrMemory versions recovered (Ahead input version records) = IsAhead versi
 IsAheadOrMemory versions recovered (Shape windows size) = ⊥
 IsAheadOrMemory versions recovered WantOfMemory = Unit {0}
 
--- that, or rows of another length than there are complete windows
+-- the same, or a row has not one value for each complete window
 abbrev pub IsRefused : GroupDefParts → List (List Rec) → List ℕ → List (List CalcValue) → LoadNo → Type 0
 IsRefused def recovered versions rows DeviceFault = ⊥
 IsRefused def recovered versions rows (Damaged a byte) = ⊥
@@ -80,7 +80,7 @@ IsRefused def recovered versions rows (Shape windows size) =
     shape_fault (complete_windows (grid_of def.start def.period) (cut versions recovered)) rows ≡ Some (sheet.Shape windows size)
 IsRefused def recovered versions rows WantOfMemory = Unit {0}
 
--- what a device that is not opened is answered with
+-- the refusal of a book, given the refusal of its device
 abbrev pub scan_refusal : ScanNo → LoadNo
 scan_refusal scan.DeviceFault = DeviceFault
 scan_refusal (scan.Damaged a byte) = Damaged a byte

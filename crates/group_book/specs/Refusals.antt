@@ -6,14 +6,14 @@ use Rattle.calc_refresh.specs.Refreshed.{most_cells, most_copies}
 use Rattle.group_book.specs.declared.refusal.RefreshNo.{RefreshNo}
 use Rattle.group_book.specs.declared.refusal.RefreshNo.TheVariants.{Ahead, CellLimit, CopyLimit, WantOfMemory}
 
--- the refusal of a book whose sheet takes no more records, which is never for its shape
+-- the refusal of a book whose sheet takes no more records. `Shape` never comes here
 abbrev pub refusal_of : SheetNo → RefreshNo
 refusal_of (sheet.Shape windows rows) = WantOfMemory
 refusal_of (sheet.CellLimit cells) = CellLimit cells
 refusal_of (sheet.CopyLimit records) = CopyLimit records
 refusal_of sheet.WantOfMemory = WantOfMemory
 
--- a fault of the sheet is what decides; want of memory may come at any time
+-- a fault of the sheet decides the refusal. Want of memory may come at any time
 abbrev pub IsBookToldOf : Option SheetNo → RefreshNo → Type 0
 IsBookToldOf fault (Ahead input version records) = ⊥
 IsBookToldOf fault (CellLimit cells) = fault ≡ Some (sheet.CellLimit cells)

@@ -16,18 +16,18 @@ use Rattle.group_book.specs.Told.{ToldBook, versions_of}
 
 -- ---- which rows changed
 
--- a row that says this value of a calculation in a window
+-- a row with this value of a calculation in a window
 abbrev pub row_of : ℕ → ℕ → CalcValue → BlockRow
 row_of calc k (Num n) = record { calc = calc; window = k; kind = 0; value = n }
 row_of calc k (Bad NoData) = record { calc = calc; window = k; kind = 1; value = pos 0 }
 row_of calc k (Bad DivZero) = record { calc = calc; window = k; kind = 2; value = pos 0 }
 row_of calc k (Bad Range) = record { calc = calc; window = k; kind = 3; value = pos 0 }
 
--- all values of rows are in the range of numbers
+-- all values of these rows are in the range of numbers
 pub record AreValuesInRange (rows : List (List CalcValue)) : Type 0 where
   pub each : (calc k : ℕ) (v : CalcValue) → cell_of rows calc k ≡ Some v → IsInRange v
 
--- of a cell that changed the new value is listed, and of any other none
+-- a cell that changed is listed with its new value, and any other cell is not listed
 pub data IsListed (old new : List (List CalcValue)) (rows : List BlockRow) (calc k : ℕ) : Type 0 where
   IsSame : cell_of new calc k ≡ cell_of old calc k → listed_from None rows calc k ≡ None → IsListed old new rows calc k
   IsOther : cell_of new calc k ≢ cell_of old calc k → listed_from None rows calc k ≡ cell_of new calc k → IsListed old new rows calc k
@@ -37,7 +37,7 @@ pub record ListsChanges (calcs windows : ℕ) (old new : List (List CalcValue)) 
   pub listed : (calc k : ℕ) → calc < calcs → k < windows → IsListed old new rows calc k
   pub rows_are : AreValuesInRange new → AreRows calcs windows rows
 
--- the rows so far list what changed in the calculations before one, and in its windows before one, and nothing else
+-- the rows so far list exactly what changed in the calculations before `calc`, and in the windows of `calc` before `k`
 pub record ListedUpTo (old new : List (List CalcValue)) (calcs windows calc k : ℕ) (rows : List BlockRow) : Type 0 where
   pub before : (x y : ℕ) → y < windows → comes_before x y calc k ≡ true → IsListed old new rows x y
   pub behind : (x y : ℕ) → comes_before x y calc k ≡ false → listed_from None rows x y ≡ None
@@ -54,8 +54,8 @@ pub record IsBlockOf {D : Type 0} (s : ToldBook D) (b : BlockParts) : Type 0 whe
   pub windows : b.windows ≡ complete_windows s.sheet.grid s.sheet.copies
   pub rows : ListsChanges (length s.sheet.group.calcs) b.windows s.saved.rows s.sheet.rows b.rows
 
--- a book on a device has saved its rows as a block: the device then has the block behind an open gate, a later clock, and the
--- tape its number and that clock
+-- a book on a device has saved its rows as a block. The device then has the block after an open gate, and a later
+-- clock. The tape has the block's number and that clock
 pub record IsSaved {D : Type 0} (trace : D → Option Trace) (ticks : D → ℕ) (before : D) (old new : ToldBook D) : Type 0 where
   pub after : D
   pub block : BlockParts
@@ -74,7 +74,7 @@ pub record IsSaved {D : Type 0} (trace : D → Option Trace) (ticks : D → ℕ)
     };
   }
 
--- a call of its device failed: nothing else changed
+-- a call of the book's device failed: nothing else changed
 pub record IsBookFaulted {D : Type 0} (old new : ToldBook D) : Type 0 where
   pub failed : new.failed ≡ true
   pub changed : new ≡ record old { dev = new.dev; failed = true }

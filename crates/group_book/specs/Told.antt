@@ -1,4 +1,4 @@
--- What a book is seen as, what its type keeps, and what its calls change.
+-- What a clause sees of a book, what the book's type keeps, and what its calls change.
 use Rattle.std.specs.Prelude.{◌≡◌, ◌≢◌, ◌⊎◌, ℕ, ◌+◌, ◌<◌, ◌≤◌, Bool, true, false, List, [], ◌∷◌, ◌++◌, length, map, Option, None, Some, IfSome, IsSome, slice_index, slice_index_or, Vec}
 use Rattle.std.specs.declared.alloc.Global.{Global}
 use Rattle.trend_num.specs.declared.archive.Rec.{Rec}
@@ -33,8 +33,9 @@ pub record Saved : Type 0 where
   pub rows : List (List CalcValue)
   pub end : ℕ
 
--- a book on a device of this type, or without one: the group's number from 0, its definition and the text of it, the tags of
--- its inputs, its opening, its tape, its sheet, its device, what the last save left, and whether a call of the device failed
+-- a book, on a device of this type or without one: the group's number from 0, its definition and the text of it, the
+-- tags of its inputs, its opening, its tape, its sheet, its device, what the last save left, and whether a call of the
+-- device failed
 pub record ToldBook (D : Type 0) : Type 0 where
   pub group : ℕ
   pub def : GroupDefParts
@@ -62,7 +63,7 @@ pub record IsDefined (def : GroupDefParts) (tags : List ℕ) (s : SheetState) : 
   pub copies : length s.copies ≡ def.inputs
   pub tags_are : length tags ≡ def.inputs
 
--- what the device holds for as long as no call of it failed: the blocks of the saves so far, where the opening is right
+-- If the opening is right and no call of the device failed, the device holds the blocks of the saves so far.
 pub record HoldsBlocks (text : List ℕ) (def : GroupDefParts) (saved : Saved) (c : List ℕ) : Type 0 where
   pub blocks : List BlockParts
   pub has : HasSaved text def.inputs (length def.calcs.calcs) c blocks saved.rows
@@ -75,8 +76,8 @@ pub record IsReady (end : ℕ) (t : Trace) : Type 0 where
   pub settled : IsSettled (Some t)
   pub shut : IsShut end (seen (Some t))
 
--- The device keeps what the last save left, for as long as no call of it failed. Where the opening is right that is one of the
--- versions of the tape and the rows from scratch at it, and the device settled on it.
+-- As long as no call of the device failed, it keeps what the last save left. If the opening is right, that is one of
+-- the versions of the tape with the rows from scratch at it, and the device has settled on it.
 pub record IsKept (text : List ℕ) (def : GroupDefParts) (o : GroupOpening) (tape : List Turn) (copies : List (List Rec))
     (saved : Saved) (failed : Bool) (trace : Option Trace) (ticks faults : ℕ) : Type 0 where
   pub shut : failed ≡ false → IfSome trace (λ t. IsReady saved.end t)
@@ -92,16 +93,16 @@ pub record IsKept (text : List ℕ) (def : GroupDefParts) (o : GroupOpening) (ta
   pub faultless : failed ≡ false → faults ≡ o.faults
   pub cause : failed ≡ true → Rose o.faults faults
 
--- a book with a text, which is that of its device, has one
+-- a book with a definition text, which is that of its device, has a device
 abbrev pub IsOnDevice : {D : Type 0} → List ℕ → Option D → Type 0
 IsOnDevice text dev = text ≢ [] → IsSome dev
 
--- so many calls and faults, where there is a device
+-- a count of the device, or 0 without a device
 abbrev pub count_of : {D : Type 0} → (D → ℕ) → Option D → ℕ
 count_of count None = 0
 count_of count (Some dev) = count dev
 
--- what the device tells, where there is one
+-- the trace of the device, if there is a device
 abbrev pub trace_of : {D : Type 0} → (D → Option Trace) → Option D → Option Trace
 trace_of trace None = None
 trace_of trace (Some dev) = trace dev
@@ -119,7 +120,7 @@ pub record IsPublished {D : Type 0} (mores : List (List Rec)) (old new : ToldBoo
 abbrev pub pulled_records : List Pulled → List (List Rec)
 pulled_records ps = map (λ p. p.recs.items) ps
 
--- what was pulled of an input goes on from its version
+-- what was pulled of an input continues from its version
 pub record GoesOn (copies : List (List Rec)) (ps : List Pulled) : Type 0 where
   pub upto : (i : ℕ) (p : Pulled) (rs : List Rec) → i < length ps
       → (slice_index_or ps i p).upto ≡ length (slice_index_or copies i rs) + length (slice_index_or ps i p).recs.items
@@ -129,14 +130,14 @@ abbrev pub GivesNone : List ℕ → ℕ → List (List Rec) → Type 0
 GivesNone tags cells mores = (i : ℕ) (rs : List Rec) → i < length mores → cells ≤ slice_index tags i
     → slice_index_or mores i rs ≡ []
 
--- a question was answered so
+-- a question was answered with this reply
 pub record IsAsked {D : Type 0} (reader row calc k : ℕ) (reply : Option CalcValue) (old new : ToldBook D) : Type 0 where
   pub answer : reply ≡ cell_of old.sheet.rows calc k
   pub changed : new ≡ record old { tape = old.tape ++ Ask reader row calc k reply ∷ [] }
 
--- ---- what is handed out at the end
+-- ---- what is returned at the end
 
--- the history of a book on a device that tells these calls, this clock and these faults
+-- the history of a book on a device with this trace, this clock and this count of faults
 pub record IsBookHistory (h : GroupHistory) (trace : Option Trace) (ticks faults : ℕ) : Type 0 where
   pub group : IsGroup h.def.inputs h.def.calcs
   pub grid : IsGrid (grid_of h.def.start h.def.period)

@@ -12,8 +12,9 @@ use tag_cell::Receipt;
 use trend_num::WantOfMemory;
 
 impl<D: Disk> Book<D> {
-    /// The value of a calculation in a window, as the rows have it: none where there is no such calculation, or the window is not
-    /// complete. The one error is want of memory; the book is then as it was.
+    /// Answers a reader's question. Returns the value of a calculation in a window, as the rows have it, and a receipt
+    /// with the place of the answer on the tape. The value is `None` if there is no such calculation, or the window is
+    /// not complete. The only error is want of memory; the book is then unchanged.
     pub fn ask(
         &mut self,
         reader: u32,

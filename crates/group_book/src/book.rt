@@ -25,7 +25,7 @@ pub struct Book<D: Disk> {
     pub(crate) opening: GroupOpening,
     pub(crate) tape: Vec<Turn>,
     pub(crate) sheet: Sheet,
-    // Of each input how many records are taken into account.
+    // How many records of each input are taken into account.
     pub(crate) versions: Vec<u32>,
     pub(crate) dev: Option<D>,
     // The number of the last save, its versions and its rows, and where the next block goes.
@@ -74,7 +74,7 @@ impl<D: Disk> Model for Book<D> {
 }
 
 impl<D: Disk> Book<D> {
-    /// Of an input how many records are taken into account.
+    /// Returns how many records of an input are taken into account.
     pub fn version(&self, input: u32) -> u32
         requires { input < self.now.def.inputs }
         ensures { (d : List Rec) → result ≡ length (slice_index_or self.now.sheet.copies input d) }
@@ -82,7 +82,7 @@ impl<D: Disk> Book<D> {
         self.versions[input as usize]
     }
 
-    /// Of each input how many records are taken into account.
+    /// Returns how many records of each input are taken into account.
     pub fn versions(&self) -> &[u32]
         ensures versions { result.now ≡ versions_of self.now }
         ensures inputs { length result.now ≡ self.now.def.inputs }
@@ -90,7 +90,7 @@ impl<D: Disk> Book<D> {
         &self.versions
     }
 
-    /// Of an input the records that are taken into account, the oldest first.
+    /// Returns the records of an input that are taken into account, the oldest first.
     pub fn copied(&self, input: u32) -> &[Rec]
         requires { input < self.now.def.inputs }
         ensures { (d : List Rec) → result.now ≡ slice_index_or self.now.sheet.copies input d }
@@ -98,42 +98,42 @@ impl<D: Disk> Book<D> {
         self.sheet.copied(input)
     }
 
-    /// The group as it was opened.
+    /// Returns the group as it was opened.
     pub fn opening(&self) -> &GroupOpening
         ensures { result.now ≡ self.now.opening }
     {
         &self.opening
     }
 
-    /// What the calls so far left, the oldest first.
+    /// Returns the turns that the calls so far left, the oldest first.
     pub fn tape(&self) -> &[Turn]
         ensures { result.now ≡ self.now.tape }
     {
         &self.tape
     }
 
-    /// The group, counted from 0.
+    /// Returns the number of the group, counted from 0.
     pub fn group(&self) -> u32
         ensures { result ≡ self.now.group }
     {
         self.group
     }
 
-    /// The definition that it was made with.
+    /// Returns the definition that the book was made with.
     pub fn def(&self) -> &GroupDefParts
         ensures { result.now ≡ self.now.def }
     {
         &self.def
     }
 
-    /// The definition text of its device; empty without a device.
+    /// Returns the definition text of the device, or an empty text without a device.
     pub fn text(&self) -> &[u8]
         ensures { result.now ≡ self.now.text }
     {
         &self.text
     }
 
-    /// How often a call of the device has failed; 0 without one.
+    /// Returns how often a call of the device has failed, or 0 without a device.
     pub fn device_faults(&self) -> u64
         ensures { result ≡ count_of D.fault_count self.now.dev }
     {
@@ -143,8 +143,9 @@ impl<D: Disk> Book<D> {
         }
     }
 
-    /// The device, and all that happened to the group since it was opened. A book with a text has a device. A book that has failed
-    /// has counted one fault of it since then, and any other none.
+    /// Returns the device, and all that happened to the group since it was opened. A book with a definition text has a
+    /// device. If the book has failed, its device has counted one fault since the opening. Otherwise the device has
+    /// counted none.
     pub fn into_history(self) -> (Option<D>, GroupHistory)
         ensures device { result.0 ≡ self.dev }
         ensures there { IsOnDevice self.text result.0 }

@@ -9,7 +9,7 @@ use calc_refresh::{Bad, CalcValue, Sheet};
 use group_layout::BlockRow;
 use std::alloc::{AllocError, Global};
 
-// The rows that list what changed.
+// Returns the rows that list the cells that changed since the last save.
 pub(crate) fn changes(
     alloc: Global,
     sheet: &Sheet,
@@ -27,7 +27,7 @@ pub(crate) fn changes(
     Ok(rows)
 }
 
-// Adds those of one calculation.
+// Adds the rows of one calculation.
 fn add_changes(
     rows: &mut Vec<BlockRow>,
     sheet: &Sheet,
@@ -47,7 +47,7 @@ fn add_changes(
     Ok(())
 }
 
-// Adds one cell, if its value is another one than before.
+// Adds the row of one cell, if its value has changed.
 fn add_change(
     rows: &mut Vec<BlockRow>,
     calc: u32,
@@ -67,7 +67,7 @@ fn add_change(
     Ok(())
 }
 
-// What was saved of a calculation in a window.
+// Returns the saved value of a calculation in a window.
 fn saved_cell(saved: &[Vec<CalcValue>], calc: u32, k: u32) -> Option<CalcValue>
     ensures { result ≡ cell_of (lists_of saved.now) calc k }
 {
@@ -75,7 +75,7 @@ fn saved_cell(saved: &[Vec<CalcValue>], calc: u32, k: u32) -> Option<CalcValue>
     row.get(k as usize).copied()
 }
 
-// A row of this value.
+// Returns the row with this value.
 fn row_of(calc: u32, window: u32, value: CalcValue) -> BlockRow
     ensures { result ≡ row_of calc window value }
 {

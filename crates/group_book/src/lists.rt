@@ -1,4 +1,4 @@
-// A book is refreshed from lists of records.
+// The refresh of a book from lists of records.
 ghost use Rattle.std.specs.Prelude.{◌≡◌, ◌+◌, ◌<◌, ◌≤◌, [], All, IfErr, IfOk, OnErr, OnOk, length, map, slice_index, slice_index_or};
 ghost use Rattle.calc_refresh.specs.Refreshed.{fault_after};
 ghost use Rattle.calc_refresh.specs.Sheet.{IsCopy};
@@ -17,9 +17,10 @@ use tag_cell::Pulled;
 use trend_num::{Rec, Steps};
 
 impl<D: Disk> Book<D> {
-    /// Takes all records of each input's tag into account, of one list for each tag, as [`Book::publish`] does. A tag that has no
-    /// list has no record. Where the version of an input is above the records of its tag, or the sheet would be too large, or
-    /// memory is wanting, the book is as it was.
+    /// Takes all records of each input's tag into account, as [`Book::publish`] does. `records` has one list for each
+    /// tag. A tag without a list has no record. Returns `Ahead` if the version of an input is above the number of
+    /// records of its tag. Returns `CellLimit` or `CopyLimit` if the sheet would be too large, and `WantOfMemory` if no
+    /// memory is found. After an error the book is unchanged.
     pub fn refresh_from(&mut self, records: &[&[Rec]]) -> Result<(), RefreshNo>
         requires copied { All (λ r. IsCopy r.now) records.now }
         ensures published { OnOk result (IsPublished (uncut (versions_of self.old) (lists_at (map (λ r. r.now) records.now) self.old.tags))
@@ -36,7 +37,7 @@ impl<D: Disk> Book<D> {
     }
 }
 
-// Of the list of each of these tags what goes on from the version of its input.
+// Pulls from the list of each of these tags the records after the version of its input.
 fn pull_all(
     alloc: Global,
     records: &[&[Rec]],
@@ -60,7 +61,7 @@ fn pull_all(
     Ok(pulled)
 }
 
-// The list of a tag.
+// Returns the list of a tag, or an empty list if the tag has none.
 fn list_of<'a>(records: &[&'a [Rec]], tag: u32) -> &'a [Rec]
     requires copied { All (λ r. IsCopy r.now) records.now }
     ensures list { result.now ≡ slice_index_or (map (λ r. r.now) records.now) tag [] }
@@ -72,7 +73,7 @@ fn list_of<'a>(records: &[&'a [Rec]], tag: u32) -> &'a [Rec]
     }
 }
 
-// What a list has behind so many records.
+// Pulls the records of a list after the first `from`. Refuses a list that has fewer.
 fn pull_one(alloc: Global, list: &[Rec], input: u32, from: u32) -> Result<Pulled, RefreshNo>
     requires copied { IsCopy list.now }
     ensures pull { IfOk result (IsPullOf list.now from) }
@@ -94,7 +95,7 @@ fn pull_one(alloc: Global, list: &[Rec], input: u32, from: u32) -> Result<Pulled
     })
 }
 
-// Takes what was pulled into account, and counts the steps for no one.
+// Takes what was pulled into account. The steps are counted, but nobody reads the count.
 fn publish_alone<D: Disk>(book: &mut Book<D>, pulled: Vec<Pulled>) -> Result<(), RefreshNo>
     requires inputs { length pulled.items ≡ book.old.def.inputs }
     requires copied { All IsCopy (pulled_records pulled.items) }

@@ -36,11 +36,14 @@ impl From<WantOfMemory> for LoadNo {
     }
 }
 
-/// The book of a group over its device, which begins with a sync. A device that is new or has another definition text is begun
-/// anew, at version 0. Else the book has the versions and rows that were saved last, and of each input as many of the records
-/// that its tag recovered as the version says. A device that is not opened is handed back: a call of it failed, its layout is
-/// damaged, a version is above the records that were recovered, saved rows have another length than there are complete windows,
-/// or memory is wanting. There is one tag and one list of records for each input.
+/// Opens the book of a group over its device, and syncs the device first. If the device is new or has another
+/// definition text, the function begins it anew, and the book is at version 0. Otherwise the book has the versions and
+/// rows that were saved last. The book then takes, of the records that the tag of each input recovered, as many as the
+/// version says. `tags` and `recovered` have one element for each input.
+///
+/// An error returns the device and the reason. `DeviceFault`: a call of the device failed. `Damaged`: its layout is
+/// damaged. `Ahead`: a version is above the number of recovered records. `Shape`: a saved row has not one value for
+/// each complete window. `WantOfMemory`: no memory was found.
 pub fn load<D: Disk>(
     alloc: Global,
     dev: D,
@@ -56,8 +59,8 @@ pub fn load<D: Disk>(
     requires inputs { length recovered.now ≡ def.now.inputs }
     requires copied { All IsCopy (lists_of recovered.now) }
 
-    // It has what the device's bytes stood for. A crash at any moment leaves what it might have left before, or what stands for
-    // the same.
+    // The book has what the device's bytes stood for. A crash at any moment leaves what it might have left before, or
+    // what stands for the same.
     ensures opened { IfOk result (λ b. Shows (D.trace dev)
         (StandsForGroup text.now def.now b.opening.versions.items (lists_of b.opening.rows.items))) }
     ensures any_moment { IfOk result (λ b. (d : D) → b.dev ≡ Some d
@@ -78,7 +81,7 @@ pub fn load<D: Disk>(
     ensures moment { IfOk result (λ b. b.opening.moment ≡ count_of D.ticks b.dev) }
     ensures faults { IfOk result (λ b. b.opening.faults ≡ count_of D.fault_count b.dev) }
 
-    // A refusal tells its cause. One fault is counted where a call of the device has failed, and else none.
+    // A refusal names its cause. The device counts one fault if a call of it failed, and none otherwise.
     ensures cause { IfErr result (λ e. IsBookCause text.now def.now (lists_of recovered.now) (D.trace dev) e.why) }
     ensures faultless { IfOk result (λ b. count_of D.fault_count b.dev ≡ D.fault_count dev) }
     ensures counts { IfErr result (λ e. CountsBookRefusal e.why (D.fault_count dev) (D.fault_count e.dev)) }
@@ -123,7 +126,7 @@ pub fn load<D: Disk>(
     })
 }
 
-// What a device that is not opened is answered with.
+// Returns the refusal of a book, given the refusal of its device.
 fn refusal_of(why: ScanNo) -> LoadNo
     ensures { result ≡ scan_refusal why }
 {
@@ -134,7 +137,7 @@ fn refusal_of(why: ScanNo) -> LoadNo
     }
 }
 
-// What a book needs beside what was saved: its sheet, and its own copies of the rest.
+// What a book needs besides what was saved: its sheet, and its own copies of the rest.
 #[derive(Drop)]
 struct Restored {
     def: GroupDefParts,
@@ -145,7 +148,7 @@ struct Restored {
     opening_rows: Vec<Vec<CalcValue>>,
 }
 
-// Makes that of what was saved, and of the records that the inputs' tags recovered.
+// Makes these from what was saved, and from the records that the inputs' tags recovered.
 fn restore(
     alloc: Global,
     def: &GroupDefParts,
@@ -180,14 +183,14 @@ fn restore(
     })
 }
 
-// The same bytes again.
+// Copies bytes.
 fn bytes_of(alloc: Global, bytes: &[u8]) -> Result<Vec<u8>, WantOfMemory>
     ensures { IfOk result (λ v. v.items ≡ bytes.now) }
 {
     Ok(Vec::from_slice(alloc, bytes)?)
 }
 
-// The sheet with the saved rows, over as many of the recovered records as the saved versions say.
+// Makes the sheet with the saved rows. It takes as many of the recovered records as the saved versions say.
 fn rebuild(
     alloc: Global,
     def: &GroupDefParts,
@@ -214,7 +217,7 @@ fn rebuild(
     }
 }
 
-// The first records of each input, as many as its version says.
+// Copies the first records of each input, as many as its version says.
 fn first_records(
     alloc: Global,
     versions: &[u32],
@@ -244,7 +247,7 @@ fn first_records(
     Ok(copies)
 }
 
-// So many of these records, the oldest.
+// Copies the oldest `count` records.
 fn records_of(alloc: Global, recs: &[Rec], count: u32) -> Result<Vec<Rec>, WantOfMemory>
     requires { count ≤ length recs.now }
     ensures { IfOk result (λ v. v.items ≡ take count recs.now) }

@@ -11,7 +11,8 @@ use disk_model::Disk;
 use std::alloc::Global;
 use trend_num::WantOfMemory;
 
-/// A book of a group without a device, at version 0. It has one tag for each input.
+/// Makes the book of a group without a device, at version 0. `tags` has one tag for each input. The only error is want
+/// of memory.
 pub fn new_book<D: Disk>(
     alloc: Global,
     group: u32,
@@ -65,14 +66,14 @@ pub fn new_book<D: Disk>(
     })
 }
 
-// So many versions of 0.
+// Returns a version of 0 for each input.
 pub(crate) fn zeros(alloc: Global, inputs: u32) -> Result<Vec<u32>, WantOfMemory>
     ensures { IfOk result (λ v. v.items ≡ replicate inputs 0) }
 {
     Ok(vec![in alloc; 0; inputs as usize]?)
 }
 
-// So many rows without values.
+// Returns an empty row for each calculation.
 pub(crate) fn empty_rows(alloc: Global, calcs: usize) -> Result<Vec<Vec<CalcValue>>, WantOfMemory>
     ensures { IfOk result (λ rows. lists_of rows.items ≡ replicate calcs []) }
 {
@@ -84,7 +85,7 @@ pub(crate) fn empty_rows(alloc: Global, calcs: usize) -> Result<Vec<Vec<CalcValu
     Ok(rows)
 }
 
-// The same definition again.
+// Copies a definition.
 pub(crate) fn copy_of(def: &GroupDefParts) -> Result<GroupDefParts, WantOfMemory>
     ensures { IfOk result (λ copy. copy ≡ def.now) }
 {

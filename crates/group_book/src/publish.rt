@@ -1,4 +1,4 @@
-// Records are taken into account.
+// Taking records into account.
 ghost use Rattle.std.specs.Prelude.{◌≡◌, ◌+◌, All, IfErr, IfOk, None, OnErr, OnOk, length, map, vec_len, vec_capacity, ◌<◌};
 ghost use Rattle.calc_refresh.specs.Lists.{lists_of};
 ghost use Rattle.calc_refresh.specs.Refreshed.{evaluated, fault_after};
@@ -43,10 +43,11 @@ impl From<SheetNo> for RefreshNo {
 }
 
 impl<D: Disk> Book<D> {
-    /// Takes what was pulled of each input into account, evaluates the windows that are newly complete or touched, and leaves one
-    /// Refresh, whose versions are where the pulls ended. It fails where the sheet would have more than 1,048,576 cells, else
-    /// where it would have more than 2,097,152 records; and where memory is wanting. The book is then as it was. It never
-    /// answers Ahead.
+    /// Takes what was pulled of each input into account, and evaluates the windows that are newly complete or touched.
+    /// The call leaves one `Refresh` on the tape, whose versions are where the pulls ended. It returns a receipt with
+    /// the place of that turn. Returns `CellLimit` if the sheet would have more than 1,048,576 cells. Otherwise returns
+    /// `CopyLimit` if the sheet would have more than 2,097,152 records. Returns `WantOfMemory` if no memory is found.
+    /// After an error the book is unchanged. `Ahead` never comes.
     pub fn publish<L: Ledger>(
         &mut self,
         pulled: Vec<Pulled>,
@@ -76,7 +77,7 @@ impl<D: Disk> Book<D> {
     }
 }
 
-// Where the pulls ended.
+// Returns where each pull ended.
 fn uptos(alloc: Global, pulled: &[Pulled]) -> Result<Vec<u32>, WantOfMemory>
     ensures { IfOk result (λ v. v.items ≡ map (λ p. p.upto) pulled.now) }
 {
@@ -87,7 +88,7 @@ fn uptos(alloc: Global, pulled: &[Pulled]) -> Result<Vec<u32>, WantOfMemory>
     Ok(versions)
 }
 
-// The records that were pulled, moved out.
+// Moves the pulled records out.
 fn records_of(alloc: Global, pulled: Vec<Pulled>) -> Result<Vec<Vec<Rec>>, WantOfMemory>
     ensures { IfOk result (λ v. lists_of v.items ≡ pulled_records pulled.items) }
 {
@@ -98,7 +99,7 @@ fn records_of(alloc: Global, pulled: Vec<Pulled>) -> Result<Vec<Vec<Rec>>, WantO
     Ok(lists)
 }
 
-// Makes a place on a tape.
+// Makes room for one more turn on a tape.
 pub(crate) fn make_place(tape: &mut Vec<Turn>) -> Result<(), WantOfMemory>
     ensures same { tape.new.items ≡ tape.old.items }
     ensures room { OnOk result (vec_len tape.new < vec_capacity tape.new) }

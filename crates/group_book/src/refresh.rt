@@ -1,4 +1,4 @@
-// A book is refreshed from the cells of its inputs.
+// The refresh of a book from the cells of its inputs.
 ghost use Rattle.std.specs.Prelude.{◌≡◌, ℕ, ◌+◌, ◌<◌, ◌≤◌, [], List, All, IfErr, IfOk, OnErr, OnOk, length, slice_index, slice_index_or};
 ghost use Rattle.trend_num.specs.declared.archive.Rec.{Rec};
 ghost use Rattle.calc_refresh.specs.Sheet.{IsCopy};
@@ -16,10 +16,11 @@ use tag_cell::{Cell, PullNo, Pulled, Receipt};
 use trend_num::Steps;
 
 impl<D: Disk> Book<D> {
-    /// Pulls from each input's cell under its lock, in the order of the inputs, and takes what was pulled into account. An input
-    /// whose tag is not below the number of cells gives no record. Where the version of an input is above the records that its
-    /// tag has acknowledged, or the sheet would be too large, or memory is wanting, the book is as it was; the pulls made so far
-    /// stand on the tags' tapes.
+    /// Pulls from each input's cell under its lock, in the order of the inputs, and takes what was pulled into account.
+    /// An input whose tag is not below the number of cells gives no record. Returns a receipt with the place of the
+    /// turn on the tape. Returns `Ahead` if the version of an input is above the number of records that its tag has
+    /// acknowledged. Returns `CellLimit` or `CopyLimit` if the sheet would be too large, and `WantOfMemory` if no
+    /// memory is found. After an error the book is unchanged. The pulls made so far remain on the tags' tapes.
     pub fn refresh<C: Disk, L: Ledger, R: Wait>(
         &mut self,
         rt: &R,
@@ -46,7 +47,7 @@ impl<D: Disk> Book<D> {
     }
 }
 
-// Pulls from each of these tags, in their order: what goes on from the version of each input.
+// Pulls from each of these tags, in their order, the records after the version of its input.
 fn pull_all<C: Disk, R: Wait>(
     alloc: Global,
     rt: &R,
@@ -74,7 +75,7 @@ fn pull_all<C: Disk, R: Wait>(
     Ok(pulled)
 }
 
-// Pulls from a tag under its lock what goes on from the version of an input, if there is the tag.
+// Pulls the records after the version of an input from a tag, under its lock. Pulls nothing if there is no such tag.
 fn pull_one<C: Disk, R: Wait>(
     alloc: Global,
     rt: &R,

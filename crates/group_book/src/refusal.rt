@@ -3,17 +3,17 @@
 /// Why a group is not refreshed.
 #[derive(Clone, Copy, Debug, PartialEq, Eq)]
 pub enum RefreshNo {
-    /// The version of an input is above the records that its tag has acknowledged.
+    /// The version of an input is above the number of records that its tag has acknowledged.
     Ahead {
         input: u32,
         version: u32,
         records: u32,
     },
-    /// There would be more cells, complete windows times calculations, than a sheet may have.
+    /// The sheet would have more cells (complete windows times calculations) than it may have.
     CellLimit {
         cells: u64,
     },
-    /// There would be more records in all copies together than a sheet may have.
+    /// All copies together would have more records than a sheet may have.
     CopyLimit {
         records: u64,
     },
@@ -24,11 +24,12 @@ pub enum RefreshNo {
 /// Why a group is not saved.
 #[derive(Clone, Copy, Debug, PartialEq, Eq)]
 pub enum SaveNo {
-    /// An earlier save answered DeviceFault.
+    /// An earlier save returned `DeviceFault`.
     Broken,
-    /// A call of the device failed. The device is opened again before it is used.
+    /// A call of the device failed. The device has to be opened again before it is used.
     DeviceFault,
-    /// No memory was found, or the save's number or place is past the end of its type; nothing was called.
+    /// No memory was found, or the number or the place of the save is past the end of its type. The device was not
+    /// called.
     WantOfMemory,
 }
 
@@ -37,19 +38,20 @@ pub enum SaveNo {
 pub enum LoadNo {
     /// A call of the device failed.
     DeviceFault,
-    /// The byte at `at`, the first of a field, breaks the layout; `None` where the device ends there.
+    /// The byte at `at`, the first of a field, breaks the layout. `byte` is `None` if the device ends there.
     Damaged {
         at: u64,
         byte: Option<u8>,
     },
-    /// The saved version of an input, the first such one, is above the records that its tag recovered.
+    /// The saved version of an input is above the number of records that its tag recovered. This is the first such
+    /// input.
     Ahead {
         input: u32,
         version: u32,
         records: u32,
     },
-    /// The first calculation whose saved row has not one value for each complete window: how many windows are complete, and how
-    /// many values it has.
+    /// A saved row has not one value for each complete window. `windows` is how many windows are complete, and `rows`
+    /// is how many values the first such row has.
     Shape {
         windows: u64,
         rows: u64,

@@ -1,4 +1,4 @@
-// The rows of a group are saved.
+// Saving the rows of a group.
 ghost use Rattle.std.specs.Prelude.{◌≡◌, ◌↔◌, ◌+◌, IfOk, IsErrOf, IsOk, None, OnOk, Some, length, map, true, vec_len};
 ghost use Rattle.disk_model.specs.Calls.{CountsFault};
 ghost use Rattle.calc_refresh.specs.Lists.{lists_of};
@@ -32,10 +32,12 @@ impl From<WantOfMemory> for SaveNo {
 }
 
 impl<D: Disk> Book<D> {
-    /// Saves the rows that changed since the last save, as one block behind the others, and leaves one Save. An equal value is
-    /// no change. A book without a device does nothing. The answer is Broken where an earlier save answered DeviceFault, and
-    /// DeviceFault where a call of the device fails now. Want of memory comes before any call, also where the number of the
-    /// save would pass 2^64 - 1 or the device 2^64 bytes; the book is then as it was.
+    /// Saves the rows that changed since the last save, as one block after the others, and leaves one `Save` on the
+    /// tape. An equal value is no change. A book without a device does nothing and returns `Ok`.
+    ///
+    /// Returns `Broken` if an earlier save returned `DeviceFault`. Returns `DeviceFault` if a call of the device fails
+    /// now. Returns `WantOfMemory` before any call of the device; the book is then unchanged. This error also comes if
+    /// the number of the save would pass 2^64 - 1, or the device 2^64 bytes.
     pub fn save(&mut self) -> Result<(), SaveNo>
         ensures none { self.old.dev ≡ None → IsOk result × (self.new ≡ self.old) }
         ensures broken { IsErrOf result Broken ↔ (self.old.failed ≡ true) }
@@ -83,14 +85,15 @@ impl<D: Disk> Book<D> {
     }
 }
 
-// The same versions again.
+// Copies versions.
 pub(crate) fn copy_of(alloc: Global, versions: &[u32]) -> Result<Vec<u32>, WantOfMemory>
     ensures { IfOk result (λ v. v.items ≡ versions.now) }
 {
     Ok(Vec::from_slice(alloc, versions)?)
 }
 
-// The block of the next save of a sheet with these versions, where these rows and this number are those of the last one.
+// Makes the block of the next save. `versions` are those of the sheet. `saved` and `number` are the rows and the number
+// of the last save.
 fn next_block(
     alloc: Global,
     sheet: &Sheet,
@@ -114,7 +117,7 @@ fn next_block(
     })
 }
 
-// The same rows again.
+// Copies rows.
 pub(crate) fn copy_rows(
     alloc: Global,
     rows: &[Vec<CalcValue>],

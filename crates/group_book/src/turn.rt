@@ -6,7 +6,7 @@ use trend_num::CalcValue;
 pub enum Turn {
     /// Records were taken into account.
     Refresh {
-        /// Of each input how many records are taken into account from then on.
+        /// How many records of each input are taken into account from then on.
         versions: Vec<u32>,
     },
     /// A question was answered.
@@ -19,7 +19,7 @@ pub enum Turn {
         calc: u32,
         /// The window, counted from 0.
         k: u64,
-        /// The value; none where there is no such calculation, or the window was not complete.
+        /// The value; `None` if there is no such calculation, or the window was not complete.
         reply: Option<CalcValue>,
     },
     /// The rows were saved.

@@ -34,7 +34,7 @@ saves_nothing text o o1 is settled begun = weaker o o1 (IsLeftOrBegun letters te
 
 -- ---- a block
 
--- nothing is behind a closed gate
+-- nothing is after a closed gate
 pub shut_guarded : (o : Option Trace) (at : ℕ) (bytes : List ℕ) (gate : ℕ) → Now o (IsShut gate)
     → During o o (FromOld o (IsGuarded at bytes gate))
 shut_guarded o at bytes gate shut = started o (FromOld o (IsGuarded at bytes gate)) (record {

@@ -1,4 +1,4 @@
--- A block behind others: what an image has while it is added.
+-- A block after others: what an image has while it is added.
 use Rattle.std.proofs.Common.{◌≡◌, ◌≢◌, ℕ, ◌+◌, ◌<◌, ◌≤◌, List, [], ◌∷◌, ◌++◌, length, get_or, Option, None, Some, sym, ap, ◌∙◌, subst, arith, length-append}
 use Rattle.trend_num.specs.declared.value.CalcValue.{CalcValue}
 use Rattle.disk_model.specs.Calls.{Sees}
@@ -23,7 +23,7 @@ begins_before : (from : ℕ) (bs : List BlockParts) → from ≤ end_of from bs
 begins_before from [] = omega arith
 begins_before from (b ∷ bs) = let rest = begins_before (from + block_size b) bs in omega (arith, rest)
 
--- blocks that end there stand in both
+-- blocks that end there are in both
 pub blocks_same : (n : ℕ) (d c : List ℕ) (calcs : ℕ) (b : BlockParts) (at : ℕ) (bs : List BlockParts) → SameFront n d c → end_of at bs ≤ n
     → HasBlocks d calcs b at bs → HasBlocks c calcs b at bs
 blocks_same n d c calcs b at [] front within has = tt
@@ -42,9 +42,9 @@ blocks_same n d c calcs b at (x ∷ bs) front within has = (
     size : length (block_image x) + 1 ≡ block_size x
     size = omega (arith, length-block_image x, length-append (block_image x) (0 ∷ []))
 
--- ---- a block behind a gate
+-- ---- a block after a gate
 
--- behind a block that was added there is room for the next one
+-- after a block that was added there is room for the next one
 pub block_ready : (b : BlockParts) (at : ℕ) (o o1 : Option Trace) → Now o (IsShut at)
     → During o o1 (FromOld o (IsGuarded (at + 1) (block_image b ++ 0 ∷ []) at))
     → Sees o1 (written (written (seen o) (at + 1) (block_image b ++ 0 ∷ [])) at (open_byte ∷ [])) → IsSettled o1

@@ -9,7 +9,7 @@ use Rattle.group_layout.specs.Blocks.{BlockParts, AreRows, MayFollow, block_fiel
 use Rattle.archive_file.proofs.FieldLaws.{KeptUpTo, field_of, kept_more, kept_none, spells_both}
 use Rattle.archive_file.proofs.LayoutSpellings.{spells_long, spells_short}
 
--- the number's field, and the fields behind the versions, which end at a place
+-- the number's field, and the fields after the versions, which end at a place
 abbrev pub number_field : List ℕ → ℕ → BlockParts → Field
 number_field c gate before = field_of (gate + 1) 8 (nat_eq (long_at c (gate + 1)) (before.number + 1))
 
@@ -36,7 +36,8 @@ at_versions c calcs gate before vs vs_is kept =
     (version_fields c us (gate + 9) ++ counts_on c calcs before at (short_at c at) (short_at c (at + 4)))) (sym vs_is)
     (kept_more c _ (number_field c gate before ∷ []) _ (kept_none c (block_fields c calcs before gate)) kept)
 
--- what is read up to the counts: the number and the versions are kept, which end at a place, and so many windows stand there
+-- what is read up to the counts: the number and the versions are kept, which end at a place, and so many windows are
+-- there
 pub record IsRead (c : List ℕ) (gate : ℕ) (before : BlockParts) (at windows : ℕ) (vs : List ℕ) : Type 0 where
   pub vs_is : vs ≡ before.versions
   pub at_is : at ≡ gate + 9 + 4 * length vs

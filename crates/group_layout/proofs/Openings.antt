@@ -69,7 +69,7 @@ saves_same text inputs calcs s c is nothing = record {
   stands = stands_none text inputs calcs c nothing;
 }
 
--- what is begun behind a sync stands for what stood before
+-- what is begun after a sync stands for what the device stood for before
 pub left_begun : (text : List ℕ) (inputs calcs : ℕ) (o mid new : Option Trace) → mid ≡ noted Synced o → Shows mid (IsUnsaved text)
     → During o mid (IsLeftOrSame text inputs calcs o) → During mid new (SavesNothing text)
     → During o new (IsLeftOrSame text inputs calcs o)

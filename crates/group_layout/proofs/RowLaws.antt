@@ -27,7 +27,7 @@ module _ (c : List ℕ) (calcs windows at : ℕ) (last : Option BlockRow) (r : B
     value = (kept 3 none (lit< tt)).kept;
   }
 
-  -- and stands behind the last one
+  -- and comes after the last one
   pub row_ordered : is_in_order last r ≡ true
   row_ordered = (and_parts _ _ (kept 1 none (lit< tt)).kept).1
 
@@ -42,7 +42,7 @@ module _ (c : List ℕ) (calcs windows at : ℕ) (last : Option BlockRow) (r : B
 
 -- ---- rows in order
 
--- what comes before comes before all behind
+-- what comes before comes before all that follows
 before_both : (a b x y e f : ℕ) → comes_before a b x y ≡ true → comes_before x y e f ≡ true → comes_before a b e f ≡ true
 before_both a b x y e f first second = grind (arith, nat_tests)
 
@@ -50,7 +50,7 @@ before_both a b x y e f first second = grind (arith, nat_tests)
 pub record IsLastOf (rows : List BlockRow) (last : Option BlockRow) : Type 0 where
   pub is_last : MatchOption last (rows ≡ []) (λ l. (rs : List BlockRow) × (rows ≡ rs ++ l ∷ []))
 
--- one row more, behind the last one
+-- one more row, after the last one
 pub sorted_push : (rows : List BlockRow) (last : Option BlockRow) (r : BlockRow) → AllPairs IsBefore rows → IsLastOf rows last
     → is_in_order last r ≡ true → AllPairs IsBefore (rows ++ r ∷ [])
 sorted_push rows None r sorted is order =

@@ -13,7 +13,7 @@ use Rattle.group_layout.proofs.SavedRows.{listed-append}
 
 -- ---- cells
 
--- behind the windows there is no cell
+-- after the windows there is no cell
 pub cell_past : (rows : List (List CalcValue)) (calc k n : ℕ) → All (λ row. length row ≡ n) rows → n ≤ k → cell_of rows calc k ≡ None
 cell_past [] calc k n wide past = refl
 cell_past (row ∷ rows) zero k n wide past =

@@ -9,7 +9,7 @@ use Rattle.group_layout.specs.declared.block.BlockRow.{BlockRow}
 use Rattle.group_layout.specs.Blocks.{BlockParts, parts_of}
 use Rattle.group_layout.specs.Rows.{AreRowsOf, rows_of_blocks, is_at, listed_from, saved_value, value_of}
 
--- rows behind rows
+-- rows after rows
 pub listed-append : (v : Option CalcValue) (xs ys : List BlockRow) (calc k : ℕ)
     → listed_from v (xs ++ ys) calc k ≡ listed_from (listed_from v xs calc k) ys calc k
 listed-append v [] ys calc k = refl
@@ -24,13 +24,13 @@ next_block v w bs i calc k d low is =
     ∙ sym (listed-append v (get_or bs i d).rows.items (rows_of_blocks (map parts_of (drop (i + 1) bs))) calc k)
     ∙ ap (λ l. listed_from v (rows_of_blocks (map parts_of l)) calc k) (sym (drop_more bs i d low))
 
--- an element of a list with more behind it
+-- an element of a list with more after it
 slice_get-append : {X : Type 0} (xs ys : List X) (i : ℕ) → i < length xs → slice_get (xs ++ ys) i ≡ slice_get xs i
 slice_get-append [] ys i low = absurd (omega arith)
 slice_get-append (x ∷ xs) ys zero low = refl
 slice_get-append (x ∷ xs) ys (suc i) low = slice_get-append xs ys i (omega arith)
 
--- the one behind a list
+-- the one after a list
 slice_get-seam : {X : Type 0} (xs : List X) (y : X) → slice_get (xs ++ y ∷ []) (length xs) ≡ Some y
 slice_get-seam [] y = refl
 slice_get-seam (x ∷ xs) y = slice_get-seam xs y

@@ -1,4 +1,4 @@
--- Blocks one behind the other, and one more.
+-- Blocks one after the other, and one more.
 use Rattle.std.proofs.Common.{◌≡◌, inr, ℕ, suc, ◌+◌, ◌-◌, ◌<◌, ◌≤◌, List, [], ◌∷◌, ◌++◌, map, length, get_or, Option, refl, sym, ap, ◌∙◌, subst, arith}
 use Rattle.disk_model.specs.Gates.{IsOpen}
 use Rattle.group_layout.specs.declared.block.Block.{Block}
@@ -15,7 +15,7 @@ pub end_of-push : (at : ℕ) (bs : List BlockParts) (x : BlockParts) → end_of 
 end_of-push at [] x = refl
 end_of-push at (y ∷ bs) x = end_of-push (at + block_size y) bs x
 
--- one more stands behind them
+-- one more follows them
 pub has_push : (c : List ℕ) (calcs : ℕ) (b : BlockParts) (at : ℕ) (bs : List BlockParts) (x : BlockParts) → HasBlocks c calcs b at bs
     → HasBlock c calcs (last_of b bs) x (end_of at bs) → HasBlocks c calcs b at (bs ++ x ∷ [])
 has_push c calcs b at [] x has one = (one, tt)
@@ -26,7 +26,7 @@ pub parts-push : (bs : List Block) (x : Block) → map parts_of (bs ++ x ∷ [])
 parts-push [] x = refl
 parts-push (y ∷ bs) x = ap (λ l. parts_of y ∷ l) (parts-push bs x)
 
--- the blocks that were read, and one more behind an open gate
+-- the blocks that were read, and one more after an open gate
 pub walk_on : (c : List ℕ) (calcs inputs at next : ℕ) (bs : List Block) (x : Block) (before : BlockParts)
     → before ≡ last_of (unsaved inputs) (map parts_of bs) → next ≡ end_of at (map parts_of bs)
     → HasBlocks c calcs (unsaved inputs) at (map parts_of bs) → IsOpen next c → MayFollow calcs before (parts_of x)

@@ -1,4 +1,4 @@
--- Blocks: what the saves of a group leave, one behind the other, each behind its gate.
+-- Blocks: what the saves of a group leave, one after the other, each after its gate.
 use Rattle.std.specs.Prelude.{◌≡◌, ◌⊎◌, ℕ, ℤ, pos, zero, suc, ◌+◌, ◌*◌, ◌<◌, ◌≤◌, Bool, true, ◌&&◌, ◌||◌, List, [], ◌∷◌, ◌++◌, All, AllPairs, length, flat_map, replicate, slice_index, Option, None, Some, nat_eq, nat_le, nat_lt, unsigned_abs, if◌then◌else◌}
 use Rattle.std.specs.Ordering.{int_eq}
 use Rattle.std.specs.Int.{w64, cast_signed}
@@ -9,18 +9,19 @@ use Rattle.group_layout.specs.declared.block.Block.{Block}
 use Rattle.archive_file.specs.declared.layout_field.Field.{Field}
 use Rattle.archive_file.specs.LayoutFields.{BreaksFirst, EndsIn, long_at, short_at}
 
--- what a block says: its number, the versions of the inputs, how many windows are complete, and the rows that changed
+-- what a block records: its number, the versions of the inputs, how many windows are complete, and the rows that
+-- changed
 pub record BlockParts : Type 0 where
   pub number : ℕ
   pub versions : List ℕ
   pub windows : ℕ
   pub rows : List BlockRow
 
--- that of a block in memory
+-- what a block in memory records
 abbrev pub parts_of : Block → BlockParts
 parts_of b = record { number = b.number; versions = b.versions.items; windows = b.windows; rows = b.rows.items }
 
--- before the first save nothing was: so many inputs at version 0
+-- what counts before the first save: so many inputs at version 0
 abbrev pub unsaved : ℕ → BlockParts
 unsaved inputs = record { number = 0; versions = replicate inputs 0; windows = 0; rows = [] }
 
@@ -39,33 +40,33 @@ abbrev pub block_image : BlockParts → List ℕ
 block_image b = number_bytes 8 b.number ++ (versions_image b.versions ++ (number_bytes 4 b.windows
     ++ (number_bytes 4 (length b.rows) ++ rows_image b.rows)))
 
--- from its gate to the next one
+-- how many bytes a block takes, from its gate to the next one
 abbrev pub block_size : BlockParts → ℕ
 block_size b = 17 + 4 * length b.versions + 17 * length b.rows
 
--- ---- what it may say
+-- ---- what a block may record
 
--- a number lies within 10^18, and where there is none there is a zero
+-- a number is at most 10^18 from 0; a row without a number has a zero in its place
 abbrev pub is_value_ok : ℕ → ℤ → Bool
 is_value_ok kind value = if nat_eq kind 0 then nat_le (unsigned_abs value) 1000000000000000000 else int_eq value (pos 0)
 
--- a row of one of so many calculations, in one of so many windows
+-- a row belongs to one of so many calculations, and to one of so many windows
 pub record IsRow (calcs windows : ℕ) (r : BlockRow) : Type 0 where
   pub calc : r.calc < calcs
   pub window : r.window < windows
   pub kind : r.kind ≤ 3
   pub value : is_value_ok r.kind r.value ≡ true
 
--- whether a calculation and a window come after others: sorted by calculation, and then by window
+-- whether a calculation and a window come before later ones: sorted by calculation, and then by window
 abbrev pub comes_before : ℕ → ℕ → ℕ → ℕ → Bool
 comes_before calc window later_calc later_window =
     nat_lt calc later_calc || (nat_eq calc later_calc && nat_lt window later_window)
 
--- a row stands before another
+-- a row comes before another
 pub record IsBefore (r s : BlockRow) : Type 0 where
   pub order : comes_before r.calc r.window s.calc s.window ≡ true
 
--- sorted rows without repeats
+-- these rows are sorted and without repeats
 pub record AreRows (calcs windows : ℕ) (rows : List BlockRow) : Type 0 where
   pub each : All (IsRow calcs windows) rows
   pub sorted : AllPairs IsBefore rows
@@ -78,15 +79,15 @@ pub record MayFollow (calcs : ℕ) (before b : BlockParts) : Type 0 where
   pub windows : before.windows ≤ b.windows
   pub rows : AreRows calcs b.windows b.rows
 
--- ---- blocks one behind the other
+-- ---- blocks one after the other
 
--- a block that may follow `before` stands behind its open gate
+-- a block that may follow `before` is there, after its open gate at `at`
 pub record HasBlock (c : List ℕ) (calcs : ℕ) (before b : BlockParts) (at : ℕ) : Type 0 where
   pub opened : IsOpen at c
   pub spelled : Holds (at + 1) (block_image b) c
   pub follows : MayFollow calcs before b
 
--- these blocks stand one behind the other from the gate at a place, after `before`
+-- these blocks follow one another from the gate at `at`, the first of them after `before`
 abbrev pub HasBlocks : List ℕ → ℕ → BlockParts → ℕ → List BlockParts → Type 0
 HasBlocks c calcs before at [] = Unit {0}
 HasBlocks c calcs before at (b ∷ bs) = HasBlock c calcs before b at × HasBlocks c calcs b (at + block_size b) bs
@@ -100,20 +101,20 @@ abbrev pub end_of : ℕ → List BlockParts → ℕ
 end_of at [] = at
 end_of at (b ∷ bs) = end_of (at + block_size b) bs
 
--- all blocks from the gate at a place: the gate behind the last one is there, and closed
+-- these are all blocks from the gate at a place: the gate after the last one is there, and closed
 pub record AreBlocks (c : List ℕ) (calcs inputs at : ℕ) (bs : List BlockParts) : Type 0 where
   pub blocks : HasBlocks c calcs (unsaved inputs) at bs
   pub shut : IsShut (end_of at bs) c
 
--- ---- its fields, and where they first break a rule
+-- ---- the fields of a block, and where they first break a rule
 
--- the versions, which are no less than these before
+-- the fields of the versions; each version must be no less than the one before of its input
 abbrev pub version_fields : List ℕ → List ℕ → ℕ → List Field
 version_fields c [] at = []
 version_fields c (v ∷ versions) at =
     record { place = at; size = 4; is_kept = nat_le v (short_at c at) } ∷ version_fields c versions (at + 4)
 
--- the row that stands at a place
+-- the row at a place
 abbrev pub row_at : List ℕ → ℕ → BlockRow
 row_at c at = record {
   calc = short_at c at;
@@ -122,7 +123,7 @@ row_at c at = record {
   value = cast_signed w64 (long_at c (at + 9));
 }
 
--- whether a row of this calculation may come behind the last one, if there is one, and whether with this window
+-- whether a row may come after the last one, if there is one: by its calculation, and by its window too
 abbrev pub is_calc_in_order : Option BlockRow → BlockRow → Bool
 is_calc_in_order None r = true
 is_calc_in_order (Some last) r = nat_le last.calc r.calc
@@ -131,7 +132,7 @@ abbrev pub is_in_order : Option BlockRow → BlockRow → Bool
 is_in_order None r = true
 is_in_order (Some last) r = comes_before last.calc last.window r.calc r.window
 
--- a row behind the last one: its calculation, its window, its kind, and its value
+-- the fields of a row after the last one: its calculation, its window, its kind, and its value
 abbrev pub row_fields : ℕ → ℕ → Option BlockRow → BlockRow → ℕ → List Field
 row_fields calcs windows last r at =
     record { place = at; size = 4; is_kept = nat_lt r.calc calcs && is_calc_in_order last r }
@@ -140,14 +141,14 @@ row_fields calcs windows last r at =
     ∷ record { place = at + 9; size = 8; is_kept = is_value_ok r.kind r.value }
     ∷ []
 
--- n rows from a place on, behind the last one
+-- the fields of n rows that begin at a place, after the last one
 abbrev pub rows_fields : List ℕ → ℕ → ℕ → Option BlockRow → ℕ → ℕ → List Field
 rows_fields c calcs windows last at zero = []
 rows_fields c calcs windows last at (suc n) =
     row_fields calcs windows last (row_at c at) at ++ rows_fields c calcs windows (Some (row_at c at)) (at + 17) n
 
--- the fields of a block behind the gate at a place, which follows `before`: its number, the versions, the windows, how many
--- rows changed, these rows, and the next gate
+-- the fields of a block after the gate at a place, which follows `before`: its number, the versions, the windows, how
+-- many rows changed, these rows, and the next gate
 abbrev pub block_fields : List ℕ → ℕ → BlockParts → ℕ → List Field
 block_fields c calcs before at =
     let versions_at = at + 9 in
@@ -161,7 +162,7 @@ block_fields c calcs before at =
     ∷ (rows_fields c calcs (short_at c windows_at) None rows_at count
     ++ record { place = rows_at + 17 * count; size = 1; is_kept = true } ∷ [])))
 
--- behind whole blocks one breaks a rule
+-- a block after whole blocks breaks a rule
 pub record IsBlockDamage (c : List ℕ) (calcs inputs at a : ℕ) (byte : Option ℕ) : Type 0 where
   pub blocks : List BlockParts
   pub whole : HasBlocks c calcs (unsaved inputs) at blocks

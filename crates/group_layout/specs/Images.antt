@@ -7,11 +7,11 @@ use Rattle.archive_file.specs.TextHeads.{HasHead, IsOfText, blocks_at, head_fiel
 use Rattle.group_layout.specs.Blocks.{BlockParts, AreBlocks, AreDamaged, unsaved, last_of}
 use Rattle.group_layout.specs.Rows.{AreRowsOf, IsIncomplete}
 
--- the letters behind the gate of the layout
+-- the letters after the gate of the layout
 abbrev pub letters : List ℕ
 letters = codes "PHG1"
 
--- a layout is that of another definition text
+-- an image has the layout of another definition text
 pub record IsOfOther (text c : List ℕ) : Type 0 where
   pub head : HasHead letters c
   pub other : text_in c ≢ text
@@ -20,7 +20,7 @@ pub record IsOfOther (text c : List ℕ) : Type 0 where
 abbrev pub IsUnsaved : List ℕ → List ℕ → Type 0
 IsUnsaved text c = IsNew c ⊎ IsOfOther text c
 
--- the blocks of a group of this text, with so many inputs and calculations
+-- an image has these blocks of a group with this text, so many inputs and so many calculations. They give these rows
 pub record HasSaved (text : List ℕ) (inputs calcs : ℕ) (c : List ℕ) (bs : List BlockParts) (rows : List (List CalcValue)) : Type 0 where
   pub of_text : IsOfText letters text c
   pub blocks : AreBlocks c calcs inputs (blocks_at (length text)) bs
@@ -30,8 +30,8 @@ pub record HasSaved (text : List ℕ) (inputs calcs : ℕ) (c : List ℕ) (bs : 
 abbrev pub saved_versions_of : ℕ → List BlockParts → List ℕ
 saved_versions_of inputs bs = (last_of (unsaved inputs) bs).versions
 
--- An image stands for versions and rows: it has nothing saved for this text, the versions are 0, and there are no rows; or no
--- rule is broken, and its blocks give these versions and rows
+-- What an image stands for. Either it has nothing saved for this text, the versions are 0, and there are no rows. Or it
+-- breaks no rule, and its blocks give these versions and rows.
 pub data StandsFor (text : List ℕ) (inputs calcs : ℕ) (c : List ℕ) (versions : List ℕ) (rows : List (List CalcValue))
     : Type 0 where
   ByNothing : IsUnsaved text c → versions ≡ replicate inputs 0 → rows ≡ replicate calcs []

@@ -12,7 +12,7 @@ use Rattle.group_layout.specs.Blocks.{BlockParts, end_of, last_of, unsaved}
 use Rattle.group_layout.specs.Images.{HasSaved, IsOfOther, IsUnsaved, StandsFor, letters}
 use Rattle.group_layout.specs.Rows.{block_lists_of}
 
--- this was read of the blocks of a group
+-- this was read from the blocks of a group
 pub record IsReadOf (text : List ℕ) (inputs calcs : ℕ) (c : List ℕ) (g : SavedGroup) : Type 0 where
   pub blocks : List BlockParts
   pub has : HasSaved text inputs calcs c blocks (block_lists_of g.rows.items)
@@ -27,13 +27,13 @@ IsFound text inputs calcs New c = IsNew c
 IsFound text inputs calcs Other c = IsOfOther text c
 IsFound text inputs calcs (Saved g) c = IsReadOf text inputs calcs c g
 
--- so many versions, and the rows of so many calculations, each as long as there are windows
+-- a saved group has so many versions, and rows of so many calculations, each as long as there are windows
 pub record HasShape (inputs calcs : ℕ) (g : SavedGroup) : Type 0 where
   pub versions_are : length g.versions.items ≡ inputs
   pub calcs_are : length g.rows.items ≡ calcs
   pub windows_are : All (λ row. length row ≡ g.windows) (block_lists_of g.rows.items)
 
--- the same of what was found
+-- what was found has this shape
 abbrev pub IsShaped : ℕ → ℕ → Found → Type 0
 IsShaped inputs calcs New = Unit {0}
 IsShaped inputs calcs Other = Unit {0}
@@ -47,7 +47,7 @@ HasFewWindows (Saved g) = g.windows < 2 ^ 32
 
 -- ---- a device that is begun
 
--- nothing is saved for this text, whether or not its layout is there
+-- nothing is saved for this text, whether or not the text's own layout is there
 abbrev pub SavesNothing : List ℕ → List ℕ → Type 0
 SavesNothing text c = IsUnsaved text c ⊎ IsEmpty letters text c
 
@@ -60,6 +60,6 @@ pub record StandsSame (text : List ℕ) (inputs calcs : ℕ) (before c : List �
   pub stood : StandsFor text inputs calcs before versions rows
   pub stands : StandsFor text inputs calcs c versions rows
 
--- it is one that a crash might have left before, or stands for the same
+-- an image is one that a crash might have left before, or stands for the same
 abbrev pub IsLeftOrSame : List ℕ → ℕ → ℕ → Option Trace → List ℕ → Type 0
 IsLeftOrSame text inputs calcs o c = MayLeave o c ⊎ StandsSame text inputs calcs (seen o) c

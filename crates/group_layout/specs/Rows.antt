@@ -7,7 +7,7 @@ use Rattle.trend_num.specs.declared.value.CalcValue.TheVariants.{Num, Bad}
 use Rattle.group_layout.specs.declared.block.BlockRow.{BlockRow}
 use Rattle.group_layout.specs.Blocks.{BlockParts, unsaved, last_of, end_of, block_size}
 
--- the lists that these are
+-- these vectors as lists
 abbrev pub block_lists_of : {A : Type 0} → List (Vec A Global) → List (List A)
 block_lists_of vs = map (λ v. v.items) vs
 
@@ -19,11 +19,11 @@ value_of r =
     else if nat_eq r.kind 2 then Bad DivZero
     else Bad Range
 
--- whether a row is that of a calculation in a window
+-- whether a row belongs to a calculation in a window
 abbrev pub is_at : ℕ → ℕ → BlockRow → Bool
 is_at calc k r = nat_eq r.calc calc && nat_eq r.window k
 
--- the value that rows list of a calculation in a window, the last of them; where they list none, the value before
+-- the value that rows list for a calculation in a window: the last one. Where they list none, the value before
 abbrev pub listed_from : Option CalcValue → List BlockRow → ℕ → ℕ → Option CalcValue
 listed_from v [] calc k = v
 listed_from v (r ∷ rs) calc k = listed_from (if is_at calc k r then Some (value_of r) else v) rs calc k
@@ -32,11 +32,11 @@ listed_from v (r ∷ rs) calc k = listed_from (if is_at calc k r then Some (valu
 abbrev pub rows_of_blocks : List BlockParts → List BlockRow
 rows_of_blocks bs = flat_map (λ b. b.rows) bs
 
--- the value that blocks give
+-- the value that blocks give for a calculation in a window
 abbrev pub saved_value : List BlockParts → ℕ → ℕ → Option CalcValue
 saved_value bs calc k = listed_from None (rows_of_blocks bs) calc k
 
--- what rows have of a calculation in a window
+-- the value that rows have for a calculation in a window
 abbrev pub cell_of : List (List CalcValue) → ℕ → ℕ → Option CalcValue
 cell_of rows calc k = option_and_then (λ row. slice_get row k) (slice_get rows calc)
 
@@ -46,7 +46,7 @@ pub record AreRowsOf (calcs windows : ℕ) (bs : List BlockParts) (rows : List (
   pub windows_are : All (λ row. length row ≡ windows) rows
   pub values : (calc k : ℕ) → calc < calcs → k < windows → cell_of rows calc k ≡ saved_value bs calc k
 
--- a calculation has no value in a window, which is told at the last open gate
+-- a calculation has no value in a window. The damage is at the last open gate
 pub record IsIncomplete (calcs inputs at : ℕ) (bs : List BlockParts) (a : ℕ) (byte : Option ℕ) : Type 0 where
   pub calc : ℕ
   pub window : ℕ

@@ -18,7 +18,7 @@ calc_text c = 10 ∷ (c.name ++ (codes "=" ++ text_of c.tree))
 abbrev pub calcs_text : List Calculation → List ℕ
 calcs_text cs = flat_map calc_text cs
 
--- a group of this name, start and period
+-- the definition text of a group with this name, start and period
 abbrev pub definition_text : List ℕ → ℕ → ℕ → Group → List ℕ
 definition_text name start period g =
     name ++ (codes "," ++ (decimal start ++ (codes "," ++ (decimal period ++ (names_text g.inputs ++ calcs_text g.calcs)))))

@@ -7,9 +7,9 @@ pub struct BlockRow {
     pub calc: u32,
     /// The window, counted from 0.
     pub window: u32,
-    /// 0 for a number, and where there is none 1 for no data, 2 for a division by 0, 3 for a number out of range.
+    /// 0 for a number; 1 for no data, 2 for a division by 0, 3 for a number out of range.
     pub kind: u8,
-    /// The number; 0 where there is none.
+    /// The number; 0 if there is none.
     pub value: i64,
 }
 
@@ -18,7 +18,7 @@ pub struct BlockRow {
 pub struct Block {
     /// The number of the save, counted from 1.
     pub number: u64,
-    /// Of each input how many records were taken into account.
+    /// How many records of each input were taken into account.
     pub versions: Vec<u32>,
     /// How many windows are complete.
     pub windows: u32,
@@ -26,10 +26,10 @@ pub struct Block {
     pub rows: Vec<BlockRow>,
 }
 
-/// The blocks of a device.
+/// All blocks of a device.
 #[derive(Drop)]
 pub struct Blocks {
-    /// The oldest first.
+    /// The blocks, the oldest first.
     pub list: Vec<Block>,
     /// Where the first closed gate is.
     pub end: u64,

@@ -10,8 +10,9 @@ use itoa::Buffer;
 use std::alloc::Global;
 use trend_num::{Name, WantOfMemory};
 
-/// The text that tells on a device which group it is of: the group's name, its start and its period, and the names of its inputs,
-/// with commas between; then for each calculation a line feed, its name, `=`, and its formula as it is printed.
+/// Returns the text by which a device shows the group that it belongs to. The text begins with the group's name, its
+/// start and its period in milliseconds, and the names of its inputs, with commas between. Then each calculation has a
+/// line feed, its name, `=`, and its formula as it is printed. The only error is want of memory.
 pub fn definition_text(
     alloc: Global,
     name: &Name,

@@ -1,4 +1,4 @@
-// Reading of a group's device: its definition text, and what its saves left.
+// Reading a group's device: its definition text, and what its saves left.
 ghost use Rattle.std.specs.Prelude.{◌≡◌, ℕ, ◌+◌, ◌^◌, ◌<◌, Option, IfOk, IsErrOf, length, map};
 ghost use Rattle.disk_model.specs.Calls.{CountsFault, Shows};
 ghost use Rattle.archive_file.specs.declared.failure.ScanNo.TheVariants.{Damaged, DeviceFault};
@@ -21,29 +21,30 @@ use trend_num::CalcValue;
 pub struct SavedGroup {
     /// The number of the last save; 0 before the first one.
     pub number: u64,
-    /// Of each input how many records were taken into account.
+    /// How many records of each input were taken into account.
     pub versions: Vec<u32>,
     /// How many windows were complete.
     pub windows: u32,
-    /// Of each calculation its values in these windows.
+    /// The values of each calculation in these windows.
     pub rows: Vec<Vec<CalcValue>>,
-    /// Where the next block goes: the gate in front of it.
+    /// Where the next block goes: the place of its gate.
     pub end: u64,
 }
 
-/// What stands on a group's device.
+/// What a group's device holds.
 #[derive(Drop)]
 pub enum Found {
     /// No layout was finished.
     New,
     /// The layout of another definition text.
     Other,
-    /// That of the wanted one.
+    /// The layout of the wanted text, and what its saves left.
     Saved(SavedGroup),
 }
 
-/// Reads the device of a group with this definition text, and so many inputs and calculations, or names the first byte of the
-/// first field that breaks the layout.
+/// Reads the device of a group with this definition text and with so many inputs and calculations. If the device breaks
+/// the layout, the function returns `Damaged` with the first byte of the first field that does. Returns `DeviceFault`
+/// if a call of the device fails, and `WantOfMemory` if no memory is found.
 pub fn read_group<D: Disk>(
     alloc: Global,
     dev: &mut D,
@@ -64,8 +65,10 @@ pub fn read_group<D: Disk>(
     parse_group(alloc, &bytes, text, inputs, calcs)
 }
 
-/// Reads the blocks from the gate at a place on, of a group with so many inputs and calculations, or names the first byte of
-/// the first field that breaks a rule of blocks. Whether they give a value of each calculation in each window is not tested.
+/// Reads the blocks that begin with the gate at `at`, of a group with so many inputs and calculations. If they break a
+/// rule of blocks, the function returns `Damaged` with the first byte of the first field that does. It does not test
+/// whether the blocks give a value of each calculation in each window. Returns `DeviceFault` if a call of the device
+/// fails, and `WantOfMemory` if no memory is found.
 pub fn read_blocks<D: Disk>(
     alloc: Global,
     dev: &mut D,
@@ -85,7 +88,7 @@ pub fn read_blocks<D: Disk>(
     parse_blocks(alloc, &bytes, at as usize, inputs, calcs)
 }
 
-// What stands on an image.
+// Returns what an image holds.
 fn parse_group(
     alloc: Global,
     c: &[u8],
@@ -111,7 +114,7 @@ fn parse_group(
     Ok(Found::Saved(saved))
 }
 
-// What blocks behind a place give: refuses those that lack a value.
+// Gathers what the blocks that begin at a place give. Refuses blocks that lack a value.
 pub(crate) fn gather(
     alloc: Global,
     blocks: &Blocks,

@@ -1,16 +1,21 @@
 //! The device of a group: its layout, its blocks, and what an image of it stands for.
 //!
-//! A device begins with the definition text of its group; behind it stand blocks, one for each save, each behind a gate. A block
-//! lists the versions of the inputs, how many windows are complete, and the rows that changed. An image stands for versions and
-//! rows (`specs/Images.antt`): for version 0 and no rows where it is new or holds another text, and else for what its blocks give
-//! in order. Where a device breaks the format is defined over the list of its fields, as the first that does not keep its rule
-//! (`archive_file`).
+//! A device begins with the definition text of its group. After the text come blocks, one for each save, each after a
+//! gate. A block lists the versions of the inputs, how many windows are complete, and the rows that changed.
 //!
-//! [`read_group`] tells a new device, that of another text, and that of the wanted one, whose rows it gathers; [`make_group`]
-//! begins a device anew, and a crash at any moment leaves one that has nothing saved for this text; [`open_group`] does one
-//! after the other, and a crash leaves what stands for the same versions and rows; [`put_block`] adds a block,
-//! and a crash at any moment leaves it whole behind its open gate, or the gate closed. [`block_bytes`] and [`read_blocks`] are the
-//! bytes of blocks alone.
+//! An image stands for versions and rows (`specs/Images.antt`). If it is new or holds another text, it stands for
+//! version 0 and no rows. Otherwise it stands for what its blocks give, taken in order. Damage is defined over the list
+//! of the device's fields: it is the first field that does not keep its rule (`archive_file`).
+//!
+//! * [`read_group`] distinguishes three cases: a new device, a device with another text, and a device with the wanted
+//!   text, whose rows it gathers.
+//! * [`make_group`] begins a device anew. A crash at any moment leaves a device that has nothing saved for this text.
+//! * [`open_group`] reads a device, and begins it anew if nothing is saved for this text. A crash at any moment leaves
+//!   what stands for the same versions and rows.
+//! * [`put_block`] adds a block. A crash at any moment leaves the block whole after its open gate, or leaves the gate
+//!   closed.
+//! * [`block_bytes`] returns the bytes of one block, and [`read_blocks`] reads blocks alone, without the layout before
+//!   them.
 #![tactic(auto)]
 
 mod block;

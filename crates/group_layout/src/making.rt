@@ -1,4 +1,4 @@
-// A group's device is begun, and a block is added.
+// Beginning a group's device, and adding a block.
 ghost use Rattle.std.specs.Prelude.{◌≡◌, ◌+◌, ◌^◌, ◌<◌, ◌≤◌, ◌∷◌, ◌++◌, [], IfOk, IsErrOf, OnOk, length};
 ghost use Rattle.disk_model.specs.Traces.{seen, written};
 ghost use Rattle.disk_model.specs.Images.{FromOld, IsSettled, Now};
@@ -17,12 +17,13 @@ use archive_file::{PutNo, begin_layout};
 use disk_model::{Disk, write_guarded};
 use std::alloc::Global;
 
-// The letters behind the gate of the layout.
+// The letters after the gate of the layout.
 pub(crate) const LETTERS: [u8; 4] = *b"PHG1";
 
-/// Begins a device anew for this definition text: closes the gate of the layout, writes the text and a closed gate behind it, and
-/// opens it. The device has no finished layout, or that of another text. A crash at any moment leaves one that has nothing
-/// saved for this text. Want of memory, which is also answered for a text of 2^32 bytes or more, comes before any call.
+/// Begins a device anew for this definition text. The device must have no finished layout, or that of another text. The
+/// function closes the gate of the layout, writes the text and a closed gate after it, and then opens the layout's
+/// gate. A crash at any moment leaves a device that has nothing saved for this text. Returns `DeviceFault` if a call of
+/// the device fails. Returns `WantOfMemory` before any call, also for a text of 2^32 bytes or more.
 pub fn make_group<D: Disk>(alloc: Global, dev: &mut D, text: &[u8]) -> Result<(), PutNo>
     requires unsaved { Shows (D.trace dev.old) (IsUnsaved text.now) }
     requires settled { IsSettled (D.trace dev.old) }
@@ -37,9 +38,10 @@ pub fn make_group<D: Disk>(alloc: Global, dev: &mut D, text: &[u8]) -> Result<()
     begin_layout(alloc, dev, LETTERS, text)
 }
 
-/// Adds a block behind the gate at a place, which is closed in what any crash leaves: writes it and the next gate, which is closed,
-/// and opens its gate. Answers where the next block goes. Want of memory, which is also answered where the block would end
-/// beyond 2^64 bytes, comes before any call.
+/// Adds a block after the gate at `at`, which must be closed in whatever a crash leaves. The function writes the block
+/// and the next gate, which is closed, and then opens the block's gate. It returns where the next block goes. Returns
+/// `DeviceFault` if a call of the device fails. Returns `WantOfMemory` before any call, also if the block would end
+/// beyond 2^64 bytes.
 pub fn put_block<D: Disk>(alloc: Global, dev: &mut D, at: u64, b: &Block) -> Result<u64, PutNo>
     requires { Now (D.trace dev.old) (IsShut at) }
     ensures any_moment { During (D.trace dev.old) (D.trace dev.new)

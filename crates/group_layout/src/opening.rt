@@ -1,4 +1,4 @@
-// A group's device is opened.
+// Opening a group's device.
 ghost use Rattle.std.specs.Prelude.{◌≡◌, ℕ, ◌^◌, ◌<◌, ◌≤◌, [], Option, IfOk, IsErrOf, OnOk, length, replicate};
 ghost use Rattle.disk_model.specs.Images.{IsSettled, Now};
 ghost use Rattle.disk_model.specs.Moments.{During};
@@ -16,10 +16,10 @@ use archive_file::{PutNo, ScanNo};
 use disk_model::Disk;
 use std::alloc::Global;
 
-/// Opens the device of a group with this definition text, and so many inputs and calculations: syncs it, reads it, and begins
-/// it anew where it has no finished layout or that of another text. A crash at any moment leaves what it might have left
-/// before, or what stands for the same versions and rows. A device that breaks the layout is refused with the first byte of
-/// the first field that does.
+/// Opens the device of a group with this definition text and with so many inputs and calculations. The function syncs
+/// the device and reads it. If the device has no finished layout, or that of another text, the function begins it anew.
+/// A crash at any moment leaves what it might have left before, or what stands for the same versions and rows. If the
+/// device breaks the layout, the function returns `Damaged` with the first byte of the first field that does.
 pub fn open_group<D: Disk>(
     alloc: Global,
     dev: &mut D,

@@ -11,7 +11,7 @@ use archive_file::{Field, ScanNo, byte_at, check, long_at, short_at};
 use disk_model::OPEN;
 use std::alloc::Global;
 
-// Reads the blocks from the gate at a place on, of a group with so many inputs and calculations.
+// Reads the blocks that begin with the gate at `at`, of a group with so many inputs and calculations.
 pub(crate) fn parse_blocks(
     alloc: Global,
     c: &[u8],
@@ -42,7 +42,7 @@ pub(crate) fn parse_blocks(
     })
 }
 
-// What was before the first save: so many inputs at version 0.
+// Returns what counts before the first save: so many inputs at version 0.
 pub(crate) fn unsaved_block(alloc: Global, inputs: u32) -> Result<Block, ScanNo>
     ensures unsaved { IfOk result (λ b. parts_of b ≡ unsaved inputs) }
     ensures undamaged { (a : ℕ) (byte : Option ℕ) → IsErrOf result (Damaged a byte) → ⊥ }
@@ -59,7 +59,7 @@ pub(crate) fn unsaved_block(alloc: Global, inputs: u32) -> Result<Block, ScanNo>
     })
 }
 
-// The last of some blocks, or another one where there is none.
+// Returns the last of these blocks, or `unsaved` if there is none.
 pub(crate) fn last_or<'a>(list: &'a [Block], unsaved: &'a Block) -> &'a Block
     ensures { parts_of result.now ≡ last_of (parts_of unsaved.now) (map parts_of list.now) }
 {
@@ -69,7 +69,7 @@ pub(crate) fn last_or<'a>(list: &'a [Block], unsaved: &'a Block) -> &'a Block
     }
 }
 
-// How many bytes a block has, from its gate to the next one.
+// Returns how many bytes a block takes, from its gate to the next one.
 pub(crate) fn size_of_block(b: &Block) -> usize
     requires { block_size (parts_of b.now) < 2 ^ 64 }
     ensures { result ≡ block_size (parts_of b.now) }
@@ -77,7 +77,7 @@ pub(crate) fn size_of_block(b: &Block) -> usize
     17 + 4 * b.versions.len() + ROW_LEN * b.rows.len()
 }
 
-// The block behind the gate at a place, which follows another.
+// Reads the block after the gate at a place, which follows the block `before`.
 fn read_block(
     alloc: Global,
     c: &[u8],
@@ -120,14 +120,14 @@ fn read_block(
     })
 }
 
-// Whether a number is the one behind another.
+// Whether `number` is the next one after `before`.
 fn is_next(before: u64, number: u64) -> bool
     ensures { result ≡ nat_eq number (before + 1) }
 {
     number > 0 && number - 1 == before
 }
 
-// The versions from a place on, which are no less than those before.
+// Reads the versions that begin at a place. Each must be no less than the one before of its input.
 fn read_versions(alloc: Global, c: &[u8], at: usize, before: &[u32]) -> Result<Vec<u32>, ScanNo>
     requires there { at ≤ length c.now }
     requires small { length c.now < 2 ^ 63 }

@@ -13,10 +13,10 @@ use std::alloc::Global;
 // The largest kind of a row.
 const LAST_KIND: u8 = 3;
 
-// How far from 0 the number of a row may be.
+// The greatest amount of a row's number: how far it may be from 0.
 const MOST_NUMBER: u64 = 1_000_000_000_000_000_000;
 
-// So many rows from a place on, each of one of so many calculations and in one of so many windows.
+// Reads so many rows that begin at a place. Each belongs to one of so many calculations and to one of so many windows.
 pub(crate) fn read_rows(
     alloc: Global,
     c: &[u8],
@@ -49,7 +49,7 @@ pub(crate) fn read_rows(
     Ok(rows)
 }
 
-// The row at a place, behind the last one.
+// Reads the row at a place, after the last one.
 fn read_row(
     c: &[u8],
     at: usize,
@@ -73,7 +73,7 @@ fn read_row(
     Ok(row)
 }
 
-// The row at a place.
+// Reads the row at a place.
 fn row_at(c: &[u8], at: usize) -> BlockRow
     requires there { at ≤ length c.now }
     requires small { length c.now < 2 ^ 63 }
@@ -87,7 +87,8 @@ fn row_at(c: &[u8], at: usize) -> BlockRow
     }
 }
 
-// Refuses a row at a place, behind the last one, in the first of its fields that is not there or breaks its rule.
+// Checks the row at a place, after the last one. Refuses it at the first of its fields that is not there or breaks its
+// rule.
 fn check_row(
     c: &[u8],
     at: usize,
@@ -115,28 +116,28 @@ fn check_row(
     )
 }
 
-// Whether a row is of one of so many calculations, and may come behind the last one by it.
+// Whether a row's calculation is one of so many, and may come after that of the last row.
 fn is_calc_ok(calcs: u32, last: Option<BlockRow>, row: BlockRow) -> bool
     ensures { result ≡ (nat_lt row.calc calcs && is_calc_in_order last row) }
 {
     row.calc < calcs && is_calc_in_order(last, row)
 }
 
-// Whether it is in one of so many windows, and may come behind the last one by that.
+// Whether a row's window is one of so many, and the row may come after the last one.
 fn is_window_ok(windows: u32, last: Option<BlockRow>, row: BlockRow) -> bool
     ensures { result ≡ (nat_lt row.window windows && is_in_order last row) }
 {
     row.window < windows && is_in_order(last, row)
 }
 
-// Whether a row may be of this kind.
+// Whether a row may have this kind.
 fn is_kind(kind: u8) -> bool
     ensures { result ≡ nat_le kind 3 }
 {
     kind <= LAST_KIND
 }
 
-// Whether a row may come behind the last one, by its calculation.
+// Whether a row may come after the last one, by its calculation.
 fn is_calc_in_order(last: Option<BlockRow>, row: BlockRow) -> bool
     ensures { result ≡ is_calc_in_order last row }
 {
@@ -146,7 +147,7 @@ fn is_calc_in_order(last: Option<BlockRow>, row: BlockRow) -> bool
     }
 }
 
-// Whether a row may come behind the last one, by its calculation and its window.
+// Whether a row may come after the last one, by its calculation and its window.
 fn is_in_order(last: Option<BlockRow>, row: BlockRow) -> bool
     ensures { result ≡ is_in_order last row }
 {
@@ -156,7 +157,7 @@ fn is_in_order(last: Option<BlockRow>, row: BlockRow) -> bool
     }
 }
 
-// Whether a row of its kind may have its value.
+// Whether a row of this kind may have this value.
 fn is_value_ok(row: BlockRow) -> bool
     ensures { result ≡ is_value_ok row.kind row.value }
 {

@@ -20,7 +20,7 @@ pub(crate) fn value_of(row: BlockRow) -> CalcValue
     }
 }
 
-// Puts the values that rows list of a calculation, each at the place of its window.
+// Puts the values that rows list for a calculation into the cells of their windows.
 fn put_rows(cells: &mut [Option<CalcValue>], calc: u32, rows: &[BlockRow])
     ensures { (k : ℕ) → k < length cells.old
         → slice_index_or cells.new k None ≡ listed_from (slice_index_or cells.old k None) rows.now calc k }
@@ -33,7 +33,7 @@ fn put_rows(cells: &mut [Option<CalcValue>], calc: u32, rows: &[BlockRow])
     }
 }
 
-// What blocks give of a calculation in each of so many windows.
+// Returns what blocks give for a calculation in each of so many windows.
 fn cells_of(
     alloc: Global,
     blocks: &[Block],
@@ -51,7 +51,7 @@ fn cells_of(
     Ok(cells)
 }
 
-// The values of a row, or none where one is missing.
+// Returns the values of a row, or `None` if one is missing.
 fn whole_row(
     alloc: Global,
     cells: &[Option<CalcValue>],
@@ -69,7 +69,7 @@ fn whole_row(
     Ok(Some(row))
 }
 
-// The rows that blocks give of so many calculations in so many windows, or none where a value is missing.
+// Returns the rows that blocks give for so many calculations in so many windows, or `None` if a value is missing.
 pub(crate) fn rows_of(
     alloc: Global,
     blocks: &[Block],

@@ -15,8 +15,9 @@ const CLOSED: u8 = 0;
 // How many bytes a row has.
 pub(crate) const ROW_LEN: usize = 17;
 
-/// The bytes of a block behind its gate, up to the next gate, which is closed. Want of memory also comes where more rows changed
-/// than the four bytes of their number can count.
+/// Returns the bytes of a block after its gate, up to and with the next gate, which is closed. Returns `WantOfMemory`
+/// if no memory is found. This error also comes if the block has more rows than the four bytes of their number can
+/// count.
 pub fn block_bytes(alloc: Global, b: &Block) -> Result<Vec<u8>, WantOfMemory>
     ensures { IfOk result (λ v. v.items ≡ block_image (parts_of b.now) ++ 0 ∷ []) }
 {
@@ -29,7 +30,7 @@ pub fn block_bytes(alloc: Global, b: &Block) -> Result<Vec<u8>, WantOfMemory>
     }
 }
 
-// The same, of a block with so many rows.
+// Returns the same for a block with `count` rows.
 fn bytes_of(alloc: Global, b: &Block, count: u32) -> Result<Vec<u8>, AllocError>
     requires { vec_len b.now.rows ≡ count }
     ensures { IfOk result (λ v. v.items ≡ block_image (parts_of b.now) ++ 0 ∷ []) }

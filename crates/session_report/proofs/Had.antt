@@ -16,7 +16,7 @@ module _ (h : TagHistory) (s : Snap) where
   had_before fewer = ap (λ b. b && option_map_or (same_held s.held) (slice_get (closing h) (s.taken - h.opening.summary.taken)) false)
       (lt-leb h.opening.summary.taken s.taken fewer)
 
-  -- otherwise it is told by the point that closed the line then
+  -- otherwise the point that closed the line then decides
   had_since : (since : ℕ) → h.opening.summary.taken ≤ s.taken → since ≡ s.taken - h.opening.summary.taken
       → had h s ≡ option_map_or (same_held s.held) (slice_get (closing h) since) false
   had_since since more is =

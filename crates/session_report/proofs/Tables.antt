@@ -53,7 +53,7 @@ module _ (table : Table) (reader k : ℕ) (place : Option ℕ) where
   abbrev pub set_place : Table
   set_place = set table reader (set (get_or table reader []) k place)
 
-  -- that is the place that is told then
+  -- that is then the place that the table has
   pub place_set : reader < length table → k < length (get_or table reader []) → place_in set_place reader k ≡ place
   place_set in_table in_row =
       ap (λ row. get_or row k None) (get_or-set_same table reader (set (get_or table reader []) k place) [] in_table)

@@ -1,4 +1,4 @@
--- Who asked what the entries of tapes answer.
+-- Who asked the questions that the entries of tapes answer.
 use Rattle.std.specs.Prelude.{ℕ, Bool, ◌&&◌, false, List, Option, None, Some, find, nat_eq}
 use Rattle.tag_cell.specs.declared.entry.Entry.{Entry}
 use Rattle.tag_cell.specs.declared.entry.Entry.TheVariants as entry
@@ -6,7 +6,7 @@ use Rattle.group_book.specs.declared.turn.Turn.{Turn}
 use Rattle.group_book.specs.declared.turn.Turn.TheVariants as turn
 use Rattle.session_report.specs.declared.asker.Asker.{Asker}
 
--- who asked what an entry of a tag's tape answers, and who what a turn of a group answers
+-- who asked the question that an entry of a tag's tape answers, or that a turn of a group answers
 abbrev pub tag_asker : Entry → Option Asker
 tag_asker (entry.Ask reader row query reply) = Some (record { reader = reader; row = row })
 tag_asker other = None
@@ -15,7 +15,7 @@ abbrev pub group_asker : Turn → Option Asker
 group_asker (turn.Ask reader row calc k reply) = Some (record { reader = reader; row = row })
 group_asker other = None
 
--- it was asked by this reader, from 0, in this row, from 1
+-- this reader asked it, counted from 0, in this row, counted from 1
 abbrev pub is_by : ℕ → ℕ → Option Asker → Bool
 is_by reader row None = false
 is_by reader row (Some a) = nat_eq a.reader reader && nat_eq a.row row

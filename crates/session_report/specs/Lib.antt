@@ -1,6 +1,6 @@
--- what the report tells
+-- what the report prints
 pub mod Askers
 pub mod Snaps
 pub mod Report
--- what private functions alone cite
+-- what only private functions cite
 pub mod Places

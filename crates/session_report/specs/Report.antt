@@ -24,16 +24,16 @@ use Rattle.session_report.specs.declared.session.Session.{Session}
 use Rattle.session_report.specs.Askers.{first_by, group_asker, tag_asker}
 use Rattle.session_report.specs.Snaps.{snap_in, snap_of, told_at}
 
--- what f makes of each element and its place, where the first one has this place
+-- the results of f for each element and its place, where the first element has the place n
 abbrev pub placed_answers : {A B : Type 0} → (ℕ → A → B) → ℕ → List A → List B
 placed_answers f n [] = []
 placed_answers f n (a ∷ rest) = f n a ∷ placed_answers f (n + 1) rest
 
--- the texts of elements, one behind the other, each by its place from 0
+-- the texts of elements, one after the other. The text of an element may depend on its place, counted from 0
 abbrev pub texts : {A : Type 0} → (ℕ → A → List ℕ) → List A → List ℕ
 texts text_of xs = concat (placed_answers text_of 0 xs)
 
--- the lines of all that a base defines and that has a history, which stands in its place
+-- the lines of all units that a base defines and that have a history at the same place
 abbrev pub lines_of_each : {A B : Type 0} → (A → B → List ℕ) → List A → List B → List ℕ
 lines_of_each lines_of defs histories = texts (λ place def. option_map_or (lines_of def) (slice_get histories place) []) defs
 
@@ -56,7 +56,7 @@ tag_tape tags tag = option_map_or (λ h. h.tape.items) (slice_get tags tag) []
 abbrev pub group_tape : List GroupHistory → ℕ → List Turn
 group_tape groups group = option_map_or (λ h. h.tape.items) (slice_get groups group) []
 
--- what an entry answers, and what a turn does; none where there is no answer
+-- the answer of an entry, and that of a turn; `none` if it answers nothing
 abbrev pub answer_of_tag : Option Entry → ReplyText
 answer_of_tag (Some (entry.Ask reader row asked reply)) = Tag reply
 answer_of_tag other = Row None
@@ -65,7 +65,7 @@ abbrev pub answer_of_group : Option Turn → ReplyText
 answer_of_group (Some (turn.Ask reader row calc k reply)) = Row reply
 answer_of_group other = Row None
 
--- what the reader at a place is told to its query at a place; `notes` is the place of the first reader's note
+-- the reply to the query at a place of the reader at a place. `notes` is the place of the first reader's note
 abbrev pub reply_to : Session → ℕ → ℕ → ℕ → Query → ReplyText
 reply_to s notes reader place (query.Tag tag asked) =
     answer_of_tag (first_by tag_asker reader (place + 1) (tag_tape s.tags.items tag))
@@ -88,7 +88,7 @@ reply_lines s notes readers = texts (replies_to s notes) readers
 abbrev pub windows_in : List (List CalcValue) → ℕ
 windows_in rows = length (slice_index_or rows 0 [])
 
--- a refresh
+-- whether a turn is a refresh
 abbrev pub is_refresh : Turn → Bool
 is_refresh (turn.Refresh versions) = true
 is_refresh other = false
@@ -97,11 +97,11 @@ is_refresh other = false
 abbrev pub last_value : List CalcValue → Option CalcValue
 last_value values = slice_get values (length values - 1)
 
--- the last row of a calculation, which stands at a place
+-- the last row of the calculation at a place
 abbrev pub last_row : List (List CalcValue) → ℕ → Calculation → LastRow
 last_row rows place calc = record { calc = calc.name; value = last_value (slice_index_or rows place []) }
 
--- that of each calculation
+-- the last row of each calculation
 abbrev pub last_rows : List Calculation → List (List CalcValue) → List LastRow
 last_rows calcs rows = placed_answers (last_row rows) 0 calcs
 
@@ -111,11 +111,11 @@ lines_of_group def h =
     let rows = lists_of h.rows.items in
     group_lines def.name (windows_in rows) (count_by is_refresh h.tape.items) h.evals (last_rows def.calcs.calcs rows)
 
--- those of each group of a base
+-- the lines of each group of a base
 abbrev pub all_group_lines : List GroupDef → List GroupHistory → List ℕ
 all_group_lines defs groups = lines_of_each lines_of_group defs groups
 
--- ---- all
+-- ---- the whole report
 
 -- the report of a session with so many collectors, whose readers asked these queries
 abbrev pub report : Base → ℕ → List (List Query) → Session → List ℕ

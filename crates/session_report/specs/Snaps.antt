@@ -1,4 +1,4 @@
--- The snapshots that a tag had, and the one that a reader is told.
+-- The snapshots that a tag had, and the one in the reply to a reader.
 use Rattle.std.specs.Prelude.{ℕ, ◌-◌, Bool, ◌&&◌, true, false, List, ◌∷◌, filter_map, map, nat_eq, nat_le, slice_get, if◌then◌else◌}
 use Rattle.std.specs.Prelude.{Option, None, Some, option_and_then}
 use Rattle.std.specs.Option.{option_map_or}
@@ -14,50 +14,50 @@ use Rattle.collector_pool.specs.declared.note.WorkerNote.{WorkerNote}
 
 -- ---- what a tag had
 
--- the point that closes the line after a take
+-- the point that closes the line after an entry, if the entry is a take
 abbrev pub held_after : Entry → Option Point
 held_after (Take collector row p held records) = Some held
 held_after other = None
 
--- those of the takes of a tape, in order
+-- these points of the takes of a tape, in order
 abbrev pub held_points : List Entry → List Point
 held_points tape = filter_map held_after tape
 
--- the points that closed the line of a tag: as it was opened, and after each take
+-- the points that closed the line of a tag: at its opening, and after each take
 abbrev pub closing : TagHistory → List (Option Point)
 closing h = h.opening.summary.held ∷ map (λ p. Some p) (held_points h.tape.items)
 
--- these are one point, or both none
+-- whether two points are the same, or both are missing
 abbrev pub same_held : Option Point → Option Point → Bool
 same_held None None = true
 same_held (Some p) (Some q) = nat_eq p.t q.t && int_eq p.v q.v
 same_held p q = false
 
--- the tag had this snapshot: with so many events taken, this point closed its line
+-- whether the tag had this snapshot: when it had taken so many events, this point closed its line
 abbrev pub had : TagHistory → Snap → Bool
 had h s = nat_le h.opening.summary.taken s.taken
     && option_map_or (same_held s.held) (slice_get (closing h) (s.taken - h.opening.summary.taken)) false
 
--- its snapshot at the end
+-- the tag's snapshot at the end
 abbrev pub snap_at_end : TagHistory → Snap
 snap_at_end h = record { taken = h.summary.taken; held = h.summary.held }
 
--- ---- what a reader is told
+-- ---- the reply to a reader
 
--- the snapshot of a tag that an answer is, if it is one
+-- the snapshot of this tag in an answer, if the answer has one
 abbrev pub snap_in : ℕ → Option Told → Option Snap
 snap_in tag (Some (told.Snap its snap)) = if nat_eq its tag then Some snap else None
 snap_in tag other = None
 
--- what the note of a worker tells at a place
+-- the answer that the note of a worker has at a place
 abbrev pub told_at : List WorkerNote → ℕ → ℕ → Option Told
 told_at notes worker place = option_and_then (λ note. slice_get note.told.items place) (slice_get notes worker)
 
--- the snapshot that was told, if the tag had it; else that of its end
+-- the snapshot in the note, if the tag had it; otherwise that of the tag's end
 abbrev pub checked : TagHistory → Option Snap → Snap
 checked h None = snap_at_end h
 checked h (Some s) = if had h s then s else snap_at_end h
 
--- the same of the tag at a place; without one, that of a tag in which nothing was taken
+-- the same for the tag at a place. If there is no such tag, the snapshot of a tag that took nothing
 abbrev pub snap_of : List TagHistory → ℕ → Option Snap → Snap
 snap_of tags tag told = option_map_or (λ h. checked h told) (slice_get tags tag) (record { taken = 0; held = None })

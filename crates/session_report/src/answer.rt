@@ -12,7 +12,7 @@ use tag_cell::{Entry, TagHistory};
 use trend_num::{CalcValue, WantOfMemory};
 use trend_report::{ReplyText, answer_line, reply_text};
 
-// The tape of the tag at a place, or an empty one.
+// Returns the tape of the tag at a place, or an empty tape if there is no such tag.
 pub(crate) fn tag_tape(tags: &[TagHistory], tag: u32) -> &[Entry]
     ensures { result.now ≡ tag_tape tags.now tag }
 {
@@ -24,7 +24,7 @@ pub(crate) fn tag_tape(tags: &[TagHistory], tag: u32) -> &[Entry]
     }
 }
 
-// The tape of the group at a place, or an empty one.
+// Returns the tape of the group at a place, or an empty tape if there is no such group.
 pub(crate) fn group_tape(groups: &[GroupHistory], group: u32) -> &[Turn]
     ensures { result.now ≡ group_tape groups.now group }
 {
@@ -36,7 +36,7 @@ pub(crate) fn group_tape(groups: &[GroupHistory], group: u32) -> &[Turn]
     }
 }
 
-// The line of the answer to a question about a tag, which was found at this place of its tape.
+// Returns the line of the answer to a question about a tag. `found` is the answer's place on the tag's tape.
 pub(crate) fn tag_answer(
     alloc: Global,
     tape: &[Entry],
@@ -57,7 +57,7 @@ pub(crate) fn tag_answer(
     reply_text(alloc, reader + 1, row, &ReplyText::Row(None))
 }
 
-// The answer to a question for a value of a group, which was found at this place of its tape.
+// Returns the answer to a question for a value of a group. `found` is the answer's place on the group's tape.
 pub(crate) fn group_answer(
     tape: &[Turn],
     found: Option<usize>,

@@ -1,4 +1,4 @@
-// Who asked what an entry of a tape answers.
+// Who asked the question that an entry of a tape answers.
 ghost use Rattle.std.specs.Prelude.{◌≡◌, Option};
 
 use group_book::Turn;
@@ -17,7 +17,7 @@ pub(crate) trait Answers {
 
     ghost asker: { Self → Option Asker };
 
-    /// Who asked what it answers.
+    /// Returns who asked the question that the entry answers, if it answers one.
     fn asked_by(&self) -> Option<Asker>
         ensures { result ≡ asker self.now };
 }

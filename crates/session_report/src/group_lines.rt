@@ -26,7 +26,7 @@ impl Reported for GroupHistory {
     }
 }
 
-// What is told of a group. A number of windows that is no `u32` is told as memory that is not there.
+// Makes the lines of a group. If the number of windows is no `u32`, the function returns `WantOfMemory`.
 fn line_of_group(
     alloc: Global,
     def: &GroupDef,
@@ -46,14 +46,14 @@ fn line_of_group(
     })
 }
 
-// How many windows the rows of a group have.
+// Returns how many windows the rows of a group have.
 fn windows_in(rows: &[Vec<CalcValue>]) -> usize
     ensures { result ≡ windows_in (lists_of rows.now) }
 {
     if rows.is_empty() { 0 } else { rows[0].len() }
 }
 
-// How often a group was refreshed.
+// Returns how often a group was refreshed.
 fn refreshes_in(tape: &[Turn]) -> usize
     ensures { result ≡ count_by is_refresh tape.now }
 {
@@ -62,7 +62,7 @@ fn refreshes_in(tape: &[Turn]) -> usize
         .count()
 }
 
-// The last row of each calculation.
+// Returns the last row of each calculation.
 fn last_rows(
     alloc: Global,
     defs: &[CalcDef],
@@ -81,7 +81,7 @@ fn last_rows(
     Ok(lasts)
 }
 
-// The last value of the calculation at a place, if there is one.
+// Returns the last value of the calculation at a place, if there is one.
 fn last_in(rows: &[Vec<CalcValue>], place: usize) -> Option<CalcValue>
     ensures { result ≡ last_value (slice_index_or (lists_of rows.now) place []) }
 {
@@ -92,7 +92,7 @@ fn last_in(rows: &[Vec<CalcValue>], place: usize) -> Option<CalcValue>
     }
 }
 
-// The last of some values.
+// Returns the last of some values, if there is one.
 fn last_value(values: &[CalcValue]) -> Option<CalcValue>
     ensures { result ≡ last_value values.now }
 {

@@ -1,14 +1,21 @@
-//! The report of a session: what it has made of each tag and of each group, and what its readers were told.
+//! The report of a session: what the session has made of each tag and of each group, and the replies to its readers.
 //!
-//! A session is all that was left of it once its workers had ended: the histories of its tags and groups in base order, and
-//! the notes of its workers (`Session`); or the history of the plant's log, which no report is made of here. The report is
-//! made by one definition over whole lists (`specs/Report.antt`): first a line of each tag, as it is at the end; then, of
-//! each reader in plan order, the answer to each of its queries; last the lines of each group. An answer about a tag or a
-//! group is that of the first entry of its tape that answers this row of this reader; a query that no entry answers is told
-//! as `none`, which a session that is done never has. A snapshot is the one that the reader's note tells, where the tag had
-//! it, as it was opened or after a take; else it is that of the tag's end. Each tape is gone over once for the answers,
-//! that of a tag whose snapshot a reader asks once more for its points, and that of a group once more to count its
-//! refreshes. The one error is want of memory.
+//! A session ([`Session`]) is all that is left once its workers have ended: the histories of its tags and groups in
+//! base order, and the notes of its workers. A session may have the history of the plant's log in place of the tags'
+//! archives. This crate makes no report of a log.
+//!
+//! One definition over whole lists states the report (`specs/Report.antt`). First comes a line of each tag, as it is at
+//! the end. Then come the readers in plan order, each with the reply to each of its queries. Last come the lines of
+//! each group.
+//!
+//! * The reply about a value of a tag or a group is that of the first entry of its tape that answers this row of this
+//!   reader. If no entry answers the query, the report prints `none`. A session that is done has no such query.
+//! * The reply about a snapshot is the one in the reader's note, if the tag had it: at its opening, or after a take.
+//!   Otherwise it is the snapshot of the tag's end.
+//!
+//! The code goes over each tape once for the answers. It goes once more over the tape of a tag whose snapshot a reader
+//! asks for, for its points. It goes once more over the tape of a group, to count its refreshes. The only error is want
+//! of memory.
 #![tactic(auto)]
 
 mod answer;

@@ -11,8 +11,8 @@ use tag_base::Base;
 use trend_num::WantOfMemory;
 use value_rows::Query;
 
-/// What `run` prints of a session with so many collectors, whose readers asked these queries: a line of each tag, the reply to
-/// each query, and the lines of each group.
+/// Returns what `run` prints of a session with so many collectors, whose readers asked these queries: a line of each
+/// tag, the reply to each query, and the lines of each group. The only error is want of memory.
 pub fn report(
     alloc: Global,
     base: &Base,

@@ -1,4 +1,4 @@
-// Where the answers to queries stand on tapes.
+// The places on tapes of the answers to queries.
 ghost use Rattle.std.specs.Prelude.{◌≡◌, ℕ, ◌+◌, ◌<◌, ◌^◌, List, [], IfOk, IfSome, None, Some, if◌then◌else◌, length, slice_index_or, slice_set};
 ghost use Rattle.std.specs.Option.{option_or};
 ghost use Rattle.calc_refresh.specs.Lists.{lists_of};
@@ -15,7 +15,7 @@ use tag_cell::TagHistory;
 use trend_num::WantOfMemory;
 use value_rows::Query;
 
-// The place of the first answer to each query of each reader, where it is about a tag or a group, on its tape.
+// Returns, for each query of each reader about a tag or a group, the place of its first answer on that unit's tape.
 pub(crate) fn places_of(
     alloc: Global,
     readers: &[Vec<Query>],
@@ -33,7 +33,7 @@ pub(crate) fn places_of(
     Ok(table)
 }
 
-// A table without a place.
+// Makes a table that has no places yet.
 fn empty_table(
     alloc: Global,
     readers: &[Vec<Query>],
@@ -49,7 +49,7 @@ fn empty_table(
     Ok(table)
 }
 
-// Adds the places on the tapes of tags to a table that has none.
+// Adds the places on the tapes of tags to a table without places.
 fn fill_tags(table: &mut Vec<Vec<Option<usize>>>, readers: &[Vec<Query>], tags: &[TagHistory])
     requires few { length tags.now < 2 ^ 32 }
     requires shape { HasPlaceOfEach (lists_of readers.now) (lists_of table.old.items) }
@@ -63,7 +63,7 @@ fn fill_tags(table: &mut Vec<Vec<Option<usize>>>, readers: &[Vec<Query>], tags: 
     }
 }
 
-// Adds those on the tapes of groups to a table that has none of them.
+// Adds the places on the tapes of groups to a table without any of these.
 fn fill_groups(table: &mut Vec<Vec<Option<usize>>>, readers: &[Vec<Query>], groups: &[GroupHistory])
     requires few { length groups.now < 2 ^ 32 }
     requires shape { HasPlaceOfEach (lists_of readers.now) (lists_of table.old.items) }
@@ -77,7 +77,7 @@ fn fill_groups(table: &mut Vec<Vec<Option<usize>>>, readers: &[Vec<Query>], grou
     }
 }
 
-// Keeps where a tape first answers each query about its tag or group.
+// Records where a tape first answers each query about its tag or group.
 fn fill<E: Answers>(
     table: &mut Vec<Vec<Option<usize>>>,
     readers: &[Vec<Query>],
@@ -95,7 +95,7 @@ fn fill<E: Answers>(
     }
 }
 
-// Keeps the place of an answer, where it is the first one to a query about this tag or group.
+// Records the place of an answer, if it is the first one to a query about this tag or group.
 fn keep(
     table: &mut Vec<Vec<Option<usize>>>,
     readers: &[Vec<Query>],
@@ -114,7 +114,7 @@ fn keep(
     }
 }
 
-// The place of the query that an entry answers, if that asks this tag or group.
+// Returns the place of the query that an entry answers, if the query is about this tag or group.
 fn query_about(readers: &[Vec<Query>], unit: Unit, by: Asker) -> Option<usize>
     ensures about { IfSome result (IsQueryAbout (lists_of readers.now) unit by) }
     ensures none { result ≡ None → IsAboutOther (lists_of readers.now) unit by }
@@ -135,7 +135,7 @@ fn query_about(readers: &[Vec<Query>], unit: Unit, by: Asker) -> Option<usize>
     }
 }
 
-// Keeps a place where there is none.
+// Writes a place where there is none yet.
 fn keep_first(places: &mut Vec<Option<usize>>, k: usize, place: usize)
     requires { k < length places.old.items }
     ensures { places.new.items ≡ slice_set places.old.items k (option_or (slice_index_or places.old.items k None) (Some place)) }
@@ -145,7 +145,7 @@ fn keep_first(places: &mut Vec<Option<usize>>, k: usize, place: usize)
     }
 }
 
-// Whether a query asks a tag or a group.
+// Whether a query is about a tag or a group.
 fn is_about(unit: Unit, query: Query) -> bool
     ensures { result ≡ is_about unit (Some query) }
 {

@@ -39,7 +39,7 @@ pub(crate) fn put_replies(
     Ok(())
 }
 
-// Adds those to a reader.
+// Adds the replies to one reader.
 fn put_reader(
     alloc: Global,
     text: &mut String,
@@ -91,7 +91,7 @@ fn put_reply(
     Ok(text.push_str(line.as_str())?)
 }
 
-// The line of the reply to a query.
+// Returns the line of the reply to a query.
 fn reply_line(
     alloc: Global,
     session: &Session,

@@ -1,4 +1,4 @@
-// What has lines of its own in the report: a tag, or a group.
+// Units with lines of their own in the report: tags and groups.
 ghost use Rattle.std.specs.Prelude.{◌≡◌, ◌++◌, [], OnOk, slice_get, string_bytes};
 ghost use Rattle.std.specs.Option.{option_map_or};
 ghost use Rattle.session_report.specs.Report.{lines_of_each};
@@ -6,11 +6,11 @@ ghost use Rattle.session_report.specs.Report.{lines_of_each};
 use std::alloc::Global;
 use trend_num::WantOfMemory;
 
-// The history of something that a base defines.
+// The history of a tag or group that a base defines.
 pub(crate) trait Reported {
     ghost use Rattle.std.specs.Prelude.{◌≡◌, ℕ, List, IfOk, string_bytes};
 
-    // What the base says of it.
+    // Its definition in the base.
     type Def;
 
     // Its lines, as it is at the end.
@@ -21,7 +21,7 @@ pub(crate) trait Reported {
         ensures { IfOk result (λ text. string_bytes text ≡ lines def.now self.now) };
 }
 
-// Adds the lines of each that is defined.
+// Adds the lines of each unit that a base defines.
 pub(crate) fn put_each<T: Reported>(
     alloc: Global,
     text: &mut String,
@@ -36,7 +36,7 @@ pub(crate) fn put_each<T: Reported>(
     Ok(())
 }
 
-// Adds the lines of the one at a place, if there is one.
+// Adds the lines of the unit at a place, if its history is there.
 fn put_one<T: Reported>(
     alloc: Global,
     text: &mut String,

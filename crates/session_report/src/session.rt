@@ -13,6 +13,6 @@ pub struct Session {
     pub groups: Vec<GroupHistory>,
     /// The notes of the workers: of the collectors, then of the readers, then of the refreshers.
     pub workers: Vec<WorkerNote>,
-    /// The history of the plant's log, where the session wrote one in place of its tags' archives.
+    /// The history of the plant's log, if the session wrote a log in place of its tags' archives.
     pub log: Option<LogHistory>,
 }

@@ -1,4 +1,4 @@
-// The snapshots that readers are told.
+// The snapshots in the replies to readers.
 ghost use Rattle.std.specs.Prelude.{◌≡◌, ◌<◌, ◌^◌, [], IfOk, if◌then◌else◌, length, slice_index_or};
 ghost use Rattle.std.specs.List.{list_any};
 ghost use Rattle.calc_refresh.specs.Lists.{lists_of};
@@ -12,7 +12,8 @@ use tag_cell::{Entry, TagHistory};
 use trend_num::{Point, Snap, WantOfMemory};
 use value_rows::Query;
 
-// Of each tag of which a reader asks the snapshot, the points that closed its line after its takes, in order; of the others none.
+// Returns, for each tag whose snapshot a reader asks for, the points that closed its line after its takes, in order.
+// The list of any other tag is empty.
 pub(crate) fn held_lists(
     alloc: Global,
     readers: &[Vec<Query>],
@@ -30,7 +31,7 @@ pub(crate) fn held_lists(
     Ok(lists)
 }
 
-// Of each of so many tags whether a reader asks its snapshot.
+// Returns, for each of so many tags, whether a reader asks for its snapshot.
 fn snapped(alloc: Global, readers: &[Vec<Query>], tags: usize) -> Result<Vec<bool>, WantOfMemory>
     ensures { IfOk result (λ marks. AreSnapped (lists_of readers.now) tags marks.items) }
 {
@@ -39,7 +40,7 @@ fn snapped(alloc: Global, readers: &[Vec<Query>], tags: usize) -> Result<Vec<boo
     Ok(marks)
 }
 
-// Marks the tags whose snapshots readers ask.
+// Marks the tags whose snapshots readers ask for.
 fn mark_all(marks: &mut [bool], readers: &[Vec<Query>])
     ensures { AreMarked (is_snapped (lists_of readers.now)) marks.old marks.new }
 {
@@ -48,7 +49,7 @@ fn mark_all(marks: &mut [bool], readers: &[Vec<Query>])
     }
 }
 
-// Marks the tags whose snapshots the queries of a reader ask.
+// Marks the tags whose snapshots the queries of a reader ask for.
 fn mark_snaps(marks: &mut [bool], queries: &[Query])
     ensures { AreMarked (λ tag. list_any (is_snap tag) queries.now) marks.old marks.new }
 {
@@ -58,7 +59,7 @@ fn mark_snaps(marks: &mut [bool], queries: &[Query])
     }
 }
 
-// Marks the tag whose snapshot a query asks, if it asks one.
+// Marks the tag whose snapshot a query asks for, if it asks for one.
 fn mark_snap(marks: &mut [bool], query: Query)
     ensures { AreMarked (λ tag. is_snap tag query) marks.old marks.new }
 {
@@ -71,7 +72,7 @@ fn mark_snap(marks: &mut [bool], query: Query)
     }
 }
 
-// The points of a tape, if they are wanted.
+// Returns the points of a tape if they are wanted, and otherwise none.
 fn held_if(alloc: Global, tape: &[Entry], wanted: bool) -> Result<Vec<Point>, WantOfMemory>
     ensures { IfOk result (λ points. points.items ≡ (if wanted then held_points tape.now else [])) }
 {
@@ -82,7 +83,7 @@ fn held_if(alloc: Global, tape: &[Entry], wanted: bool) -> Result<Vec<Point>, Wa
     }
 }
 
-// The points that closed the line of a tag after its takes, in order.
+// Returns the points that closed the line of a tag after its takes, in order.
 fn held_points(alloc: Global, tape: &[Entry]) -> Result<Vec<Point>, WantOfMemory>
     ensures { IfOk result (λ points. points.items ≡ held_points tape.now) }
 {
@@ -95,7 +96,7 @@ fn held_points(alloc: Global, tape: &[Entry]) -> Result<Vec<Point>, WantOfMemory
     Ok(points)
 }
 
-// The point that closes the line after a take.
+// Returns the point that closes the line after an entry, if the entry is a take.
 fn held_after(entry: &Entry) -> Option<Point>
     ensures { result ≡ held_after entry.now }
 {
@@ -105,7 +106,7 @@ fn held_after(entry: &Entry) -> Option<Point>
     }
 }
 
-// The snapshot of a tag that a note tells at a place, if it does.
+// Returns the snapshot of a tag that the note of a worker has at a place, if it has one.
 pub(crate) fn snap_told(notes: &[WorkerNote], worker: usize, place: usize, tag: u32) -> Option<Snap>
     ensures { result ≡ snap_in tag (told_at notes.now worker place) }
 {
@@ -122,7 +123,8 @@ pub(crate) fn snap_told(notes: &[WorkerNote], worker: usize, place: usize, tag: 
     }
 }
 
-// The snapshot of a tag that a reader is told: the one that was told it, if the tag had it, else that of the tag's end.
+// Returns the snapshot in the reply about a tag: the one in the reader's note, if the tag had it, and otherwise that of
+// the tag's end.
 pub(crate) fn snap_of(
     tags: &[TagHistory],
     held: &[Vec<Point>],
@@ -144,7 +146,7 @@ pub(crate) fn snap_of(
     }
 }
 
-// The same of a tag.
+// Returns the same for one tag.
 fn checked(tag: &TagHistory, held: &[Point], told: Option<Snap>) -> Snap
     requires { held.now ≡ held_points tag.now.tape.items }
     ensures { result ≡ checked tag.now told }
@@ -158,7 +160,7 @@ fn checked(tag: &TagHistory, held: &[Point], told: Option<Snap>) -> Snap
     }
 }
 
-// Whether a tag had a snapshot.
+// Whether a tag had this snapshot.
 fn had(tag: &TagHistory, held: &[Point], snap: Snap) -> bool
     requires { held.now ≡ held_points tag.now.tape.items }
     ensures { result ≡ had tag.now snap }
@@ -178,7 +180,7 @@ fn had(tag: &TagHistory, held: &[Point], snap: Snap) -> bool
     }
 }
 
-// Whether two points are one, or both none.
+// Whether two points are the same, or both are missing.
 fn same_held(a: Option<Point>, b: Option<Point>) -> bool
     ensures { result ≡ same_held a b }
 {

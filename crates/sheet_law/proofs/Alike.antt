@@ -64,7 +64,7 @@ exact_from : (step : Bool) (p : Point) (ys : List Point) (t : ℕ) → p.t ≡ t
 exact_from step p [] t same = rw (eq-eqb p.t t same) refl
 exact_from step p (y ∷ ys) t same = rw (eq-eqb p.t t same) refl
 
--- a read up to a point does not know what stands after it
+-- a read up to a point does not depend on what is after it
 from_upto : (step : Bool) (x : Point) (front : List Point) (p : Point) (ys zs : List Point) (t : ℕ) → t ≤ p.t
     → read_from step x (front ++ p ∷ ys) t ≡ read_from step x (front ++ p ∷ zs) t
 from_upto step x [] p ys zs t upto =
@@ -97,7 +97,7 @@ filter_none : (f : Point → Bool) (ps : List Point) → ((x : Point) → IsAmon
 filter_none f [] fails = refl
 filter_none f (x ∷ xs) fails = rw (fails x (inl refl)) (filter_none f xs (λ y in_it. fails y (inr in_it)))
 
--- a point that stands behind another is not before it
+-- a point that is after another is not before it
 not_before : (front : List Point) (p : Point) (ys : List Point) → PointsRise (front ++ p ∷ ys) → (y : Point)
     → IsAmong y (p ∷ ys) → p.t ≤ y.t
 not_before front p ys rises y in_it =
@@ -106,7 +106,7 @@ not_before front p ys rises y in_it =
       | inr later ↦ let h = after_middle front p ys rises y later in omega arith
     ]
 
--- a test that fails from a point on knows what stands before it alone
+-- a test that fails from a point on depends only on what is before it
 filter_upto : (f : Point → Bool) (front : List Point) (p : Point) (ys : List Point)
     → ((y : Point) → p.t ≤ y.t → f y ≡ false) → PointsRise (front ++ p ∷ ys)
     → filter f (front ++ p ∷ ys) ≡ filter f front ++ []
@@ -131,7 +131,7 @@ last_late x (y ∷ front) p ys rises = last_late y front p ys (rises_rest y (fro
     rises_rest x [] h = tt
     rises_rest x (y ∷ xs) h = h.1
 
--- a window that ends at a point or before it does not know what stands after the point
+-- a window that ends at a point or before it does not depend on what is after the point
 pub alike_upto : (step : Bool) (front : List Point) (p : Point) (ys zs : List Point) (from to : ℕ)
     → PointsRise (front ++ p ∷ ys) → PointsRise (front ++ p ∷ zs) → from < to → to ≤ p.t
     → IsAlike step (front ++ p ∷ ys) (front ++ p ∷ zs) from to
@@ -171,7 +171,7 @@ alike_upto step front p ys zs from to rises also some upto = record {
 
 -- ---- from a point on
 
--- a test that fails before a point knows what stands from it on alone
+-- a test that fails before a point depends only on what is from it on
 filter_on : (f : Point → Bool) (front : List Point) (q : Point) (ys : List Point)
     → ((x : Point) → x.t < q.t → f x ≡ false) → PointsRise (front ++ q ∷ ys)
     → filter f (front ++ q ∷ ys) ≡ filter f (q ∷ ys)
@@ -213,7 +213,7 @@ begins_on step front q ys from to rises some on = record {
         let before = among_after x (l ++ q ∷ ys) q h (among_middle l q ys) in
         rw (starts x.t (omega arith), starts q.t on, last_on x l q ys) refl
 
--- a window that starts at a point or after it does not know what stands before the point
+-- a window that starts at a point or after it does not depend on what is before the point
 pub alike_on : (step : Bool) (front back : List Point) (q : Point) (ys : List Point) (from to : ℕ)
     → PointsRise (front ++ q ∷ ys) → PointsRise (back ++ q ∷ ys) → from < to → q.t ≤ from
     → IsAlike step (front ++ q ∷ ys) (back ++ q ∷ ys) from to

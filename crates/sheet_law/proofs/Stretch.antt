@@ -1,4 +1,4 @@
--- A record that is put into a content, and the windows beside its stretch.
+-- A record that is put into a content, and the windows that do not meet its stretch.
 use Rattle.std.proofs.Common.{◌≡◌, ℕ, ◌+◌, ◌<◌, ◌≤◌, inl, inr, Bool, false, nat_lt, nat_le, List, [], ◌∷◌, ◌++◌, All, refl, sym, ap, ◌∙◌, subst, arith, append_assoc, append-nil}
 use Rattle.std.specs.Prelude.{◌&&◌, filter}
 use Rattle.std.proofs.lemmas.Bool.{cases_lt, lt-ltb, le-ltb}
@@ -235,7 +235,7 @@ keeps_after step m r l from to rises some on =
         let high : AllAfter (time r) (q ∷ ys) = λ k d within. let h = after k d within in omega arith in
         at_first front q ys whole high (omega arith)
 
--- ---- what stands before a time
+-- ---- what is before a time
 
 -- what is not before a time has no last time before it either
 low_from : (u t e : ℕ) (l : List Rec) → u ≤ e → All (λ x. u ≤ time x) l
@@ -249,7 +249,7 @@ low_from u t e (x ∷ l) low each =
       | inr behind ↦ rw (le-ltb (time x) t behind) (low_from u t e l low rest)
     ]
 
--- a stretch does not start before a point that stands before its time
+-- a stretch does not start before a point that is before its time
 pub starts_from : (l : List Rec) (t u d : ℕ) → IsRising l → IsAmong u (times_of l) → u < t
     → u ≤ last_or d (filter (λ n. nat_lt n t) (times_of l))
 starts_from [] t u d rises in_it before = absurd in_it

@@ -12,21 +12,21 @@ use Rattle.trend_num.specs.declared.value.Bad.TheVariants.{NoData, DivZero, Rang
 use Rattle.trend_num.specs.declared.value.CalcValue.{CalcValue}
 use Rattle.trend_num.specs.declared.value.CalcValue.TheVariants.{Num, Bad}
 
--- a number as a value: one outside the range is Bad
+-- a number as a value. A number outside the range is Bad
 abbrev pub bounded : ℤ → CalcValue
 bounded n = if nat_le (unsigned_abs n) largest_number then Num n else Bad Range
 
--- a number in the range, or Bad
+-- a value is a number in the range, or Bad
 abbrev pub IsInRange : CalcValue → Type 0
 IsInRange (Num n) = unsigned_abs n ≤ largest_number
 IsInRange (Bad why) = Unit {0}
 
--- what a number that may not be there gives
+-- the value of a number that may be missing
 abbrev pub measured_value : Option ℤ → CalcValue
 measured_value None = Bad NoData
 measured_value (Some n) = bounded n
 
--- what an operation makes of its operand: a Bad one is the result
+-- the result of an operation on an operand. If the operand is Bad, it is the result
 abbrev pub after_operation : CalcValue → (ℤ → CalcValue) → CalcValue
 after_operation (Num n) f = f n
 after_operation (Bad why) f = Bad why
@@ -35,11 +35,11 @@ after_operation (Bad why) f = Bad why
 abbrev pub floor_div : ℤ → ℤ → ℤ
 floor_div a b = if int_lt (pos 0) b then int_div_euclid a b else int_div_euclid (neg_ℤ a) (neg_ℤ b)
 
--- what the floor of the quotient leaves
+-- the remainder that the floor of the quotient leaves
 abbrev pub floor_rem : ℤ → ℤ → ℤ
 floor_rem a b = a -ℤ (b *ℤ floor_div a b)
 
--- a division by 0 is Bad
+-- the result of a division: Bad if the divisor is 0
 abbrev pub divided : ℤ → ℤ → CalcValue
 divided b n = if int_eq b (pos 0) then Bad DivZero else bounded n
 
@@ -66,8 +66,8 @@ holds Eq a b = int_eq a b
 abbrev pub compared : Cmp → ℤ → ℤ → CalcValue
 compared cmp a b = if holds cmp a b then Num (pos 1) else Num (pos 0)
 
--- q and r are the quotient and the remainder of a by b: the remainder is 0 or has the divisor's sign, and is
--- nearer to 0
+-- q and r are the quotient and the remainder of a by b. The remainder is 0 or has the divisor's sign, and is nearer to
+-- 0 than the divisor
 pub record IsFloorDivision (a b q r : ℤ) : Type 0 where
   pub whole : a ≡ (b *ℤ q) +ℤ r
   pub above : pos 0 <ℤ b → (pos 0 ≤ℤ r) × (r <ℤ b)

@@ -19,7 +19,7 @@ points_by rss = map (λ rs. points_of (listed rs)) rss
 abbrev pub values_at : Group → Grid → List (List Rec) → ℕ → List CalcValue
 values_at g w rss k = values g (points_by rss) (window_from w k) (window_to w k)
 
--- what rows have at the place k
+-- the values that rows have at the place k
 abbrev pub column : ℕ → List (List CalcValue) → List (Option CalcValue)
 column k rows = map (λ row. slice_get row k) rows
 

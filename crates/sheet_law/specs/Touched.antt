@@ -1,4 +1,4 @@
--- Which windows a record touches when it comes, and which a list of records in turn.
+-- Which windows a record touches when it comes, and which windows the records of a list touch in turn.
 use Rattle.std.specs.Prelude.{ℕ, Bool, false, not, ◌&&◌, ◌||◌, if◌then◌else◌, List, [], ◌∷◌, ◌++◌, map, filter, nat_le, nat_lt}
 use Rattle.std.specs.List.{list_all}
 use Rattle.trend_num.specs.declared.archive.Rec.{Rec}
@@ -8,7 +8,7 @@ use Rattle.trend_model.specs.Contents.{listed}
 abbrev pub times_of : List Rec → List ℕ
 times_of l = map (λ r. r.point.t) l
 
--- the first and the last of these numbers, or another where there is none
+-- the first and the last of these numbers, or the default if there is none
 abbrev pub first_or : ℕ → List ℕ → ℕ
 first_or d [] = d
 first_or d (n ∷ ns) = n
@@ -17,35 +17,35 @@ abbrev pub last_or : ℕ → List ℕ → ℕ
 last_or d [] = d
 last_or d (n ∷ ns) = last_or n ns
 
--- the stretch of the time t in a content: from the last point before it to the first one after it. A point at t is
--- no neighbour, and where there is none on a side, t ends the stretch there.
+-- the stretch of the time t in a content: from the last point before it to the first point after it. A point at t does
+-- not count. If there is no point on one side, the stretch ends there at t
 abbrev pub stretch_from : List Rec → ℕ → ℕ
 stretch_from l t = last_or t (filter (λ n. nat_lt n t) (times_of l))
 
 abbrev pub stretch_to : List Rec → ℕ → ℕ
 stretch_to l t = first_or t (filter (λ n. nat_lt t n) (times_of l))
 
--- whether a window meets the closed stretch
+-- whether a window meets the closed stretch of a time
 abbrev pub meets : List Rec → ℕ → ℕ → ℕ → Bool
 meets l t from to = nat_le (stretch_from l t) to && nat_le from (stretch_to l t)
 
--- whether a record is after every Kept one of these
+-- whether a record is after every Kept record of these
 abbrev pub is_newest : Rec → List Rec → Bool
 is_newest r rs = list_all (λ x. is_late_record x.kind || nat_lt x.point.t r.point.t) rs
 
--- whether a record that comes after these touches a window: a Late one by its stretch in their content, a Kept one
--- that is not the newest every window
+-- whether a record that comes after these touches a window. A Late record touches the windows that its stretch in their
+-- content meets. A Kept record touches none if it is the newest, and otherwise every window
 abbrev pub touches : List Rec → Rec → ℕ → ℕ → Bool
 touches rs r from to =
     if is_late_record r.kind then meets (listed rs) r.point.t from to else not (is_newest r rs)
 
--- whether one of the records that come after these touches a window, each looked at behind the ones before it
+-- whether one of the records that come after these touches a window. Each comes after the ones before it
 abbrev pub is_touched : List Rec → List Rec → ℕ → ℕ → Bool
 is_touched rs [] from to = false
 is_touched rs (r ∷ more) from to = touches rs r from to || is_touched (rs ++ r ∷ []) more from to
 
--- whether a window is touched in one of the inputs, which get these records. A shorter list leaves the others as
--- they are.
+-- whether a window is touched in one of the inputs, which get these records. If there are fewer lists than inputs, the
+-- other inputs get none.
 abbrev pub any_touched : List (List Rec) → List (List Rec) → ℕ → ℕ → Bool
 any_touched [] mores from to = false
 any_touched (rs ∷ rss) [] from to = false

@@ -13,12 +13,13 @@ use Rattle.trend_num.specs.declared.value.CalcValue.TheVariants.{Bad}
 use Rattle.calc_check.specs.Group.{Group, names_of}
 use Rattle.sheet_law.specs.Number.{bounded, measured_value, after_operation, operated, compared}
 
--- what names stand for: inputs for points that rise in time, earlier calculations for values
+-- what names stand for: names of inputs for points that rise in time, names of earlier calculations for values
 pub record Scope : Type 0 where
   pub points : List ℕ → Option (List Point)
   pub earlier : List ℕ → Option CalcValue
 
--- the value of a tree in the window from one time to another. Inputs are tags of lines: their measures are those of lines
+-- the value of a tree in the window from one time to another. Inputs are tags of lines, so their measures are those of
+-- lines
 abbrev pub value : Scope → ℕ → ℕ → Tree → CalcValue
 value s from to (num n) = bounded n
 value s from to (window m name) =
@@ -32,11 +33,11 @@ value s from to (compare cmp a b) =
 value s from to (choose c a b) =
     after_operation (value s from to c) (λ n. if int_eq n (pos 0) then value s from to b else value s from to a)
 
--- what stands in a list at the place of a name among names
+-- the element of a list at the place that a name has among names
 abbrev pub at_name : {A : Type 0} → List (List ℕ) → List A → List ℕ → Option A
 at_name names xs name = option_and_then (slice_get xs) (position (bytes_eq name) names)
 
--- what the names of a group stand for, by the points of its inputs and the values of its first calculations
+-- what the names of a group stand for, given the points of its inputs and the values of its first calculations
 abbrev pub scope : Group → List (List Point) → List CalcValue → Scope
 scope g contents lower = record {
   points = at_name g.inputs contents;
@@ -47,8 +48,8 @@ scope g contents lower = record {
 abbrev pub points_in : List ContentState → List (List Point)
 points_in contents = map (λ c. points_of c.records) contents
 
--- the values of a group's calculations in a window, in order: each by the points of the inputs and the values
--- before it
+-- the values of a group's calculations in a window, in order. Each is evaluated with the points of the inputs and the
+-- values before it
 abbrev pub values : Group → List (List Point) → ℕ → ℕ → List CalcValue
 values g contents from to =
     fold (λ lower c. lower ++ value (scope g contents lower) from to c.tree ∷ []) [] g.calcs

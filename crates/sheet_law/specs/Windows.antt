@@ -5,14 +5,14 @@ use Rattle.trend_num.specs.declared.archive.Rec.{Rec}
 use Rattle.trend_model.specs.Content.{is_late_record}
 use Rattle.sheet_law.specs.declared.grid.Grid.{Grid}
 
--- the window k goes from one of these times to the other
+-- when the window k begins, and when it ends
 abbrev pub window_from : Grid → ℕ → ℕ
 window_from w k = w.start + k * w.period
 
 abbrev pub window_to : Grid → ℕ → ℕ
 window_to w k = w.start + (k + 1) * w.period
 
--- whether a Kept record stands at the time t or after it
+-- whether a Kept record is at the time t or after it
 abbrev pub reaches : ℕ → List Rec → Bool
 reaches t rs = list_any (λ r. not (is_late_record r.kind) && nat_le t r.point.t) rs
 
@@ -20,7 +20,7 @@ reaches t rs = list_any (λ r. not (is_late_record r.kind) && nat_le t r.point.t
 abbrev pub is_complete : Grid → List (List Rec) → ℕ → Bool
 is_complete w rss k = list_all (reaches (window_to w k)) rss
 
--- one more than the greatest time of the Kept records, and 0 where there is none
+-- one more than the greatest time of the Kept records, or 0 if there is none
 abbrev pub kept_end : List Rec → ℕ
 kept_end [] = 0
 kept_end (r ∷ rs) = if is_late_record r.kind then kept_end rs else max (r.point.t + 1) (kept_end rs)
@@ -29,7 +29,7 @@ kept_end (r ∷ rs) = if is_late_record r.kind then kept_end rs else max (r.poin
 abbrev pub windows_before : Grid → ℕ → ℕ
 windows_before w t = (t - 1 - w.start) / w.period
 
--- the least of these numbers, and 0 where there is none
+-- the least of these numbers, or 0 if there is none
 abbrev pub least : List ℕ → ℕ
 least [] = 0
 least (n ∷ []) = n

@@ -11,14 +11,15 @@ ghost use Rattle.sheet_law.specs.Windows.{complete_windows, is_complete, reaches
 ghost use Rattle.sheet_law.specs.Touched.{any_touched, is_newest, is_touched, longer, meets};
 ghost use Rattle.sheet_law.specs.Scratch.{values_at};
 
-/// The complete windows are the first ones, as many as are counted, where there is an input and windows have a length.
+/// The complete windows are the first ones, as many as `complete_windows` counts, if there is an input and windows have
+/// a length.
 pub fn reached_windows_are_complete()
     ensures { (w : Grid) (rs : List Rec) (rss : List (List Rec)) (k : ℕ) → 0 < w.period
         → (k < complete_windows w (rs ∷ rss)) ↔ (is_complete w (rs ∷ rss) k ≡ true) }
 {}
 
-/// A window that does not meet the closed stretch of a late record, in the content before it, measures what it did:
-/// any measure, of a line or a stair, wherever the record stands.
+/// Take a window that does not meet the closed stretch of a late record, in the content before the record. The record
+/// does not change what the window measures: any measure, of a line or a stair, wherever the record lies.
 pub fn late_records_touch_their_stretch()
     ensures { (step : Bool) (m : Measure) (rs : List Rec) (r : Rec) (from to : ℕ) → from < to
         → is_late_record r.kind ≡ true → meets (listed rs) r.point.t from to ≡ false
@@ -26,7 +27,7 @@ pub fn late_records_touch_their_stretch()
         ≡ window_value step m (points_of (listed rs)) from to }
 {}
 
-/// A record that is after every Kept one changes no window that these had reached.
+/// A record after every Kept one changes nothing in a window whose end the Kept records had already reached.
 pub fn kept_records_touch_no_complete_window()
     ensures { (step : Bool) (m : Measure) (rs : List Rec) (r : Rec) (from to : ℕ) → from < to
         → is_newest r rs ≡ true → reaches to rs ≡ true
@@ -34,7 +35,8 @@ pub fn kept_records_touch_no_complete_window()
         ≡ window_value step m (points_of (listed rs)) from to }
 {}
 
-/// A window that was reached, and that no record of a list touches in its turn, measures what it did.
+/// Take a window whose end the Kept records have reached, and that no record of a list touches in its turn. What the
+/// window measures does not change.
 pub fn untouched_windows_stay()
     ensures { (step : Bool) (m : Measure) (rs more : List Rec) (from to : ℕ) → from < to
         → reaches to rs ≡ true → is_touched rs more from to ≡ false
@@ -42,7 +44,7 @@ pub fn untouched_windows_stay()
         ≡ window_value step m (points_of (listed rs)) from to }
 {}
 
-/// And so the values of all calculations in it are what they were.
+/// So the values of all calculations in such a window do not change either.
 pub fn formulas_stay()
     ensures { (g : Group) (w : Grid) (rss mores : List (List Rec)) (k : ℕ) → 0 < w.period
         → is_complete w rss k ≡ true → any_touched rss mores (window_from w k) (window_to w k) ≡ false

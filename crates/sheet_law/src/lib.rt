@@ -1,12 +1,16 @@
 //! What a group's rows are, and which windows a record can change.
 //!
-//! The definitions stand in `specs/`, over whole lists of records; read them in this order: `Number` (the values of the
-//! calculation language, and what its operations make of them), `Value` (the value of a formula in a window), `Windows`
-//! (the windows of a grid, and which are complete), `Scratch` (the values of all calculations in all complete windows,
-//! from the records alone), `Touched` (the stretch of a late record, and the windows that records touch when they come in
-//! turn). The law is that a window which is not touched keeps every value. It is stated for measures of lines and of stairs, and for
+//! The definitions are in `specs/`, over whole lists of records. Read them in this order:
+//!
+//! * `Number`: the values of the calculation language, and the results of its operations.
+//! * `Value`: the value of a formula in a window.
+//! * `Windows`: the windows of a grid, and which of them are complete.
+//! * `Scratch`: the values of all calculations in all complete windows, from the records alone.
+//! * `Touched`: the stretch of a late record, and the windows that records touch when they come one after the other.
+//!
+//! The law: a window that is not touched keeps every value. It is stated for measures of lines and of stairs, and for
 //! the values of calculations. Each law is the contract of a public function without parameters, whose body is empty.
-//! Layers above cite the lemmas behind them.
+//! Layers above cite the lemmas that prove the laws.
 #![tactic(auto)]
 
 mod grid;

@@ -60,7 +60,7 @@ moment_in_range nanos m =
     let early = m.early in
     subst IsTimestampNanos m.is (omega (arith, signed_arith), omega (arith, signed_arith))
 
--- what `jiff` tells of it in milliseconds goes through the bits of its type
+-- what `jiff` returns of it in milliseconds goes through the bits of its type
 pub told : (nanos : ℤ) (m : IsMoment nanos) (r : Result Timestamp Error) (t : Timestamp) (millis : ℤ) → r ≡ Ok t
     → IfOk r (λ (found : Timestamp). found.nanosecond ≡ nanos) → millis ≡ int_div t.nanosecond (pos 1_000_000)
     → to_z w64 (of_z w64 millis) ≡ pos m.instant

@@ -1,4 +1,4 @@
--- What the text of a calendar says.
+-- The meaning of the text of a calendar.
 use Rattle.std.specs.Prelude.{◌≤◌, ℕ, ◌+◌, ◌-◌, ◌*◌, Bool, true, if◌then◌else◌, ◌&&◌, List, [], ◌∷◌, ◌++◌, length, position, slice_index, codes, bytes_eq, nat_eq, nat_le, nat_lt, Option, None, Some, option_and_then, option_map, Result, Ok}
 use Rattle.std.specs.Char.{is_ascii_digit}
 use Rattle.std.specs.List.{list_any}
@@ -13,7 +13,7 @@ use Rattle.shift_calendar.specs.declared.refusal.CalNo.TheVariants.{BadText}
 use Rattle.shift_calendar.specs.Answers.{when, given}
 use Rattle.toml_tables.specs.Tables.{document, has_keys, places_at, string_at, array_at, is_count}
 
--- the most shifts of a day, and the most tags, of a calendar
+-- how many shifts a day may have, and how many tags a calendar
 abbrev pub most_starts : ℕ
 most_starts = 24
 
@@ -22,7 +22,7 @@ most_tags = 64
 
 -- ---- starts
 
--- the number of two decimal digits that stand at a place, where it is below a limit
+-- the number of the two decimal digits at a place, if it is below a limit
 abbrev pub two_digits : List ℕ → ℕ → ℕ → Option ℕ
 two_digits bytes at limit =
     let number = (slice_index bytes at - 48) * 10 + (slice_index bytes (at + 1) - 48) in
@@ -37,18 +37,18 @@ shift_start_of bytes =
     (two_digits bytes 0 24)
     else None
 
--- the minutes that items name, each a text, after some minutes
+-- the minutes that items name, after some earlier minutes, if each item is such a text
 abbrev pub starts_after : List ℕ → Items → Option (List ℕ)
 starts_after earlier no_items = Some earlier
 starts_after earlier (item d ds) =
     option_and_then (λ start. starts_after (earlier ++ start ∷ []) ds) (option_and_then shift_start_of (as_str d))
 
--- numbers that rise, the first of which is not below another number
+-- whether numbers rise strictly, and the first is not below another number
 abbrev pub rises_from : ℕ → List ℕ → Bool
 rises_from least [] = true
 rises_from least (n ∷ ns) = nat_le least n && rises_from (n + 1) ns
 
--- the starts of the shifts, which rise strictly
+-- the starts of the shifts, if there are 1 to 24 and they rise strictly
 abbrev pub starts_of : Items → Option (List ℕ)
 starts_of items =
     if is_count most_starts items
@@ -60,7 +60,7 @@ starts_at ms = option_and_then starts_of (array_at (codes "starts") ms)
 
 -- ---- tags
 
--- the place of the first tag of a name
+-- the place of the first tag with a name
 abbrev pub tag_place_of : List (List ℕ) → List ℕ → Option ℕ
 tag_place_of names name = position (λ n. bytes_eq n name) names
 
@@ -68,17 +68,17 @@ tag_place_of names name = position (λ n. bytes_eq n name) names
 abbrev pub is_taken : List ℕ → ℕ → Bool
 is_taken earlier place = list_any (λ p. nat_eq p place) earlier
 
--- a place, where it is among no earlier ones
+-- a place, if it is not among earlier ones
 abbrev pub untaken : List ℕ → ℕ → Option ℕ
 untaken earlier place = if is_taken earlier place then None else Some place
 
--- the place of the tag of a name, where it is among no earlier places
+-- the place of the tag with a name, if it is not among earlier places
 abbrev pub new_place : List (List ℕ) → List ℕ → List ℕ → Option ℕ
 new_place names earlier name = option_and_then (untaken earlier) (tag_place_of names name)
 
 -- ---- measure and zone
 
--- the measure of a word
+-- the measure that a word names
 abbrev pub measure_of_word : List ℕ → Option Measure
 measure_of_word word =
     if bytes_eq word (codes "area") then Some Area
@@ -94,7 +94,7 @@ measure_of_word word =
 abbrev pub measure_at : Members → Option Measure
 measure_at ms = option_and_then measure_of_word (string_at (codes "measure") ms)
 
--- the rule of a POSIX time zone that `jiff` reads
+-- the rule of the POSIX time zone in a table, as `jiff` reads it
 abbrev pub zone_at : Members → Option TzText
 zone_at ms = option_and_then read_whole (string_at (codes "zone") ms)
 
@@ -108,14 +108,14 @@ pub record CalendarParts : Type 0 where
   pub tags : List ℕ
   pub measure : Measure
 
--- the same, with the rule of the zone as its text says it
+-- the same, with the rule of the zone as its text states it
 pub record Form : Type 0 where
   pub zone : Option TzText
   pub starts : List ℕ
   pub tags : List ℕ
   pub measure : Measure
 
--- what the rule of a POSIX zone says
+-- the rule of a POSIX zone
 abbrev pub zone_rule : TimeZone → Option TzText
 zone_rule (Posix rule) = Some (tz_view rule)
 zone_rule _ = None
@@ -132,8 +132,8 @@ calendar_form_of c =
 abbrev pub calendar_keys : List (List ℕ)
 calendar_keys = codes "zone" ∷ codes "starts" ∷ codes "tags" ∷ codes "measure" ∷ []
 
--- the calendar that bytes spell over the names of tags, by the rules in their order: 1 a document, 2 its
--- keys, 3 its zone, 4 its starts, 5 its tags, 6 its measure
+-- the calendar that bytes spell, with the names of tags. The rules in their order: 1 a document, 2 its keys, 3 its
+-- zone, 4 its starts, 5 its tags, 6 its measure
 abbrev pub calendar : List (List ℕ) → List ℕ → Result Form CalNo
 calendar names bytes =
     given (document bytes) (BadText 1) (λ ms.
@@ -144,7 +144,7 @@ calendar names bytes =
     given (measure_at ms) (BadText 6) (λ measure.
     Ok (record { zone = Some zone; starts = starts; tags = tags; measure = measure })))))))
 
--- as many shifts a day, and as many tags, as a calendar has
+-- a calendar has no fewer and no more shifts a day and tags than it may have
 pub record IsSized (starts tags : ℕ) : Type 0 where
   pub some_starts : 1 ≤ starts
   pub few_starts : starts ≤ most_starts

@@ -7,8 +7,8 @@ use Rattle.shift_calendar.specs.declared.window.ShiftWindow.{ShiftWindow}
 use Rattle.shift_calendar.specs.Days.{IsDay}
 use Rattle.shift_calendar.specs.Instants.{IsInstant}
 
--- a shift: the day it belongs to and its number there, the minute of that day at which it begins, and the
--- day and the minute of it at which it ends
+-- a shift: the day that it belongs to and its number there, the minute of that day at which it begins, and the day and
+-- minute at which it ends
 pub record Shift : Type 0 where
   pub day : ℤ
   pub number : ℕ
@@ -16,7 +16,8 @@ pub record Shift : Type 0 where
   pub last_day : ℤ
   pub end : ℕ
 
--- the shift at a place of a day: it ends where the next begins, the last where the first of the next day does
+-- the shift at a place of a day. It ends when the next one begins; the last one ends when the first of the next day
+-- begins
 abbrev pub shift_at : List ℕ → ℤ → ℕ → Shift
 shift_at starts day place =
     record {
@@ -27,7 +28,7 @@ shift_at starts day place =
       end = if nat_lt (place + 1) (length starts) then slice_index starts (place + 1) else slice_index starts 0;
     }
 
--- the numbers below one, in order
+-- the numbers below n, in order
 abbrev pub below : ℕ → List ℕ
 below zero = []
 below (suc n) = below n ++ n ∷ []
@@ -36,7 +37,7 @@ below (suc n) = below n ++ n ∷ []
 abbrev pub shifts_of : List ℕ → ℤ → List Shift
 shifts_of starts day = map (shift_at starts day) (below (length starts))
 
--- the shifts of so many days from a day on: the days in order
+-- the shifts of so many days that begin with a day, the days in order
 abbrev pub shifts_over : List ℕ → ℤ → ℕ → List Shift
 shifts_over starts day days = flat_map (λ k. shifts_of starts (day +ℤ pos k)) (below days)
 
@@ -54,7 +55,7 @@ AreWindows zone [] (w ∷ ws) = ⊥
 AreWindows zone (s ∷ ss) [] = ⊥
 AreWindows zone (s ∷ ss) (w ∷ ws) = IsWindow zone s w × AreWindows zone ss ws
 
--- the day of a window is one, and both ends are times
+-- the day of a window is in range, and so are both of its ends
 pub record IsWindowTimed (w : ShiftWindow) : Type 0 where
   pub day : IsDay w.day
   pub from : w.from ≤ last_time

@@ -1,4 +1,4 @@
-// A calendar, and its reading from a text.
+// A calendar, and how it is read from a text.
 ghost use Rattle.std.specs.Prelude.{◌≡◌, ◌≤◌, ◌<◌, ◌^◌, false, length, slice_index, All, Err, IfOk, None, Some, option_map};
 ghost use Rattle.std.specs.Str.{is_utf8};
 ghost use Rattle.toml.specs.View.{table_view};
@@ -22,11 +22,11 @@ use toml::Table;
 use toml_tables::{document, has_keys, places_at, string_at};
 use trend_num::{Measure, Name, WantOfMemory};
 
-// The most tags of a calendar.
+// How many tags a calendar may have.
 const MAX_TAGS: usize = 64;
 
-/// When the shifts of a day begin, in which zone, and what is told of each: a clause sees the zone, the
-/// minutes of the day of the starts, the places of the tags and the measure.
+/// When the shifts of a day begin, in which zone, and what is reported for each. A clause sees the zone, the starts as
+/// minutes of the day, the places of the tags, and the measure.
 #[derive(Debug, Drop)]
 pub struct Calendar {
     zone: TimeZone<'static>,
@@ -53,21 +53,21 @@ impl Model for Calendar {
 }
 
 impl Calendar {
-    /// The places of its tags, in the order of its text, among the names that it was read over.
+    /// Returns the places of the calendar's tags among the names that it was read with, in the order of its text.
     pub fn tags(&self) -> &[u32]
         ensures { result.now ≡ self.now.tags }
     {
         &self.tags
     }
 
-    /// The measure that is the figure of each shift.
+    /// Returns the measure that is reported for each shift.
     pub fn measure(&self) -> Measure
         ensures { result ≡ self.now.measure }
     {
         self.measure
     }
 
-    // How many shifts a day has.
+    // Returns how many shifts a day has.
     pub(crate) fn shift_count(&self) -> usize
         ensures count { result ≡ length self.now.starts }
         ensures some { 1 ≤ result }
@@ -76,7 +76,7 @@ impl Calendar {
         self.starts.len()
     }
 
-    // The instant, in milliseconds from 1970, at which the shift at a place of a day begins.
+    // Returns the instant, in milliseconds from 1970, at which the shift at a place of a day begins.
     pub(crate) fn start_instant(&self, day: i32, place: usize) -> u64
         requires there { place < length self.now.starts }
         requires day { IsShiftDay day }
@@ -88,7 +88,7 @@ impl Calendar {
     }
 }
 
-// The zone of a table, where its text is a POSIX time zone.
+// Returns the zone of a table, if its text is a POSIX time zone.
 fn zone_at(table: &Table) -> Option<TimeZone<'static>>
     ensures { option_map (λ z. zone_rule (plain_zone z)) result ≡ option_map Some (zone_at (table_view table.now)) }
 {
@@ -101,15 +101,22 @@ fn zone_at(table: &Table) -> Option<TimeZone<'static>>
     }
 }
 
-/// The calendar that bytes spell over the names of tags, or the first rule that they break: 1 the bytes are a
-/// TOML document, 2 its keys are `zone`, `starts`, `tags` and `measure`, 3 `zone` is a POSIX time zone, 4
-/// `starts` is 1 to 24 texts `HH:MM` that rise strictly, 5 `tags` is 1 to 64 names of tags, none twice, 6
-/// `measure` is the word of a measure.
+/// Returns the calendar that bytes spell; `tags` has the names of the base's tags. Returns `BadText` with the first
+/// rule that the bytes break:
+///
+/// 1. The bytes are a TOML document.
+/// 2. Its keys are `zone`, `starts`, `tags` and `measure`.
+/// 3. `zone` is a POSIX time zone.
+/// 4. `starts` is 1 to 24 texts `HH:MM` that rise strictly.
+/// 5. `tags` is 1 to 64 names of tags, none twice.
+/// 6. `measure` is the word of a measure.
+///
+/// Returns `WantOfMemory` if no memory is found.
 pub fn read_calendar(alloc: Global, bytes: &[u8], tags: &[Name]) -> Result<Calendar, CalNo>
     requires { length tags.now ≤ 2 ^ 32 }
     ensures calendar { AnswersShift calendar_form_of result (calendar tags.now bytes.now) }
 
-    // Bytes that are no text break the first rule, whatever memory there is.
+    // Bytes that are not UTF-8 break the first rule, whether there is memory or not.
     ensures no_text { is_utf8 bytes.now ≡ false → result ≡ Err (BadText 1) }
     ensures sized { IfOk result (λ c. IsSized (length c.starts) (length c.tags)) }
     ensures are_tags { IfOk result (λ c. All (λ t. t < length tags.now) c.tags) }

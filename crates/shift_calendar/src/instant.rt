@@ -9,7 +9,7 @@ use crate::start::Start;
 use jiff::civil::{Date, DateTime};
 use jiff::tz::TimeZone;
 
-// The date of a day, by its number from 1970-01-01.
+// Returns the date of a day, by its number from 1970-01-01.
 pub(crate) fn date_of(day: i32) -> Date
     requires { IsDay day }
     ensures { epoch_day result ≡ day }
@@ -20,7 +20,7 @@ pub(crate) fn date_of(day: i32) -> Date
     }
 }
 
-// The local time of a day and a time of day.
+// Returns the local time at a time of day on a day.
 fn local_time(day: i32, start: Start) -> DateTime
     requires { IsDay day }
     ensures { IsLocalTime day start.minute result }
@@ -29,7 +29,7 @@ fn local_time(day: i32, start: Start) -> DateTime
     date_of(day).at(hour as i8, minute as i8, 0, 0)
 }
 
-// The instant, in milliseconds from 1970, of a day and a time of day in a zone.
+// Returns the instant, in milliseconds from 1970, of a time of day on a day in a zone.
 pub(crate) fn instant(zone: &TimeZone<'static>, day: i32, start: Start) -> u64
     requires { IsShiftDay day }
     ensures instant { IsInstant (plain_zone zone.now) day start.minute result }

@@ -7,7 +7,7 @@ use toml::Table;
 use toml_tables::string_at;
 use trend_num::Measure;
 
-// The measure of a word.
+// Returns the measure that a word names.
 fn measure_of(word: &str) -> Option<Measure>
     ensures { result ≡ measure_of_word word.now }
 {
@@ -24,7 +24,7 @@ fn measure_of(word: &str) -> Option<Measure>
     }
 }
 
-// The measure of a table, where its word is one.
+// Returns the measure of a table, if its word names one.
 pub(crate) fn measure_at(table: &Table) -> Option<Measure>
     ensures { result ≡ measure_at (table_view table.now) }
 {

@@ -5,7 +5,7 @@ ghost use Rattle.shift_calendar.specs.Calendars.{tag_place_of, is_taken, untaken
 use toml_tables::Places;
 use trend_num::Name;
 
-// The place of the first tag of a name.
+// Returns the place of the first tag with a name.
 fn place_of(names: &[Name], name: &[u8]) -> Option<usize>
     ensures place { result ≡ tag_place_of names.now name.now }
     ensures there { IfSome result (λ place. place < length names.now) }
@@ -20,7 +20,7 @@ fn is_taken(earlier: &[u32], place: u32) -> bool
     earlier.iter().any(|p| *p == place)
 }
 
-// A place, where it is among no earlier ones.
+// Returns a place, if it is not among earlier ones.
 fn untaken(earlier: &[u32], place: usize) -> Option<u32>
     requires { place < 2 ^ 32 }
     ensures place { result ≡ untaken earlier.now place }
@@ -33,7 +33,7 @@ fn untaken(earlier: &[u32], place: usize) -> Option<u32>
     Some(place)
 }
 
-// The names of the tags of a base, of which a calendar has places.
+// The names of the tags of a base. A calendar has places among them.
 #[derive(Drop)]
 pub(crate) struct TagNames<'n> {
     pub(crate) names: &'n [Name],

@@ -8,7 +8,7 @@ use toml::{Table, Value};
 use toml_tables::{has_count, items_at};
 use trend_num::WantOfMemory;
 
-// The most shifts of a day.
+// How many shifts a day may have.
 const MAX_STARTS: usize = 24;
 
 // A time of day at which a shift begins.
@@ -19,7 +19,7 @@ pub(crate) struct Start {
     pub(crate) ghost in_day: { minute < 1440 },
 }
 
-// The number of two decimal digits that stand at a place, where it is below a limit.
+// Returns the number of the two decimal digits at a place, if it is below a limit.
 fn two_digits(bytes: &[u8], at: usize, limit: u16) -> Option<u16>
     requires { at + 1 < length bytes.now }
     ensures number { result ≡ two_digits bytes.now at limit }
@@ -33,7 +33,7 @@ fn two_digits(bytes: &[u8], at: usize, limit: u16) -> Option<u16>
     if number < limit { Some(number) } else { None }
 }
 
-// The time of day that a text `HH:MM` names, from 00:00 to 23:59.
+// Returns the time of day that a text `HH:MM` names, from 00:00 to 23:59.
 fn start_of(text: &str) -> Option<Start>
     ensures { option_map (λ s. s.minute) result ≡ shift_start_of text.now }
 {
@@ -52,7 +52,7 @@ fn start_of(text: &str) -> Option<Start>
     })
 }
 
-// The times that items name, each a text.
+// Returns the times that items name, if each item is such a text.
 fn times_of(alloc: Global, items: &[Value]) -> Result<Option<Vec<Start>>, WantOfMemory>
     ensures starts { IfOk result (λ found.
         option_map (λ starts. map (λ s. s.minute) starts.items) found ≡ starts_after [] (items_view items.now)) }
@@ -85,7 +85,7 @@ fn rises(starts: &[Start]) -> bool
     true
 }
 
-// The starts that the table of a calendar names: 1 to 24 times of day that rise strictly.
+// Returns the starts that the table of a calendar names, if they are 1 to 24 times of day that rise strictly.
 pub(crate) fn starts_at(alloc: Global, table: &Table) -> Result<Option<Vec<Start>>, WantOfMemory>
     ensures starts { IfOk result (λ found.
         option_map (λ starts. map (λ s. s.minute) starts.items) found ≡ starts_at (table_view table.now)) }

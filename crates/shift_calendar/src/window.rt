@@ -12,7 +12,7 @@ use trend_num::WantOfMemory;
 /// A shift of a day, as a window of instants.
 #[derive(Clone, Copy, Debug, PartialEq, Eq)]
 pub struct ShiftWindow {
-    /// The day that it belongs to, by its number from 1970-01-01.
+    /// The day that the shift belongs to, by its number from 1970-01-01.
     pub day: i32,
     /// Its number in the day, counted from 1.
     pub shift: u32,
@@ -22,7 +22,7 @@ pub struct ShiftWindow {
     pub to: u64,
 }
 
-// The instant, in milliseconds from 1970, at which the shift at a place of a day ends.
+// Returns the instant, in milliseconds from 1970, at which the shift at a place of a day ends.
 fn end_instant(calendar: &Calendar, day: i32, place: usize) -> u64
     requires there { place < length calendar.now.starts }
     requires few { length calendar.now.starts ≤ 24 }
@@ -39,7 +39,7 @@ fn end_instant(calendar: &Calendar, day: i32, place: usize) -> u64
     }
 }
 
-// The window of the shift at a place of a day.
+// Returns the window of the shift at a place of a day.
 fn window_of(calendar: &Calendar, day: i32, place: usize) -> ShiftWindow
     requires there { place < length calendar.now.starts }
     requires few { length calendar.now.starts ≤ 24 }
@@ -74,9 +74,10 @@ fn push_day(
     Ok(())
 }
 
-/// The windows of the shifts of so many days, 1 to 366, from a day on, by its number from 1970-01-01: the days in order,
-/// and the shifts of a day in order. Each is from the instant of its start to that of the next shift's, as the
-/// calendar's zone names them. Where the clock skips the start of a shift, a window may end before it begins.
+/// Returns the windows of the shifts of `days` days, 1 to 366, that begin with `day`, a number from 1970-01-01. The
+/// days are in order, and so are the shifts of a day. Each window is from the instant at which its shift starts to the
+/// instant at which the next one starts, in the calendar's zone. Where the clock skips the start of a shift, a window
+/// may end before it begins. The only error is want of memory.
 pub fn shift_windows(
     alloc: Global,
     cal: &Calendar,

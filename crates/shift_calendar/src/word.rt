@@ -9,10 +9,10 @@ use jiff::civil::Date;
 use jiff::fmt::temporal::DateTimePrinter;
 use std::marker::Model;
 
-// The number of the first day that is read, 1971-01-01.
+// The number of the first day that may be read, 1971-01-01.
 const FIRST_DAY: i32 = 365;
 
-// The number of the last day that is read, 9990-12-31.
+// The number of the last day that may be read, 9990-12-31.
 const LAST_DAY: i32 = 2_929_609;
 
 /// A day as a word, `YYYY-MM-DD`. A clause sees its bytes.
@@ -30,7 +30,7 @@ impl Model for DayWord {
 }
 
 impl DayWord {
-    /// Its text.
+    /// Returns the text of the word.
     pub fn text(&self) -> &str
         ensures { result.now ≡ self.now }
     {
@@ -38,7 +38,7 @@ impl DayWord {
     }
 }
 
-// The word of a date.
+// Returns the word of a date.
 fn word_of(date: Date) -> DayWord
     ensures { result ≡ date_text date }
 {
@@ -47,14 +47,14 @@ fn word_of(date: Date) -> DayWord
     }
 }
 
-// Whether a day is one from 1971-01-01 to 9990-12-31.
+// Whether a day is from 1971-01-01 to 9990-12-31.
 fn is_first_day(day: i32) -> bool
     ensures { IsTrue result ↔ IsFirstDay day }
 {
     FIRST_DAY <= day && day <= LAST_DAY
 }
 
-// The number of the day of a date, where the date is in range and this is its word.
+// Returns the number of a date's day, if the date is in range and this is its word.
 fn day_if_word(date: Date, word: &str) -> Option<i32>
     ensures { SomeIff result (IsFirstDay (epoch_day date) × (date_text date ≡ word.now)) (epoch_day date) }
 {
@@ -68,8 +68,8 @@ fn day_if_word(date: Date, word: &str) -> Option<i32>
     Some(day)
 }
 
-/// The number from 1970-01-01 of the day that a word names: four digits, `-`, two digits, `-`, two digits, a
-/// date from 1971-01-01 to 9990-12-31. None for any other text.
+/// Returns the day that a word names, by its number from 1970-01-01. The word is four digits, `-`, two digits, `-`, two
+/// digits, and names a date from 1971-01-01 to 9990-12-31. Returns `None` for any other text.
 pub fn day_of_word(word: &str) -> Option<i32>
     ensures day { IfSome result (IsDayWord word.now) }
     ensures in_range { IfSome result IsFirstDay }
@@ -81,7 +81,7 @@ pub fn day_of_word(word: &str) -> Option<i32>
     }
 }
 
-/// The word of a day from 1970-01-01 to 9999-12-31, by its number from 1970-01-01.
+/// Returns the word of a day from 1970-01-01 to 9999-12-31, given by its number from 1970-01-01.
 pub fn word_of_day(day: i32) -> DayWord
     requires { IsDay day }
     ensures { IsDayWord result day }

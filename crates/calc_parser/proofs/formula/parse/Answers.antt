@@ -1,4 +1,4 @@
--- The verdict on the tokens is told of the text.
+-- The verdict on the tokens becomes the answer for the text.
 use Rattle.std.proofs.Common.{arith, sym, ◌∙◌, ◌≡◌, subst, ap, Err, length, ◌-◌, drop, get_or, []}
 use Rattle.calc_parser.specs.Formulas.{HasFormulaCause, Gives}
 use Rattle.calc_parser.specs.Scan.{refusal_of, Stops, scan, whole}

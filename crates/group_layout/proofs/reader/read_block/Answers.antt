@@ -23,7 +23,7 @@ read c kept = record {
   versions = c.in_ok-versions.ensures.kept;
 }
 
--- and so are the counts behind the versions
+-- and so are the counts after the versions
 counts : (c : After-read_rows)
     → let at = c.args.gate + 9 + 4 * c.len.result in
     All (Keeps c.args.c.now)

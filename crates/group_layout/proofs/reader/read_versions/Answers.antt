@@ -12,7 +12,7 @@ use Rattle.archive_file.proofs.LayoutSpellings.{spells_short}
 use Rattle.group_layout.proofs.VersionLaws.{version_breaks, version_more}
 use Rattle.group_layout.proofs.reader.read_versions.Goals as goal
 
--- the numbers behind a list and one more
+-- the numbers after a list and one more
 risen : (xs ys : _) (n y : ℕ) → length ys ≡ n → ((k : ℕ) → k < n → get_or xs k 0 ≤ get_or ys k 0) → get_or xs n 0 ≤ y
     → (k : ℕ) → k < n + 1 → get_or xs k 0 ≤ get_or (ys ++ y ∷ []) k 0
 risen xs ys n y long below here k low = elim (cases_lt k n) [

@@ -10,7 +10,7 @@ use Rattle.group_book.proofs.book.Book.publish.Given as given
 use Rattle.group_book.proofs.book.Book.publish.Goals as goal
 use Rattle.group_book.proofs.book.Book.publish.Goals.{After-push_reserved}
 
--- what was pulled goes on from the copies, with one pull for each input
+-- what was pulled continues from the copies, with one pull for each input
 goes : (g : given.Over) (c : After-push_reserved g) → GoesOn c.self.inside.sheet.copies c.args.pulled.items
 goes g c = subst (λ (t : ToldBook _). GoesOn t.sheet.copies c.args.pulled.items) (sym c.self.view_is) c.requires.goes_on
 
@@ -24,7 +24,7 @@ refreshed g c =
     subst (IsRefreshed c.self.inside.sheet c.apply.new.self) (ap lists_of c.deref-3.ensures.value ∙ c.in_ok-deltas.ensures)
     c.in_ok-apply.ensures.refreshed
 
--- and the tape tells how far the inputs were pulled
+-- and the tape records how far the inputs were pulled
 told : (g : given.Over) (c : After-push_reserved g)
     → c.push_reserved.new.self.items ≡ c.self.inside.tape.items ++ Refresh c.in_ok-entry.entry ∷ []
 told g c = c.push_reserved.ensures.items ∙ ap (λ (l : List Turn). l ++ Refresh c.in_ok-entry.entry ∷ []) c.make_place.ensures.same
