@@ -67,7 +67,7 @@ left_closed o o1 o2 same closing =
     weaker o o2 (FromOld o (IsClosing 0 1)) (IsLeftOrNew o) (λ c from. left_torn o from.0 c from.1 from.2)
     (subst (λ x. During x o2 (FromOld x (IsClosing 0 1))) same closing)
 
--- ---- the head is written behind it
+-- ---- the head is written after it
 
 -- the layout is not begun yet
 pub not_begun : (letters text : List ℕ) (o o1 : Option Trace) → During o o1 (IsLeftOrNew o) → During o o1 (IsLeftOrBegun letters text o)
@@ -75,7 +75,7 @@ not_begun letters text o o1 closed = weaker o o1 (IsLeftOrNew o) (IsLeftOrBegun 
 
 module _ (letters text bytes : List ℕ) (four : length letters ≡ 4) (small : length text < 2 ^ 32) (is : bytes ≡ head_image letters text)
     (o o1 : Option Trace) (closed : During o o1 (IsLeftOrNew o)) where
-  -- behind the open gate they are a layout
+  -- after the open gate they are a layout
   begun : (d c : List ℕ) → IsGuarded 1 bytes 0 d c → IsOpen 0 c → IsEmpty letters text c
   begun d c guarded opened = head_is letters text c four small opened (subst (λ b. Holds 1 b c) is (guarded.whole opened))
 
@@ -100,7 +100,7 @@ module _ (letters text bytes : List ℕ) (four : length letters ≡ 4) (small : 
       let from = left.each (seen (Some t)) (present t) in
       begun from.0 (seen (Some t)) from.2 (ap (λ l. get_or l 0 0) sees)
 
--- behind a layout that was begun there is room for the first block
+-- after a layout that was begun there is room for the first block
 pub layout_ready : (letters text : List ℕ) (o : Option Trace) → Shows o (IsEmpty letters text) → IsSettled o
     → Now o (IsShut (blocks_at (length text)))
 layout_ready letters text None made settled = record { each = λ c may. absurd may.image }

@@ -1,4 +1,4 @@
--- Fields one behind the other: those that are kept, and the first that is not.
+-- Fields one after the other: those that are kept, and the first that is not.
 use Rattle.std.proofs.Common.{◌≡◌, inl, inr, ℕ, ◌≤◌, Bool, true, All, List, [], ◌∷◌, ◌++◌, length, take, drop, Option, Result, Err, IsErrOf, refl, sym, ap, ◌∙◌, subst, arith, append_assoc, length-append}
 use Rattle.std.proofs.Math.Seq.{take-add}
 use Rattle.std.proofs.lemmas.List.{append-nil, drop-drop}
@@ -14,11 +14,11 @@ field_of place size is_kept = record { place = place; size = size; is_kept = is_
 
 -- ---- what was read
 
--- nothing stands at a place
+-- nothing is at a place
 pub spells_none : (c : List ℕ) (at : ℕ) → at ≤ length c → Spells c at [] at
 spells_none c at within = record { spelled = refl; ends = omega arith; within = within }
 
--- two pieces, one behind the other
+-- two pieces, one after the other
 pub spells_both : (c : List ℕ) (at mid end : ℕ) (xs ys : List ℕ) → Spells c at xs mid → Spells c mid ys end
     → Spells c at (xs ++ ys) end
 spells_both c at mid end xs ys first second = record {
@@ -47,7 +47,7 @@ pub breaks_here : (c : List ℕ) (f : Field) (fs : List Field) (a : ℕ) (byte :
     → BreaksFirst c (f ∷ fs) a byte
 breaks_here c f fs a byte breaks = record { before = []; field = f; behind = fs; are = refl; kept = All-nil (Keeps c); breaks = breaks }
 
--- behind fields that are kept
+-- after fields that are kept
 pub breaks_behind : (c : List ℕ) (fs gs : List Field) (a : ℕ) (byte : Option ℕ) → All (Keeps c) fs
     → BreaksFirst c gs a byte → BreaksFirst c (fs ++ gs) a byte
 breaks_behind c fs gs a byte kept first = record {
@@ -59,12 +59,12 @@ breaks_behind c fs gs a byte kept first = record {
   breaks = first.breaks;
 }
 
--- behind one
+-- after one
 pub breaks_next : (c : List ℕ) (f : Field) (fs : List Field) (a : ℕ) (byte : Option ℕ) → Keeps c f
     → BreaksFirst c fs a byte → BreaksFirst c (f ∷ fs) a byte
 breaks_next c f fs a byte kept first = breaks_behind c (f ∷ []) fs a byte (All-cons (Keeps c) f [] kept (All-nil (Keeps c))) first
 
--- with others behind
+-- with others after
 pub breaks_within : (c : List ℕ) (fs gs : List Field) (a : ℕ) (byte : Option ℕ) → BreaksFirst c fs a byte
     → BreaksFirst c (fs ++ gs) a byte
 breaks_within c fs gs a byte first = record {

@@ -1,4 +1,4 @@
--- What stands in an image is what was read of it.
+-- What is in an image is what was read of it.
 use Rattle.std.proofs.Common.{◌≡◌, ℕ, ◌+◌, ◌%◌, ◌^◌, ◌<◌, ◌≤◌, List, [], ◌∷◌, ◌++◌, length, get_or, take, drop, refl, sym, ap, ◌∙◌, subst, arith, length-take, length-drop, inl, inr}
 use Rattle.std.proofs.lemmas.Nat.{be_bytes_4, be_bytes_8}
 use Rattle.std.proofs.lemmas.List.{get_or-take, get_or-drop, get_or_past, drop_more}
@@ -58,9 +58,9 @@ long_below c at bytes =
     let part = part_bytes c at 8 bytes in
     omega (arith, part 0, part 1, part 2, part 3, part 4, part 5, part 6, part 7)
 
--- ---- what is read, and what was read behind it
+-- ---- what is read, and what was read after it
 
--- a number of 4 bytes, with more behind it
+-- a number of 4 bytes, with more after it
 pub then_short : (c : List ℕ) (at mid end : ℕ) (more : List ℕ) → IsBytes c → at + 4 ≤ length c → mid ≡ at + 4 → Spells c mid more end
     → Spells c at (number_bytes 4 (short_at c at) ++ more) end
 then_short c at mid end more bytes there is behind =

@@ -20,12 +20,12 @@ use Rattle.archive_file.specs.Places.{Adds, AreInRange, AreRecords, BreaksAt, Ha
 use Rattle.archive_file.proofs.Points.{IsBytes, rec_spelled}
 use Rattle.archive_file.proofs.Joins.{joined}
 
--- records in range behind records in range
+-- records in range after records in range
 in_range_joined : (rs qs : List Rec) → AreInRange rs → AreInRange qs → AreInRange (rs ++ qs)
 in_range_joined [] qs first second = second
 in_range_joined (r ∷ rs) qs first second = (first.0, in_range_joined rs qs first.1 second)
 
--- records of the next bytes behind records
+-- records of the next bytes after records
 records_joined : (s : List ℕ) (at k m : ℕ) (rs qs : List Rec) → AreRecords rs (take (17 * k) (drop at s))
     → AreRecords qs (take (17 * m) (drop (at + 17 * k) s)) → AreRecords (rs ++ qs) (take (17 * (k + m)) (drop at s))
 records_joined s at k m rs qs first second =
@@ -107,7 +107,7 @@ broken_here bytes b at count k j a byte rs why whole here counted records is bre
       },
     )
 
--- what is read of a part of a device stands on the device: some of its bytes, and one of them
+-- what is read of a part of a device is on the device: some of its bytes, and one of them
 pub part_of : (s : List ℕ) (at size m n : ℕ) → m + n ≤ size → take n (drop m (take size (drop at s)))
     ≡ take n (drop (at + m) s)
 part_of s at size m n fits =
@@ -179,7 +179,7 @@ added_at (Some t) at count part old new long reads adds =
       };
     }
 
--- the next piece of a device behind those before
+-- the next piece of a device after those before
 pub added_next : (o : Option Trace) (at k m : ℕ) (old mid new : List Rec)
     → IfSome o (λ t. Adds (seen (Some t)) at k old mid) → IfSome o (λ t. Adds (seen (Some t)) (at + 17 * k) m mid new)
     → IfSome o (λ t. Adds (seen (Some t)) at (k + m) old new)
@@ -193,7 +193,7 @@ added_all None at count old new none adds = tt
 added_all (Some t) at count old new none adds =
     subst (HasRecords (seen (Some t)) at count) (sym (adds.behind ∙ ap (λ l. l ++ adds.added) none)) adds.there
 
--- damage in a piece behind whole records is damage of the whole
+-- damage in a piece after whole records is damage of the whole
 damage_behind : (o : Option Trace) (at k m count a : ℕ) (byte : Option ℕ) (old mid : List Rec)
     → Reaches o (at + 17 * count) → k + m ≤ count → IfSome o (λ t. Adds (seen (Some t)) at k old mid)
     → IfSome o (λ t. IsDamage (seen (Some t)) (at + 17 * k) m a byte)

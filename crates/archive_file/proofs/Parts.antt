@@ -14,7 +14,7 @@ use Rattle.archive_file.specs.Summaries.{flags, places_image, tuning_bytes, summ
 use Rattle.archive_file.proofs.Points.{place_at-bytes}
 use Rattle.archive_file.proofs.Flags.{held_bit, pending_bit, hinge_bit, doors_bit, tuning_bit}
 
--- what is behind the first part
+-- what is after the first part
 pub behind : (b rest front back : List ℕ) (n : ℕ) → rest ≡ drop n b → b ≡ front ++ back → length front ≡ n
     → rest ≡ back
 behind b rest front back n is whole long = is ∙ ap (drop n) whole ∙ drop_at front back n long
@@ -103,7 +103,7 @@ pub record AreRead (s : Summary) (b r1 r3 r4 r5 r6 r7 r8 : List ℕ) (there : �
   pub tuned : eqb (there / 16 % 2) 1 ≡ is_some s.tuning
   pub tuning : r8 ≡ tuning_bytes s.tuning
 
--- each part stands behind those before it
+-- each part is after those before it
 pub parts_read : (s : Summary) (b r1 r2 r3 r4 r5 r6 r7 r8 : List ℕ) (there : ℕ) → IsSummary s → b
     ≡ summary_image s → r1 ≡ drop 8 b → r2 ≡ drop 4 r1 → there ≡ get_or r2 0 0
     → r3 ≡ drop 4 r2 → r4 ≡ drop 16 r3 → r5 ≡ drop 16 r4 → r6 ≡ drop 16 r5 → r7 ≡ drop 16 r6 → r8 ≡ drop 16 r7

@@ -1,4 +1,4 @@
--- Bytes that stand at a place of an image, part by part, and those in front of a place.
+-- Bytes that are at a place of an image, part by part, and those in front of a place.
 use Rattle.std.proofs.Common.{◌≡◌, inl, ℕ, ◌+◌, ◌<◌, ◌≤◌, List, [], ◌∷◌, ◌++◌, length, get_or, take, drop, refl, sym, ap, ◌∙◌, arith, lit<, length-append, length-take, length-drop}
 use Rattle.std.proofs.Math.Seq.{take-add}
 use Rattle.std.proofs.lemmas.Grind.{same_number_lists}
@@ -9,7 +9,7 @@ use Rattle.disk_model.proofs.Bytes.{holds_written}
 
 -- ---- parts of bytes
 
--- a part of bytes that stand there
+-- a part of bytes that are there
 pub holds_left : (c : List ℕ) (at : ℕ) (xs ys : List ℕ) → Holds at (xs ++ ys) c → Holds at xs c
 holds_left c at xs ys holds =
     sym (take-take (length xs) (length (xs ++ ys)) (drop at c) (omega (arith, length-append xs ys)))
@@ -76,9 +76,9 @@ guarded_front d c bytes at guarded low = record {
   same = λ i before. guarded.outside i (omega (arith, before, low)) (inl (omega (arith, before))) (λ e. absurd (omega (arith, e, before)));
 }
 
--- ---- a block behind a gate
+-- ---- a block after a gate
 
--- behind the open gate of a block the gate of the next one is closed
+-- after the open gate of a block the gate of the next one is closed
 pub next_shut : (block : List ℕ) (at next : ℕ) (d c : List ℕ) → at + length (block ++ 0 ∷ []) ≡ next
     → IsGuarded (at + 1) (block ++ 0 ∷ []) at d c → IsOpen at c → IsShut next c
 next_shut block at next d c place guarded opened = record {

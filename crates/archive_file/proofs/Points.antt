@@ -24,7 +24,7 @@ IsBytes bs = (i : ℕ) → get_or bs i 0 < 256
 fits : (p : Point) → InRange p → SFits w64 p.v
 fits p inside = let value = inside.value in grind (arith, ints)
 
--- what stands in the bytes of a point, with more behind them
+-- what is in the bytes of a point, with more after them
 pub point_at-bytes : (p : Point) (more : List ℕ) → InRange p → point_at (point_bytes p ++ more) ≡ p
 point_at-bytes p more inside =
     let time : from_be_bytes w64 (to_be_bytes w64 p.t)
@@ -63,7 +63,7 @@ number_8_below bs bytes = omega (
       7,
 )
 
--- 16 bytes are those of the point that stands there
+-- 16 bytes are those of the point that is there
 pub point_bytes-at : (bs : List ℕ) → length bs ≡ 16 → IsBytes bs → point_bytes (point_at bs) ≡ bs
 point_bytes-at bs long bytes =
     let first = take 8 bs in

@@ -15,7 +15,7 @@ pub shows_at : (o : Option Trace) (bytes : List ℕ) (P : List ℕ → Type 0) �
 shows_at None bytes P all p = tt
 shows_at (Some t) bytes P all p = subst P all p
 
--- bytes written behind a gate begin behind it
+-- bytes written after a gate begin after it
 pub shut_reached : (o : Option Trace) (at : ℕ) → Now o (IsShut at) → Reaches o (at + 1)
 shut_reached None at shut = tt
 shut_reached (Some t) at shut = omega (arith, (shut.each (seen (Some t)) (present t)).there)

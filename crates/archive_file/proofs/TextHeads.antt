@@ -11,11 +11,11 @@ use Rattle.archive_file.proofs.PlacedBytes.{SameFront, holds_byte, holds_left, h
 
 -- ---- a head that is there
 
--- the head with its text and the gate behind it is there
+-- the head with its text and the gate after it is there
 pub head_long : (letters c : List ℕ) → HasHead letters c → 9 + (short_at c 5 + 1) ≤ length c
 head_long letters c head = (head.fields 5 (field_of 0 0 true) (lit< tt)).there
 
--- the blocks begin behind the text
+-- the blocks begin after the text
 pub text_place : (letters text c : List ℕ) → IsOfText letters text c → blocks_at (length text) ≡ 9 + short_at c 5
 text_place letters text c is =
     omega (arith, sym (ap length is.same), length-take (short_at c 5) (drop 9 c), length-drop 9 c, head_long letters c is.head)
@@ -27,7 +27,7 @@ head_found letters c long opened kept = record { begun = record { long = long; o
 
 -- ---- a head that was written
 
--- what stands behind the letters
+-- what is after the letters
 abbrev behind_letters : List ℕ → List ℕ
 behind_letters text = number_bytes 4 (length text) ++ (text ++ 0 ∷ [])
 

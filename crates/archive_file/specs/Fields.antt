@@ -15,12 +15,12 @@ value_bytes v = number_bytes 8 (cast_unsigned w64 v)
 abbrev pub point_bytes : Point → List ℕ
 point_bytes p = number_bytes 8 p.t ++ value_bytes p.v
 
--- a point that may be absent: then zeros
+-- a point, or zeros if it is absent
 abbrev pub place_bytes : Option Point → List ℕ
 place_bytes None = replicate 16 0
 place_bytes (Some p) = point_bytes p
 
--- the point that stands in the first 16 bytes
+-- the point in the first 16 bytes
 abbrev pub point_at : List ℕ → Point
 point_at bytes = record {
   t = from_be_bytes w64 (take 8 bytes);

@@ -6,7 +6,7 @@ use Rattle.trend_num.specs.declared.tuning.Tuning.{Tuning}
 use Rattle.trend_num.specs.Ranges.{InRange, TuningInRange}
 use Rattle.archive_file.specs.Fields.{number_bytes, place_bytes}
 
--- a tuning in 32 bytes; zeros where it is absent
+-- a tuning in 32 bytes, or zeros if it is absent
 abbrev pub tuning_bytes : Option Tuning → List ℕ
 tuning_bytes None = replicate 32 0
 tuning_bytes (Some t) = number_bytes 7 t.exc_dev
@@ -33,8 +33,8 @@ summary_image s =
     number_bytes 8 s.taken ++ (number_bytes 4 s.records
     ++ ((flags s ∷ 0 ∷ 0 ∷ 0 ∷ []) ++ (places_image s ++ tuning_bytes s.tuning)))
 
--- a summary that has a spelling: held and hinge are there together, both doors are, these and a pending value only beside
--- held, and all is in range
+-- a summary that has a spelling. Held and hinge are both there or both absent, and so are the two doors. The doors and
+-- a pending value are there only if held is. All that is there is in range
 pub record IsSummary (s : Summary) : Type 0 where
   pub taken : s.taken < 2 ^ 64
   pub records : s.records < 2 ^ 32

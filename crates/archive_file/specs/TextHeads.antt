@@ -11,7 +11,8 @@ use Rattle.archive_file.specs.LayoutFields.{Keeps, short_at}
 abbrev pub letter_field : List ℕ → ℕ → ℕ → Field
 letter_field c at letter = record { place = at; size = 1; is_kept = nat_eq (slice_index c at) letter }
 
--- behind the gate of the layout: the four letters, the length of the text, and the text with the gate behind it
+-- the fields after the gate of the layout: the four letters, the length of the text, and the text with the gate after
+-- it
 abbrev pub head_fields : List ℕ → List ℕ → List Field
 head_fields letters c =
     letter_field c 1 (slice_index letters 0) ∷ letter_field c 2 (slice_index letters 1)
@@ -20,39 +21,39 @@ head_fields letters c =
     ∷ record { place = 9; size = short_at c 5 + 1; is_kept = true }
     ∷ []
 
--- where the gate of the first block is, behind a text of so many bytes
+-- the place of the first block's gate, after a text of `size` bytes
 abbrev pub blocks_at : ℕ → ℕ
 blocks_at size = 9 + size
 
--- the text
+-- the text of the layout
 abbrev pub text_in : List ℕ → List ℕ
 text_in c = take (short_at c 5) (drop 9 c)
 
--- a layout is there, and its head is whole
+-- there is a layout, and its head is whole
 pub record HasHead (letters c : List ℕ) : Type 0 where
   pub begun : IsBegun c
   pub fields : All (Keeps c) (head_fields letters c)
 
--- it is that of this text
+-- and its text is this one
 pub record IsOfText (letters text c : List ℕ) : Type 0 where
   pub head : HasHead letters c
   pub same : text_in c ≡ text
 
 -- ---- a layout that is begun
 
--- what stands behind the gate of the layout, up to the first block's gate, which is closed
+-- the bytes after the gate of the layout, up to the first block's gate, which is closed
 abbrev pub head_image : List ℕ → List ℕ → List ℕ
 head_image letters text = letters ++ (number_bytes 4 (length text) ++ (text ++ 0 ∷ []))
 
--- a layout of this text without blocks
+-- the layout of this text, without blocks
 pub record IsEmpty (letters text c : List ℕ) : Type 0 where
   pub of_text : IsOfText letters text c
   pub shut : IsShut (blocks_at (length text)) c
 
--- an image is one that a crash might have left before, or has no finished layout
+-- a crash might have left the image before, or the image has no finished layout
 abbrev pub IsLeftOrNew : Option Trace → List ℕ → Type 0
 IsLeftOrNew o c = MayLeave o c ⊎ IsNew c
 
--- or it is the layout of this text without blocks
+-- or the image is the layout of this text, without blocks
 abbrev pub IsLeftOrBegun : List ℕ → List ℕ → Option Trace → List ℕ → Type 0
 IsLeftOrBegun letters text o c = IsLeftOrNew o c ⊎ IsEmpty letters text c

@@ -1,4 +1,4 @@
-// Why reading and writing on a device ends.
+// Errors of reading and writing on a device.
 use thiserror::Error;
 
 /// A call of a device failed.
@@ -6,16 +6,17 @@ use thiserror::Error;
 #[error("a call of a device failed")]
 pub struct DeviceFault;
 
-/// Why what stands on a device was not read.
+/// Why a read of a device was refused.
 #[derive(Debug, Clone, Copy, PartialEq, Eq, Error)]
 pub enum ScanNo {
     /// A call of the device failed.
     #[error("a call of a device failed")]
     DeviceFault,
-    /// The byte at `at`, the first of a field, breaks the layout; `None` where the device ends there.
+    /// The byte at `at`, which is the first of a field, breaks the layout. `at` counts bytes from the start of the
+    /// device. `byte` is `None` if the device ends there.
     #[error("damaged at {at}")]
     Damaged { at: u64, byte: Option<u8> },
-    /// There was no memory.
+    /// Memory could not be allocated.
     #[error("out of memory")]
     WantOfMemory,
 }
@@ -26,7 +27,7 @@ pub enum PutNo {
     /// A call of the device failed.
     #[error("a call of a device failed")]
     DeviceFault,
-    /// There was no memory.
+    /// Memory could not be allocated.
     #[error("out of memory")]
     WantOfMemory,
 }

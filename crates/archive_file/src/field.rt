@@ -7,7 +7,7 @@ ghost use Rattle.archive_file.specs.Fields.{number_bytes, point_bytes, place_byt
 use arrayvec::ArrayVec;
 use trend_num::Point;
 
-/// Adds bytes at the end. There is room for them.
+/// Adds bytes at the end. The caller ensures that there is room for them.
 pub fn put<const N: usize>(out: &mut ArrayVec<u8, N>, bytes: &[u8])
     requires { array_vec_len out.old + length bytes.now ≤ N }
     ensures items { out.new.items ≡ out.old.items ++ bytes.now }
@@ -18,7 +18,7 @@ pub fn put<const N: usize>(out: &mut ArrayVec<u8, N>, bytes: &[u8])
     };
 }
 
-/// Adds a point at the end, its time and then its value. There is room for it.
+/// Adds a point at the end, in 16 bytes: its time and then its value. The caller ensures that there is room.
 pub fn put_point<const N: usize>(out: &mut ArrayVec<u8, N>, p: Point)
     requires { array_vec_len out.old + 16 ≤ N }
     ensures items { out.new.items ≡ out.old.items ++ point_bytes p }
@@ -28,7 +28,7 @@ pub fn put_point<const N: usize>(out: &mut ArrayVec<u8, N>, p: Point)
     put(out, &p.v.to_be_bytes());
 }
 
-// Adds a point at the end, or zeros where there is none. There is room for it.
+// Adds a point at the end, or 16 zeros if there is none. There is room for them.
 pub(crate) fn put_place<const N: usize>(out: &mut ArrayVec<u8, N>, p: Option<Point>)
     requires { array_vec_len out.old + 16 ≤ N }
     ensures items { out.new.items ≡ out.old.items ++ place_bytes p }
@@ -58,7 +58,7 @@ pub(crate) fn put_time<const N: usize>(out: &mut ArrayVec<u8, N>, n: u64)
     put(out, &n.to_be_bytes()[2..]);
 }
 
-/// The point that stands in the 16 bytes at the front, whether or not it is in range, and what is behind it.
+/// Returns the point in the first 16 bytes, in range or not, and the bytes after it.
 pub fn take_point(bytes: &[u8]) -> (Point, &[u8])
     requires { 16 ≤ length bytes.now }
     ensures point { result.0 ≡ point_at bytes.now }
@@ -76,7 +76,7 @@ pub fn take_point(bytes: &[u8]) -> (Point, &[u8])
     )
 }
 
-/// The number that stands in the 8 bytes at the front, and what is behind them.
+/// Returns the number in the first 8 bytes, and the bytes after it.
 pub fn take_number(bytes: &[u8]) -> (u64, &[u8])
     requires { 8 ≤ length bytes.now }
     ensures number { result.0 ≡ from_be_bytes w64 (take 8 bytes.now) }
@@ -89,7 +89,7 @@ pub fn take_number(bytes: &[u8]) -> (u64, &[u8])
     (u64::from_be_bytes(*number), rest)
 }
 
-// The number that stands in the 7 bytes at the front, and what is behind them.
+// The number in the first 7 bytes, and the bytes after it.
 pub(crate) fn take_deviation(bytes: &[u8]) -> (u64, &[u8])
     requires { 7 ≤ length bytes.now }
     ensures number { result.0 ≡ from_be_bytes w64 (0 ∷ take 7 bytes.now) }
@@ -103,7 +103,7 @@ pub(crate) fn take_deviation(bytes: &[u8]) -> (u64, &[u8])
     (number, rest)
 }
 
-// The number that stands in the 6 bytes at the front, and what is behind them.
+// The number in the first 6 bytes, and the bytes after it.
 pub(crate) fn take_time(bytes: &[u8]) -> (u64, &[u8])
     requires { 6 ≤ length bytes.now }
     ensures number { result.0 ≡ from_be_bytes w64 (0 ∷ 0 ∷ take 6 bytes.now) }
@@ -117,7 +117,7 @@ pub(crate) fn take_time(bytes: &[u8]) -> (u64, &[u8])
     (number, rest)
 }
 
-// The number that stands in the 4 bytes at the front, and what is behind them.
+// The number in the first 4 bytes, and the bytes after it.
 pub(crate) fn take_records(bytes: &[u8]) -> (u32, &[u8])
     requires { 4 ≤ length bytes.now }
     ensures number { result.0 ≡ from_be_bytes w32 (take 4 bytes.now) }
@@ -130,7 +130,7 @@ pub(crate) fn take_records(bytes: &[u8]) -> (u32, &[u8])
     (u32::from_be_bytes(*number), rest)
 }
 
-// The first of the 4 bytes at the front, and what is behind them.
+// The first of the first 4 bytes, and the bytes after all four.
 pub(crate) fn take_flags(bytes: &[u8]) -> (u8, &[u8])
     requires { 4 ≤ length bytes.now }
     ensures flags { result.0 ≡ slice_index bytes.now 0 }

@@ -1,4 +1,4 @@
-// The head of a layout with a text, read of an image in memory.
+// The head of a layout with a text, read from an image in memory.
 ghost use Rattle.std.specs.Prelude.{◌≡◌, ℕ, ◌+◌, ◌^◌, ◌<◌, ◌≤◌, All, Option, IfNone, IfOk, IfSome, IsErrOf, OnOk, length};
 ghost use Rattle.disk_model.specs.Calls.{CountsFault, Shows};
 ghost use Rattle.disk_model.specs.Gates.{IsBegun, IsNew};
@@ -12,7 +12,8 @@ use crate::log::read_bytes;
 use disk_model::{Disk, OPEN};
 use std::alloc::Global;
 
-/// All bytes of a device.
+/// Returns all bytes of a device. Returns `DeviceFault` if a call of the device fails, and `WantOfMemory` if the memory
+/// cannot be allocated.
 pub fn read_all<D: Disk>(alloc: Global, dev: &mut D) -> Result<Vec<u8>, ScanNo>
     ensures all { IfOk result (λ v. Shows (D.trace dev.old) (λ c. v.items ≡ c)) }
     ensures undamaged { (a : ℕ) (byte : Option ℕ) → IsErrOf result (Damaged a byte) → ⊥ }
@@ -26,8 +27,8 @@ pub fn read_all<D: Disk>(alloc: Global, dev: &mut D) -> Result<Vec<u8>, ScanNo>
     read_bytes(alloc, dev, 0, len as usize)
 }
 
-/// The text of a layout that begins with these letters; none where no layout was finished. Refuses the first field of the head
-/// that is not there or breaks its rule.
+/// Returns the text of a layout that begins with these letters, or `None` if the image has no finished layout. Returns
+/// `Damaged` for the first field of the head that is not there or that breaks its rule.
 pub fn read_head(c: &[u8], letters: [u8; 4]) -> Result<Option<&[u8]>, ScanNo>
     ensures new { IfOk result (λ found. IfNone found (IsNew c.now)) }
     ensures text { IfOk result (λ found. IfSome found (λ text. IsOfText letters text.now c.now)) }
@@ -46,7 +47,8 @@ pub fn read_head(c: &[u8], letters: [u8; 4]) -> Result<Option<&[u8]>, ScanNo>
     Ok(Some(text_in(c, size as usize)))
 }
 
-// Refuses the head of a layout with a text of so many bytes, in the first field that is not there or breaks its rule.
+// Refuses the head of a layout whose text has `size` bytes, in the first field that is not there or that breaks its
+// rule.
 fn check_head(c: &[u8], letters: [u8; 4], size: u32) -> Result<(), ScanNo>
     requires { size ≡ short_at c.now 5 }
     ensures kept { OnOk result (All (Keeps c.now) (head_fields letters c.now)) }
@@ -68,7 +70,7 @@ fn check_head(c: &[u8], letters: [u8; 4], size: u32) -> Result<(), ScanNo>
     )
 }
 
-// The text, which has so many bytes.
+// The text of the layout, which has `size` bytes.
 fn text_in(c: &[u8], size: usize) -> &[u8]
     requires there { 9 + size ≤ length c.now }
     requires size { size ≡ short_at c.now 5 }
@@ -80,7 +82,7 @@ fn text_in(c: &[u8], size: usize) -> &[u8]
     text
 }
 
-// One letter of the head.
+// The field of one letter of the head.
 fn letter_field(c: &[u8], at: usize, letter: u8) -> Field
     ensures { result ≡ letter_field c.now at letter }
 {

@@ -1,4 +1,4 @@
-// A layout with a text is begun on a device.
+// Begins a layout with a text on a device.
 ghost use Rattle.std.specs.Prelude.{◌≡◌, ℕ, ◌+◌, ◌≤◌, IfOk, IsErrOf, OnOk, length};
 ghost use Rattle.disk_model.specs.Calls.{CountsFault, HasCause, Shows};
 ghost use Rattle.disk_model.specs.Gates.{IsShut};
@@ -11,15 +11,17 @@ use crate::failure::PutNo;
 use disk_model::{Disk, Failed, close_gates, write_guarded};
 use std::alloc::{AllocError, Global};
 
-// Where the gate of the layout is.
+// The place of the layout's gate.
 const GATE: u64 = 0;
 
 // The byte of a closed gate.
 const CLOSED: u8 = 0;
 
-/// Begins a layout with these letters and this text: closes the gate of the layout, writes the head and a closed gate behind it,
-/// and opens it. A crash at any moment leaves what it might have left before, or no finished layout, or this one without blocks.
-/// Want of memory, which is also answered for a text of 2^32 bytes or more, comes before any call.
+/// Begins a layout with these letters and this text. It closes the gate of the layout, writes the head with a closed
+/// gate after it, and opens the layout's gate. If a crash comes at any moment, the device has what a crash might have
+/// left before, no finished layout, or this layout without blocks. Returns `WantOfMemory` before any call of the device
+/// if the memory cannot be allocated or the text has 2^32 bytes or more. Returns `DeviceFault` if a call of the device
+/// fails.
 pub fn begin_layout<D: Disk>(
     alloc: Global,
     dev: &mut D,
@@ -50,7 +52,7 @@ pub fn begin_layout<D: Disk>(
     Ok(())
 }
 
-// The bytes behind the gate of the layout, of a text of so many bytes.
+// The bytes after the gate of the layout, for a text of `size` bytes.
 fn head_bytes(
     alloc: Global,
     letters: [u8; 4],
@@ -68,7 +70,7 @@ fn head_bytes(
     Ok(bytes)
 }
 
-// Sees to it that the gate of the layout is closed, and syncs. A device of length 0 begins with it.
+// Closes the gate of the layout, and syncs. If the device has length 0, it writes the closed gate as its first byte.
 fn close_layout<D: Disk>(dev: &mut D) -> Result<(), Failed>
     requires settled { IsSettled (D.trace dev.old) }
     ensures any_moment { During (D.trace dev.old) (D.trace dev.new) (IsLeftOrNew (D.trace dev.old)) }

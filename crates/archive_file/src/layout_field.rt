@@ -5,19 +5,19 @@ ghost use Rattle.archive_file.specs.LayoutFields.{Breaks, BreaksFirst, Keeps, lo
 
 use crate::failure::ScanNo;
 
-/// So many bytes at a place, and whether they keep the rule of their field.
+/// A field of a layout: its place, its number of bytes, and whether these bytes keep its rule.
 #[derive(Clone, Copy)]
 pub struct Field {
     /// Where it begins, in bytes from the start of the image.
     pub place: usize,
     /// How many bytes it has.
     pub size: usize,
-    /// Whether these bytes keep its rule; of no meaning where they are not there.
+    /// Whether these bytes keep the field's rule. It means nothing if they are not there.
     pub is_kept: bool,
 }
 
 impl Field {
-    /// The field of so many bytes at a place.
+    /// Returns the field of `size` bytes at the place `place`.
     pub fn new(place: usize, size: usize, is_kept: bool) -> Field
         ensures { result ≡ record { place = place; size = size; is_kept = is_kept } }
     {
@@ -28,7 +28,7 @@ impl Field {
         }
     }
 
-    // Refuses a field that is not there, or that breaks its rule.
+    // Refuses a field that is not there or that breaks its rule.
     fn check(self, c: &[u8]) -> Result<(), ScanNo>
         ensures kept { OnOk result (Keeps c.now self) }
         ensures damaged { (a : ℕ) (byte : Option ℕ) → IsErrOf result (Damaged a byte) → Breaks c.now self a byte }
@@ -51,7 +51,8 @@ impl Field {
     }
 }
 
-/// Refuses the first of some fields that is not there, or that breaks its rule.
+/// Returns `Damaged` for the first of these fields that is not there or that breaks its rule. Its place is the image's
+/// length if the image ends before the field does, else that of the field's first byte.
 pub fn check(c: &[u8], fields: &[Field]) -> Result<(), ScanNo>
     ensures kept { OnOk result (All (Keeps c.now) fields.now) }
     ensures damaged { (a : ℕ) (byte : Option ℕ) → IsErrOf result (Damaged a byte) → BreaksFirst c.now fields.now a byte }
@@ -64,14 +65,14 @@ pub fn check(c: &[u8], fields: &[Field]) -> Result<(), ScanNo>
     Ok(())
 }
 
-/// The byte at a place; 0 where the image ends before it.
+/// Returns the byte at a place, or 0 if the image ends before it.
 pub fn byte_at(c: &[u8], at: usize) -> u8
     ensures { result ≡ slice_index c.now at }
 {
     byte_behind(c, at, 0)
 }
 
-// The byte so far behind a place.
+// The byte that is `i` bytes after a place.
 fn byte_behind(c: &[u8], at: usize, i: usize) -> u8
     ensures { result ≡ slice_index c.now (at + i) }
 {
@@ -82,7 +83,8 @@ fn byte_behind(c: &[u8], at: usize, i: usize) -> u8
     }
 }
 
-/// The number of 4 bytes from a place on, the highest first; what is not there counts as zeros.
+/// Returns the number in the 4 bytes from a place on, the most significant first. Bytes that are not there count as
+/// zeros.
 pub fn short_at(c: &[u8], at: usize) -> u32
     ensures { result ≡ short_at c.now at }
 {
@@ -94,7 +96,8 @@ pub fn short_at(c: &[u8], at: usize) -> u32
     ])
 }
 
-/// The number of 8 bytes from a place on, the highest first; what is not there counts as zeros.
+/// Returns the number in the 8 bytes from a place on, the most significant first. Bytes that are not there count as
+/// zeros.
 pub fn long_at(c: &[u8], at: usize) -> u64
     ensures { result ≡ long_at c.now at }
 {

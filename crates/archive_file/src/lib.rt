@@ -1,20 +1,20 @@
-//! Bytes: of a tag's archive, and of the fields that all layouts share.
+//! The bytes of a tag's archive, and the bytes of the fields that all layouts share.
 //!
-//! **Records and summaries.** A number is written with its most significant byte first, a value in two's complement. Each
-//! record and each summary that is in range has exactly one spelling, and what is read of bytes is what they spell, or nothing.
-//! [`put_records`] writes records to a device, in one write, and [`read_records`] reads them, or names the first byte of the
-//! first field that breaks the layout. Other layouts share [`read_bytes`], [`put`], [`put_point`], [`take_number`] and
-//! [`take_point`].
+//! **Records and summaries.** A number is written with its most significant byte first, a value in two's complement.
+//! Each record and each summary that is in range has exactly one spelling. A read returns what the bytes spell, or
+//! refuses them. [`put_records`] writes records to a device in one write. [`read_records`] reads them, or reports the
+//! first byte of the first field that breaks the layout. Other layouts share [`read_bytes`], [`put`], [`put_point`],
+//! [`take_number`] and [`take_point`].
 //!
-//! **Fields of a layout that stands in memory.** A layout is a list of fields, one behind the other: so many bytes at a place,
-//! and whether they keep the rule of their field. [`check`] refuses the first that is not there or that breaks its rule
-//! (`specs/Fields.antt`): where the image ends before the field does, the place is the image's length, and else that of the
-//! field's first byte. [`byte_at`], [`short_at`] and [`long_at`] read numbers, the highest byte first; what is not there counts
-//! as zeros.
+//! **Fields of a layout in memory.** A layout is a list of fields, one after the other. A [`Field`] is its place, its
+//! number of bytes, and whether these bytes keep the rule of the field. [`check`] refuses the first field that is not
+//! there or that breaks its rule (`specs/LayoutFields.antt`). If the image ends before the field does, the error has
+//! the image's length as its place. Otherwise it has the place of the field's first byte. [`byte_at`], [`short_at`] and
+//! [`long_at`] read numbers with the most significant byte first. Bytes that are not there count as zeros.
 //!
-//! **Heads with a text.** A layout may begin with four letters and a text (`specs/TextHeads.antt`): [`read_head`] reads the
-//! text, and [`begin_layout`] begins a device with one; a crash meanwhile leaves what was, no finished layout, or this one
-//! without blocks.
+//! **Heads with a text.** A layout may begin with four letters and a text (`specs/TextHeads.antt`). [`begin_layout`]
+//! begins such a layout on a device, and [`read_head`] reads its text. If a crash comes meanwhile, the device has what
+//! a crash might have left before, no finished layout, or this layout without blocks.
 #![tactic(auto)]
 
 mod failure;

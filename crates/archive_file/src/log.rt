@@ -17,10 +17,11 @@ use disk_model::Disk;
 use std::alloc::{AllocError, Global};
 use trend_num::{MAX_T, Rec};
 
-// The most records that are read in one piece, which has 65,535 bytes.
+// The most records that are read in one piece. So many have 65,535 bytes.
 const PIECE_MOST: u32 = 3_855;
 
-/// Writes records at a place, in one write. Want of memory comes before the write. `at` counts bytes.
+/// Writes records at the place `at`, in bytes, with one write. Returns `WantOfMemory` before the write if the memory
+/// cannot be allocated. Returns `DeviceFault` if the write fails.
 pub fn put_records<D: Disk>(alloc: Global, dev: &mut D, at: u64, recs: &[Rec]) -> Result<(), PutNo>
     requires room { Reaches (D.trace dev.old) at }
     ensures noted { IsNoted (Wrote at (recs_image recs.now)) (WroteInPart at (recs_image recs.now)) result
@@ -50,8 +51,10 @@ fn bytes_of(alloc: Global, recs: &[Rec]) -> Result<Vec<u8>, AllocError>
     Ok(bytes)
 }
 
-/// Reads `count` records at a place, or names the first byte of the first field that breaks the layout, or the end of a
-/// device that is too short. `at` counts bytes. The records' memory is taken once, and 65,535 bytes at most beside it.
+/// Reads `count` records at the place `at`, in bytes. Returns `Damaged` with the first byte of the first field that
+/// breaks the layout, or with the end of a device that is too short. Returns `DeviceFault` if a call of the device
+/// fails, and `WantOfMemory` if the memory cannot be allocated. It allocates the records' memory once, and a buffer of
+/// at most 65,535 bytes.
 pub fn read_records<D: Disk>(
     alloc: Global,
     dev: &mut D,
@@ -85,7 +88,7 @@ pub fn read_records<D: Disk>(
     Ok(recs)
 }
 
-// Reads records at a place, piece by piece through a buffer of the first piece's size, and adds them.
+// Reads records at a place and adds them. It reads piece by piece, into a buffer of the first piece's size.
 fn read_pieces<D: Disk>(
     dev: &mut D,
     at: u64,
@@ -119,8 +122,9 @@ fn read_pieces<D: Disk>(
     Ok(())
 }
 
-/// So many bytes of a device, from `at` on. They all lie within the device, so nothing is told as damaged. Want of memory
-/// comes before the read. `at` and `size` count bytes.
+/// Returns `size` bytes of a device from the place `at` on, also in bytes. The caller ensures that they all lie within
+/// the device, so it never returns `Damaged`. Returns `WantOfMemory` before the read if the memory cannot be allocated,
+/// and `DeviceFault` if the read fails.
 pub fn read_bytes<D: Disk>(
     alloc: Global,
     dev: &mut D,
@@ -144,7 +148,7 @@ pub fn read_bytes<D: Disk>(
     Ok(bytes)
 }
 
-// Adds the records that the bytes spell, which stand at a place of a device.
+// Adds the records that these bytes spell. The bytes are those at the place `at` of a device.
 fn parse(at: u64, count: u32, bytes: &[u8], recs: &mut Vec<Rec>) -> Result<(), ScanNo>
     requires whole { length bytes.now ≡ 17 * count }
     requires end { at + 17 * count < 2 ^ 64 }
@@ -178,7 +182,7 @@ fn piece(bytes: &[u8], place: usize) -> &[u8]
     b
 }
 
-// The damage of 17 bytes at a place, which are no record.
+// The damage in 17 bytes at a place, which spell no record.
 fn damage(at: u64, b: &[u8]) -> ScanNo
     requires len { length b.now ≡ 17 }
     requires end { at + 17 < 2 ^ 64 }
@@ -192,7 +196,7 @@ fn damage(at: u64, b: &[u8]) -> ScanNo
     }
 }
 
-// Where the first field of 17 bytes begins that breaks a record's layout.
+// The place of the first byte of the first field that breaks a record's layout.
 fn bad_place(b: &[u8]) -> usize
     requires len { length b.now ≡ 17 }
     requires none { (r : Rec) → InRange r.point → b.now ≡ rec_image r → ⊥ }

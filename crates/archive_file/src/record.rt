@@ -9,15 +9,15 @@ use crate::field::{put, put_point, take_point};
 use arrayvec::ArrayVec;
 use trend_num::{Kind, Rec, in_range};
 
-// The kinds, as bytes: the letters K and L.
+// The bytes of the kinds: the letters K and L.
 const KEPT: u8 = b'K';
 
 const LATE: u8 = b'L';
 
-/// How many bytes a record has.
+/// The number of bytes of a record.
 pub const REC_LEN: usize = 17;
 
-/// The bytes of a record: its kind, its time, its value.
+/// Returns the bytes of a record: its kind, its time and its value.
 pub fn rec_bytes(r: Rec) -> [u8; REC_LEN]
     ensures { result ≡ rec_image r }
 {
@@ -34,8 +34,8 @@ pub fn rec_bytes(r: Rec) -> [u8; REC_LEN]
     bytes
 }
 
-/// The record that the bytes spell, whose point is in range. None exactly where they spell none, and none is spelled in two
-/// ways.
+/// Returns the record in range that the bytes spell. Returns `None` exactly if they spell none. No record has two
+/// spellings.
 pub fn rec_of(b: &[u8; REC_LEN]) -> Option<Rec>
     ensures { (r : Rec) → (result ≡ Some r) ↔ (InRange r.point × (b.now ≡ rec_image r)) }
 {
@@ -56,7 +56,7 @@ pub(crate) fn read_rec(b: &[u8]) -> Option<Rec>
     }
 }
 
-// The kind that a byte says.
+// The kind that a byte spells.
 pub(crate) fn kind_of(byte: u8) -> Option<Kind>
     ensures some { IfSome result (λ kind. byte ≡ kind_byte kind) }
     ensures none { IfNone result ((kind : Kind) → byte ≢ kind_byte kind) }

@@ -14,11 +14,11 @@ use crate::field::{
 use arrayvec::ArrayVec;
 use trend_num::{Point, Summary, Tuning, in_range, tuning_ok};
 
-/// How many bytes a summary has.
+/// The number of bytes of a summary.
 pub const SUMMARY_LEN: usize = 128;
 
-/// The bytes of a summary: how many events it counts, how many records, which parts are there, the five points, and the
-/// tuning.
+/// Returns the bytes of a summary: the number of events, the number of records, which parts are there, the five points,
+/// and the tuning.
 pub fn summary_bytes(s: &Summary) -> [u8; SUMMARY_LEN]
     ensures { result ≡ summary_image s.now }
 {
@@ -47,7 +47,7 @@ fn put_places(out: &mut ArrayVec<u8, SUMMARY_LEN>, s: &Summary)
     put_place(out, s.lower);
 }
 
-// Adds a tuning at the end, or zeros where there is none.
+// Adds a tuning at the end, or zeros if there is none.
 fn put_tuning(out: &mut ArrayVec<u8, SUMMARY_LEN>, tuning: Option<Tuning>)
     requires { array_vec_len out.old + 32 ≤ 128 }
     ensures items { out.new.items ≡ out.old.items ++ tuning_bytes tuning }
@@ -64,7 +64,7 @@ fn put_tuning(out: &mut ArrayVec<u8, SUMMARY_LEN>, tuning: Option<Tuning>)
     put_time(out, t.comp_max);
 }
 
-// A bit of the flags.
+// One bit of the flags.
 fn bit_of(there: bool, bit: u8) -> u8
     ensures value { result ≡ flag there bit }
     ensures bound { result ≤ bit }
@@ -72,7 +72,7 @@ fn bit_of(there: bool, bit: u8) -> u8
     if there { bit } else { 0 }
 }
 
-// Which parts are there.
+// The flags, which say which parts are there.
 fn flags_of(s: &Summary) -> u8
     ensures { result ≡ flags s.now }
 {
@@ -83,8 +83,9 @@ fn flags_of(s: &Summary) -> u8
         + bit_of(s.tuning.is_some(), 16)
 }
 
-/// The summary that the bytes spell. None exactly where they spell none: held and hinge stand together, both doors do, these
-/// and a pending value only beside held, and all is in range. None is spelled in two ways.
+/// Returns the summary that the bytes spell. Returns `None` exactly if they spell none. In a summary, held and hinge
+/// are both there or both absent. So are the two doors. The doors and a pending value are there only if held is. All
+/// that is there is in range. No summary has two spellings.
 pub fn summary_of(b: &[u8; SUMMARY_LEN]) -> Option<Summary>
     ensures { (s : Summary) → (result ≡ Some s) ↔ (IsSummary s × (b.now ≡ summary_image s)) }
 {
@@ -96,7 +97,7 @@ pub fn summary_of(b: &[u8; SUMMARY_LEN]) -> Option<Summary>
     }
 }
 
-// The summary that the bytes spell, if they spell one.
+// The summary that the bytes spell. If they spell none, it is any summary.
 fn read(b: &[u8; SUMMARY_LEN]) -> Summary
     ensures { (s : Summary) → IsSummary s → b.now ≡ summary_image s → result ≡ s }
 {
@@ -121,7 +122,7 @@ fn read(b: &[u8; SUMMARY_LEN]) -> Summary
     }
 }
 
-// A point at the front, if it is there, and what is behind its place.
+// The point in the first 16 bytes, if it is there, and the bytes after its place.
 fn take_place(bytes: &[u8], there: bool) -> (Option<Point>, &[u8])
     requires { 16 ≤ length bytes.now }
     ensures place { result.0 ≡ (if there then Some (point_at bytes.now) else None) }
@@ -132,7 +133,7 @@ fn take_place(bytes: &[u8], there: bool) -> (Option<Point>, &[u8])
     (if there { Some(p) } else { None }, rest)
 }
 
-// The tuning in the 32 bytes at the front, if it is there.
+// The tuning in the first 32 bytes, if it is there.
 fn tuning_if(bytes: &[u8], there: bool) -> Option<Tuning>
     requires { 32 ≤ length bytes.now }
     ensures { (o : Option Tuning) → there ≡ is_some o → IfSome o TuningInRange → bytes.now ≡ tuning_bytes o → result ≡ o }
@@ -140,7 +141,7 @@ fn tuning_if(bytes: &[u8], there: bool) -> Option<Tuning>
     if there { Some(tuning_at(bytes)) } else { None }
 }
 
-// The tuning in the 32 bytes at the front.
+// The tuning in the first 32 bytes.
 fn tuning_at(bytes: &[u8]) -> Tuning
     requires { 32 ≤ length bytes.now }
     ensures { (t : Tuning) → TuningInRange t → bytes.now ≡ tuning_bytes (Some t) → result ≡ t }
@@ -159,7 +160,7 @@ fn tuning_at(bytes: &[u8]) -> Tuning
     }
 }
 
-// Whether the parts stand beside each other as they may, and all is in range.
+// Whether the parts that are there may occur together, and all is in range.
 fn is_whole(s: &Summary) -> bool
     ensures { IsTrue result ↔ IsSummary s.now }
 {

@@ -1,4 +1,4 @@
-// The two doors that hang at a hinge.
+// The two doors at a hinge.
 ghost use Rattle.std.specs.Prelude.{◌≡◌, ◌↔◌, IsTrue, ◌+◌, ◌<◌, ◌≤◌, List, [], ◌∷◌, pos, unsigned_abs, if◌then◌else◌};
 ghost use Rattle.std.specs.List.{list_all};
 ghost use Rattle.trend_num.specs.declared.point.Point.{Point};
@@ -10,8 +10,7 @@ use std::marker::Model;
 use std::sync::ledger::Ledger;
 use trend_num::{Point, Steps, slope_cmp};
 
-/// The two doors that hang at a hinge (after Bristol): of the values since the hinge, those that decide which lines
-/// from it fit.
+/// The two doors at a hinge (after Bristol): those two values since the hinge that decide which lines from it fit.
 ///
 /// Times are milliseconds from 1970; values and the deviation are value units.
 #[derive(Clone, Copy, Debug, PartialEq, Eq)]
@@ -35,7 +34,7 @@ impl Model for Doors {
 }
 
 impl Doors {
-    /// The doors at the first value after the hinge: both are that value.
+    /// Returns the doors at the first value after the hinge: both are that value.
     pub fn hang(hinge: Point, dev: u64, p: Point) -> Doors
         requires hinge { InRange hinge }
         requires deviation { dev ≤ largest_value }
@@ -47,7 +46,7 @@ impl Doors {
         Doors::from_points(hinge, dev, p, p)
     }
 
-    /// The doors that stand at these points, as they were read from elsewhere.
+    /// Returns the doors at these points, which were read from elsewhere.
     pub fn from_points(hinge: Point, dev: u64, upper: Point, lower: Point) -> Doors
         requires hinge { InRange hinge }
         requires deviation { dev ≤ largest_value }
@@ -65,7 +64,7 @@ impl Doors {
         }
     }
 
-    /// The point that each line starts from, the last one kept.
+    /// Returns the point from which each line starts, the last one kept.
     pub fn hinge(&self) -> Point
         ensures value { result ≡ self.now.hinge }
         ensures range { InRange result }
@@ -73,7 +72,7 @@ impl Doors {
         self.hinge
     }
 
-    /// How far a line may be from a value, in value units (CompDev).
+    /// Returns how far a line may be from a value, in value units (CompDev).
     pub fn deviation(&self) -> u64
         ensures value { result ≡ self.now.deviation }
         ensures range { result ≤ largest_value }
@@ -81,7 +80,7 @@ impl Doors {
         self.dev
     }
 
-    /// The value whose slope from the hinge is least when it is raised by the deviation.
+    /// Returns the value whose slope from the hinge, raised by the deviation, is least.
     pub fn upper(&self) -> Point
         ensures value { result ≡ self.now.upper }
         ensures range { InRange result }
@@ -90,7 +89,7 @@ impl Doors {
         self.upper
     }
 
-    /// The value whose slope from the hinge is greatest when it is lowered by the deviation.
+    /// Returns the value whose slope from the hinge, lowered by the deviation, is greatest.
     pub fn lower(&self) -> Point
         ensures value { result ≡ self.now.lower }
         ensures range { InRange result }
@@ -99,30 +98,30 @@ impl Doors {
         self.lower
     }
 
-    /// Whether the line from the hinge to p lies between the doors, so that each value since the hinge is within the
-    /// deviation of it. A line that just touches a door is admitted. At most two steps.
+    /// Returns whether the line from the hinge to p lies between the doors, so that each value since the hinge is
+    /// within the deviation of it. A line that just touches a door is admitted. It counts at most two steps.
     pub fn admits<L: Ledger>(&self, p: Point, steps: &mut Steps<L>) -> bool
         requires point { InRange p }
         requires after { self.now.hinge.t < p.t }
 
-        // By the doors.
+        // In terms of the doors.
         ensures value { result ≡ is_admitted self.now.hinge self.now.deviation self.now.upper self.now.lower p }
 
-        // By all values whose doors these are.
+        // In terms of all values whose doors these are.
         ensures fits { (values : List Point)
             → AreDoors self.now.hinge self.now.deviation values self.now.upper self.now.lower
             → AreAfter self.now.hinge values
             → result ≡ list_all (λ x. is_within self.now.hinge p x self.now.deviation) values }
 
-        // One step where the upper door refuses, else two.
+        // One step if the upper door refuses, else two.
         ensures cost { steps.new ≡ steps.old
             + (if is_not_steeper self.now.hinge p (pos 0) self.now.upper (pos self.now.deviation) then 2 else 1) }
     {
         self.is_under_upper(p, steps) && self.is_over_lower(p, steps)
     }
 
-    /// Takes one more value: a door moves to p where p's slope is beyond the door's, and stays where they are equal. Two
-    /// steps.
+    /// Takes one more value. A door moves to p if p's slope is beyond the door's. If the two slopes are equal, the door
+    /// stays. It counts two steps.
     pub fn swing<L: Ledger>(&mut self, p: Point, steps: &mut Steps<L>)
         requires point { InRange p }
         requires after { self.old.hinge.t < p.t }
@@ -131,7 +130,7 @@ impl Doors {
         ensures upper { self.new.upper ≡ upper_after self.old.hinge self.old.deviation self.old.upper p }
         ensures lower { self.new.lower ≡ lower_after self.old.hinge self.old.deviation self.old.lower p }
 
-        // Of any values, the doors of them and p.
+        // If they were the doors of some values, they are then the doors of those values and p.
         ensures doors { (values : List Point)
             → AreDoors self.old.hinge self.old.deviation values self.old.upper self.old.lower
             → AreAfter self.old.hinge values
@@ -199,14 +198,14 @@ impl Doors {
     }
 }
 
-/// Whether two pairs of doors hang at one hinge with one deviation, and are the same, by `==`.
+/// Returns whether two pairs of doors are the same, with the same hinge and the same deviation, compared with `==`.
 pub fn same_doors(a: &Doors, b: &Doors) -> bool
     ensures { IsTrue result ↔ (a.now ≡ b.now) }
 {
     a == b
 }
 
-// A deviation upwards.
+// The deviation upwards, as a signed number.
 fn raised(dev: u64) -> i64
     requires { dev ≤ largest_value }
     ensures value { result ≡ pos dev }
@@ -215,7 +214,7 @@ fn raised(dev: u64) -> i64
     dev as i64
 }
 
-// A deviation downwards.
+// The deviation downwards, as a signed number.
 fn lowered(dev: u64) -> i64
     requires { dev ≤ largest_value }
     ensures value { result ≡ down dev }
@@ -224,7 +223,7 @@ fn lowered(dev: u64) -> i64
     -(dev as i64)
 }
 
-// Whether the slope from `a` to x raised by `raise` is at most that to y raised by `lift`. One step.
+// Whether the slope from `a` to x raised by `raise` is at most the slope from `a` to y raised by `lift`. One step.
 fn is_not_steeper<L: Ledger>(
     a: Point,
     x: Point,

@@ -37,7 +37,7 @@ placed_last r (x ∷ l) before =
     rw (le-ltb r.point.t x.point.t (omega arith), lt-ltb x.point.t r.point.t first)
     (ap (λ m. x ∷ m) (placed_last r l (All-tail Earlier x l before)))
 
--- no record stands after all
+-- no record is after all
 none_after : (l : List Rec) (t : ℕ) → All (Before t) (points_of l)
     → (late_at l t ≡ None) × (kept_at l t ≡ None)
 none_after [] t before = (refl, refl)
@@ -312,7 +312,7 @@ found_last held l t n before o rises count all last whole after from =
     from
     (gap_of l t n rises count) (omega (arith, length-map l (λ r. r.point))))
 
--- where no point stands at a place, all are before it
+-- where no point is at a place, all are before it
 pub past_all : (l : List Rec) (n : ℕ) → slice_get (points_of l) n ≡ None → length l ≤ n
 past_all l n none =
     elim (cases_lt n (length l)) [

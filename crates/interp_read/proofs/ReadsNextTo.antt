@@ -34,7 +34,7 @@ after_is cs t before q near =
     among_all (From t) near.later near.later_are q
     (subst (IsAmong q) (sym parts.1) (among_middle [] q parts.0))
 
--- where a point stands
+-- where there is a point
 pub read_exact : (step : Bool) (cs : List Point) (t : ℕ) (before : Option Point) (q : Point)
     → AreNeighbours cs t before (Some q)
     → q.t ≡ t → read_at step cs t ≡ Exact q.v

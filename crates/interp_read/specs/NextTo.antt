@@ -3,7 +3,7 @@ use Rattle.std.specs.Prelude.{◌≡◌, ℕ, ◌<◌, ◌≤◌, List, ◌++◌
 use Rattle.trend_num.specs.declared.point.Point.{Point}
 use Rattle.trend_model.specs.Parts.{PointsRise, last_point}
 
--- the points rise; before is the last of those before t, and after the first of the others
+-- the points rise in time; `before` is the last of those before t, and `after` is the first of the others
 pub record AreNeighbours (points : List Point) (t : ℕ) (before after : Option Point) : Type 0 where
   pub rises : PointsRise points
   pub earlier : List Point

@@ -1,4 +1,4 @@
-// The points of a content that a held point closes.
+// The points of a content that is closed by a held point.
 ghost use Rattle.std.specs.Prelude.{◌≡◌, ◌++◌, ◌+◌, ◌≤◌, IfSome, count_by, nat_lt, length, take};
 ghost use Rattle.std.specs.Option.{option_to_list};
 ghost use Rattle.trend_num.specs.Ranges.{InRange};
@@ -25,7 +25,7 @@ fn last_of(content: &Content, n: u32) -> Option<Point>
     }
 }
 
-// The held point, where nothing stands at its time.
+// The held point, if the content has no point at its time.
 pub(crate) fn added(content: &Content, held: Option<Point>) -> Option<Point>
     requires range { IfThere InRange held }
     requires last { IfThere (IsNotBefore content.now.records) held }
@@ -45,16 +45,16 @@ pub(crate) fn added(content: &Content, held: Option<Point>) -> Option<Point>
 pub struct Neighbours {
     /// How many points of the content are before the time.
     pub below: u32,
-    /// How many points of the content are not after it.
+    /// How many points of the content are at the time or before it.
     pub upto: u32,
-    /// The last point before it.
+    /// The last point of the closed content before the time.
     pub before: Option<Point>,
-    /// The first one that is not before it.
+    /// The first point of the closed content at the time or after it.
     pub after: Option<Point>,
 }
 
-/// The points of the closed content next to t, by one search. The held point is not before a point of the
-/// content.
+/// Returns the points of the closed content next to the time t, found by one search. The caller ensures that no point
+/// of the content is after the held point.
 pub fn neighbours_at(content: &Content, held: Option<Point>, t: u64) -> Neighbours
     requires range { IfThere InRange held }
     requires last { IfThere (IsNotBefore content.now.records) held }
@@ -64,7 +64,7 @@ pub fn neighbours_at(content: &Content, held: Option<Point>, t: u64) -> Neighbou
     ensures before_range { IfSome result.before InRange }
     ensures after_range { IfSome result.after InRange }
 {
-    // Called for its clauses: the points rise, and are in range.
+    // Called for its clauses: the points rise and are in range.
     let _len = content.len();
     let around = content.around(t);
     let next = Neighbours {

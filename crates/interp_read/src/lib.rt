@@ -1,9 +1,9 @@
-//! Reads of a tag's content: what stands at a time, and the points from one time to another.
+//! Reads of a tag's content: what the tag reads at a time, and its points from one time to another.
 //!
-//! A content is closed by the tag's held point, where the caller gives one: the point counts as one more,
-//! unless something stands at its time. `Reads` of the model says what a list of points reads as, for lines
-//! and for the stairs of a step tag; each call here says that of the closed content. A list of points and the copy
-//! of an answer take memory, and nothing else does.
+//! If the caller gives the tag's held point, it closes the content: it counts as one more point, unless the content has
+//! a point at its time. `Reads` in `trend_model` defines what a list of points reads as, for lines and for the stairs
+//! of a step tag. Each call here returns what the closed content reads as. Only a list of points and the copy of a
+//! reply allocate memory.
 #![tactic(auto)]
 
 mod closing;

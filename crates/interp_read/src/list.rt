@@ -16,20 +16,21 @@ use late_insert::Content;
 use std::alloc::Global;
 use trend_num::{Point, WantOfMemory};
 
-/// How many points a list has at most.
+/// The most points that a list has.
 pub const MOST_LISTED: u32 = 256;
 
-/// The answer to a question for points.
+/// The reply to a question for points.
 #[derive(Drop)]
 pub struct PointList {
-    /// The points from the one time to the other, the first 256 of them where they are more.
+    /// The points from the one time to the other. If there are more than 256, it has the first 256.
     pub list: Vec<Point>,
-    /// Whether there are others.
+    /// Whether there are more.
     pub more: bool,
 }
 
-/// The first points of the closed content from one time to another, both included. The held point is not
-/// before a point of the content. The one error is want of memory.
+/// Returns the first points of the closed content from one time to another, both times included, at most
+/// [`MOST_LISTED`] of them. The caller ensures that no point of the content is after the held point. Returns
+/// `WantOfMemory` if the memory cannot be allocated.
 pub fn points(
     alloc: Global,
     content: &Content,
@@ -54,20 +55,20 @@ pub fn points(
     )
 }
 
-// Places of a content, one after another: from the first on, before the other.
+// Places of a content that follow one another: from `start` to `end`, the latter excluded.
 #[derive(Clone, Copy)]
 struct Places {
     start: u32,
     end: u32,
 }
 
-// The places of the points of a content from one time to another.
+// The places of the content's points from one time to another, both times included.
 fn places_from_to(content: &Content, from: u64, to: u64) -> Places
     ensures points { points_from_to (points_of content.now.records) from to
         ≡ slice_range (points_of content.now.records) result.start result.end }
     ensures within { result.end ≤ length content.now.records }
 {
-    // Called for its clauses: the points rise, and are in range.
+    // Called for its clauses: the points rise and are in range.
     let _len = content.len();
     Places {
         start: content.below(from),
@@ -75,7 +76,7 @@ fn places_from_to(content: &Content, from: u64, to: u64) -> Places
     }
 }
 
-// The points at places one after another.
+// The points at the places from `start` to `stop`, the latter excluded.
 fn copied(
     alloc: Global,
     content: &Content,
@@ -92,7 +93,7 @@ fn copied(
     Ok(list)
 }
 
-// The held point, where it is added to the content and stands from one time to another.
+// The held point, if it is added to the content and lies from one time to the other.
 fn held_from_to(content: &Content, held: Option<Point>, from: u64, to: u64) -> Option<Point>
     requires range { IfThere InRange held }
     requires last { IfThere (IsNotBefore content.now.records) held }
@@ -105,8 +106,8 @@ fn held_from_to(content: &Content, held: Option<Point>, from: u64, to: u64) -> O
     }
 }
 
-// The list of some points with a last one behind them. `first` has the first of those points, as many as a list has at
-// most, and `more` tells whether there are others.
+// The list of some points and a last one after them. `first` has the first of those points, as many as a list may have.
+// `more` says whether there are others.
 fn completed(first: Vec<Point>, more: bool, last: Option<Point>) -> Result<PointList, WantOfMemory>
     ensures list { (all : List Point) → first.items ≡ take most_listed all → (IsTrue more ↔ (most_listed < length all))
         → IfOk result (λ p. p.list.items ≡ take most_listed (all ++ option_to_list last)) }

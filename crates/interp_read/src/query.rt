@@ -1,4 +1,4 @@
-// What is answered to a question about a tag.
+// The reply to a question about a tag.
 ghost use Rattle.std.specs.Prelude.{IfOk};
 ghost use Rattle.interp_read.specs.Replies.{AreAlike};
 
@@ -6,17 +6,17 @@ use crate::list::PointList;
 use std::alloc::Global;
 use trend_num::{Reading, WantOfMemory};
 
-/// What is answered to a question about a tag: each variant to the question of its name.
+/// The reply to a question about a tag. Each variant answers the question of its name.
 #[derive(Drop)]
 pub enum Reply {
     At(Reading),
     Points(PointList),
-    /// None where the window is not covered by the points.
+    /// `None` if the points do not cover the window.
     Window(Option<i128>),
 }
 
 impl Reply {
-    /// The same answer again.
+    /// Returns a copy of the reply. Returns `WantOfMemory` if the memory cannot be allocated.
     pub fn copy(&self, alloc: Global) -> Result<Reply, WantOfMemory>
         ensures { IfOk result (λ copy. AreAlike self.now copy) }
     {

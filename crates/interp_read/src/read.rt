@@ -1,4 +1,4 @@
-// What stands at a time.
+// What a tag reads at a time.
 ghost use Rattle.std.specs.Prelude.{◌≡◌, ◌<◌, ◌≤◌, true, false, IfSome, List};
 ghost use Rattle.trend_num.specs.declared.point.Point.{Point};
 ghost use Rattle.trend_num.specs.Ranges.{InRange};
@@ -13,21 +13,21 @@ use crate::closing::{Neighbours, neighbours_at};
 use late_insert::Content;
 use trend_num::{Point, Reading, line_at};
 
-/// What a tag reads at t, by its line or, of a step tag, by its stair: the value of a point there, else that of the line
-/// between the points next to t, or of the point before it on a stair; after the last point its value, and nothing before the
-/// first. The held point is not before a point of the content.
+/// Returns what a tag reads at the time t. At a point that is the point's value. Between two points it is the value of
+/// the line between them, or of a step tag the value of the first. After the last point it is that point's value.
+/// Before the first point it is nothing. The caller ensures that no point of the content is after the held point.
 pub fn read_at(content: &Content, held: Option<Point>, step: bool, t: u64) -> Reading
     requires range { IfThere InRange held }
     requires last { IfThere (IsNotBefore content.now.records) held }
     ensures value { result ≡ read_at step (points_closed_by held content.now.records) t }
     ensures readable { IsReadable result }
 {
-    // Called for its clauses: the points rise, and are in range.
+    // Called for its clauses: the points rise and are in range.
     let _len = content.len();
     reading_of(neighbours_at(content, held, t), step, t)
 }
 
-/// [`read_at`] of a line.
+/// Returns [`read_at`] of a tag of lines.
 pub fn at(content: &Content, held: Option<Point>, t: u64) -> Reading
     requires range { IfThere InRange held }
     requires last { IfThere (IsNotBefore content.now.records) held }
@@ -37,7 +37,7 @@ pub fn at(content: &Content, held: Option<Point>, t: u64) -> Reading
     read_at(content, held, false, t)
 }
 
-/// [`read_at`] of a step tag.
+/// Returns [`read_at`] of a step tag.
 pub fn at_step(content: &Content, held: Option<Point>, t: u64) -> Reading
     requires range { IfThere InRange held }
     requires last { IfThere (IsNotBefore content.now.records) held }
@@ -47,7 +47,7 @@ pub fn at_step(content: &Content, held: Option<Point>, t: u64) -> Reading
     read_at(content, held, true, t)
 }
 
-/// What a line or a stair reads at t, by the points next to t.
+/// Returns what a line or a stair (`step`) reads at the time t, given the points next to t.
 pub fn reading_of(next: Neighbours, step: bool, t: u64) -> Reading
     requires near { (points : List Point) × AreNeighbours points t next.before next.after }
     requires before_range { IfSome next.before InRange }
@@ -62,7 +62,7 @@ pub fn reading_of(next: Neighbours, step: bool, t: u64) -> Reading
     }
 }
 
-// What stands between two points.
+// What a line or a stair reads after p, and at q or before it.
 fn reading_between(p: Point, q: Point, step: bool, t: u64) -> Reading
     requires first { InRange p }
     requires second { InRange q }

@@ -1,4 +1,4 @@
--- Records in order, put behind all others.
+-- Records in order, put after all others.
 use Rattle.std.proofs.Common.{◌≡◌, ◌≢◌, ℕ, ◌+◌, ◌-◌, ◌^◌, ◌<◌, ◌≤◌, inl, inr, ℤ, pos, List, [], ◌∷◌, ◌++◌}
 use Rattle.std.proofs.Common.{length, get_or, set, take, drop, All, fold, refl, sym, ap, ◌∙◌, subst, arith, append_assoc}
 use Rattle.std.proofs.Common.{append-nil}
@@ -43,7 +43,7 @@ from_first l d rises k e inside =
       | inr other ↦ let rise = rises 0 k e (omega arith) inside in omega arith
     ]
 
--- a run whose first is behind all others
+-- a run whose first is after all others
 pub run_behind : (l recs : List Rec) (n : ℕ) (d : Rec) → IsRising l → IsRising (take n recs) → 0 < n
     → AllBefore l (time (get_or recs 0 d)) → IsRising (l ++ take n recs)
 run_behind l recs n d rises run some before =
@@ -83,11 +83,11 @@ next_rises l i d some within rises after =
 
 -- ---- the content with a run
 
--- a record that is behind all others comes last
+-- a record that is after all others comes last
 pub placed_last : (r : Rec) (l : List Rec) → AllBefore l (time r) → placed r l ≡ l ++ r ∷ []
 placed_last r l before = ap (placed r) (sym (append-nil l)) ∙ placed_behind r l [] before
 
--- records that rise behind all others are put behind them
+-- records that rise after all others are put after them
 pub listed_run : (l run : List Rec) → IsRising (l ++ run) → fold (λ m r. placed r m) l run ≡ l ++ run
 listed_run l [] rises = sym (append-nil l)
 listed_run l (r ∷ rs) rises =
@@ -102,7 +102,7 @@ listed_in_order recs n rises =
     listed_run [] (take n recs) (rising_left (take n recs) (drop n recs) (subst IsRising (sym (take-append-drop n recs))
     rises))
 
--- and the next one is behind them
+-- and the next one is after them
 pub next_behind : (recs : List Rec) (n : ℕ) (d : Rec) → IsRising recs → n < length recs
     → AllBefore (take n recs) (time (get_or (drop n recs) 0 d))
 next_behind recs n d rises within k e inside =

@@ -1,4 +1,4 @@
--- The record that stands at a time in a rising list, and what the list reads late there.
+-- The record that is at a time in a rising list, and what the list reads late there.
 use Rattle.std.proofs.Common.{◌≡◌, ℕ, ◌<◌, inl, inr, ℤ, Bool, true, false, cond, List, [], ◌∷◌, Option, None}
 use Rattle.std.proofs.Common.{Some, nat_eq, refl, subst, ◌∙◌, arith}
 use Rattle.std.specs.Option.{option_or}

@@ -1,4 +1,4 @@
--- How many records stand on each page.
+-- How many records are on each page.
 use Rattle.std.proofs.Common.{◌≡◌, ℕ, ◌+◌, ◌-◌, ◌<◌, ◌≤◌, ◌⊎◌, inl, inr, cond, List, [], ◌∷◌, ◌++◌, length}
 use Rattle.std.proofs.Common.{get_or, take, drop, Option, All, sum, nat_lt, refl, sym, ap, ◌∙◌, subst, arith}
 use Rattle.std.proofs.Common.{append_assoc, length-append}
@@ -116,7 +116,7 @@ put_among old mid new place by (inl same) grown = inl (subst (λ ns. IsGrown ns 
 put_among old mid new place by (inr halved) grown = inr (mid, halved, grown)
 
 module _ (pool : List (Option Frame)) (pages : List Page) (paged : ArePages pool pages) where
-  -- where all records stand before the end of a page, no page is behind it
+  -- where all records are before the end of a page, no page is after it
   none_behind : (front : List ℕ) (here : ℕ) (back : List ℕ) → lengths_of pool pages ≡ front ++ here ∷ back
       → length (page_records_of pool pages) ≤ sum front + here → back ≡ []
   none_behind front here [] are upto = refl
@@ -168,7 +168,7 @@ module _ (pool : List (Option Frame)) (pages : List Page) (paged : ArePages pool
       (length (page_in pool (get_or pages (length pages - 1) d))) [] 0 (length front) first)
       ∙ (ap (λ l. get_or l (length front) 0) two ∙ get_or_at front 128 [] 0 (length front) refl)
 
-  -- behind a full last page
+  -- after a full last page
   pub filled_fresh : (run : ℕ) (new : List ℕ)
       → ((d : Page) → length (page_in pool (get_or pages (length pages - 1) d)) ≡ 128)
       → new ≡ lengths_of pool pages ++ run ∷ [] → ArePagesFilled (lengths_of pool pages) run new

@@ -23,7 +23,7 @@ length-placed_pages [] ns long = refl
 length-placed_pages (l ∷ ls) [] long = absurd (omega (arith, long))
 length-placed_pages (l ∷ ls) (n ∷ ns) long = ap suc (length-placed_pages ls ns (omega (arith, long)))
 
--- a page is what stands in both lists
+-- a page is what is in both lists
 pub get_or-placed_pages : (ls : List Leaf) (ns : List ℕ) (k : ℕ) (l : Leaf) (n : ℕ) (d : Page)
     → length ns ≡ length ls → k < length ls
     → get_or (placed_pages ls ns) k d ≡ with_place (get_or ls k l) (get_or ns k n)

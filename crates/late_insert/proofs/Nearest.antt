@@ -64,7 +64,7 @@ module _ (l : List Rec) (t n : ℕ) (rises : IsRising l) (within : n ≤ length 
       ∙ ap (λ m. get_or l m d) place in
       subst (λ r. t ≤ time r) here (after (j - n) d (omega (arith, length-drop n l)))
 
-  -- no record stands at the time, where the first one from it on does not
+  -- no record is at the time, where the first one from it on is not
   beyond : (j : ℕ) (d : Rec) → ((r : Rec) → StandsAt l n t r → ⊥) → n ≤ j → j < length l
       → t < time (get_or l j d)
   beyond j d other from inside =
@@ -90,7 +90,7 @@ module _ (l : List Rec) (t n : ℕ) (rises : IsRising l) (within : n ≤ length 
       subst (λ r. t + 1 ≤ time r) (sym (get_or-drop m l j d))
       (high (m + j) d (omega arith) (omega (arith, length-drop m l))))
 
-  -- where a point stands at the time
+  -- where a point is at the time
   pub upto_there : (q : Point) → slice_get (points_of l) n ≡ Some q → q.t ≡ t
       → n + 1 ≡ count_by (λ r. nat_lt (time r) (t + 1)) l
   upto_there q there same =
@@ -172,7 +172,7 @@ module _ (l : List Rec) (t n : ℕ) (rises : IsRising l) (within : n ≤ length 
         ],
       )
 
-  -- whether a Late record stands at the time
+  -- whether a Late record is at the time
   pub late_there : (r : Rec) → StandsAt l n t r → late_at l t ≡ cond (is_late_record r.kind) (Some r.point.v)
       None
   late_there r at =

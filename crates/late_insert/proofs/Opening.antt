@@ -1,4 +1,4 @@
--- A page in a frame that was taken: the first one, and one behind all others.
+-- A page in a frame that was taken: the first one, and one after all others.
 use Rattle.std.proofs.Common.{◌≡◌, ◌≢◌, true, ℕ, ℤ, pos, suc, ◌+◌, ◌-◌, ◌<◌, ◌≤◌, inl, inr, List, [], ◌∷◌, ◌++◌}
 use Rattle.std.proofs.Common.{length, get_or, set}
 use Rattle.std.proofs.Common.{Option, Some, None, All, refl, sym, ap, ap₂, ◌∙◌, subst, arith, append-nil}
@@ -92,7 +92,7 @@ module _ (pool new : List (Option Frame)) (pages : List Page) (id : ℕ) (takes 
     filled = λ several. absurd (omega (arith, ap length list));
   }
 
--- ---- a page behind all others
+-- ---- a page after all others
 
 -- what is found in a frame that was taken is empty
 pub taken_empty : (pool new : List (Option Frame)) (id : ℕ) (f : Frame) → TakesFrame pool id new
@@ -103,7 +103,7 @@ taken_empty pool new id f takes there =
     takes.within in
     cc
 
--- behind pages of which the last is half full another one may come
+-- after pages of which the last is half full another one may come
 halves_end : (pool new : List (Option Frame)) (pages : List Page) (q : Page) → Agree pool new pages
     → AreHalves pool pages
     → ((k : ℕ) (d : Page) → k + 1 ≡ length pages → 64 ≤ length (page_in pool (get_or pages k d)))
@@ -121,7 +121,7 @@ halves_end pool new (p ∷ o ∷ ps) q agree halves last =
       halves_end pool new (o ∷ ps) q rest halves.1 (λ k d is. last (suc k) d (omega arith)),
     )
 
--- what is left where a frame was taken and written with a run of records, and its page put behind the others
+-- what is left where a frame was taken and written with a run of records, and its page put after the others
 module _ (pool taken : List (Option Frame)) (pages : List Page) (id first : ℕ) (g : Frame) (run : List Rec)
     (paged : ArePages pool pages)
     (takes : TakesFrame pool id taken) (page : IsPage g) (stair : ℤ)

@@ -101,7 +101,7 @@ module _ (pool : List (Option Frame)) (pages : List Page) (k : ℕ) (p : Page) (
   frame_rises = rising_left (frame_records_in f) behind
       (rising_right front (frame_records_in f ++ behind) (subst IsRising parts is.paged.rising))
 
-  -- a record of the page, and one behind it
+  -- a record of the page, and one after it
   pub on_page : (j : ℕ) (d : Rec) → j < f.len → get_or (page_records_of pool pages) (p.first + j) d ≡ rec_in f j
   on_page j d inside =
       ap (λ n. get_or (page_records_of pool pages) (n + j) d) at_place.first

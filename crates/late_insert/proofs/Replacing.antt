@@ -37,7 +37,7 @@ halves_right : (pool : List (Option Frame)) (A X : List Page) → AreHalves pool
 halves_right pool [] X halves = halves
 halves_right pool (a ∷ A) X halves = halves_right pool A X halves.1
 
--- other pages behind some that stay
+-- other pages after some that stay
 pub halves_front : (pool new : List (Option Frame)) (A X Y : List Page) → Agree pool new A
     → AreHalves pool (A ++ X) → 0 < length X
     → AreHalves new Y → AreHalves new (A ++ Y)

@@ -134,7 +134,7 @@ module _ (pool : List (Option Frame)) (pages M S : List Page) (k by : ℕ) (p q 
 
 -- ---- places that fit
 
--- no page begins behind the end
+-- no page begins after the end
 first_fits : (pool : List (Option Frame)) (place : ℕ) (pages : List Page) → ArePagesFrom pool place pages
     → All (λ p. p.first ≤ place + length (page_records_of pool pages)) pages
 first_fits pool place [] each = All-nil (λ p. p.first ≤ place + 0)
@@ -337,7 +337,7 @@ module _ (pool : List (Option Frame)) (now old : List Page) (k t : ℕ) (e : Pag
       (omega (arith, within)) in
       subst (λ (x : Page). x.start ≤ t) (sym here) (early j d some upto)
 
-  -- and those behind the upper half have moved up by one
+  -- and those after the upper half have moved up by one
   kept_late : (j : ℕ) (d : Page) → k + 1 < j → j < length now → t < (get_or now j d).start
   kept_late zero d past inside = absurd (omega arith)
   kept_late (suc j) d past inside =

@@ -65,7 +65,7 @@ placed_gap f r i rises within less more =
     sym (placed_in_gap r (frame_records_in f) i (all_before f (time r) i (omega arith) less)
     (all_after f (time r) i rises within more))
 
--- behind all others
+-- after all others
 pub placed_end : (f : Frame) (r : Rec) → ((k : ℕ) → k < f.len → get_or f.times k 0 < time r)
     → frame_records_in f ++ r ∷ [] ≡ placed r (frame_records_in f)
 placed_end f r less =

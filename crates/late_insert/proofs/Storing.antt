@@ -167,7 +167,7 @@ records-front f g n len within each =
     get_or-records_in g k d (omega arith) ∙ (each k below
     ∙ (sym (get_or-records_in f k d (omega arith)) ∙ sym (get_or-take n (frame_records_in f) k d below))))
 
--- g is the records of f behind the first n
+-- g is the records of f after the first n
 pub records-back : (f g : Frame) (n : ℕ) → n + g.len ≡ f.len
     → ((k : ℕ) → k < g.len → rec_in g k ≡ rec_in f (n + k))
     → frame_records_in g ≡ drop n (frame_records_in f)
@@ -179,7 +179,7 @@ records-back f g n len each =
     get_or-records_in g k d below ∙ (each k below
     ∙ (sym (get_or-records_in f (n + k) d (omega arith)) ∙ sym (get_or-drop n (frame_records_in f) k d))))
 
--- the marks of the first 64 records, and of those behind them
+-- the marks of the first 64 records, and of those after them
 bit_front : (m k : ℕ) → k < 64 → bit_at (bit_and m (2 ^ 64 - 1)) k ≡ bit_at m k
 bit_front m k below =
     bit_at_and m (2 ^ 64 - 1) k ∙ (ap (min (bit_at m k)) (bit_at_ones 64 k below)

@@ -171,7 +171,7 @@ all_range f start end some within whole =
 
 -- ---- one record more
 
--- g is f with the record r behind its others, and the totals of f
+-- g is f with the record r after its others, and the totals of f
 pub record IsPushed (f g : Frame) (r : Rec) (last : Point) : Type 0 where
   pub page : IsPage f
   pub some : 0 < f.len

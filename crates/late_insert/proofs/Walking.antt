@@ -37,7 +37,7 @@ walk_first pool pages k first behind paged within order reach few last = record 
       (page_upto _ _ _ _ _ is first inside last);
 }
 
--- a walk that has come to a place on the page k, and goes on by what of the page is before the end
+-- a walk that has come to a place on the page k, and continues by what of the page is before the end
 module _ (pool : List (Option Frame)) (pages : List Page) (k place end stop : ℕ) (p : Page) (f : Frame)
     (walk : IsWalk pool pages k place end)
     (more : place < end) (is : IsPageRead pool pages k p f) (stops : stop ≡ min f.len (end - p.first)) where

@@ -1,4 +1,4 @@
--- The list of pages: where they begin, one that is written, and those behind one that grew.
+-- The list of pages: where pages begin, one that is written, and those after one that grew.
 use Rattle.std.specs.Prelude.{◌≡◌, ℕ, ℤ, pos, ◌+◌, ◌<◌, ◌≤◌, List, [], ◌∷◌, All, length, map, slice_index_or}
 use Rattle.late_insert.specs.declared.directory.Key.{Key}
 use Rattle.late_insert.specs.declared.directory.Key.TheVariants.{Time, Place}
@@ -6,7 +6,7 @@ use Rattle.late_insert.specs.declared.directory.Leaf.{Leaf}
 use Rattle.late_insert.specs.declared.directory.Page.{Page}
 use Rattle.late_insert.specs.Pages.{AreApart}
 
--- pages, and for how many there is room
+-- pages, and how many there is room for
 pub record Listed : Type 0 where
   pub items : List Page
   pub places : ℕ
@@ -15,7 +15,7 @@ pub record Listed : Type 0 where
 abbrev pub leaf_of : Page → Leaf
 leaf_of p = record { id = p.id; start = p.start; stair = p.stair }
 
--- what stands for a leaf where a number has none
+-- the leaf that is taken if a number has none
 abbrev pub no_leaf : Leaf
 no_leaf = record { id = 0; start = 0; stair = pos 0 }
 
@@ -30,7 +30,7 @@ pub record AreOrdered (leaves : List Leaf) (order places : List ℕ) : Type 0 wh
   pub within : All (λ i. i < length leaves) order
   pub apart : AreApart order
 
--- pages that are kept without their places, each with its place
+-- pages, each made of a leaf and its place
 abbrev pub placed_pages : List Leaf → List ℕ → List Page
 placed_pages [] ns = []
 placed_pages (l ∷ ls) [] = []
@@ -41,7 +41,7 @@ abbrev pub begin_of : Key → Page → ℕ
 begin_of Time p = p.start
 begin_of Place p = p.first
 
--- k is the last of these pages that begins at x or before it, or the first page where none does
+-- k is the last of these pages that begins at x or before it, or the first page if none does
 pub record IsLastUpto (key : Key) (pages : List Page) (k x : ℕ) : Type 0 where
   pub before : (j : ℕ) (d : Page) → 0 < j → j ≤ k → begin_of key (slice_index_or pages j d) ≤ x
   pub after : (j : ℕ) (d : Page) → k < j → j < length pages → x < begin_of key (slice_index_or pages j d)
@@ -50,6 +50,6 @@ pub record IsLastUpto (key : Key) (pages : List Page) (k x : ℕ) : Type 0 where
 abbrev pub rewritten : ℕ → ℤ → Page → Page
 rewritten start stair p = record { id = p.id; first = p.first; start = start; stair = stair }
 
--- a page whose first record stands so many places later
+-- a page whose first record is `by` places later
 abbrev pub moved : ℕ → Page → Page
 moved by p = record { id = p.id; first = p.first + by; start = p.start; stair = p.stair }

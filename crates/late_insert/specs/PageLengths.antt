@@ -1,4 +1,4 @@
--- How many records stand on each page of a content, in order, and what a put makes of these numbers.
+-- How many records each page of a content has, in order, and how a put changes these numbers.
 use Rattle.std.specs.Prelude.{◌≡◌, ℕ, ◌+◌, ◌-◌, ◌<◌, ◌≤◌, ◌⊎◌, List, ◌∷◌, [], ◌++◌, All, length, take, sum, count_by, nat_lt}
 use Rattle.trend_num.specs.declared.archive.Rec.{Rec}
 use Rattle.page_pool.specs.Pool.{full_page}
@@ -9,11 +9,11 @@ use Rattle.late_insert.specs.Pages.{half_page}
 abbrev pub AreBefore : List Rec → ℕ → Type 0
 AreBefore l t = All (λ r. r.point.t < t) l
 
--- the place of the time t in l: so many records are before it
+-- the place of the time t in l: how many records are before it
 abbrev pub place_in : List Rec → ℕ → ℕ
 place_in l t = count_by (λ r. nat_lt r.point.t t) l
 
--- so many more behind all others: the last page takes them, or, where it is full, a page of their own follows it
+-- `by` more records after all others: the last page takes them; if it is full, a page of their own follows it
 pub record ArePagesFilled (old : List ℕ) (by : ℕ) (new : List ℕ) : Type 0 where
   pub front : List ℕ
   pub last : ℕ
@@ -22,7 +22,7 @@ pub record ArePagesFilled (old : List ℕ) (by : ℕ) (new : List ℕ) : Type 0 
   pub room : last < full_page → new ≡ front ++ (last + by) ∷ []
   pub full : last ≡ full_page → new ≡ front ++ last ∷ by ∷ []
 
--- a page with room, on which the place is, takes so many more
+-- a page that has room and has the place takes `by` more records
 pub record IsGrown (old : List ℕ) (place by : ℕ) (new : List ℕ) : Type 0 where
   pub front : List ℕ
   pub here : ℕ
@@ -33,7 +33,7 @@ pub record IsGrown (old : List ℕ) (place by : ℕ) (new : List ℕ) : Type 0 w
   pub from : sum front ≤ place
   pub upto : place ≤ sum front + here
 
--- a full page, on which the place is, is split into two halves
+-- a full page that has the place is split into two halves
 pub record IsHalved (old : List ℕ) (place : ℕ) (new : List ℕ) : Type 0 where
   pub front : List ℕ
   pub back : List ℕ
@@ -42,7 +42,7 @@ pub record IsHalved (old : List ℕ) (place : ℕ) (new : List ℕ) : Type 0 whe
   pub from : sum front ≤ place
   pub upto : place ≤ sum front + full_page
 
--- so many more at a place among the others: its page takes them, once it was split where it was full
+-- `by` more records at a place among the others: its page takes them, and is first split if it is full
 abbrev pub IsPutAmong : List ℕ → ℕ → ℕ → List ℕ → Type 0
 IsPutAmong old place by new =
     IsGrown old place by new ⊎ ((halved : List ℕ) × IsHalved old place halved × IsGrown halved place by new)
@@ -51,7 +51,7 @@ IsPutAmong old place by new =
 abbrev pub AreFull : List ℕ → Type 0
 AreFull pages = All (λ n. n ≡ full_page) (take (length pages - 1) pages)
 
--- p is one of these pages: its length stands there, and its first place is behind all records of those before it
+-- p is one of these pages: the list has its length, and its first place is after all records of the pages before it
 pub record IsOneOf (pages : List ℕ) (p : PageTotals) : Type 0 where
   pub front : List ℕ
   pub back : List ℕ

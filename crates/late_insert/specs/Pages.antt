@@ -17,11 +17,11 @@ use Rattle.late_insert.specs.Totals.{least_of, greatest_of}
 
 -- ---- a page in a frame
 
--- a page has room for as many records as its frame for points; half of them
+-- half of a page; a page has room for as many records as its frame has for points
 abbrev pub half_page : ℕ
 half_page = 64
 
--- the kind that a mark stands for
+-- the kind that a mark means
 abbrev pub kind_of : ℕ → Kind
 kind_of zero = Kept
 kind_of (suc n) = Late
@@ -54,7 +54,7 @@ pub record IsPage (f : Frame) : Type 0 where
 
 -- ---- pages of a pool
 
--- the records of a frame that may be there
+-- the records of a frame, if there is one
 abbrev pub records_at : Option Frame → List Rec
 records_at None = []
 records_at (Some f) = frame_records_in f
@@ -71,7 +71,7 @@ page_records_of pool pages = flat_map (page_in pool) pages
 abbrev pub lengths_of : List (Option Frame) → List Page → List ℕ
 lengths_of pool pages = map (λ p. length (page_in pool p)) pages
 
--- a page in its frame, whose first record stands at this place
+-- a page in its frame, whose first record is at this place
 pub record IsPageAt (pool : List (Option Frame)) (place : ℕ) (p : Page) : Type 0 where
   pub frame : Frame
   pub there : frame_at pool p.id ≡ Some frame
@@ -80,13 +80,13 @@ pub record IsPageAt (pool : List (Option Frame)) (place : ℕ) (p : Page) : Type
   pub start : p.start ≡ slice_index frame.times 0
   pub stair : p.stair ≡ area true (points_of (frame_records_in frame))
 
--- pages one after another, from this place on
+-- pages that follow one another from this place on
 abbrev pub ArePagesFrom : List (Option Frame) → ℕ → List Page → Type 0
 ArePagesFrom pool place [] = Unit {0}
 ArePagesFrom pool place (p ∷ ps) = IsPageAt pool place p × ArePagesFrom pool (place + length (page_in pool p))
     ps
 
--- no two of these ids are one
+-- no two of these ids are equal
 abbrev pub AreApart : List ℕ → Type 0
 AreApart [] = Unit {0}
 AreApart (x ∷ xs) = All (λ y. y ≢ x) xs × AreApart xs
@@ -95,7 +95,7 @@ AreApart (x ∷ xs) = All (λ y. y ≢ x) xs × AreApart xs
 abbrev pub ids_of : List Page → List ℕ
 ids_of pages = map (λ p. p.id) pages
 
--- of several pages each but the last is at least half full
+-- each page but the last is at least half full
 abbrev pub AreHalves : List (Option Frame) → List Page → Type 0
 AreHalves pool [] = Unit {0}
 AreHalves pool (p ∷ ps) = (0 < length ps → half_page ≤ length (page_in pool p)) × AreHalves pool ps
@@ -107,7 +107,7 @@ pub record ArePages (pool : List (Option Frame)) (pages : List Page) : Type 0 wh
   pub rising : IsRising (page_records_of pool pages)
   pub some : 0 < length pages
   pub halves : AreHalves pool pages
-  -- and none of several is empty
+  -- and if there are several, none is empty
   pub filled : 1 < length pages → All (λ p. 0 < length (page_in pool p)) pages
 
 -- p is the page at k, and f its frame
@@ -118,20 +118,21 @@ pub record IsPageRead (pool : List (Option Frame)) (pages : List Page) (k : ℕ)
     pub read : p ≡ slice_index_or pages k p
     pub there : frame_at pool p.id ≡ Some f
 
--- the page k is the one for the time t: no page before it has a record from t on, and none after it one up to t
+-- the page k is the one for the time t: no page before it has a record at t or later, and none after it has one at t or
+-- earlier
 pub record IsFor (pool : List (Option Frame)) (pages : List Page) (k t : ℕ) : Type 0 where
   pub within : k < length pages
   pub before : All (λ r. r.point.t < t) (page_records_of pool (take k pages))
   pub after : All (λ r. t < r.point.t) (page_records_of pool (drop (k + 1) pages))
 
--- the page k was split: the lower half starts where it did, and the upper half stands behind it
+-- the page k was split: the lower half starts where the page did, and the upper half comes after it
 pub record IsSplit (old new : List Page) (k : ℕ) : Type 0 where
   pub lower : Page
   pub upper : Page
   pub list : new ≡ insert (slice_set old k lower) (k + 1) upper
   pub start : lower.start ≡ (slice_index_or old k lower).start
 
--- of the page k and the next one j is that for the time t
+-- j is that one of the page k and the next which is the page for the time t
 abbrev pub IsHalfFor : List Page → ℕ → ℕ → ℕ → Type 0
 IsHalfFor pages k t j = (d : Page) → ((j ≡ k + 1) × ((slice_index_or pages (k + 1) d).start ≤ t))
     ⊎ ((j ≡ k) × (t < (slice_index_or pages (k + 1) d).start))
@@ -142,7 +143,7 @@ pub record IsOn (pool : List (Option Frame)) (pages : List Page) (k place : ℕ)
   pub from : length (page_records_of pool (take k pages)) ≤ place
   pub upto : place < length (page_records_of pool (take (k + 1) pages))
 
--- runs over the records of pages that have come to a place, and end before another
+-- runs over the records of pages that have come to the place, and stop before the end
 pub record IsWalk (pool : List (Option Frame)) (pages : List Page) (k place end : ℕ) : Type 0 where
   pub paged : ArePages pool pages
   pub ordered : place ≤ end
@@ -157,14 +158,14 @@ pub record IsRun (f : Frame) (stair : ℤ) (start end : ℕ) : Type 0 where
   pub some : start < end
   pub within : end ≤ f.len
 
--- a content of so many records, in pages, with room for so many in all
+-- a content of `len` records in pages, with room for `room` in all
 pub record IsKept (pool : List (Option Frame)) (pages : List Page) (places len room : ℕ) : Type 0 where
   pub paged : ArePages pool pages
   pub counted : len ≡ length (page_records_of pool pages)
   pub within : len ≤ room
   pub few : room < 2 ^ 32
-  -- a frame is spare for each page that may be split
+  -- there is a spare frame for each page that may be split
   pub frames : room + half_page + 1 ≤ half_page * (length pages + spare_of pool)
   pub reserved : length pages + spare_of pool ≤ places
-  -- and the list of pages has as many places as were made for this room, so that it never grows
+  -- and the list of pages has as many places as were made for this room, so it never grows
   pub exact : places ≡ room / half_page + 2

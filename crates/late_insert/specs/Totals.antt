@@ -1,4 +1,4 @@
--- Totals over points in order of time. Areas are those of windows.
+-- Totals over points in order of time. Areas are defined in `Windows`.
 use Rattle.std.specs.Prelude.{ℤ, pos, List, [], ◌∷◌, fold}
 use Rattle.std.specs.Int.{int_min, int_max}
 use Rattle.late_insert.specs.declared.total.Extreme.{Extreme}
@@ -14,7 +14,7 @@ abbrev pub greatest_of : List Point → ℤ
 greatest_of [] = pos 0
 greatest_of (p ∷ points) = fold (λ high q. int_max high q.v) p.v points
 
--- an extreme of two values, and of these points
+-- the least or the greatest of two values, and of these points
 abbrev pub outer : Extreme → ℤ → ℤ → ℤ
 outer Least = int_min
 outer Greatest = int_max

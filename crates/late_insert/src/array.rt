@@ -2,7 +2,7 @@
 ghost use Rattle.std.specs.Prelude.{◌≡◌, ℕ, ◌+◌, ◌<◌, ◌≤◌, length, slice_index, slice_index_or};
 ghost use Rattle.std.specs.List.Sorted.{IsNonDecreasing};
 
-// Puts x at the place i of the first n, and moves the rest of these up by one.
+// Puts x at the place i among the first n items, and moves those from i on up by one.
 pub(crate) fn insert_at<T: Copy>(xs: &mut [T], n: usize, i: usize, x: T)
     requires room { n < length xs.old }
     requires within { i ≤ n }
@@ -17,7 +17,7 @@ pub(crate) fn insert_at<T: Copy>(xs: &mut [T], n: usize, i: usize, x: T)
     }
 }
 
-// Moves all but the first n down to the front, and these behind them.
+// Moves the first n items after all others.
 pub(crate) fn rotate<T: Copy>(xs: &mut [T], n: usize)
     requires { n ≤ length xs.old }
     ensures len { length xs.new ≡ length xs.old }
@@ -26,7 +26,7 @@ pub(crate) fn rotate<T: Copy>(xs: &mut [T], n: usize)
     xs.rotate_left(n);
 }
 
-// How many of these numbers, which do not fall, are less than x.
+// How many of these numbers, which are in non-decreasing order, are less than x.
 pub(crate) fn count_below(xs: &[u64], x: u64) -> usize
     requires { IsNonDecreasing xs.now }
     ensures bound { result ≤ length xs.now }

@@ -28,7 +28,7 @@ pub struct Content {
     pool: Pool,
     pages: Directory,
     len: u32,
-    // How many points there may be.
+    // How many points it may have at most.
     room: u32,
 }
 
@@ -48,12 +48,12 @@ impl Model for Content {
     ghost invariant = { λ c. IsKept c.pool c.pages.items c.pages.places c.len c.room };
 }
 
-/// Totals of a page of a content.
+/// The totals of one page of a content.
 #[derive(Clone, Copy, Debug, PartialEq, Eq)]
 pub struct PageTotals {
-    /// The place of the page's first point.
+    /// The place of the page's first point in the content.
     pub first: u32,
-    /// How many points it has.
+    /// How many points the page has.
     pub len: u32,
     /// Twice the area under the line through them, in value units times milliseconds.
     pub area: i128,
@@ -64,13 +64,15 @@ pub struct PageTotals {
 }
 
 impl Content {
-    /// An empty content, with memory for so many points: no call on it takes more.
+    /// Returns an empty content with memory for `points` points. No call on it allocates more. Returns `WantOfMemory`
+    /// if the memory cannot be allocated.
     pub fn new(alloc: Global, points: u32) -> Result<Content, WantOfMemory>
         ensures empty { IfOk result (λ content. content.records ≡ []) }
         ensures spare { IfOk result (λ content. content.spare ≡ points) }
         ensures pages { IfOk result (λ content. content.pages ≡ 0 ∷ []) }
     {
-        // No more pages than this, since each but the last is at least half full, and a frame for the upper half of one.
+        // There are no more pages than this, because each but the last is at least half full. One more frame is for the
+        // upper half of a page that is split.
         let frames = points / HALF + 2;
         let mut pool = Pool::reserve(alloc, frames).map_err(|_| WantOfMemory)?;
         let mut pages = Directory::with_capacity(alloc, frames)?;
@@ -83,9 +85,9 @@ impl Content {
         })
     }
 
-    /// The content of these records, the oldest first, with room for so many points more. Runs of records in
-    /// order go into whole pages at once. Room for more than 2^32 - 1 points is refused, as memory that is not
-    /// there.
+    /// Returns the content of these records, the oldest first, with room for `more` points in addition. Runs of records
+    /// in order go into whole pages at once. Returns `WantOfMemory` if the memory cannot be allocated, or if there
+    /// would be room for more than 2^32 - 1 points.
     pub fn from_records(alloc: Global, recs: &[Rec], more: u32) -> Result<Content, WantOfMemory>
         requires range { All (λ r. InRange r.point) recs.now }
         ensures records { IfOk result (λ content. content.records ≡ listed recs.now) }
@@ -104,20 +106,20 @@ impl Content {
         Ok(content)
     }
 
-    /// Puts one more record in. A Late one takes the place of what is at its time, a Kept one that of a Kept
-    /// one.
+    /// Puts one more record in. If there is a record at its time, a Late record replaces it. A Kept record replaces
+    /// only a Kept one.
     pub fn put(&mut self, rec: Rec)
         requires spare { 1 ≤ self.old.spare }
         requires range { InRange rec.point }
         ensures placed { self.new.records ≡ placed rec self.old.records }
         ensures content { (rs : List Rec) → IsContentOf rs self.old.records → IsContentOf (rs ++ rec ∷ []) self.new.records }
 
-        // Room is taken by a new time alone.
+        // Only a new time takes room.
         ensures spare { self.old.spare ≤ self.new.spare + 1 }
         ensures room { length self.new.records + self.new.spare ≡ length self.old.records + self.old.spare }
 
-        // Behind all others it goes on the last page, or on a fresh one where that is full; among them on the page
-        // of its place, which is split before where it is full.
+        // A record after all others goes on the last page, or on a fresh page if the last one is full. Any other goes
+        // on the page of its place, which is first split if it is full.
         ensures behind { AreBefore self.old.records rec.point.t → ArePagesFilled self.old.pages 1 self.new.pages }
         ensures among { (AreBefore self.old.records rec.point.t → ⊥) → IsPutAmong self.old.pages
             (place_in self.old.records rec.point.t) (length self.new.records - length self.old.records) self.new.pages }
@@ -125,8 +127,8 @@ impl Content {
         self.put_front(&[rec]);
     }
 
-    // Puts the first of these records in: a run of them in a page of its own where they are behind all others
-    // and the last page is full, else one. Returns how many.
+    // Puts the first of these records in, and returns how many. It puts in a run of them, on a page of its own, if they
+    // come after all others and the last page is full. Otherwise it puts in one.
     fn put_front(&mut self, recs: &[Rec]) -> usize
         requires some { 0 < length recs.now }
         requires spare { length recs.now ≤ self.old.spare }
@@ -154,14 +156,14 @@ impl Content {
         1
     }
 
-    /// For how many more points there is room.
+    /// Returns how many more points there is room for.
     pub fn spare(&self) -> u32
         ensures { result ≡ self.now.spare }
     {
         self.room - self.len
     }
 
-    /// How many points there are.
+    /// Returns how many points there are.
     pub fn len(&self) -> u32
         ensures value { result ≡ length self.now.records }
         ensures rising { IsRising self.now.records }
@@ -172,14 +174,14 @@ impl Content {
         self.len
     }
 
-    /// Whether there is no point.
+    /// Returns whether there is no point.
     pub fn is_empty(&self) -> bool
         ensures { IsTrue result ↔ (self.now.records ≡ []) }
     {
         self.len == 0
     }
 
-    /// The point at a place.
+    /// Returns the point at the place `i`.
     pub fn point(&self, i: u32) -> Point
         requires { i < length self.now.records }
         ensures value { slice_get (points_of self.now.records) i ≡ Some result }
@@ -188,14 +190,14 @@ impl Content {
         self.rec(i).point
     }
 
-    /// How many points are before the time t.
+    /// Returns how many points are before the time t.
     pub fn below(&self, t: u64) -> u32
         ensures value { result ≡ count_by (λ r. nat_lt r.point.t t) self.now.records }
     {
         self.gap(t)
     }
 
-    /// The last point that is not after the time t.
+    /// Returns the last point that is not after the time t, or `None` if there is none.
     pub fn floor(&self, t: u64) -> Option<Point>
         ensures { IsFloor t self.now.records result }
     {
@@ -209,7 +211,7 @@ impl Content {
         Some(self.rec(i - 1).point)
     }
 
-    /// The first point that is not before the time t.
+    /// Returns the first point that is not before the time t, or `None` if there is none.
     pub fn ceil(&self, t: u64) -> Option<Point>
         ensures { IsCeil t self.now.records result }
     {
@@ -220,7 +222,7 @@ impl Content {
         Some(self.rec(i).point)
     }
 
-    /// What stands next to the time t, by one search.
+    /// Returns the points next to the time t, found by one search.
     pub fn around(&self, t: u64) -> Around
         ensures below { result.below ≡ count_by (λ r. nat_lt r.point.t t) self.now.records }
         ensures upto { result.upto ≡ count_by (λ r. nat_lt r.point.t (t + 1)) self.now.records }
@@ -232,7 +234,7 @@ impl Content {
         around_in(&self.pool, &self.pages, self.len, t)
     }
 
-    /// The points at the places from one on, before another, in runs.
+    /// Returns the points at the places from `first` to `behind`, the latter excluded, in runs.
     pub fn runs(&self, first: u32, behind: u32) -> Runs<'_>
         requires order { first ≤ behind }
         requires within { behind ≤ length self.now.records }
@@ -241,7 +243,7 @@ impl Content {
         runs_in(&self.pool, &self.pages, first, behind)
     }
 
-    /// Whether a Late record stands at the time t.
+    /// Returns whether there is a Late record at the time t.
     pub fn late_at(&self, t: u64) -> bool
         ensures { IsTrue result ↔ IsSome (late_at self.now.records t) }
     {
@@ -251,7 +253,7 @@ impl Content {
         }
     }
 
-    /// The page that has the point at a place.
+    /// Returns the totals of the page that has the point at the place `i`.
     pub fn page(&self, i: u32) -> PageTotals
         requires { i < length self.now.records }
         ensures page { IsPageOf self.now.records i result }
@@ -277,7 +279,7 @@ impl Content {
         rec_in(&self.pool, &self.pages, i)
     }
 
-    // The record at a place, where its time is t.
+    // The record at a place, if its time is t.
     fn standing(&self, i: u32, t: u64) -> Option<Rec>
         requires { i ≤ length self.now.records }
         ensures there { IfSome result (StandsAt self.now.records i t) }
@@ -290,7 +292,7 @@ impl Content {
         if rec.point.t == t { Some(rec) } else { None }
     }
 
-    // The place up to which all records are before the time t, and from which on none is.
+    // How many records are before the time t, which is the place of the first record from t on.
     fn gap(&self, t: u64) -> u32
         ensures bound { result ≤ length self.now.records }
         ensures before { All (λ r. r.point.t < t) (take result self.now.records) }

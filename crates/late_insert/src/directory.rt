@@ -9,8 +9,8 @@ use page_pool::FrameId;
 use std::alloc::{AllocError, Global};
 use std::marker::Model;
 
-// A page of a content: its frame, the place of its first record, and that record's time. The frame has the
-// totals of the line through its points; twice the area under their stair stands here.
+// A page of a content: its frame, the place of its first record, and that record's time. The totals of the line through
+// its points are in the frame. Twice the area under their stair is here.
 #[derive(Drop)]
 pub(crate) struct Page {
     pub(crate) id: FrameId,
@@ -27,8 +27,9 @@ struct Leaf {
     stair: i128,
 }
 
-// The list of a content's pages. A page stays where it was put first, and its number stands in a list in order of time.
-// The places are a list of their own. So a page that is put among the others moves eight bytes a page, and a record four.
+// The list of a content's pages. A page stays where it was first put; a list of page numbers gives the order of time.
+// The places are another list. So putting a page among the others moves eight bytes for each page after it, and putting
+// a record in changes four.
 #[derive(Drop)]
 pub(crate) struct Directory {
     leaves: Vec<Leaf>,
@@ -52,7 +53,7 @@ impl Model for Directory {
         × (vec_capacity d.leaves < 2 ^ 32) };
 }
 
-// By what of its first record a page is searched.
+// The property of a page's first record by which pages are searched.
 #[derive(Clone, Copy)]
 enum Key {
     Time,
@@ -60,7 +61,7 @@ enum Key {
 }
 
 impl Directory {
-    // An empty list, with room for so many pages.
+    // An empty list with room for `places` pages.
     pub(crate) fn with_capacity(alloc: Global, places: u32) -> Result<Directory, AllocError>
         ensures { IfOk result (λ d. d ≡ record { items = []; places = places }) }
     {
@@ -123,7 +124,7 @@ impl Directory {
         self.leaf(k).stair
     }
 
-    // Where a page begins.
+    // The time or the place at which a page begins.
     fn begin(&self, k: usize, key: Key) -> u64
         requires { k < length self.now.items }
         ensures { (d : Page) → begin_of key (slice_index_or self.now.items k d) ≡ result }
@@ -134,8 +135,8 @@ impl Directory {
         }
     }
 
-    // The last page that begins at x or before it, or the first page. The last one is tried first, since records
-    // mostly come in order.
+    // The last page that begins at x or before it, or the first page if there is none. The last page is tried first,
+    // because records usually come in order.
     fn page_by(&self, key: Key, x: u64) -> usize
         requires some { 0 < length self.now.items }
         requires rising { AllPairs (λ p q. begin_of key p ≤ begin_of key q) self.now.items }
@@ -159,7 +160,7 @@ impl Directory {
         low
     }
 
-    // The last page that starts at the time t or before it, or the first page.
+    // The last page that starts at the time t or before it, or the first page if there is none.
     pub(crate) fn page_for(&self, t: u64) -> usize
         requires some { 0 < length self.now.items }
         requires rising { AllPairs (λ p q. p.start ≤ q.start) self.now.items }
@@ -169,7 +170,7 @@ impl Directory {
         self.page_by(Key::Time, t)
     }
 
-    // The last page whose first record stands at the place i or before it.
+    // The last page whose first record is at the place i or before it.
     pub(crate) fn page_of(&self, i: u32) -> usize
         requires some { 0 < length self.now.items }
         requires rising { AllPairs (λ p q. p.first ≤ q.first) self.now.items }
@@ -179,7 +180,7 @@ impl Directory {
         self.page_by(Key::Place, u64::from(i))
     }
 
-    // Puts a page behind the others.
+    // Puts a page after the others.
     pub(crate) fn push(&mut self, page: Page)
         requires { length self.old.items < self.old.places }
         ensures { self.new ≡ record self.old { items = self.old.items ++ page ∷ [] } }
@@ -188,7 +189,7 @@ impl Directory {
         self.insert(behind, page);
     }
 
-    // Puts a page before the one at a place.
+    // Puts a page before the one at the place `at`.
     pub(crate) fn insert(&mut self, at: usize, page: Page)
         requires within { at ≤ length self.old.items }
         requires room { length self.old.items < self.old.places }
@@ -205,7 +206,7 @@ impl Directory {
         self.leaves.push_reserved(Leaf { id, start, stair });
     }
 
-    // Writes the start and the stair of a page.
+    // Sets the start and the stair of a page.
     pub(crate) fn write(&mut self, k: usize, start: u64, stair: i128)
         requires { k < length self.old.items }
         ensures { (d : Page) → self.new ≡ record self.old {
@@ -217,7 +218,7 @@ impl Directory {
         leaf.stair = stair;
     }
 
-    // Moves the first places of the pages behind the page k on.
+    // Adds `by` to the places of the pages after the page k.
     pub(crate) fn move_on(&mut self, k: usize, by: u32)
         requires within { k < length self.old.items }
         requires small { All (λ p. p.first + by < 2 ^ 32) self.old.items }
@@ -229,7 +230,7 @@ impl Directory {
     }
 }
 
-// Moves all but the last number up by one, and puts another one in front.
+// Moves all numbers but the last up by one, which drops the last, and puts x in front.
 fn shift_in(numbers: &mut [u32], x: u32)
     requires { 0 < length numbers.old }
     ensures { numbers.new ≡ x ∷ take (length numbers.old - 1) numbers.old }
@@ -242,7 +243,7 @@ fn shift_in(numbers: &mut [u32], x: u32)
     numbers[0] = x;
 }
 
-// Puts a number into a list that has room.
+// Inserts a number into a list that has room.
 fn put_in(list: &mut Vec<u32>, at: usize, x: u32)
     requires within { at ≤ vec_len list.old }
     requires room { vec_len list.old < vec_capacity list.old }
@@ -254,7 +255,7 @@ fn put_in(list: &mut Vec<u32>, at: usize, x: u32)
     shift_in(&mut list[at..], x);
 }
 
-// Moves the places behind the place k on.
+// Adds `by` to the places after the place k.
 fn move_places(places: &mut [u32], k: usize, by: u32)
     requires within { k < length places.old }
     requires small { All (λ n. n + by < 2 ^ 32) places.old }

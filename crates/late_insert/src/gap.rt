@@ -13,7 +13,7 @@ use crate::page::{below_in, rec_at};
 use page_pool::{Frame, Pool};
 use trend_num::{Point, Rec};
 
-// Where a time stands among the records of pages.
+// The place of a time among the records of pages.
 #[derive(Clone, Copy)]
 pub(crate) struct Gap {
     /// The page for the time.
@@ -32,7 +32,7 @@ pub(crate) fn frame_of<'p>(pool: &'p Pool, pages: &Directory, k: usize) -> &'p F
     pool.frame(pages.id(k))
 }
 
-// The gap up to which all records are before the time t, and from which on none is.
+// The gap for the time t: all records before it are before t, and all after it are at t or later.
 pub(crate) fn gap_in(pool: &Pool, pages: &Directory, t: u64) -> Gap
     requires pages { ArePages pool.now pages.now.items }
     requires few { length (page_records_of pool.now pages.now.items) < 2 ^ 32 }
@@ -59,7 +59,7 @@ pub(crate) fn rec_in(pool: &Pool, pages: &Directory, i: u32) -> Rec
     rec_at(frame_of(pool, pages, k), (i - pages.first(k)) as usize)
 }
 
-// The record at a place. It is mostly on the page k, which is tried before any search.
+// The record at a place. It is usually on the page k, so that page is tried before any search.
 pub(crate) fn rec_near(pool: &Pool, pages: &Directory, k: usize, i: u32) -> Rec
     requires pages { ArePages pool.now pages.now.items }
     requires page { k < length pages.now.items }
@@ -89,7 +89,7 @@ fn last_before(pool: &Pool, pages: &Directory, gap: Gap) -> Option<Point>
     Some(rec_near(pool, pages, gap.page, gap.place - 1).point)
 }
 
-// The first point behind a gap, among so many.
+// The first point after a gap, among `len` records.
 fn first_from(pool: &Pool, pages: &Directory, len: u32, gap: Gap) -> Option<Point>
     requires pages { ArePages pool.now pages.now.items }
     requires counted { len ≡ length (page_records_of pool.now pages.now.items) }
@@ -104,20 +104,20 @@ fn first_from(pool: &Pool, pages: &Directory, len: u32, gap: Gap) -> Option<Poin
     Some(rec_near(pool, pages, gap.page, gap.place).point)
 }
 
-/// What stands next to a time.
+/// The points next to a time.
 #[derive(Clone, Copy, Debug, PartialEq, Eq)]
 pub struct Around {
     /// How many points are before the time.
     pub below: u32,
-    /// How many points are not after it.
+    /// How many points are at the time or before it.
     pub upto: u32,
     /// The last point before it.
     pub before: Option<Point>,
-    /// The first point that is not before it.
+    /// The first point at the time or after it.
     pub after: Option<Point>,
 }
 
-// What stands next to a time among so many records of pages.
+// The points next to a time, among `len` records of pages.
 pub(crate) fn around_in(pool: &Pool, pages: &Directory, len: u32, t: u64) -> Around
     requires pages { ArePages pool.now pages.now.items }
     requires counted { len ≡ length (page_records_of pool.now pages.now.items) }

@@ -1,4 +1,4 @@
-// Marks of a page's records: a bit for each, set where the record is Late.
+// The marks of a page's records: one bit a record, set if the record is Late.
 ghost use Rattle.std.specs.Prelude.{◌≡◌, ℕ, ◌+◌, ◌-◌, ◌^◌, ◌<◌, ◌≤◌, ◌↔◌, IsTrue};
 ghost use Rattle.std.specs.Int.{bit_at};
 ghost use Rattle.page_pool.specs.Pool.{full_page};
@@ -29,7 +29,7 @@ fn bit_of(kind: Kind) -> u128
     }
 }
 
-// The marks of `n` records, with one for a record that is inserted at a place among them.
+// The marks of `n` records, after a record of this kind is inserted at the place `i`.
 pub(crate) fn mark_inserted(marks: u128, n: usize, i: usize, kind: Kind) -> u128
     requires few { n < full_page }
     requires within { i ≤ n }
@@ -44,7 +44,7 @@ pub(crate) fn mark_inserted(marks: u128, n: usize, i: usize, kind: Kind) -> u128
     (high * 2 + bit_of(kind)) * (1 << i) + low
 }
 
-// The marks of `n` records, where the one at a place is now of this kind. A Late one stays Late.
+// The marks of `n` records, after the record at the place `i` becomes one of this kind. A Late one stays Late.
 pub(crate) fn mark_put(marks: u128, n: usize, i: usize, kind: Kind) -> u128
     requires few { n ≤ full_page }
     requires within { i < n }

@@ -13,13 +13,13 @@ use crate::total::{piece, point_at, refresh};
 use page_pool::{Frame, PAGE};
 use trend_num::{Kind, Rec};
 
-// Half of what a page has room for.
+// Half the number of records that a page has room for.
 pub(crate) const HALF: u32 = PAGE as u32 / 2;
 
 // The marks of the lower half of a page.
 const LOWER_MARKS: u128 = (1 << HALF) - 1;
 
-// How many of these records, the first ones, make a run that rises in time and fits a page.
+// How many of the first records rise in time and fit on one page.
 pub(crate) fn run_len(recs: &[Rec]) -> usize
     requires some { 0 < length recs.now }
     ensures some { 0 < result }
@@ -64,8 +64,8 @@ pub(crate) fn rec_at(frame: &Frame, i: usize) -> Rec
     }
 }
 
-// Puts a record behind the others of a page, and adds it to the totals. Takes and returns twice the area
-// under the stair.
+// Puts a record after the others of a page, and adds it to the totals. Takes and returns twice the area under the
+// page's stair.
 fn append(frame: &mut Frame, stair: i128, rec: Rec) -> i128
     requires page { IsPage frame.old }
     requires some { 0 < frame.old.len }
@@ -85,7 +85,7 @@ fn append(frame: &mut Frame, stair: i128, rec: Rec) -> i128
     stair + piece(true, last, rec.point)
 }
 
-// Stores a record at the place i among the others of a page, and leaves the totals.
+// Stores a record at the place i of a page. The totals stay as they were.
 fn store(frame: &mut Frame, i: usize, rec: Rec)
     requires recorded { IsRecorded frame.old }
     requires room { frame.old.len < full_page }
@@ -104,7 +104,7 @@ fn store(frame: &mut Frame, i: usize, rec: Rec)
     frame.len += 1;
 }
 
-// Stores records of their own in a page, in place of what is there, and leaves the totals.
+// Replaces all records of a page with these. The totals stay as they were.
 pub(crate) fn store_run(frame: &mut Frame, run: &[Rec])
     requires recorded { IsRecorded frame.old }
     requires few { length run.now ≤ full_page }
@@ -117,7 +117,7 @@ pub(crate) fn store_run(frame: &mut Frame, run: &[Rec])
         let rec = run[i];
         frame.times[i] = rec.point.t;
         frame.values[i] = rec.point.v;
-        // Most records are Kept, and write no mark.
+        // Most records are Kept, and need no mark.
         match rec.kind {
             Kind::Kept => {}
             Kind::Late => frame.late = mark_put(frame.late, i + 1, i, Kind::Late),
@@ -126,7 +126,7 @@ pub(crate) fn store_run(frame: &mut Frame, run: &[Rec])
     frame.len = run.len() as u32;
 }
 
-// Which of two records at one time stands there: the newer one, but no Kept one in place of a Late one.
+// Which of two records at the same time remains: the newer one, but a Kept one does not replace a Late one.
 fn over(rec: Rec, old: Rec) -> Rec
     requires same { rec.point.t ≡ old.point.t }
     requires new_range { InRange rec.point }
@@ -141,7 +141,7 @@ fn over(rec: Rec, old: Rec) -> Rec
     }
 }
 
-// Puts a record over the one that is at its time. Returns twice the area under the stair.
+// Puts a record in place of the one at its time, if it may replace it. Returns twice the area under the page's stair.
 fn replace(frame: &mut Frame, i: usize, rec: Rec) -> i128
     requires page { IsPage frame.old }
     requires within { i < frame.old.len }
@@ -157,7 +157,7 @@ fn replace(frame: &mut Frame, i: usize, rec: Rec) -> i128
     refresh(frame)
 }
 
-// Puts a record behind the others of a page, if it has others. Takes and returns twice the area under the
+// Puts a record after the others of a page, which may have none. Takes and returns twice the area under the page's
 // stair.
 pub(crate) fn push(frame: &mut Frame, stair: i128, rec: Rec) -> i128
     requires page { IsPage frame.old }
@@ -175,7 +175,7 @@ pub(crate) fn push(frame: &mut Frame, stair: i128, rec: Rec) -> i128
     refresh(frame)
 }
 
-// What a put makes of a page.
+// How a put changes a page.
 #[derive(Clone, Copy)]
 pub(crate) struct Grown {
     /// By how many records it grew.
@@ -184,7 +184,7 @@ pub(crate) struct Grown {
     pub stair: i128,
 }
 
-// Puts a record into a page that is not full.
+// Puts a record into a page that is not full. `stair` is twice the area under the page's stair before.
 pub(crate) fn put_rec(frame: &mut Frame, stair: i128, rec: Rec) -> Grown
     requires page { IsPage frame.old }
     requires rising { IsRising (frame_records_in frame.old) }
@@ -211,7 +211,7 @@ pub(crate) fn put_rec(frame: &mut Frame, stair: i128, rec: Rec) -> Grown
     Grown { by: 1, stair }
 }
 
-// The upper half of a page that was cut, with twice the areas under the stairs of both halves.
+// The upper half of a page that was cut in two, and twice the areas under the stairs of both halves.
 #[derive(Drop)]
 pub(crate) struct Halves {
     pub upper: Frame,

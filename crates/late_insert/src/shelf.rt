@@ -1,5 +1,5 @@
-// Pages in the frames of a pool: one that is full is split, one record more is put in, and a run of records is
-// put behind all others.
+// Pages in the frames of a pool. A full page is split, one record is put in, or a run of records is put after all
+// others.
 ghost use Rattle.std.specs.Prelude.{◌≡◌, ℕ, ◌+◌, ◌-◌, ◌^◌, ◌<◌, ◌≤◌, ◌⊎◌, [], ◌∷◌, ◌++◌, IsTrue, IsFalse, length};
 ghost use Rattle.std.specs.Prelude.{slice_index_or, take, drop, All};
 ghost use Rattle.trend_num.specs.Ranges.{InRange};
@@ -50,7 +50,7 @@ pub(crate) fn is_full_before(pool: &Pool, pages: &Directory, t: u64) -> bool
     frame.len as usize == PAGE && frame.times[PAGE - 1] < t
 }
 
-// Puts a run of records behind all others, in a page of its own. So pages that are filled in order are full.
+// Puts a run of records after all others, on a page of its own. So records in order fill whole pages.
 pub(crate) fn open_page(pool: &mut Pool, pages: &mut Directory, len: u32, run: &[Rec])
     requires pages { ArePages pool.old pages.old.items }
     requires counted { len ≡ length (page_records_of pool.old pages.old.items) }
@@ -81,7 +81,7 @@ pub(crate) fn open_page(pool: &mut Pool, pages: &mut Directory, len: u32, run: &
     });
 }
 
-// The page for a time, which is split before where it is full.
+// The page for a time. If it is full, it is first split.
 pub(crate) fn make_room(pool: &mut Pool, pages: &mut Directory, t: u64) -> usize
     requires pages { ArePages pool.old pages.old.items }
     requires spare { 0 < spare_of pool.old }
@@ -105,7 +105,7 @@ pub(crate) fn make_room(pool: &mut Pool, pages: &mut Directory, t: u64) -> usize
     half_for(pages, k, t)
 }
 
-// Of the page k and the next one that for the time t.
+// Whichever of the page k and the next one is the page for the time t.
 fn half_for(pages: &Directory, k: usize, t: u64) -> usize
     requires within { k + 1 < length pages.now.items }
     requires next { k + 1 < 2 ^ 64 }
@@ -147,7 +147,7 @@ fn split(pool: &mut Pool, pages: &mut Directory, k: usize)
     pages.insert(k + 1, page);
 }
 
-// Puts a record into the page for its time. Returns by how many records the pages grew.
+// Puts a record into page k, which is the page for its time. Returns how many records were added: 0 or 1.
 pub(crate) fn put_at(pool: &mut Pool, pages: &mut Directory, k: usize, rec: Rec) -> u32
     requires pages { ArePages pool.old pages.old.items }
     requires page { IsFor pool.old pages.old.items k rec.point.t }

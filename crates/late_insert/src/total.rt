@@ -23,18 +23,18 @@ pub(crate) fn point_at(frame: &Frame, i: usize) -> Point
     }
 }
 
-// A length of time times a sum of two values.
+// A length of time times the sum of two values.
 fn product(length: u64, sum: i64) -> i128
     requires length { length ≤ last_time }
     requires sum { unsigned_abs sum ≤ 2 * largest_value }
     ensures { result ≡ pos length *ℤ sum }
 {
-    // Signed words, since one multiplication of them then does.
+    // Signed words, because then one multiplication of them is enough.
     i128::from(length as i64) * i128::from(sum)
 }
 
-/// Twice the area between two neighbours: a line goes from the one value to the other, a stair keeps the
-/// first.
+/// Returns twice the area between two neighbours, in value units times milliseconds. A line goes from the one value to
+/// the other. A stair (`step`) keeps the first value.
 pub fn piece(step: bool, p: Point, q: Point) -> i128
     requires first { InRange p }
     requires second { InRange q }
@@ -47,7 +47,8 @@ pub fn piece(step: bool, p: Point, q: Point) -> i128
     product(length, p.v + q.v)
 }
 
-// Twice the area under the line or the stair through the points from a place on, before another.
+// Twice the area under the line or the stair through the points at the places from `start` to `end`, the latter
+// excluded.
 pub(crate) fn area_between(frame: &Frame, step: bool, start: usize, end: usize) -> i128
     requires recorded { IsRecorded frame.now }
     requires some { start < end }
@@ -64,14 +65,14 @@ pub(crate) fn area_between(frame: &Frame, step: bool, start: usize, end: usize) 
     area
 }
 
-// Which extreme of values is meant.
+// Which of the two extremes of values.
 #[derive(Clone, Copy)]
 pub(crate) enum Extreme {
     Least,
     Greatest,
 }
 
-// The lesser of two values, or the greater.
+// The lesser or the greater of two values.
 fn outer(extreme: Extreme, a: i64, b: i64) -> i64
     ensures { result ≡ outer extreme a b }
 {
@@ -81,7 +82,7 @@ fn outer(extreme: Extreme, a: i64, b: i64) -> i64
     }
 }
 
-// An extreme value of the points from a place on, before another.
+// The least or the greatest value of the points at the places from `start` to `end`, the latter excluded.
 pub(crate) fn extreme_between(frame: &Frame, extreme: Extreme, start: usize, end: usize) -> i64
     requires recorded { IsRecorded frame.now }
     requires some { start < end }
@@ -131,7 +132,7 @@ fn totals_of(frame: &Frame) -> Totals
     all
 }
 
-// Counts the totals of a page again. Returns twice the area under its stair.
+// Computes the totals of a page anew. Returns twice the area under its stair.
 pub(crate) fn refresh(frame: &mut Frame) -> i128
     requires recorded { IsRecorded frame.old }
     requires some { 0 < frame.old.len }

@@ -1,4 +1,4 @@
-// The points of a content in order, in runs of points that stand in one page.
+// The points of a content in order, in runs of points on one page.
 ghost use Rattle.std.specs.Prelude.{◌≡◌, ◌^◌, ◌<◌, ◌≤◌, [], ◌++◌, IfNone, IfSome, Some, length, slice_get};
 ghost use Rattle.std.specs.Prelude.{slice_range};
 ghost use Rattle.trend_num.specs.Ranges.{InRange};
@@ -15,14 +15,14 @@ use page_pool::{Frame, Pool};
 use std::marker::Model;
 use trend_num::Point;
 
-/// Points of a content that stand one after another in one page. Those of a whole page are measured by its
+/// Points of a content that follow one another on one page. A run that is a whole page is measured by the page's
 /// totals.
 #[derive(Drop)]
 pub struct Run<'a> {
     frame: &'a Frame,
     // Twice the area under the stair of the whole page.
     stair: i128,
-    // The place of the first point in the page, and that behind the last.
+    // The place of the first point on the page, and the place after the last.
     start: u32,
     end: u32,
 }
@@ -41,7 +41,7 @@ impl<'a> Model for Run<'a> {
 }
 
 impl<'a> Run<'a> {
-    /// The first point.
+    /// Returns the first point.
     pub fn first(&self) -> Point
         ensures value { slice_get self.now 0 ≡ Some result }
         ensures range { InRange result }
@@ -49,7 +49,7 @@ impl<'a> Run<'a> {
         point_at(self.frame, self.start as usize)
     }
 
-    /// The last point.
+    /// Returns the last point.
     pub fn last(&self) -> Point
         ensures value { last_point self.now ≡ Some result }
         ensures range { InRange result }
@@ -57,7 +57,8 @@ impl<'a> Run<'a> {
         point_at(self.frame, self.end as usize - 1)
     }
 
-    /// Twice the area under the line or the stair through the points.
+    /// Returns twice the area under the line through the points, in value units times milliseconds. If `step`, it is
+    /// the area under their stair.
     pub fn area(&self, step: bool) -> i128
         ensures { result ≡ area step self.now }
     {
@@ -67,21 +68,21 @@ impl<'a> Run<'a> {
         if step { self.stair } else { self.frame.area }
     }
 
-    /// Their least value.
+    /// Returns the least value of the points, in value units.
     pub fn low(&self) -> i64
         ensures { result ≡ least_of self.now }
     {
         self.extreme(Extreme::Least)
     }
 
-    /// Their greatest value.
+    /// Returns the greatest value of the points, in value units.
     pub fn high(&self) -> i64
         ensures { result ≡ greatest_of self.now }
     {
         self.extreme(Extreme::Greatest)
     }
 
-    // An extreme of their values.
+    // The least or the greatest value of the points.
     fn extreme(&self, extreme: Extreme) -> i64
         ensures { result ≡ extreme_of extreme self.now }
     {
@@ -95,12 +96,12 @@ impl<'a> Run<'a> {
     }
 }
 
-/// Points of a content, a run at a time. It is seen as the list of the points that are still to come.
+/// Points of a content, one run at a time. The model is the list of the points that are still to come.
 #[derive(Drop)]
 pub struct Runs<'a> {
     pool: &'a Pool,
     pages: &'a Directory,
-    // The page of the next point, its place in the content, and the place behind the last point.
+    // The page of the next point, that point's place in the content, and the place after the last point.
     page: usize,
     place: u32,
     end: u32,
@@ -119,7 +120,7 @@ impl<'a> Model for Runs<'a> {
     ghost invariant = { λ w. IsWalk w.pool.now w.pages.now.items w.page w.place w.end };
 }
 
-// The points of pages from a place on, before another, in runs.
+// The points of pages at the places from `first` to `behind`, the latter excluded, in runs.
 pub(crate) fn runs_in<'a>(pool: &'a Pool, pages: &'a Directory, first: u32, behind: u32) -> Runs<'a>
     requires pages { ArePages pool.now pages.now.items }
     requires order { first ≤ behind }
@@ -136,7 +137,7 @@ pub(crate) fn runs_in<'a>(pool: &'a Pool, pages: &'a Directory, first: u32, behi
 }
 
 impl<'a> Runs<'a> {
-    /// The next points that stand in one page; none exactly where no point is left.
+    /// Returns the next points that are on one page, or `None` exactly if no point is left.
     pub fn next(&mut self) -> Option<Run<'a>>
         ensures front { IfSome result (λ run. self.old ≡ run ++ self.new) }
         ensures some { IfSome result (λ run. 0 < length run) }

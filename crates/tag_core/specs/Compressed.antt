@@ -11,7 +11,7 @@ use Rattle.trend_model.specs.History.{Sent}
 use Rattle.trend_model.specs.State.{Archive, archived}
 use Rattle.door_slopes.specs.Hung.{Hung}
 
--- what compression keeps of a tag of this tuning and this kind, in memory of this many places for records
+-- what compression keeps of a tag of this tuning and this kind; `places` is for how many records there is memory
 pub record Compressed : Type 0 where
   pub tuning : Tuning
   pub step : Bool
@@ -36,7 +36,7 @@ HangAt deviation hinge None = Unit {0}
 HangAt deviation None (Some doors) = ⊥
 HangAt deviation (Some a) (Some doors) = (doors.hinge ≡ a) × (doors.deviation ≡ deviation)
 
--- it is an archive, with this held point
+-- an archive of what compression keeps and this held point
 abbrev pub archive_with : Compressed → Option Point → Archive
 archive_with c held = record {
   tuning = c.tuning;
@@ -59,15 +59,15 @@ compressed_in step a places = record {
   places = places;
 }
 
--- the same memory after all of this, the newest first
+-- the same memory after all that was sent, which is listed the newest first
 abbrev pub compressed_after : Compressed → Option Point → List Sent → Compressed
 compressed_after c held ss = compressed_in c.step (archived c.step (archive_with c held) ss) c.places
 
--- the free places
+-- how many places for records are free
 abbrev pub free_places_of : Compressed → ℕ
 free_places_of c = c.places - length c.records
 
--- what was compressed adds two records at most, at the end, in the places that were there
+-- compression adds two records at most, at the end, in places that were there
 pub record AddsTwo (old new : Compressed) : Type 0 where
   pub grows : (more : List Rec) × (new.records ≡ old.records ++ more)
   pub not_fewer : length old.records ≤ length new.records
@@ -85,7 +85,7 @@ pub record IsNext (held : Option Point) (p : Point) : Type 0 where
   pub range : InRange p
   pub after : IfThere (λ (q : Point). q.t < p.t) held
 
--- so is a value that is sent in order, if there is one
+-- a value that is sent in order, if there is one, is such a point
 abbrev pub IsNextSending : Option Point → Option Sending → Type 0
 IsNextSending held None = Unit {0}
 IsNextSending held (Some (sending.Late x)) = Unit {0}

@@ -17,16 +17,17 @@ use std::marker::Model;
 use std::sync::ledger::Ledger;
 use trend_num::{Kind, Point, Rec, Sending, Steps, Tuning};
 
-// What compression keeps of a tag (swinging doors, after Bristol), in memory that is reserved.
+// What compression (swinging doors, after Bristol) keeps of a tag in memory. The memory for records is reserved in
+// advance.
 #[derive(Drop)]
 pub(crate) struct Compressor {
     tuning: Tuning,
-    /// Whether it is that of a step tag.
+    /// Whether the tag is a step tag.
     step: bool,
     recs: Vec<Rec>,
     /// The last kept point.
     hinge: Option<Point>,
-    /// The doors at the hinge, where a value was sent in order since. Those of a step tag are both that value.
+    /// The doors at the hinge, if a value was sent in order since. Both doors of a step tag are the last such value.
     doors: Option<Doors>,
 }
 
@@ -51,7 +52,7 @@ impl Model for Compressor {
 }
 
 impl Compressor {
-    // An empty one, of this many places for records.
+    // An empty one with `places` places for records.
     pub(crate) fn new(
         alloc: Global,
         tuning: Tuning,
@@ -79,7 +80,7 @@ impl Compressor {
         })
     }
 
-    // One that takes over these records, in the places that they have, of this hinge and these doors.
+    // One that takes over these records, in the places that they have, with this hinge and these doors.
     pub(crate) fn from_records(
         tuning: Tuning,
         step: bool,
@@ -125,7 +126,7 @@ impl Compressor {
         &self.tuning
     }
 
-    // Whether it is that of a step tag.
+    // Whether the tag is a step tag.
     pub(crate) fn step(&self) -> bool
         ensures { result ≡ self.now.step }
     {
@@ -161,14 +162,14 @@ impl Compressor {
         self.doors.map(|doors| doors.lower())
     }
 
-    // The records alone.
+    // Only the records.
     pub(crate) fn into_recs(self) -> Vec<Rec>
         ensures { result.items ≡ self.records }
     {
         self.recs
     }
 
-    // Takes what an exception test hands on, at this held point.
+    // Takes what the exception test sends on. `held` is the held point before it.
     #[inline(always)]
     pub(crate) fn take_sent<L: Ledger>(
         &mut self,
@@ -193,7 +194,8 @@ impl Compressor {
         }
     }
 
-    // Takes a new tuning, at this held point. The pending value is taken first, then the span since the hinge is ended.
+    // Takes a new tuning. `held` is the held point before it. The pending value is taken first. Then the span since the
+    // hinge ends.
     pub(crate) fn retune<L: Ledger>(
         &mut self,
         held: Option<Point>,
@@ -214,7 +216,7 @@ impl Compressor {
         self.end_span(waiting.or(held), tuning);
     }
 
-    // Keeps the held point, where values are since the hinge, and goes on by this tuning.
+    // Keeps the held point, if there are values since the hinge. Then the new tuning is in force.
     fn end_span(&mut self, held: Option<Point>, tuning: Tuning)
         requires placed { ArePlaced self.old.hinge held }
         requires tuned { TuningInRange tuning }
@@ -227,7 +229,7 @@ impl Compressor {
         self.tuning = tuning;
     }
 
-    // Takes a value that was pending, where there is one.
+    // Takes the value that was pending, if there is one.
     #[inline(always)]
     fn take_pushed_out<L: Ledger>(
         &mut self,
@@ -337,7 +339,7 @@ impl Compressor {
         self.doors = Some(Doors::hang(hinge, self.tuning.comp_dev, p));
     }
 
-    // Keeps p, from which the next values go on.
+    // Keeps p, which becomes the hinge.
     #[inline]
     fn keep(&mut self, p: Point)
         requires { 0 < free_places_of self.old }

@@ -1,4 +1,4 @@
-// The test of records and a summary from which a tag is to go on.
+// The test of records and a summary from which a tag is to continue.
 ghost use Rattle.std.specs.Prelude.{◌≡◌, ◌↔◌, ◌*◌, ◌^◌, ◌<◌, ◌≤◌, ◌∷◌, IsTrue, Some, false, length, pos};
 ghost use Rattle.trend_model.specs.Content.{is_late_record};
 ghost use Rattle.trend_model.specs.Doors.{IsNotSteeper, down};
@@ -15,7 +15,8 @@ use std::marker::Brand;
 use std::sync::ledger::{Blank, Ledger};
 use trend_num::{Kind, MAX_RECORDS, Point, Rec, Steps, Summary, Tuning, in_range};
 
-/// Whether these records and this summary can be those of a tag of this tuning and this kind. It takes no memory.
+/// Returns whether these records and this summary can be those of a tag with this tuning and of this kind. It allocates
+/// no memory.
 pub fn parts_ok(tuning: &Tuning, step: bool, recs: &[Rec], summary: &Summary) -> bool
     requires { TuningInRange tuning.now }
     ensures { IsTrue result ↔ ArePartsOk tuning.now step recs.now summary.now }
@@ -27,10 +28,10 @@ pub fn parts_ok(tuning: &Tuning, step: bool, recs: &[Rec], summary: &Summary) ->
         && pending_fits(tuning, summary.held, summary.pending)
 }
 
-// A tag has taken fewer events than this.
+// A tag has taken fewer events than this number.
 const TAKEN_END: u64 = 1_000_000_000_000_000_000;
 
-// Whether the records are as many as the summary says, few, and at most two for each event.
+// Whether the summary counts the records correctly, they are not too many, and there are at most two for each event.
 fn counts_ok(recs: &[Rec], summary: &Summary) -> bool
     ensures { IsTrue result ↔ ((summary.now.records ≡ length recs.now)
         × (length recs.now ≤ 2 * summary.now.taken)
@@ -43,7 +44,7 @@ fn counts_ok(recs: &[Rec], summary: &Summary) -> bool
         && u64::from(summary.records) <= 2 * summary.taken
 }
 
-// Whether a tuning that may be there is this one.
+// Whether the tuning is this one, if there is one.
 fn is_of_tuning(tuning: &Tuning, other: Option<Tuning>) -> bool
     ensures { IsTrue result ↔ IfThere (λ (t : Tuning). t ≡ tuning.now) other }
 {
@@ -68,7 +69,7 @@ fn places_in_range(summary: &Summary) -> bool
         && place_in_range(summary.lower)
 }
 
-// Whether a point that may be there is in range.
+// Whether a point is in range, if there is one.
 fn place_in_range(place: Option<Point>) -> bool
     ensures { IsTrue result ↔ IfThere InRange place }
 {
@@ -78,7 +79,8 @@ fn place_in_range(place: Option<Point>) -> bool
     }
 }
 
-// Whether a tag that has begun is so throughout, and one that has not begun is blank, each record in range.
+// Whether the parts of a tag that has begun fit together, or those of one that has not begun are blank. Each record is
+// in range.
 fn whole_ok(dev: u64, step: bool, recs: &[Rec], summary: &Summary) -> bool
     requires deviation { dev ≤ largest_value }
     requires held { IfThere InRange summary.now.held }
@@ -103,7 +105,7 @@ fn is_blank(recs: &[Rec], summary: &Summary) -> bool
     recs.is_empty() && summary.upper.is_none() && summary.lower.is_none()
 }
 
-// Whether a tag with this held point and this hinge is so throughout, each record in range.
+// Whether the parts of a tag with this held point and this hinge fit together, and each record is in range.
 fn is_begun(
     dev: u64,
     step: bool,
@@ -124,8 +126,8 @@ fn is_begun(
         && doors_fit(dev, step, hinge, held, summary.upper, summary.lower)
 }
 
-// Whether the first record is a kept one, the kept ones rise to the hinge, no late one is after the held point, and each
-// is in range.
+// Whether the first record is Kept, the Kept ones rise to the hinge, no Late one is after the held point, and each is
+// in range.
 fn records_fit(recs: &[Rec], hinge: Point, held: Point) -> bool
     ensures { IsTrue result ↔ (BeginsKept recs.now
         × PointsRise (kept_points recs.now)
@@ -143,8 +145,9 @@ fn records_fit(recs: &[Rec], hinge: Point, held: Point) -> bool
     }
 }
 
-// Whether the records after this kept point do so: the kept ones rise from it to the hinge, no late one is after the held
-// point, and each is in range. It stands apart from its caller, so that all that its loop reads stays in registers.
+// Whether the records after the kept point `from` fit: the Kept ones rise from it to the hinge, no Late one is after
+// the held point, and each is in range. It is a function of its own, so that all that its loop reads stays in
+// registers.
 #[inline(never)]
 fn rest_fits(from: Point, recs: &[Rec], hinge: Point, held: Point) -> bool
     ensures { IsTrue result ↔ (PointsRise (from ∷ kept_points recs.now)
@@ -164,7 +167,8 @@ fn rest_fits(from: Point, recs: &[Rec], hinge: Point, held: Point) -> bool
     last == hinge
 }
 
-// Whether a record is in range, and, a kept one, after the last kept point or, a late one, not after the held point.
+// Whether a record is in range and may follow. A Kept one must be after the last kept point; a Late one must not be
+// after the held point.
 #[inline]
 fn may_follow(last: Point, rec: &Rec, held: Point) -> bool
     ensures { IsTrue result ↔ (InRange rec.now.point
@@ -178,7 +182,7 @@ fn may_follow(last: Point, rec: &Rec, held: Point) -> bool
         }
 }
 
-// Whether a pending value is one that the exception test would not have sent.
+// Whether the exception test would have left the pending value unsent, if there is one.
 fn pending_fits(tuning: &Tuning, held: Option<Point>, pending: Option<Point>) -> bool
     ensures { IsTrue result ↔ PendingFits tuning.now held pending }
 {
@@ -191,7 +195,8 @@ fn pending_fits(tuning: &Tuning, held: Option<Point>, pending: Option<Point>) ->
     }
 }
 
-// Whether there are no doors where the hinge is held, and else two that fit the held point.
+// Whether the doors fit. There are none if the held point is the hinge. Otherwise there are two, and they fit the held
+// point.
 fn doors_fit(
     dev: u64,
     step: bool,
@@ -219,15 +224,15 @@ fn doors_fit(
     }
 }
 
-// Whether x is later than the hinge, and not later than the held point.
+// Whether x is later than the hinge and not later than the held point.
 fn is_between(hinge: Point, x: Point, held: Point) -> bool
     ensures { IsTrue result ↔ ((hinge.t < x.t) × (x.t ≤ held.t)) }
 {
     hinge.t < x.t && x.t <= held.t
 }
 
-// Whether these doors admit the line to the held point, and neither of them is further open than there. Counts on the
-// ledger of the blank.
+// Whether these doors admit the line to the held point, and neither of them is further open than at that point. It
+// counts steps on the ledger of `blank`.
 fn slopes_fit<L: Ledger>(
     dev: u64,
     hinge: Point,

@@ -1,4 +1,4 @@
-// Whether a value goes on in the span since the hinge.
+// Whether a value joins the span since the hinge.
 ghost use Rattle.std.specs.Prelude.{◌≡◌, ◌+◌, ◌<◌, ◌&&◌, ◌||◌, pos, if◌then◌else◌};
 ghost use Rattle.trend_num.specs.Ranges.{InRange, TuningInRange};
 ghost use Rattle.trend_model.specs.Doors.{is_not_steeper};
@@ -28,8 +28,8 @@ pub(crate) fn joins<L: Ledger>(
     is_short(tuning, doors.hinge(), p) && doors.admits(p, steps)
 }
 
-// Whether p, a value of a step tag, is not kept: it comes within CompMax, near to the hinge in value or too near to it in
-// time.
+// Whether p, a value of a step tag, is not kept. It is not if it comes within CompMax and is near the hinge in value or
+// too near it in time.
 #[inline]
 pub(crate) fn stays(tuning: &Tuning, hinge: Point, p: Point) -> bool
     requires tuned { TuningInRange tuning.now }
@@ -39,7 +39,7 @@ pub(crate) fn stays(tuning: &Tuning, hinge: Point, p: Point) -> bool
     is_short(tuning, hinge, p) && (is_near(tuning, hinge, p) || is_early(tuning, hinge, p))
 }
 
-// Whether p is not too long after the hinge.
+// Whether p comes at most CompMax after the hinge.
 #[inline]
 pub(crate) fn is_short(tuning: &Tuning, hinge: Point, p: Point) -> bool
     requires tuned { TuningInRange tuning.now }
@@ -49,7 +49,7 @@ pub(crate) fn is_short(tuning: &Tuning, hinge: Point, p: Point) -> bool
     p.t <= hinge.t + tuning.comp_max
 }
 
-// Whether p is too near in time to the hinge to be kept.
+// Whether p comes less than CompMin after the hinge, which is too early to be kept.
 #[inline]
 pub(crate) fn is_early(tuning: &Tuning, hinge: Point, p: Point) -> bool
     requires tuned { TuningInRange tuning.now }
@@ -59,7 +59,7 @@ pub(crate) fn is_early(tuning: &Tuning, hinge: Point, p: Point) -> bool
     p.t < hinge.t + tuning.comp_min
 }
 
-// Whether the value of p is within CompDev of that of the hinge.
+// Whether the value of p is within CompDev of the hinge's value.
 fn is_near(tuning: &Tuning, hinge: Point, p: Point) -> bool
     ensures { result ≡ is_near tuning.now hinge p }
 {

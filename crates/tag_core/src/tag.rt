@@ -1,4 +1,4 @@
-// The core of a tag: the gate before the compressor.
+// The core of a tag: a gate, and the compressor after it.
 ghost use Rattle.std.specs.Prelude.{◌≡◌, ◌↔◌, ◌+◌, ◌-◌, ◌*◌, ◌^◌, ◌<◌, ◌≤◌, List, [], ◌∷◌, ◌++◌, IfOk, IfErr, OnOk, OnErr, IsErr, All, None, Some, length, true, vec_capacity};
 ghost use Rattle.trend_num.specs.declared.archive.Rec.{Rec};
 ghost use Rattle.trend_num.specs.declared.point.Point.{Point};
@@ -22,7 +22,7 @@ use std::marker::Model;
 use std::sync::ledger::Ledger;
 use trend_num::{MAX_RECORDS, Point, Rec, Steps, Summary, Tuning, WantOfMemory};
 
-/// A tag in memory: its records, and the state from which its next event goes on.
+/// A tag in memory: its records, and the state from which its next event continues.
 #[derive(Drop)]
 pub struct TagCore {
     compressor: Compressor,
@@ -54,16 +54,16 @@ pub struct Took {
     pub added: u8,
 }
 
-/// A tag whose records one more event could bring above [`MAX_RECORDS`](trend_num::MAX_RECORDS).
+/// The refusal of an event that could bring the tag's records above [`MAX_RECORDS`](trend_num::MAX_RECORDS).
 #[derive(Clone, Copy, Debug, PartialEq, Eq)]
 pub struct Full {
-    /// How many records it has.
+    /// How many records the tag has.
     pub records: u32,
 }
 
 impl TagCore {
-    /// A tag before its first event, with memory for `room` events: two records for each. A room of 2^31 or more is
-    /// refused as memory that is not there.
+    /// Returns a tag before its first event, with memory for `room` events: two records for each. Returns
+    /// `WantOfMemory` if the memory cannot be allocated, or if `room` is 2^31 or more.
     pub fn new(
         alloc: Global,
         tuning: Tuning,
@@ -85,9 +85,10 @@ impl TagCore {
         })
     }
 
-    /// A tag of these records and this summary, with memory for `room` more events: two records for each. Its doors are
-    /// as they are in the summary; a summary without a tuning gets the given one. Where 2^32 places for records or more
-    /// would be needed it is refused as memory that is not there.
+    /// Returns a tag that continues from copies of these records and from this summary. It has memory for `room` more
+    /// events: two records for each. It keeps the doors of the summary. If the summary has no tuning, the tag gets the
+    /// given one. Returns `WantOfMemory` if the memory cannot be allocated, or if the tag would need 2^32 places for
+    /// records or more.
     pub fn from_parts(
         alloc: Global,
         tuning: Tuning,
@@ -107,8 +108,9 @@ impl TagCore {
         Self::resumed(tuning, step, copied, summary)
     }
 
-    /// The same, of records that it takes over, in their own memory and what that lacks of room. Records that have 2^32
-    /// places or more are refused as memory that is not there.
+    /// Like `from_parts`, but takes the records over without copying them. Their memory grows only by what it lacks for
+    /// `room` more events. Returns `WantOfMemory` if that memory cannot be allocated, or if the records then have 2^32
+    /// places or more.
     pub fn from_records(
         tuning: Tuning,
         step: bool,
@@ -127,8 +129,8 @@ impl TagCore {
         Self::resumed(tuning, step, recs, summary)
     }
 
-    // A tag that goes on from these records, in the places that they have, and this summary; unless the places are too
-    // many.
+    // A tag that continues from these records, in the places that they have, and from this summary. The error comes if
+    // there are 2^32 places or more.
     fn resumed(
         tuning: Tuning,
         step: bool,
@@ -156,24 +158,26 @@ impl TagCore {
         })
     }
 
-    /// Takes one raw value: what the exception test sends of it goes on to the compression. It takes no memory.
+    /// Takes one raw value. The exception test sends it on to compression, or keeps it pending. The call allocates no
+    /// memory. Returns `Full` if two more records would be too many; then nothing is changed.
     #[inline(always)]
     pub fn take<L: Ledger>(&mut self, p: Point, steps: &mut Steps<L>) -> Result<Took, Full>
         requires range { InRange p }
         requires room { 2 ≤ self.old.spare }
         requires countable { self.old.state.summary.taken < 2 ^ 64 - 1 }
 
-        // The state after p, and so from a history to the one with p.
+        // The state after p. So a core that stands for a history then stands for the history with p.
         ensures after { OnOk result (self.new.state ≡ after self.old.step self.old.state (Raw p)) }
         ensures stands { (o : Origin) (h : List Event) → o.step ≡ self.old.step → Stands o h self.old.state
             → OnOk result (Stands o (Raw p ∷ h) self.new.state) }
 
-        // It adds two records at most, in the memory that was there; or it is refused where these would be too many.
+        // The event adds two records at most, in memory that was there. Or it is refused, if two more would be too
+        // many.
         ensures one { IsOneEvent self.old self.new result }
         ensures uncounted { OnErr result (steps.new ≡ steps.old) }
 
-        // Two values are sent in order at most, and each is compared with two doors, which it then may swing. A step tag
-        // has no lines to compare, and a late value with nothing pending is not compared.
+        // Two values are sent in order at most. Each is compared with two doors, which it may then move. A step tag
+        // compares no lines. A late value is not compared if nothing is pending.
         ensures exact { OnOk result (steps.new ≡ steps.old + comparisons self.old.step self.old.state (Raw p)) }
         ensures counts { steps.old ≤ steps.new }
         ensures most { steps.new ≤ steps.old + 8 }
@@ -188,23 +192,26 @@ impl TagCore {
         Ok(counted(&mut self.taken, before, self.compressor.recs()))
     }
 
-    /// Takes a new tuning: the pending value is sent under the old one, the held point is kept where values are since the
-    /// hinge, and then the new one is in force. It takes no memory.
+    /// Takes a new tuning. The pending value is sent under the old tuning. If there are values since the hinge, the
+    /// held point is kept. Then the new tuning is in force. The call allocates no memory. Returns `Full` if two more
+    /// records would be too many; then nothing is changed.
     pub fn retune<L: Ledger>(&mut self, tuning: Tuning, steps: &mut Steps<L>) -> Result<Took, Full>
         requires tuned { TuningInRange tuning }
         requires room { 2 ≤ self.old.spare }
         requires countable { self.old.state.summary.taken < 2 ^ 64 - 1 }
 
-        // The state after the retuning, and so from a history to the one with it.
+        // The state after the retuning. So a core that stands for a history then stands for the history with the
+        // retuning.
         ensures after { OnOk result (self.new.state ≡ after self.old.step self.old.state (Tune tuning)) }
         ensures stands { (o : Origin) (h : List Event) → o.step ≡ self.old.step → Stands o h self.old.state
             → OnOk result (Stands o (Tune tuning ∷ h) self.new.state) }
 
-        // It adds two records at most, in the memory that was there; or it is refused where these would be too many.
+        // The event adds two records at most, in memory that was there. Or it is refused, if two more would be too
+        // many.
         ensures one { IsOneEvent self.old self.new result }
         ensures uncounted { OnErr result (steps.new ≡ steps.old) }
 
-        // A pending value is compared as one that is sent in order; nothing else is compared.
+        // A pending value is compared like one that is sent in order. Nothing else is compared.
         ensures exact { OnOk result (steps.new ≡ steps.old + comparisons self.old.step self.old.state (Tune tuning)) }
         ensures counts { steps.old ≤ steps.new }
         ensures most { steps.new ≤ steps.old + 4 }
@@ -218,7 +225,7 @@ impl TagCore {
         Ok(counted(&mut self.taken, records, self.compressor.recs()))
     }
 
-    // How many records there are, or that two more would be too many.
+    // How many records there are. The error comes if two more would be too many.
     #[inline(always)]
     fn records_unless_full(&self) -> Result<u32, Full>
         ensures value { IfOk result (λ n. n ≡ length self.now.state.records) }
@@ -233,7 +240,7 @@ impl TagCore {
         Ok(records)
     }
 
-    /// How many records there are.
+    /// Returns how many records there are.
     #[inline]
     pub fn record_count(&self) -> u32
         ensures value { result ≡ length self.now.state.records }
@@ -242,7 +249,7 @@ impl TagCore {
         self.compressor.recs().len() as u32
     }
 
-    /// For how many more records there is memory.
+    /// Returns how many more records there is memory for.
     #[inline]
     pub fn spare(&self) -> u32
         ensures { result ≡ self.now.spare }
@@ -250,7 +257,7 @@ impl TagCore {
         self.compressor.spare()
     }
 
-    /// How many events it has taken, values and retunings.
+    /// Returns how many events (raw values and retunings) the tag has taken.
     #[inline]
     pub fn taken(&self) -> u64
         ensures { result ≡ self.now.state.summary.taken }
@@ -258,14 +265,14 @@ impl TagCore {
         self.taken
     }
 
-    /// Whether it is a step tag.
+    /// Returns whether it is a step tag.
     pub fn step(&self) -> bool
         ensures { result ≡ self.now.step }
     {
         self.compressor.step()
     }
 
-    /// The records, the oldest first.
+    /// Returns the records, the oldest first.
     #[inline]
     pub fn recs(&self) -> &[Rec]
         ensures value { result.now ≡ self.now.state.records }
@@ -274,7 +281,7 @@ impl TagCore {
         self.compressor.recs()
     }
 
-    /// The last value sent in order, which closes the line.
+    /// Returns the last value sent in order. It closes the line.
     #[inline]
     pub fn held(&self) -> Option<Point>
         ensures value { result ≡ self.now.state.summary.held }
@@ -286,13 +293,14 @@ impl TagCore {
         self.gate.last
     }
 
-    /// The state beside the records. With them it is fit to go on from, where fewer than 10^18 events were taken.
+    /// Returns the state without the records. With the records it passes `parts_ok`, if fewer than 10^18 events were
+    /// taken.
     pub fn summary(&self) -> Summary
         ensures value { result ≡ self.now.state.summary }
         ensures parts { (u : Tuning) → result.tuning ≡ Some u → result.taken < 10 ^ 18
             → ArePartsOk u self.now.step self.now.state.records result }
 
-        // However many events were taken.
+        // This holds however many events were taken.
         ensures is_core { (u : Tuning) × IsCore u self.now.step self.now.state }
     {
         Summary {
@@ -307,7 +315,7 @@ impl TagCore {
         }
     }
 
-    /// The tuning in force.
+    /// Returns the tuning in force.
     pub fn tuning(&self) -> Tuning
         ensures value { self.now.state.summary.tuning ≡ Some result }
         ensures tuned { TuningInRange result }
@@ -315,8 +323,8 @@ impl TagCore {
         *self.compressor.tuning()
     }
 
-    /// The records, the oldest first, and the state beside them. They are fit to go on from, where fewer than 10^18
-    /// events were taken.
+    /// Takes the tag apart into its records, the oldest first, and its summary. They pass `parts_ok`, if fewer than
+    /// 10^18 events were taken.
     pub fn into_parts(self) -> (Vec<Rec>, Summary)
         ensures records { result.0.items ≡ self.state.records }
         ensures summary { result.1 ≡ self.state.summary }
@@ -328,7 +336,7 @@ impl TagCore {
     }
 }
 
-// Counts one event, of a tag that had this many records before it and has these now.
+// Counts one event of a tag that had `before` records before it and has these now.
 #[inline]
 fn counted(taken: &mut u64, before: u32, recs: &[Rec]) -> Took
     requires countable { taken.old < 2 ^ 64 - 1 }
@@ -343,7 +351,7 @@ fn counted(taken: &mut u64, before: u32, recs: &[Rec]) -> Took
     }
 }
 
-// A copy of these records, in this many places.
+// A copy of these records, with this many places.
 fn copied(alloc: Global, recs: &[Rec], places: usize) -> Result<Vec<Rec>, WantOfMemory>
     requires room { length recs.now ≤ places }
     ensures records { IfOk result (λ v. v.items ≡ recs.now) }
@@ -356,7 +364,7 @@ fn copied(alloc: Global, recs: &[Rec], places: usize) -> Result<Vec<Rec>, WantOf
     Ok(copied)
 }
 
-// The doors of a summary, where it has them.
+// The doors of a summary, if it has them.
 fn doors_of(tuning: &Tuning, step: bool, recs: &[Rec], summary: &Summary) -> Option<Doors>
     requires tuned { TuningInRange tuning.now }
     requires parts { ArePartsOk tuning.now step recs.now summary.now }

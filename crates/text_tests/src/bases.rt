@@ -1,4 +1,5 @@
-// Bases and plans with each rule broken, first alone and then beside another one: what an independent program answers.
+// Bases and plans with each rule broken, first alone and then together with another one. An independent program gave
+// the answers.
 use crate::spelled::{number, text};
 use std::alloc::{AllocError, Global};
 use std::fmt::Write;
@@ -52,9 +53,9 @@ name = "k"
 formula = "low('T3')"
 "#;
 
-// Texts of the base that are replaced, where they come first; a bar stands for a line feed, a number sign for a byte order
-// mark. Then how many tags and groups there are, or the rule that is broken, the place of its table, and the byte of the
-// formula.
+// Texts of the base that are replaced at their first occurrence. A bar is a line feed, a number sign a byte order mark.
+// After `=>` come how many tags and groups there are. For a refused text it is the broken rule, the place of its table,
+// and the byte of the formula.
 const BASES: &str = r#""T1" -> "T1 => 1 0 0
 exc_dev = 11 -> exc_dev = 9223372036854775808 => 1 0 0
  => ok 3 2
@@ -131,7 +132,7 @@ period = 52 -> period = 0 & "k" -> 3 => 9 1 0
 "avg('T1')" -> "avg('T9')" & "calc('m') + 1" -> "1 +" => 11 0 3
 "avg('T1')" -> "avg('T9')" & start = 51| ->  => 12 0 0"#;
 
-// How many tags, groups, and calculations of each group there are.
+// How many tags and groups there are, and how many calculations each group has.
 const TABLES: &str = "\
 1024 16 64 => ok 1024 16
 1025 17 65 => Tags 1025
@@ -139,7 +140,7 @@ const TABLES: &str = "\
 1 16 65 => Calcs 65
 1 0 0 => ok 1 0";
 
-// What is told of a text that breaks a rule.
+// The answer for a text that breaks a rule.
 fn told(alloc: Global, no: TextNo) -> Result<String, AllocError> {
     match no {
         TextNo::BadText { rule, place, at } => format!(in alloc; "{rule} {place} {at}"),
@@ -148,7 +149,7 @@ fn told(alloc: Global, no: TextNo) -> Result<String, AllocError> {
     }
 }
 
-// What a base has.
+// How many tags and groups a base has, or the answer for a text that is refused.
 fn base_counts(alloc: Global, bytes: &[u8]) -> Result<String, AllocError> {
     match read_base(alloc, bytes) {
         Ok(base) => format!(in alloc; "ok {} {}", base.tags.len(), base.groups.len()),
@@ -156,7 +157,7 @@ fn base_counts(alloc: Global, bytes: &[u8]) -> Result<String, AllocError> {
     }
 }
 
-// A text in which each first text of a pair was replaced, where it comes first, by the second.
+// The text after edits: in each pair the first text is replaced, at its first occurrence, by the second.
 fn edited(alloc: Global, whole: &str, edits: &str) -> Result<String, Fail> {
     let mut whole = String::from_str(alloc, whole)?;
     for edit in edits.split(" & ") {
@@ -185,7 +186,7 @@ fn a_base_is_refused_for_the_first_rule_that_it_breaks(rt: HostRuntime) -> Resul
     Ok(())
 }
 
-// A base of so many tags and groups, each group of so many calculations.
+// A base of so many tags and groups, in which each group has so many calculations.
 fn large_base(alloc: Global, tags: u64, groups: u64, calcs: u64) -> Result<String, AllocError> {
     let mut text = String::new(alloc);
     for i in 0..tags {
@@ -226,7 +227,7 @@ fn a_base_has_so_many_tables_at_most(rt: HostRuntime) -> Result<(), Fail> {
     Ok(())
 }
 
-// The digit 1 so many times.
+// The digit 1, so many times.
 fn letters(alloc: Global, count: usize) -> Result<String, Fail> {
     Ok(String::from_utf8(vec![in alloc; b'1'; count]?).map_err(|_| "bytes")?)
 }
@@ -291,7 +292,8 @@ group = "g"
 turns = 0
 "#;
 
-// Texts of the plan that are replaced, as of a base; then how many collectors, readers and refreshers there are.
+// Texts of the plan that are replaced, as in a base. After `=>` come how many collectors, readers and refreshers there
+// are.
 const PLANS: &str = r#""c1.csv" -> "c1.csv => 1 0 0
 [[collector]] -> x = 1|[[collector]] => 2 0 0
  => ok 2 2 2
@@ -316,7 +318,7 @@ turns = 0 -> turns = 0|x = 1 => 5 1 0
 "h" -> "i" & "r2.csv" -> "" => 4 1 0
 turns = 0 -> turns = -1 & turns = 4 -> turns = -1 => 5 0 0"#;
 
-// What a plan has over the base.
+// How many collectors, readers and refreshers a plan has, or the answer for a text that is refused.
 fn plan_counts(alloc: Global, text: &str) -> Result<String, AllocError> {
     let Ok(base) = read_base(alloc, BASE.as_bytes()) else {
         return String::from_str(alloc, "base");

@@ -13,8 +13,8 @@ use std::sync::ledger::{Blank, Ledger};
 use std::test::Fail;
 use trend_num::{MAX_T, Name, Steps, name_from};
 
-// A window, a formula over A of (10,7) and (20,9), B without points and m, which is 0, and its value. The last formula is as
-// long and as deep as one may be: 1,024 bytes, 32 levels.
+// A window, a formula, and its value. The formula is over A with the points (10,7) and (20,9), B without points, and m,
+// which is 0. The last formula is as long and as deep as one may be: 1,024 bytes, 32 levels.
 const VALUES: &str = "\
 0 10 -7 / 2 => Num(-4)
 0 10 -7 % 2 => Num(1)
@@ -47,7 +47,8 @@ const VALUES: &str = "\
 +0000000000000000000000000010)+0000000000000000000000000010)+0000000000000000000000000010)+0000000000000000000000000010) \
 => Num(346)";
 
-// The formulas of m and n, and the first name that stands for nothing.
+// The formulas of m and n. After `=>` come the reason for the refusal, the place of the calculation, and the refused
+// name.
 const NAMES: &str = "\
 calc('m') ; 1 => forward 0 m
 calc('n') ; 1 => forward 0 n
@@ -55,12 +56,12 @@ calc('A') ; 1 => unknown 0 A
 1 ; low('Z') => unknown 1 Z
 1 ; low('m') => unknown 1 m";
 
-// The name that a word is.
+// The name that a word spells.
 fn named(rt: &impl Abort, word: &str) -> Name {
     name_from(word.as_bytes()).expect(rt, "a name")
 }
 
-// Calculations m and n, checked.
+// The checked calculations m and n.
 fn group_of(
     rt: &impl Abort,
     alloc: Global,
@@ -157,7 +158,7 @@ fn formulas_have_values(rt: HostRuntime) -> Result<(), Fail> {
     Ok(())
 }
 
-// What is told of calculations that are refused.
+// The answer for calculations that are refused.
 fn refusal(alloc: Global, no: CheckNo) -> Result<String, Fail> {
     let (word, calc, name) = match no {
         CheckNo::Forward { calc, name } => ("forward", calc, name),

@@ -1,4 +1,4 @@
-// Formulas that are read and printed, and the first token that decides against a text.
+// Formulas that are read and printed, and the first token because of which a text is refused.
 use crate::spelled::number;
 use calc_parser::{ParseNo, parse, print};
 use std::alloc::{AllocError, Global};
@@ -72,7 +72,7 @@ if ( 1 , 2 , 3 ) => if(1,2,3)
 --------------------------------1 => --------------------------------1
 ((((((((((((((((----------------1)))))))))))))))) => ----------------1";
 
-// A text that is no formula: where the token stands that decides against it, and its kind.
+// A text that is no formula, and the place and the kind of the token because of which it is refused.
 const REFUSED: &str = "\
 avg('T1' => 8 End
 1 < 2 < 3 => 6 Token
@@ -149,8 +149,9 @@ if(,1,2) => 3 Token
 min(1 2) => 6 Token
 (1<2)<3<4 => 7 Token";
 
-// How often a text stands, another behind it, and a third as often: the length of what is printed, or what is told. The
-// numbers are those of the longest text, of 1,024 bytes, and of the deepest nesting, 32.
+// How often a text occurs, the text, another after it, and a third that occurs as often. Then the length of what is
+// printed, or the answer for a refused text. The numbers are those of the longest text, of 1,024 bytes, and of the
+// deepest nesting, 32.
 const NESTED: &str = "\
 33|(|1|) => 32 Deep
 33|-|1| => 32 Deep
@@ -178,7 +179,7 @@ const NESTED: &str = "\
 400|9|| => 0 Number
 64|n|| => 0 Word";
 
-// What is told of a text that is no formula.
+// The answer for a text that is no formula.
 fn told(alloc: Global, no: ParseNo) -> Result<String, Fail> {
     Ok(match no {
         ParseNo::Syntax { at, kind } => format!(in alloc; "{at} {kind:?}")?,
@@ -208,7 +209,7 @@ fn the_first_token_that_decides_is_told(rt: HostRuntime) -> Result<(), Fail> {
     Ok(())
 }
 
-// A text so many times, behind it another, and a third as often.
+// A text so many times, another after it, and a third as many times.
 fn nested(rt: &impl Abort, alloc: Global, given: &str) -> Result<String, AllocError> {
     let (times, given) = given.split_once('|').expect(rt, "times");
     let (open, given) = given.split_once('|').expect(rt, "open");

@@ -1,4 +1,4 @@
-//! Tests of texts: formulas, bases, plans, rows of files, and the lines that are told.
+//! Tests of texts: formulas, bases, plans, rows of files, and printed lines.
 #![tactic(auto)]
 
 #[cfg(test)]

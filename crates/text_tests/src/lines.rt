@@ -9,7 +9,7 @@ use std::alloc::Global;
 use std::process::Abort;
 use std::test::Fail;
 
-// A line, with a caret for a carriage return, and its point, or the first reason against it.
+// A line, in which a caret is a carriage return, and its point or the first reason to refuse it.
 const LINES: &str = "\
 1700000000986,5005 => 1700000000986 5005
 0,0 => 0 0
@@ -48,7 +48,7 @@ x,y,z => Fields
 0,1000000000000001 => Range
 0,-1000000000000001 => Range";
 
-// A line that is too long to have a point, and what stands for it.
+// A line that is too long to have a point, and the short line that is taken in its place.
 const LONG: &str = "\
 000000000000000000000000000000000000000000001 => x
 0000000000000000000000,0000000000000000000001 => x,
@@ -64,7 +64,7 @@ const FRONTS: &str = "\
 170000000012,0| => 170000000012 0
 1800000001518,7| => 1800000001518 7";
 
-// What is told of a point.
+// The answer for a line: its point, or the reason to refuse it.
 fn told(alloc: Global, answer: Result<Point, Reason>) -> Result<String, Fail> {
     Ok(match answer {
         Ok(p) => format!(in alloc; "{} {}", p.t, p.v)?,
@@ -72,7 +72,7 @@ fn told(alloc: Global, answer: Result<Point, Reason>) -> Result<String, Fail> {
     })
 }
 
-// What is told of the first line of a text, behind which so much is left.
+// The answer for the first line of a text, after which `left` bytes remain.
 fn first_told(rt: &impl Abort, alloc: Global, text: &str, left: usize) -> Result<String, Fail> {
     let (answer, rest) = first_point(text.as_bytes()).expect(rt, "a line");
     assert_eq!(rt; rest.len(), left);

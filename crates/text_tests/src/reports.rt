@@ -30,7 +30,7 @@ fn a_tag_is_told(rt: HostRuntime) -> Result<(), Fail> {
     Ok(())
 }
 
-// The lines of a group `g` with so many windows, and the last value of its calculation `m`.
+// The lines of a group `g` with so many windows and this last value of its calculation `m`.
 fn group_told(alloc: Global, windows: u32, value: Option<CalcValue>) -> Result<String, Fail> {
     let mut lasts = Vec::new(alloc);
     lasts.push(LastRow {
@@ -65,7 +65,7 @@ fn a_group_is_told(rt: HostRuntime) -> Result<(), Fail> {
     Ok(())
 }
 
-// A reply to the fifth query of the first reader is told so.
+// Checks that this is the line of a reply to the query in row 5 of reader 1.
 fn tells(rt: &impl Abort, alloc: Global, reply: ReplyText, want: &str) -> Result<(), Fail> {
     let text = reply_text(alloc, 1, 5, &reply)?;
     assert_eq!(rt; text.as_str(), want);
@@ -174,7 +174,7 @@ fn snapshots_and_rows_are_told(rt: HostRuntime) -> Result<(), Fail> {
     )
 }
 
-// The points of so many events of a tag in a drill, as a reply tells them.
+// The points of so many events of a tag in a drill, as a reply prints them.
 fn drilled(alloc: Global, number: u32, tag: u32, events: u32) -> Result<String, Fail> {
     let list = drill_rows(alloc, number, tag, events)?;
     let points = PointList { list, more: false };

@@ -7,9 +7,10 @@ use std::test::Fail;
 use trend_num::name_from;
 use value_rows::{GroupNames, Name, RowNo, query_rows, raw_rows};
 
-// How many rows there may be, and a text over the tags T1, a.b and T1 once more, in which a bar stands for a line feed, a
-// caret for a carriage return, a number sign for a byte order mark, and a tilde for two plain rows. Then the place of the
-// tag, the time and the value of each row, or the first bad row and its reason, or how many rows too many there are.
+// How many rows there may be, and a text over the tags T1, a.b and T1 once more. In the text a bar is a line feed, a
+// caret a carriage return, a number sign a byte order mark, and a tilde two plain rows. After `=>` come the place of
+// the tag, the time and the value of each row. For a refused text it is the first bad row and its reason, or the number
+// of the first row over the limit.
 const RAW: &str = "\
 3 T1,0,5 => 0,0,5
 3  =>
@@ -66,8 +67,8 @@ const RAW: &str = "\
 3 T1,0,5|a.b,1,6|~ => rows 4
 0 T1,0,5|a.b,1,6|~ => rows 1";
 
-// A text over the tags T1 and a.b, and the groups g of m and n and h of m, which has at most three queries; then these, or
-// the first bad row and its reason.
+// A text over the tags T1 and a.b, the group g of m and n, and the group h of m. It may have three queries at most.
+// After `=>` come its queries, or the first bad row and its reason, or the number of the first row over the limit.
 const QUERIES: &str = "\
 at,T1,0| => Tag { tag: 0, query: At { t: 0 } }
 at,a.b,253402300799999^| => Tag { tag: 1, query: At { t: 253402300799999 } }
@@ -121,12 +122,12 @@ row,g,m,-1 => row 1 Range
 at,T1,0||at,T9,0| => row 2 Name
 snap,T1|snap,T1|snap,T1|x => rows 4";
 
-// The name that a word is.
+// The name that a word spells.
 fn named(rt: &impl Abort, word: &str) -> Name {
     name_from(word.as_bytes()).expect(rt, "a name")
 }
 
-// What is told of a file that is refused.
+// The answer for a file that is refused.
 fn refusal(alloc: Global, no: RowNo) -> Result<String, Fail> {
     Ok(match no {
         RowNo::BadRow { row, reason } => format!(in alloc; " row {row} {reason:?}")?,
@@ -135,7 +136,7 @@ fn refusal(alloc: Global, no: RowNo) -> Result<String, Fail> {
     })
 }
 
-// What is told of the raw rows of a text.
+// The answer for the raw rows of a text.
 fn raw_told(rt: &impl Abort, alloc: Global, text: &str, most: u64) -> Result<String, Fail> {
     let (first, second) = (named(rt, "T1"), named(rt, "a.b"));
     let tags = [first, second, first];
@@ -163,7 +164,7 @@ fn raw_rows_are_read(rt: HostRuntime) -> Result<(), Fail> {
     Ok(())
 }
 
-// What is told of the queries of a text.
+// The answer for the queries of a text.
 fn queries_told(rt: &impl Abort, alloc: Global, text: &str) -> Result<String, Fail> {
     let tags = [named(rt, "T1"), named(rt, "a.b")];
     let groups = [

@@ -2,13 +2,13 @@
 use std::alloc::{AllocError, Global};
 use std::process::Abort;
 
-/// The number that a field spells.
+/// Returns the number that a field spells.
 pub fn number(rt: &impl Abort, field: &str) -> u64 {
     field.parse::<u64>().expect(rt, "a number")
 }
 
-/// The text of a field, in which a bar stands for a line feed, a caret for a carriage return, a number sign for a byte order
-/// mark, and a tilde for two more rows.
+/// Returns the text that a field spells. In the field a bar is a line feed, a caret a carriage return, a number sign a
+/// byte order mark, and a tilde two more rows.
 pub fn text(alloc: Global, field: &str) -> Result<String, AllocError> {
     let mut text = String::new(alloc);
     for c in field.chars() {

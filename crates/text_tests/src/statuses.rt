@@ -21,7 +21,7 @@ const WHATS: [What; 13] = [
     What::Cells,
 ];
 
-// The line of each quantity that is over its limit with 7.
+// The line of each quantity that is over its limit, with the number 7.
 const LIMITS: &str = "\
 fault: limit file_bytes 7
 fault: limit text_bytes 7
@@ -37,7 +37,7 @@ fault: limit store_records 7
 fault: limit copies 7
 fault: limit cells 7";
 
-// A status has this code, and this line.
+// Checks that a status has this code and this line.
 fn tells(rt: &impl Abort, status: Status, want_code: u8, want: &str) {
     assert_eq!(rt; code(&status), want_code, "{want}");
     let told = line(&status);

@@ -160,7 +160,7 @@ chain_recorded o ss rs passed a y i = record {
       (λ k there. none k (among_left (kept k) rs (late y ∷ []) there));
 }
 
--- so does what is sent next, and what is passed over beside what was
+-- so does what is sent next, and what is passed over in addition to what was
 pub chain_more : (o : Origin) (s : Sent) (ss : List Sent) (rs : List Rec) (passed more : List Point)
     (a : Point) → RisesInTime (s ∷ ss) → ((y : Point) → IsAmong y passed → IsAmong y more)
     → IsChain o ss rs passed a → IsChain o (s ∷ ss) rs more a

@@ -55,7 +55,7 @@ content_push rs r t = rw (late_push rs r t, kept_push rs r t) (by_parts (late_he
     by_parts None (Some y) c d = refl
     by_parts None None c d = refl
 
--- ---- a rising list, by the record that stands at a time
+-- ---- a rising list, by the record that is at a time
 
 -- the record at a time
 abbrev found : List Rec → ℕ → Option Rec
@@ -71,7 +71,7 @@ abbrev late_found : Option Rec → Option ℤ
 late_found None = None
 late_found (Some x) = cond (is_late_record x.kind) (Some x.point.v) None
 
--- nothing stands at a time that is before all
+-- nothing is at a time that is before all
 record Nothing (l : List Rec) (t : ℕ) : Type 0 where
   no_late : late_at l t ≡ None
   no_kept : kept_at l t ≡ None
@@ -133,7 +133,7 @@ content_is (x ∷ xs) rises t =
 
 -- ---- one record more in a rising list
 
--- what then stands at the record's time
+-- what is then at the record's time
 abbrev onto : Rec → Option Rec → Rec
 onto r None = r
 onto r (Some x) = over r x
@@ -261,12 +261,12 @@ first_none : (a : Option ℤ) → option_or a None ≡ a
 first_none (Some x) = refl
 first_none None = refl
 
--- where something stands, a point adds nothing
+-- where there is something, a point adds nothing
 stands : (a : Option ℤ) (v : ℤ) → is_some a ≡ true → a ≡ option_or a (Some v)
 stands (Some x) v some = refl
 stands None v some = absurd cc
 
--- where nothing stands, a Kept record is what is read
+-- where there is nothing, a Kept record is what is read
 fills : (late kept : Option ℤ) (v : ℤ) → is_some (option_or late kept) ≡ false
     → option_or late (option_or (Some v) (option_or late kept)) ≡ option_or (option_or late kept) (Some v)
 fills (Some x) kept v none = absurd cc

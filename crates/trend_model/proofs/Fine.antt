@@ -165,7 +165,7 @@ fit_swung d a q u l p doors later after admitted =
 pub door_is : (P : Point → Type 0) (stays : Bool) (u p : Point) → P u → P p → P (cond stays u p)
 door_is P stays u p at_u at_p = cond_by P stays u p (λ e. at_u) (λ e. at_p)
 
--- a tag of lines goes on by p, which is after the held point
+-- a tag of lines continues by p, which is after the held point
 fine_line : (P : Point → Type 0) (t : Tuning) (rs : List Rec) (p : Point) (a q u l : Option Point)
     → IsFine P false (archive t rs a q u l)
     → P p → IfThere (λ (s : Point). s.t < p.t) q → IsFine P false (line_after (archive t rs a q u l) p a q u l)

@@ -51,7 +51,7 @@ rises_push (x ∷ xs) a q rises last above = after x xs rises last
     after x [] rises last = (at_last x last, tt)
     after x (y ∷ xs) rises last = (rises.0, after y xs rises.1 last)
 
--- a list that begins Kept goes on as it began
+-- a list that begins Kept continues as it began
 begins_push : (rs more : List Rec) → BeginsKept rs → BeginsKept (rs ++ more)
 begins_push [] more begins = absurd begins
 begins_push (r ∷ rs) more begins = begins

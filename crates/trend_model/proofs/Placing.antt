@@ -60,7 +60,7 @@ rising_across xs ys rises i j d within inside =
 
 -- ---- one more record
 
--- what stands at a time has that time
+-- what is at a time has that time
 pub time_over : (r x : Rec) (late : Bool) → time r ≡ time x → time (cond late x r) ≡ time x
 time_over r x true same = refl
 time_over r x false same = same
@@ -77,7 +77,7 @@ placed_by P r x xs first later same =
       ]
     ]
 
--- the time of what then stands at a time
+-- the time of what is then at a time
 pub time_of_over : (r x : Rec) → time r ≡ time x → time (over r x) ≡ time x
 time_of_over r x same = time_over r x (is_late_record x.kind && not (is_late_record r.kind)) same
 
@@ -103,7 +103,7 @@ rising_placed r (x ∷ xs) rises =
     (λ after. rising_cons x (placed r xs) (all_placed (λ t. time x < t) r xs after first) (rising_placed r xs rest))
     (λ same. rising_cons (over r x) xs (subst (λ t. AllAfter t xs) (sym (time_of_over r x same)) first) rest)
 
--- it is placed behind those that are before it
+-- it is placed after those that are before it
 pub placed_behind : (r : Rec) (xs ys : List Rec) → AllBefore xs (time r) → placed r (xs ++ ys) ≡ xs ++ placed r ys
 placed_behind r [] ys before = refl
 placed_behind r (x ∷ xs) ys before =

@@ -1,4 +1,4 @@
--- Where a raw value in order stands among those that are sent once the pending one is pushed out.
+-- Where a raw value in order is among those that are sent once the pending one is pushed out.
 use Rattle.std.proofs.Common.{◌≡◌, ◌<◌, ◌≤◌, inl, inr, ◌-ℤ◌, false, ◌+◌, List, [], ◌∷◌, ◌++◌, Option, None, Some, unsigned_abs, refl, sym, ap, ◌∙◌, subst, arith}
 use Rattle.std.proofs.lemmas.Bool.{true≢false}
 use Rattle.trend_num.specs.declared.point.Point.{Point}
@@ -63,7 +63,7 @@ pending_near o (Raw p ∷ h) q waiting =
 
 -- ---- one thing more that is sent
 
--- what lies between two neighbours goes on to, when one thing more is sent
+-- what lies between two neighbours continues to, when one thing more is sent
 between_more : (o : Origin) (e : Sent) (ss : List Sent) (y s z : Point) → RisesInTime (e ∷ ss)
     → IsBetween o ss y s z → IsBetween o (e ∷ ss) y s z
 between_more o e ss y s z rises b = record {
@@ -137,7 +137,7 @@ between_waiting o u ss y s q p i qp force after before near second = record {
   second_near = second;
 }
 
--- what lay before the pending value q lies so before p, and what lay between values sent goes on to
+-- what lay before the pending value q lies so before p, and what lay between values sent continues to
 between_moves : (o : Origin) (u : Tuning) (ss : List Sent) (y s q p first z : Point) → IsLast ss s q
     → RisesInTime (InOrder p ∷ ss) → q.t < p.t → u ≡ force_sent o.tuning ss
     → unsigned_abs (p.v -ℤ s.v) ≤ u.exc_dev → (b : IsBetween o (InOrder q ∷ ss) y first z)

@@ -50,7 +50,7 @@ among_after x (y ∷ ys) p rises in_it =
       | inr later ↦ let more = among_after y ys p rises.1 later in omega (arith, rises.0, more)
     ]
 
--- no point stands before the first
+-- no point is before the first
 none_there : (p : Point) (ps : List Point) (t : ℕ) → RisesAfter p ps → t ≤ p.t → there ps t ≡ None
 none_there p [] t rises early = refl
 none_there p (q ∷ ps) t rises early =
@@ -61,7 +61,7 @@ between_is_not_exact : (step : Bool) (p q : Point) (t : ℕ) → exact_value (be
 between_is_not_exact true p q t = refl
 between_is_not_exact false p q t = refl
 
--- from a point on a read is exact where a point stands
+-- from a point on a read is exact where there is a point
 exact-read_from : (step : Bool) (p : Point) (ps : List Point) (t : ℕ) → RisesAfter p ps
     → exact_value (read_from step p ps t) ≡ there (p ∷ ps) t
 exact-read_from step p [] t rises =
@@ -80,7 +80,7 @@ exact-read_from step p (q ∷ ps) t rises =
       ])
     ]
 
--- a read is exact where a point stands
+-- a read is exact where there is a point
 exact-read_at : (step : Bool) (ps : List Point) (t : ℕ) → PointsRise ps
     → exact_value (read_at step ps t) ≡ there ps t
 exact-read_at step [] t rises = refl
@@ -91,7 +91,7 @@ exact-read_at step (p ∷ ps) t rises =
       | inr after ↦ rw (le-ltb t p.t after) (exact-read_from step p ps t rises)
     ]
 
--- a point of the list stands at its time
+-- a point of the list is at its time
 there_among : (x : Point) (xs : List Point) (p : Point) → RisesAfter x xs → IsAmong p (x ∷ xs)
     → there (x ∷ xs) p.t ≡ Some p.v
 there_among x [] p rises in_it =
@@ -114,7 +114,7 @@ read_at_point step (x ∷ xs) p rises in_it =
 
 -- ---- reads between two points
 
--- a point stands among the points of a list that it is put into
+-- a point is among the points of a list that it is put into
 pub among_middle : (xs : List Point) (p : Point) (ys : List Point) → IsAmong p (xs ++ p ∷ ys)
 among_middle [] p ys = inl refl
 among_middle (x ∷ xs) p ys = inr (among_middle xs p ys)
@@ -233,7 +233,7 @@ pub points_rise : (l : List Rec) → IsRising l → PointsRise (points_of l)
 points_rise [] rises = tt
 points_rise (x ∷ l) rises = rises_after x l rises
 
--- no record stands before the first
+-- no record is before the first
 none_recorded : (p : Point) (l : List Rec) (t : ℕ) → RisesAfter p (points_of l) → t ≤ p.t
     → (late_at l t ≡ None) × (kept_at l t ≡ None)
 none_recorded p [] t rises early = (refl, refl)

@@ -20,7 +20,7 @@ use Rattle.trend_model.proofs.Fine.{IsFine, fine_archived}
 
 -- ---- the turn
 
--- a turn that goes on from the held point to the tuning w: what it sends follows, and its two places fit
+-- a turn that continues from the held point to the tuning w: what it sends follows, and its two places fit
 pub record GoesOn (P : Point → Type 0) (w : Tuning) (last : Option Point) (t : Turn) : Type 0 where
   pub follows : Follows P last t.sends
   pub last_is : t.last ≡ held_after last t.sends
@@ -77,7 +77,7 @@ in_order_goes P u s p waiting waits waiting_is here later order =
     (λ e. far_goes P u s p waiting waits waiting_is here later order)
     (λ e. record { follows = tt; last_is = refl; waits = near_waits u s p later e; pending_is = here })
 
--- what an exception test does with a value goes on from its two places
+-- what an exception test does with a value continues from its two places
 pub offered_goes : (P : Point → Type 0) (u : Tuning) (last waiting : Option Point) (p : Point)
     → PendingFits u last waiting → IfThere P waiting
     → P p → GoesOn P u last (turn_of (offered u last waiting p))

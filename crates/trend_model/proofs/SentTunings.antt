@@ -23,7 +23,7 @@ IsMade t u x (Tuned w ∷ ss) = IsMade t u x ss
 IsMade t u x (Late y ∷ ss) = IsMade t u x ss
 IsMade t u x (InOrder p ∷ ss) = ((x ≡ p) × (u ≡ force_sent t ss)) ⊎ IsMade t u x ss
 
--- what was made goes on to be
+-- what was made continues to be
 pub made_more : (t u : Tuning) (x : Point) (s : Sent) (ss : List Sent) → IsMade t u x ss
     → IsMade t u x (s ∷ ss)
 made_more t u x (Tuned w) ss made = made
@@ -65,7 +65,7 @@ force_is o (Raw p ∷ h) =
 pub force_flushed : (o : Origin) (h : List Event) → force_sent o.tuning (flushed o h) ≡ in_force o h
 force_flushed o h = force_pushed o.tuning (pending o h) (sent o h) ∙ force_is o h
 
--- what was made goes on to be, where the pending value is pushed out
+-- what was made continues to be, where the pending value is pushed out
 made_in_flushed : (t u : Tuning) (x : Point) (w : Option Point) (ss : List Sent) → IsMade t u x ss
     → IsMade t u x (pushed_out w ++ ss)
 made_in_flushed t u x None ss made = made

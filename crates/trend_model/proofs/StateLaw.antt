@@ -82,7 +82,7 @@ doors_at d a q u l since stand =
     subst (λ x. AreDoors a d (q ∷ since) x l) (sym (same_there (Some u) u stand.0 refl stand.2))
     (subst (λ y. AreDoors a d (q ∷ since) stand.0 y) (sym (same_there (Some l) l stand.1 refl stand.3)) stand.4)
 
--- a tag of lines goes on by p, which is after the hinge
+-- a tag of lines continues by p, which is after the hinge
 line_follows : (t : Tuning) (rs : List Rec) (passed : List Point) (p : Point) (a : Option Point)
     (since : List Point)
     (u l : Option Point) → DoorsStand false t.comp_dev a since u l → ArePlaced a since
@@ -163,7 +163,7 @@ follows_at false w (InOrder p) u l stand placed later =
 follows_at true w (InOrder p) u l stand placed later =
     stair_follows w.tuning w.records w.passed p w.hinge w.since u l
 
--- an archive that follows a walk goes on to follow it
+-- an archive that follows a walk continues to follow it
 follows_on : (step : Bool) (w : Walk) (c : Archive) (s : Sent) → FollowsWalk step w c
     → ArePlaced w.hinge w.since
     → IsAfterHinge w.hinge s → FollowsWalk step (walk_on step w s) (archive_on step c s)

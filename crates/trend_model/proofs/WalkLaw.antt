@@ -106,7 +106,7 @@ hung_alone t ss rs a p old before passed rises i gone covered =
     (λ x h. inr (covered x h))
     (λ x h. elim h [ inl e ↦ near_end a p x (force_sent t ss).comp_dev e | inr none ↦ absurd none ])
 
--- a line goes on in each of three ways
+-- a line continues in each of three ways
 line_walks_by : (t : Tuning) (ss : List Sent) (rs : List Rec) (a q p : Point) (since passed : List Point)
     (joins early : Bool) → (joins ≡ true → is_fit (force_sent t ss) a (q ∷ since) p ≡ true)
     → RisesInTime (InOrder p ∷ ss) → IsHung (lines t) ss rs a (q ∷ since) passed
@@ -131,7 +131,7 @@ line_walks_by t ss rs a q p since passed false false fits rises i = record {
       (hung_keeps (lines t) ss rs a q since passed rises.1 i) (λ x h. h) (λ x h. absurd h);
 }
 
--- a line goes on by a value in order
+-- a line continues by a value in order
 line_walks : (t : Tuning) (ss : List Sent) (p : Point) (rs : List Rec) (hinge : Option Point)
     (since passed : List Point) → RisesInTime (InOrder p ∷ ss) → IsWalked (lines t) ss rs hinge since passed
     → IsWalk (lines t) (InOrder p ∷ ss)
@@ -165,7 +165,7 @@ hung_skips t ss rs a p since passed rises i =
       | inr there ↦ elim (i.values.fit x there) [ inl near ↦ inl near | inr gone ↦ inr (inr gone) ]
     ])
 
--- a stair goes on in each of three ways
+-- a stair continues in each of three ways
 stair_walks_by : (t : Tuning) (ss : List Sent) (rs : List Rec) (a p : Point) (since passed : List Point)
     (joins early : Bool) → (joins ≡ true → is_near (force_sent t ss) a p ≡ true)
     → RisesInTime (InOrder p ∷ ss) → IsHung (stairs t) ss rs a since passed
@@ -200,7 +200,7 @@ stair_walks_by t ss rs a p since passed false false nears rises i =
       };
     }
 
--- a stair goes on by a value in order
+-- a stair continues by a value in order
 stair_walks : (t : Tuning) (ss : List Sent) (p : Point) (rs : List Rec) (hinge : Option Point)
     (since passed : List Point) → RisesInTime (InOrder p ∷ ss) → IsWalked (stairs t) ss rs hinge since passed
     → IsWalk (stairs t) (InOrder p ∷ ss) (stair_on (walk_at rs hinge since passed (force_sent t ss)) p hinge)

@@ -69,7 +69,7 @@ pub rises_rest : (x : Point) (xs : List Point) → RisesAfter x xs → PointsRis
 rises_rest x [] rises = tt
 rises_rest x (y ∷ xs) rises = rises.1
 
--- what stands before a point of a rising list is before it, and what stands after it after
+-- what comes before a point of a rising list is before it in time, and what comes after it is after it
 pub before_middle : (xs : List Point) (p : Point) (ys : List Point) → PointsRise (xs ++ p ∷ ys) → (x : Point)
     → IsAmong x xs → x.t < p.t
 before_middle [] p ys rises x in_it = absurd in_it
@@ -162,7 +162,7 @@ shape_parts step ps p from to rises in_it low high =
     rearranged : (a b c d : List Point) → (a ++ (b ++ p ∷ c)) ++ d ≡ (a ++ b) ++ p ∷ (c ++ d)
     rearranged a b c d = rw (← append_assoc a b (p ∷ c)) (append_assoc (a ++ b) (p ∷ c) d)
 
--- what a window's value tells
+-- what a window's value says
 is_measured : (step : Bool) (m : Measure) (ps : List Point) (from to : ℕ) (a : ℤ)
     → window_value step m ps from to ≡ Some a
     → (is_covered ps from to ≡ true) × (measured step m ps (shape step ps from to) from to ≡ Some a)

@@ -76,7 +76,7 @@ hasty = map Raw (at 20 (pos 21) ∷ at 10 (pos 20) ∷ at 0 (pos 10) ∷ [])
 abbrev pub doubled : List Rec
 doubled = kept (at 0 (pos 0)) ∷ late (at 0 (pos 4)) ∷ late (at 5 (pos 1)) ∷ late (at 5 (pos 2)) ∷ kept (at 10 (pos 8)) ∷ []
 
--- what is kept of the steep history by a compressor that ends a span only once its doors have opened past parallel, and
--- then keeps the value before without a test
+-- what another compressor keeps of the steep history. It ends a span only after its doors have opened past parallel,
+-- and then keeps the value before without a test
 abbrev pub untested : List Rec
 untested = kept (at 0 (pos 0)) ∷ kept (at 2 (pos 3)) ∷ []

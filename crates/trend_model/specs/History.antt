@@ -1,5 +1,5 @@
--- What an exception test sends of a history. A history is the list of what happened to a tag, the newest first, and so
--- is what was sent. Each definition asks of a place of the history what the rules say of it, and keeps no state.
+-- What an exception test sends of a history. A history is the list of what happened to a tag, the newest first. What
+-- was sent is listed in the same way. Each definition applies the rules at a place of the history, and keeps no state.
 use Rattle.std.specs.Prelude.{if◌then◌else◌, ◌≡◌, ◌+◌, ◌-ℤ◌, ℕ, Bool, true, false, ◌||◌, ◌&&◌, not, ◌⊎◌, List, [], ◌∷◌, Option, None, Some, nat_eq, nat_lt, nat_le, unsigned_abs}
 use Rattle.trend_num.specs.declared.point.Point.{Point}
 use Rattle.trend_num.specs.declared.tuning.Tuning.{Tuning}
@@ -9,8 +9,8 @@ pub data Event : Type 0 where
   Raw : Point → Event
   Tune : Tuning → Event
 
--- the tuning and the kind with which a tag was made: a step tag keeps its value from point to point, any other goes along
--- lines
+-- the tuning and the kind with which a tag was made. A step tag keeps its value from point to point; any other follows
+-- straight lines
 pub record Origin : Type 0 where
   pub tuning : Tuning
   pub step : Bool
@@ -27,17 +27,17 @@ in_force o [] = o.tuning
 in_force o (Tune u ∷ h) = u
 in_force o (Raw p ∷ h) = in_force o h
 
--- p, coming after the values of h, is late: its time is not after that of each of them
+-- p, which comes after the events of h, is late: a value of h has its time or a later one
 abbrev pub is_late : Point → List Event → Bool
 is_late p [] = false
 is_late p (Tune u ∷ h) = is_late p h
 is_late p (Raw q ∷ h) = nat_le p.t q.t || is_late p h
 
--- y is far from s: it differs by more than ExcDev, or comes ExcMax later or more
+-- y is far from s: it differs by more than ExcDev, or is at least ExcMax later
 abbrev pub is_far : Tuning → Point → Point → Bool
 is_far u s y = nat_lt u.exc_dev (unsigned_abs (y.v -ℤ s.v)) || nat_le (s.t + u.exc_max) y.t
 
--- y is far from the value that was sent before it; the first value of all is
+-- y is far from the value that was sent before it; the first value of all is always far
 abbrev pub is_far_from : Tuning → Option Point → Point → Bool
 is_far_from u None y = true
 is_far_from u (Some s) y = is_far u s y
@@ -48,7 +48,7 @@ newest [] = None
 newest (Tune u ∷ h) = newest h
 newest (Raw p ∷ h) = if is_late p h then newest h else Some p
 
--- the last value sent in order, once the events of h have happened: a late value and a retuning push out the newest one
+-- the last value sent in order, after the events of h. A late value and a retuning push out the newest value
 abbrev pub prior : Origin → List Event → Option Point
 prior o [] = None
 prior o (Tune u ∷ h) = newest h
@@ -57,7 +57,7 @@ prior o (Raw p ∷ h) =
     else if is_far_from (in_force o h) (prior o h) p then Some p
     else prior o h
 
--- the newest value, where it is in order and not sent
+-- the newest value, if it is in order and was not sent
 abbrev pub pending : Origin → List Event → Option Point
 pending o [] = None
 pending o (Tune u ∷ h) = None
@@ -65,18 +65,18 @@ pending o (Raw p ∷ h) =
     if is_late p h || is_far_from (in_force o h) (prior o h) p then None
     else Some p
 
--- what happens after the events of h, if something does, pushes out the newest value: a retuning, a late value, or one
--- that is far from the value sent before it
+-- whether the next event after those of h pushes out the newest value. A retuning does, and a late value, and a value
+-- that is far from the one sent before it
 abbrev pub is_pushed_out : Origin → List Event → Option Event → Bool
 is_pushed_out o h None = false
 is_pushed_out o h (Some (Tune u)) = true
 is_pushed_out o h (Some (Raw y)) = is_late y h || is_far_from (in_force o h) (prior o h) y
 
--- p, in order after the events of h and before the next one, is sent
+-- whether p is sent, which is in order after the events of h and before the next one
 abbrev pub is_sent : Origin → Point → List Event → Option Event → Bool
 is_sent o p h next = is_far_from (in_force o h) (prior o h) p || is_pushed_out o (Raw p ∷ h) next
 
--- what is sent of the events of h, which the next one follows, the newest first
+-- what is sent of the events of h if `next` follows them, the newest first
 abbrev pub sent_before : Origin → List Event → Option Event → List Sent
 sent_before o [] next = []
 sent_before o (Tune u ∷ h) next = Tuned u ∷ sent_before o h (Some (Tune u))

@@ -1,4 +1,4 @@
--- What the laws say of a history and of what it sent: order in time, its tunings, and a fact of each value.
+-- Words of the laws about a history and what it sent: order in time, tunings, and a fact of each value.
 use Rattle.std.specs.Prelude.{◌≡◌, ◌<◌, false, List, [], ◌∷◌}
 use Rattle.trend_num.specs.declared.point.Point.{Point}
 use Rattle.trend_num.specs.declared.tuning.Tuning.{Tuning}
@@ -18,12 +18,12 @@ AllInOrder [] = Unit {0}
 AllInOrder (Tune u ∷ h) = AllInOrder h
 AllInOrder (Raw p ∷ h) = (is_late p h ≡ false) × AllInOrder h
 
--- each event as it is sent, where each value is sent in order
+-- how an event is sent, if each value is sent in order
 abbrev pub sent_plainly : Event → Sent
 sent_plainly (Raw p) = InOrder p
 sent_plainly (Tune u) = Tuned u
 
--- each tuning that was in force, that with which the tag was made among them
+-- each tuning that was in force, including the one with which the tag was made
 abbrev pub tunings : Origin → List Event → List Tuning
 tunings o [] = o.tuning ∷ []
 tunings o (Tune u ∷ h) = u ∷ tunings o h

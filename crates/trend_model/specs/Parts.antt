@@ -15,7 +15,7 @@ abbrev pub kept_points : List Rec → List Point
 kept_points [] = []
 kept_points (r ∷ rs) = if is_late_record r.kind then kept_points rs else r.point ∷ kept_points rs
 
--- the points rise in time, from after an earlier one
+-- these points rise in time, and the first is after p
 abbrev pub RisesAfter : Point → List Point → Type 0
 RisesAfter p [] = Unit {0}
 RisesAfter p (x ∷ xs) = (p.t < x.t) × RisesAfter x xs
@@ -36,12 +36,12 @@ abbrev pub BeginsKept : List Rec → Type 0
 BeginsKept [] = ⊥
 BeginsKept (r ∷ rs) = is_late_record r.kind ≡ false
 
--- a Late record is not after q
+-- a Late record is not after q; of a Kept one this says nothing
 abbrev pub IsLateBefore : Point → Rec → Type 0
 IsLateBefore q r = is_late_record r.kind ≡ true → r.point.t ≤ q.t
 
--- two doors, on a hinge a, that admit q: they are after the hinge and not after q, the slope to q lies between that to the
--- upper one raised by d and that to the lower one lowered by d, and neither door is further open than at q
+-- two doors at a hinge a that admit q. They are after the hinge and not after q. The slope to q lies between that to
+-- the upper one raised by d and that to the lower one lowered by d. Neither door is further open than at q
 pub record AreDoorsAt (d : ℕ) (a q u l : Point) : Type 0 where
   pub upper_after : a.t < u.t
   pub upper_before : u.t ≤ q.t
@@ -57,7 +57,7 @@ abbrev pub AreFitDoors : Bool → ℕ → Point → Point → Point → Point �
 AreFitDoors false d a q u l = AreDoorsAt d a q u l
 AreFitDoors true d a q u l = (u ≡ q) × (l ≡ q)
 
--- the doors of a hinge a and a held point q: none where the held point is the hinge, else two
+-- the doors of a hinge a and a held point q: none if the held point is the hinge, else two
 abbrev pub DoorsFit : Bool → ℕ → Point → Point → Option Point → Option Point → Type 0
 DoorsFit step d a q None None = q ≡ a
 DoorsFit step d a q (Some u) (Some l) = (a.t < q.t) × AreFitDoors step d a q u l
@@ -69,7 +69,7 @@ PendingFits u held None = Unit {0}
 PendingFits u None (Some w) = ⊥
 PendingFits u (Some q) (Some w) = (q.t < w.t) × (unsigned_abs (w.v -ℤ q.v) ≤ u.exc_dev) × (w.t < q.t + u.exc_max)
 
--- a tag that has begun, with this held point and this hinge
+-- the parts of a tag that has begun, with this held point and this hinge
 pub record IsTagBegun (step : Bool) (d : ℕ) (rs : List Rec) (q a : Point) (upper lower : Option Point) : Type 0 where
   pub begins_kept : BeginsKept rs
   pub kept_rise : PointsRise (kept_points rs)
@@ -83,13 +83,14 @@ pub record IsBlank (rs : List Rec) (upper lower : Option Point) : Type 0 where
   pub no_upper : upper ≡ None
   pub no_lower : lower ≡ None
 
--- it has begun exactly where it has a held point, and a hinge
+-- a tag has begun exactly if it has a held point and a hinge
 abbrev pub IsBegunOrBlank : Bool → ℕ → List Rec → Option Point → Option Point → Option Point → Option Point → Type 0
 IsBegunOrBlank step d rs None None upper lower = IsBlank rs upper lower
 IsBegunOrBlank step d rs (Some q) (Some a) upper lower = IsTagBegun step d rs q a upper lower
 IsBegunOrBlank step d rs held hinge upper lower = ⊥
 
--- records and a summary that keep the rules of a tag of this tuning and this kind, each point of which has the property P
+-- records and a summary that keep the rules of a tag of this tuning and this kind, and each of whose points has the
+-- property P
 pub record IsRuled (P : Point → Type 0) (u : Tuning) (step : Bool) (rs : List Rec) (s : Summary) : Type 0 where
   pub counted : s.records ≡ length rs
   pub at_most_two : length rs ≤ 2 * s.taken
@@ -102,8 +103,9 @@ pub record IsRuled (P : Point → Type 0) (u : Tuning) (step : Bool) (rs : List 
   pub upper_is : IfThere P s.upper
   pub lower_is : IfThere P s.lower
 
--- records and a summary that can be those of a tag of this tuning and this kind: they keep the rules, their points are in
--- range, and there are not too many of anything; a summary that was written without its tuning may be any
+-- records and a summary that can be those of a tag of this tuning and this kind. They keep the rules, their points are
+-- in range, and there are not too many records or events. A summary that was written without its tuning may be any such
+-- summary
 pub record ArePartsOk (u : Tuning) (step : Bool) (rs : List Rec) (s : Summary) : Type 0 where
   pub ruled : IsRuled InRange u step rs s
   pub few : length rs ≤ most_records

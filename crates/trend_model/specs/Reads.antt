@@ -1,5 +1,5 @@
--- What a list of points reads as. The points rise in time; a content's points are such a list. Every definition is decided
--- by the listed points alone. The first argument tells whether they are those of a step tag.
+-- What a list of points reads as. The points rise in time, as those of a content do. A read depends only on the points
+-- of the list. The first argument says whether they are those of a step tag.
 use Rattle.std.specs.Prelude.{if◌then◌else◌, ℕ, ◌*◌, ℤ, pos, ◌+ℤ◌, ◌*ℤ◌, Bool, ◌&&◌, List, [], ◌∷◌, Option, None, Some, nat_eq, nat_le, nat_lt}
 use Rattle.std.specs.Int.{int_div_euclid}
 use Rattle.std.specs.List.{filter}
@@ -8,7 +8,7 @@ use Rattle.trend_num.specs.declared.reading.Reading.{Reading}
 use Rattle.trend_num.specs.declared.reading.Reading.TheVariants.{Exact, Line, Flat, Nothing}
 use Rattle.trend_num.specs.Lines.{line_value}
 
--- between p and q a line goes on, and a stair stays
+-- between p and q a line goes from the one value to the other, and a stair keeps the first
 abbrev pub between : Bool → Point → Point → ℕ → Reading
 between step p q t = if step then Flat p.v else Line (line_value p q t)
 
@@ -20,13 +20,13 @@ read_from step p (q ∷ ps) t =
     else if nat_lt t q.t then between step p q t
     else read_from step q ps t
 
--- the read at t: exact at a point, between two points by the line or the stair, flat after the last, nothing before the
+-- the read at t: exact at a point, by the line or the stair between two points, flat after the last, nothing before the
 -- first
 abbrev pub read_at : Bool → List Point → ℕ → Reading
 read_at step [] t = Nothing
 read_at step (p ∷ ps) t = if nat_lt t p.t then Nothing else read_from step p ps t
 
--- the whole number nearest to a fraction, the upper one where two are as near
+-- the whole number nearest to a fraction, the upper one of two that are equally near
 abbrev pub rounded : ℤ → ℕ → ℤ
 rounded num den = int_div_euclid ((pos 2 *ℤ num) +ℤ pos den) (pos (2 * den))
 

@@ -1,5 +1,5 @@
--- The state that a tag keeps, and what one more event makes of it: the rules in the words of the exception test's two
--- places, its last and its pending value, and of two doors. That this follows the definitions over histories is a law.
+-- The state that a tag keeps, and how one more event changes it. The exception test has two places, for its last and
+-- its pending value; compression has two doors. A law says that this follows the definitions over histories.
 use Rattle.std.specs.Prelude.{if◌then◌else◌, ◌≡◌, ◌⊎◌, ℕ, ◌+◌, ◌&&◌, Bool, true, false, List, [], ◌∷◌, ◌++◌, length, Option, None, Some, nat_le}
 use Rattle.std.specs.Option.{option_or}
 use Rattle.trend_num.specs.declared.point.Point.{Point}
@@ -14,15 +14,16 @@ use Rattle.trend_model.specs.Doors.{AreDoors, is_admitted, upper_after, lower_af
 
 -- ---- the exception test
 
--- the two places of an exception test after one more value, and what it handed out: a pending value that is now sent in
--- order, and the value itself where it was sent
+-- the two places of an exception test after one more value, and what it sends: first a pending value, in order, and
+-- second the value itself
 pub record Offer : Type 0 where
   pub last : Option Point
   pub pending : Option Point
   pub first : Option Point
   pub second : Option Sending
 
--- p is in order: it is sent after the pending value where it is far from the last one, and else takes its place
+-- p is in order. If it is far from the last value, the pending value is sent and then p. Otherwise p becomes the
+-- pending value
 abbrev pub offered_in_order : Tuning → Point → Option Point → Point → Offer
 offered_in_order u s waiting p =
     if is_far u s p then record { last = Some p; pending = None; first = waiting; second = Some (sending.InOrder p) }
@@ -38,7 +39,7 @@ offered u (Some s) (Some q) p =
     if nat_le p.t q.t then record { last = Some q; pending = None; first = Some q; second = Some (sending.Late p) }
     else offered_in_order u s (Some q) p
 
--- what a value is sent as
+-- a value as it is sent
 abbrev pub sent_as : Sending → Sent
 sent_as (sending.InOrder p) = InOrder p
 sent_as (sending.Late p) = Late p
@@ -48,7 +49,7 @@ abbrev pub pushed_out : Option Point → List Sent
 pushed_out None = []
 pushed_out (Some q) = InOrder q ∷ []
 
--- what was handed out, the newest first
+-- what an exception test sends, the newest first
 abbrev pub gained : Option Point → Option Sending → List Sent
 gained first None = pushed_out first
 gained first (Some s) = sent_as s ∷ pushed_out first
@@ -59,19 +60,19 @@ pub record Turn : Type 0 where
   pub pending : Option Point
   pub sends : List Sent
 
--- the same of an offer
+-- the turn of an offer
 abbrev pub turn_of : Offer → Turn
 turn_of o = record { last = o.last; pending = o.pending; sends = gained o.first o.second }
 
--- a retuning sends the pending value, and then the new tuning
+-- a retuning sends the pending value and then the new tuning
 abbrev pub turned : Tuning → Option Point → Option Point → Event → Turn
 turned u last waiting (Raw p) = turn_of (offered u last waiting p)
 turned u last waiting (Tune w) = record { last = option_or waiting last; pending = None; sends = Tuned w ∷ pushed_out waiting }
 
 -- ---- the compression
 
--- what compression keeps: the tuning in force, the records, the hinge, the last value sent in order, and the two doors,
--- which are there where there are values since the hinge
+-- what compression keeps: the tuning in force, the records, the hinge, the last value sent in order, and the two doors.
+-- The doors are there if there are values since the hinge
 pub record Archive : Type 0 where
   pub tuning : Tuning
   pub records : List Rec
@@ -80,15 +81,15 @@ pub record Archive : Type 0 where
   pub upper : Option Point
   pub lower : Option Point
 
--- q is kept: it is the hinge, and it is held
+-- q is kept: it is then the hinge and the held point
 abbrev pub keeps : Archive → Point → Archive
 keeps c q = record c { records = c.records ++ (kept q ∷ []); hinge = Some q; held = Some q; upper = None; lower = None }
 
--- p is held, between these doors
+-- p is held, and these are the doors
 abbrev pub holding : Archive → Point → Point → Point → Archive
 holding c p u l = record c { held = Some p; upper = Some u; lower = Some l }
 
--- the line from the hinge to p is not too long, and is admitted by the doors
+-- whether the line from the hinge to p is not too long and the doors admit it
 abbrev pub joins : Tuning → Point → Point → Point → Point → Bool
 joins t a u l p = is_short t a p && is_admitted a t.comp_dev u l p
 
@@ -109,26 +110,26 @@ stair_after c p (Some a) =
     else if is_short c.tuning a p && is_early c.tuning a p then holding c p p p
     else keeps c p
 
--- the span since the hinge is ended: where there are doors the held point is kept
+-- the span since the hinge ends: if there are doors, the held point is kept
 abbrev pub ends_at : Archive → Option Point → Option Point → Option Point → Archive
 ends_at c (Some q) (Some u) (Some l) = keeps c q
 ends_at c held upper lower = c
 
--- the archive after one thing more that was sent
+-- the archive after one more thing was sent
 abbrev pub archive_on : Bool → Archive → Sent → Archive
 archive_on step c (Late x) = record c { records = c.records ++ (late x ∷ []) }
 archive_on step c (Tuned u) = record (ends_at c c.held c.upper c.lower) { tuning = u }
 archive_on false c (InOrder p) = line_after c p c.hinge c.held c.upper c.lower
 archive_on true c (InOrder p) = stair_after c p c.hinge
 
--- the archive after all of this, the newest first
+-- the archive after all that was sent, which is listed the newest first
 abbrev pub archived : Bool → Archive → List Sent → Archive
 archived step c [] = c
 archived step c (s ∷ ss) = archive_on step (archived step c ss) s
 
 -- ---- the state
 
--- all that a tag keeps: the records, the oldest first, and the summary, which has the tuning in force
+-- all that a tag keeps: the records, the oldest first, and the summary, with the tuning in force
 pub record State : Type 0 where
   pub records : List Rec
   pub summary : Summary
@@ -165,7 +166,7 @@ abbrev pub nothing_taken : Tuning → State
 nothing_taken u =
     state_with (record { tuning = u; records = []; hinge = None; held = None; upper = None; lower = None }) 0 None None
 
--- the state after one more event, where its tuning is this one; a state without a tuning is left as it is
+-- the state after one more event, if this is its tuning; a state without a tuning stays as it is
 abbrev pub after_under : Bool → State → Event → Option Tuning → State
 after_under step s e None = s
 after_under step s e (Some u) =
@@ -188,19 +189,19 @@ followed h (e ∷ events) = followed (e ∷ h) events
 
 -- ---- a state that stands for a history
 
--- doors of these values, the newest of which is q; those of a step tag are both q
+-- doors of these values, of which q is the newest; both doors of a step tag are q
 abbrev pub AreDoorsFor : Bool → ℕ → Point → Point → List Point → Point → Point → Type 0
 AreDoorsFor false d a q since u l = AreDoors a d (q ∷ since) u l
 AreDoorsFor true d a q since u l = (u ≡ q) × (l ≡ q)
 
--- two places of doors, for a hinge and the values since it: doors of these values, or none where there is no value
+-- the two doors for a hinge and the values since it; there are none if there is no such value
 abbrev pub DoorsStand : Bool → ℕ → Option Point → List Point → Option Point → Option Point → Type 0
 DoorsStand step d None since upper lower = (upper ≡ None) × (lower ≡ None)
 DoorsStand step d (Some a) [] upper lower = (upper ≡ None) × (lower ≡ None)
 DoorsStand step d (Some a) (q ∷ since) upper lower =
     (u : Point) × (l : Point) × (upper ≡ Some u) × (lower ≡ Some l) × AreDoorsFor step d a q since u l
 
--- a state that stands for a history of a tag of this origin. Where slopes tie, any of the tied values may be a door
+-- a state that stands for a history of a tag of this origin. If slopes are equal, any of those values may be a door
 pub record Stands (o : Origin) (h : List Event) (s : State) : Type 0 where
   pub tuned : s.summary.tuning ≡ Some (in_force o h)
   pub taken : s.summary.taken ≡ length h
@@ -213,7 +214,7 @@ pub record Stands (o : Origin) (h : List Event) (s : State) : Type 0 where
 
 -- ---- a state as a device may keep it
 
--- nothing of the history is a retuning
+-- no event of the history is a retuning
 abbrev pub IsNeverRetuned : List Event → Type 0
 IsNeverRetuned [] = Unit {0}
 IsNeverRetuned (Raw p ∷ h) = IsNeverRetuned h
@@ -223,12 +224,12 @@ IsNeverRetuned (Tune u ∷ h) = ⊥
 abbrev pub with_made : Origin → State → State
 with_made o s = record s { summary = record s.summary { tuning = Some o.tuning } }
 
--- a state of the older form: it has no tuning, and stands where nothing was retuned
+-- a state of the older form, which has no tuning. It stands for a history in which nothing was retuned
 pub record StandsUntuned (o : Origin) (h : List Event) (s : State) : Type 0 where
   pub untuned : s.summary.tuning ≡ None
   pub never : IsNeverRetuned h
   pub stands : Stands o h (with_made o s)
 
--- records and a summary stand for a history, with the tuning in force or, where nothing was retuned, with none
+-- records and a summary stand for a history. They have the tuning in force, or none if nothing was retuned
 abbrev pub StandsAsStored : Origin → List Event → State → Type 0
 StandsAsStored o h s = Stands o h s ⊎ StandsUntuned o h s

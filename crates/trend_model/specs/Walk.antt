@@ -1,5 +1,6 @@
--- Compression, as a walk through what was sent. A tag of lines is compressed by swinging doors (after Bristol): each line
--- from the last kept point is tested against all values since. A step tag keeps each new value that is not near the last.
+-- Compression, as a walk through what was sent. A tag of lines is compressed by swinging doors (after Bristol): each
+-- line from the last kept point is tested against all values since. A step tag keeps each new value that is not near
+-- the last kept one.
 use Rattle.std.specs.Prelude.{if◌then◌else◌, ◌+◌, ◌-ℤ◌, Bool, true, false, ◌&&◌, List, [], ◌∷◌, ◌++◌, Option, None, Some, nat_lt, nat_le, unsigned_abs}
 use Rattle.std.specs.List.{list_all}
 use Rattle.trend_num.specs.declared.point.Point.{Point}
@@ -17,32 +18,32 @@ kept p = record { kind = kind.Kept; point = p }
 abbrev pub late : Point → Rec
 late p = record { kind = kind.Late; point = p }
 
--- where the walk is
+-- the state of the walk
 pub record Walk : Type 0 where
   -- the records, the oldest first
   pub records : List Rec
   -- the last kept point
   pub hinge : Option Point
-  -- the values sent in order since the hinge, less those that another one replaced, the newest first
+  -- the values sent in order since the hinge, without those that another one replaced, the newest first
   pub since : List Point
   -- the values that were passed over, the newest first
   pub passed : List Point
   -- the tuning in force
   pub tuning : Tuning
 
--- where it is before anything was sent
+-- the walk before anything was sent
 abbrev pub at_start : Tuning → Walk
 at_start u = record { records = []; hinge = None; since = []; passed = []; tuning = u }
 
--- p joins the values since
+-- p joins the values since the hinge
 abbrev pub joined : Walk → Point → Walk
 joined w p = record w { since = p ∷ w.since }
 
--- p joins the values since, and is passed over
+-- p joins the values since the hinge, and is passed over
 abbrev pub skipped : Walk → Point → Walk
 skipped w p = record w { since = p ∷ w.since; passed = p ∷ w.passed }
 
--- the values since are passed over, and p stands in their place
+-- the values since the hinge are passed over, and p takes their place
 abbrev pub replaced : Walk → Point → Walk
 replaced w p = record w { since = p ∷ []; passed = w.since ++ w.passed }
 
@@ -50,11 +51,11 @@ replaced w p = record w { since = p ∷ []; passed = w.since ++ w.passed }
 abbrev pub keeping : Walk → Point → Walk
 keeping w q = record w { records = w.records ++ (kept q ∷ []); hinge = Some q; since = [] }
 
--- p is not too long after the hinge a
+-- p is at most CompMax after the hinge a
 abbrev pub is_short : Tuning → Point → Point → Bool
 is_short u a p = nat_le p.t (a.t + u.comp_max)
 
--- q is too near in time to the hinge a to be kept
+-- q is less than CompMin after the hinge a, which is too early to be kept
 abbrev pub is_early : Tuning → Point → Point → Bool
 is_early u a q = nat_lt q.t (a.t + u.comp_min)
 
@@ -62,7 +63,7 @@ is_early u a q = nat_lt q.t (a.t + u.comp_min)
 abbrev pub is_fit : Tuning → Point → List Point → Point → Bool
 is_fit u a values p = list_all (λ x. is_within a p x u.comp_dev) values
 
--- the value of p is within CompDev of that of the hinge
+-- the value of p is within CompDev of the hinge's value
 abbrev pub is_near : Tuning → Point → Point → Bool
 is_near u a p = nat_le (unsigned_abs (p.v -ℤ a.v)) u.comp_dev
 
@@ -83,12 +84,12 @@ stair_on w p (Some a) =
     else if is_short w.tuning a p && is_early w.tuning a p then skipped w p
     else keeping w p
 
--- the span since the hinge is ended: its last value is kept
+-- the span since the hinge ends: its last value is kept
 abbrev pub ended : Walk → List Point → Walk
 ended w [] = w
 ended w (q ∷ since) = keeping w q
 
--- the walk after one thing more that was sent
+-- the walk after one more thing was sent
 abbrev pub walk_on : Bool → Walk → Sent → Walk
 walk_on step w (Late x) = record w { records = w.records ++ (late x ∷ []) }
 walk_on step w (Tuned u) = record (ended w w.since) { tuning = u }
@@ -100,7 +101,7 @@ abbrev pub walk : Origin → List Sent → Walk
 walk o [] = at_start o.tuning
 walk o (s ∷ ss) = walk_on o.step (walk o ss) s
 
--- where the walk is after a history
+-- the walk after a history
 abbrev pub walked : Origin → List Event → Walk
 walked o h = walk o (sent o h)
 
@@ -112,7 +113,7 @@ records o h = (walked o h).records
 abbrev pub hinge : Origin → List Event → Option Point
 hinge o h = (walked o h).hinge
 
--- the values that a history sent in order since the hinge, less those that others replaced, the newest first
+-- the values that a history sent in order since the hinge, without those that others replaced, the newest first
 abbrev pub since : Origin → List Event → List Point
 since o h = (walked o h).since
 
@@ -120,11 +121,11 @@ since o h = (walked o h).since
 abbrev pub passed : Origin → List Event → List Point
 passed o h = (walked o h).passed
 
--- the last of the values since the hinge, or the hinge where there is none
+-- the last of the values since the hinge, or the hinge if there is none
 abbrev pub last_since_hinge : Option Point → List Point → Option Point
 last_since_hinge hinge [] = hinge
 last_since_hinge hinge (q ∷ since) = Some q
 
--- the point that closes a history's line; an exception test calls it the last value sent in order
+-- the held point, which closes a history's line; for the exception test it is the last value sent in order
 abbrev pub held : Origin → List Event → Option Point
 held o h = last_since_hinge (hinge o h) (since o h)

@@ -11,17 +11,17 @@ abbrev pub last_time_from : Point → List Point → ℕ
 last_time_from p [] = p.t
 last_time_from p (q ∷ ps) = last_time_from q ps
 
--- the window does not start before the first point, nor end after the last
+-- whether the window is covered: it does not start before the first point, and does not end after the last
 abbrev pub is_covered : List Point → ℕ → ℕ → Bool
 is_covered [] from to = false
 is_covered (p ∷ ps) from to = nat_le p.t from && nat_le to (last_time_from p ps)
 
--- the point at a time with the value that is read there
+-- the point at a time with the value that was read there, if there is one
 abbrev pub end_at : ℕ → Option ℤ → List Point
 end_at t None = []
 end_at t (Some v) = record { t = t; v = v } ∷ []
 
--- the shape of a window: its start as it reads, the points strictly inside, its end as it reads
+-- the shape of a window: its start as it reads, the points strictly inside, and its end as it reads
 abbrev pub shape : Bool → List Point → ℕ → ℕ → List Point
 shape step ps from to =
     end_at from (value_read (read_at step ps from)) ++ filter (λ p. nat_lt from p.t && nat_lt p.t to) ps
@@ -65,17 +65,17 @@ but_last [] = []
 but_last (p ∷ []) = []
 but_last (p ∷ q ∷ ps) = p ∷ but_last (q ∷ ps)
 
--- the values that a window takes: a stair does not take that at its end
+-- the points whose values a window takes: a stair does not take the value at the window's end
 abbrev pub taken_values : Bool → List Point → List Point
 taken_values false ps = ps
 taken_values true ps = but_last ps
 
--- a measure of points, of which p is the first, where there are some
+-- a measure of points, of which p is the first, if there are any
 abbrev pub of_first : (Point → List Point → ℤ) → List Point → Option ℤ
 of_first f [] = None
 of_first f (p ∷ ps) = Some (f p ps)
 
--- the measure of a shape and of the points of the window
+-- a measure, from the shape s of a window and the points ps
 abbrev pub measured : Bool → Measure → List Point → List Point → ℕ → ℕ → Option ℤ
 measured step Area ps s from to = Some (area step s)
 measured step Avg ps s from to = Some (rounded (area step s) (2 * (to - from)))
@@ -86,7 +86,7 @@ measured step Count ps s from to = Some (pos (length (filter (λ p. nat_le from 
 measured step First ps s from to = of_first (λ p more. p.v) s
 measured step Last ps s from to = of_first (λ p more. (last_from p more).v) s
 
--- the value of a measure in a window, where the window is covered
+-- the value of a measure in a window, if the window is covered
 abbrev pub window_value : Bool → Measure → List Point → ℕ → ℕ → Option ℤ
 window_value step m ps from to =
     if is_covered ps from to then measured step m ps (shape step ps from to) from to

@@ -21,7 +21,7 @@ pub fn worked_histories()
     ensures overtaken_held { held (lines (tuned 5 0 0 1000000)) overtaken ≡ Some (at 20 (pos 1)) }
 {}
 
-/// The same of histories with a retuning, which sends the pending value and keeps the held point.
+/// Small histories with a retuning, which sends the pending value and keeps the held point.
 pub fn worked_retunings()
     ensures loosened { records (lines (tuned 0 0 0 1000000)) loosened ≡ kept (at 0 (pos 0)) ∷ kept (at 20 (pos 20)) ∷ [] }
     ensures loosened_held { held (lines (tuned 0 0 0 1000000)) loosened ≡ Some (at 40 (pos 40)) }
@@ -32,7 +32,7 @@ pub fn worked_retunings()
     ensures late_about_waits { pending (lines (tuned 5 0 0 1000000)) late_about ≡ Some (at 30 (pos 1)) }
 {}
 
-/// The same of step tags, which keep the new value and not the held one.
+/// Small histories of step tags, which keep the new value and not the held one.
 pub fn worked_stairs()
     ensures climbing { records (stairs (tuned 0 2 0 1000000)) climbing ≡ kept (at 0 (pos 10)) ∷ kept (at 20 (pos 15)) ∷ [] }
     ensures climbing_held { held (stairs (tuned 0 2 0 1000000)) climbing ≡ Some (at 30 (pos 14)) }
@@ -41,7 +41,7 @@ pub fn worked_stairs()
     ensures hasty_passed { passed (stairs (tuned 0 2 15 1000000)) hasty ≡ at 10 (pos 20) ∷ [] }
 {}
 
-/// What stands at one time more than once reads as the last late value there.
+/// A time with several records reads as the last late value there.
 pub fn worked_contents()
     ensures over_kept { content_at doubled 0 ≡ Some (pos 4) }
     ensures last_late { content_at doubled 5 ≡ Some (pos 2) }
@@ -50,7 +50,7 @@ pub fn worked_contents()
     ensures nothing { content_at doubled 7 ≡ None }
 {}
 
-/// There are spans to which the promise speaks, and spans from which a value that was passed over exempts it.
+/// There are spans to which the promise applies. A value that was passed over exempts a span from it.
 pub fn spans_exist()
     ensures clean { IsCleanSpan (records (lines (tuned 0 1 0 1000000)) shallow) (held (lines (tuned 0 1 0 1000000)) shallow)
         (passed (lines (tuned 0 1 0 1000000)) shallow) (at 0 (pos 0)) (at 20 (pos 0)) }
@@ -61,14 +61,15 @@ pub fn spans_exist()
         (passed (lines (tuned 0 0 5 1000000)) spiked) (at 0 (pos 0)) (at 2 (pos 0)) }
 {}
 
-/// The promise refuses the records of a compressor that ends a span only once its doors have opened past parallel, and then
-/// keeps the value before without a test.
+/// A compressor might end a span only after its doors have opened past parallel, and then keep the value before without
+/// a test. The promise does not hold for its records.
 pub fn untested_value_is_refused()
     ensures { ¬ IsBoundedBy untested (Some (at 3 (pos 0))) [] (sent (lines (tuned 0 1 0 1000000)) steep)
         (lines (tuned 0 1 0 1000000)) steep }
 {}
 
-/// Once ExcDev beside CompDev is not enough for a raw value: on a clean span one is farther than that from the line.
+/// CompDev plus once ExcDev is not enough for a raw value: on a clean span one raw value is farther than that from the
+/// line.
 pub fn twice_is_needed()
     ensures span { IsCleanSpan (records (lines (tuned 2 0 0 1000000)) wide) (held (lines (tuned 2 0 0 1000000)) wide)
         (passed (lines (tuned 2 0 0 1000000)) wide) (at 0 (pos 0)) (at 2 (negsuc 1)) }
@@ -77,7 +78,8 @@ pub fn twice_is_needed()
     ensures near { Within (at 0 (pos 0)) (at 2 (negsuc 1)) (at 1 (pos 2)) (0 + 2 * 2) }
 {}
 
-/// A span has the tuning of its own time: by that at the end a value that was sent is too far from the line.
+/// A span needs the tuning of its own time. By the tuning at the end of the history, a value that was sent is too far
+/// from the line.
 pub fn own_tuning_is_needed()
     ensures span { IsCleanSpan (records (lines (tuned 0 5 0 1000000)) sharpened) (held (lines (tuned 0 5 0 1000000)) sharpened)
         (passed (lines (tuned 0 5 0 1000000)) sharpened) (at 0 (pos 0)) (at 20 (pos 0)) }

@@ -1,13 +1,22 @@
 //! What a tag's archive is, and the laws that hold of it for every tuning and every history.
 //!
-//! The definitions stand in `specs/`, over whole histories of values and retunings; read them in this order: `History`
-//! (what an exception test sends), `Walk` (which values compression keeps, of a tag of lines and of a step tag), `Content`
-//! (what records read as, and which spans are clean), `Contents` (the content as a list), `Reads` (what stands at a time),
-//! and `Bound` (the promise), which cites them all; then `Doors` (the two values that decide in place of all since the
-//! hinge), `State` (what a tag keeps, and what one more event makes of it), `Parts` (which records and summary can be a
-//! tag's), and `Windows` (what a window measures). `Lists`, `Orders` and `ReadFacts` have further words of the laws,
-//! `Examples` has small histories. Each law is the contract of a public function without parameters, whose body is empty.
-//! Layers above cite the lemmas behind them.
+//! `specs/` has the definitions, over whole histories of values and retunings. Read them in this order:
+//!
+//! - `History`: what an exception test sends.
+//! - `Walk`: which values compression keeps, of a tag of lines and of a step tag.
+//! - `Content`: what records read as, and which spans are clean.
+//! - `Contents`: the content as a list.
+//! - `Reads`: what a list of points reads as at a time.
+//! - `Bound`: the promise, which cites all of these.
+//! - `Doors`: the two values that decide in place of all since the hinge.
+//! - `State`: what a tag keeps, and how one more event changes it.
+//! - `Parts`: which records and summary can be a tag's.
+//! - `Windows`: what a window measures.
+//!
+//! `Lists`, `Orders` and `ReadFacts` define further words of the laws. `Examples` has small histories.
+//!
+//! Each law is the contract of a public function without parameters, whose body is empty. Higher layers cite the lemmas
+//! from which the laws are proved.
 #![tactic(auto)]
 
 mod bound_law;

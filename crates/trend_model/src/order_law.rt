@@ -13,17 +13,17 @@ ghost use Rattle.trend_model.specs.Bound.{IsNear};
 ghost use Rattle.trend_model.specs.Parts.{ArePartsOk, PointsRise, kept_points, last_point};
 ghost use Rattle.trend_model.specs.Orders.{AllInOrder, RisesInTime, sent_plainly, tunings};
 
-/// The value that the exception test compares with is the last one marked in order among what was sent.
+/// The value with which the exception test compares is the last value sent in order.
 pub fn prior_is_sent()
     ensures { (o : Origin) (h : List Event) → prior o h ≡ last_in_order (sent o h) }
 {}
 
-/// The point that closes the line is the last value sent in order.
+/// The held point, which closes the line, is the last value sent in order.
 pub fn held_is_sent()
     ensures { (o : Origin) (h : List Event) → held o h ≡ last_in_order (sent o h) }
 {}
 
-/// What is sent in order rises strictly in time.
+/// Values sent in order rise strictly in time.
 pub fn sent_in_order_rises()
     ensures { (o : Origin) (h : List Event) → RisesInTime (sent o h) }
 {}
@@ -34,26 +34,27 @@ pub fn kept_points_rise()
     ensures last { (o : Origin) (h : List Event) → hinge o h ≡ last_point (kept_points (records o h)) }
 {}
 
-/// No record is after the held point: of a history, and of any parts that can be a tag's.
+/// No record is after the held point. This holds for a history, and for any parts that can be a tag's.
 pub fn held_is_last()
     ensures of_history { (o : Origin) (h : List Event) → IfThere (IsNotBefore (listed (records o h))) (held o h) }
     ensures of_parts { (u : Tuning) (step : Bool) (rs : List Rec) (s : Summary) → ArePartsOk u step rs s
         → IfThere (IsNotBefore (listed rs)) s.held }
 {}
 
-/// Events that come later only add records, behind those that were there.
+/// Later events only add records, after those that were there.
 pub fn records_only_grow()
     ensures { (o : Origin) (later h : List Event) →
         (more : List Rec) × (records o (later ++ h) ≡ records o h ++ more) }
 {}
 
-/// Where ExcMax is 0 in every tuning, the exception test sends every value of a history in rising time, whatever ExcDev is.
+/// If ExcMax is 0 in every tuning, the exception test sends every value of a history that rises in time. This holds for
+/// any ExcDev.
 pub fn no_wait_sends_all()
     ensures { (o : Origin) (h : List Event) → Each (λ (u : Tuning). u.exc_max ≡ 0) (tunings o h) → AllInOrder h
         → sent o h ≡ map sent_plainly h }
 {}
 
-/// Every value in order of a clean span whose tuning has ExcDev and CompDev 0 lies exactly on its line or its stair.
+/// On a clean span whose tuning has ExcDev 0 and CompDev 0, every value in order lies exactly on the line or the stair.
 pub fn no_deviation_is_exact()
     ensures { (o : Origin) (h : List Event) (l r y : Point) → (tuning_of_value o h r.t).exc_dev ≡ 0
         → (tuning_of_value o h r.t).comp_dev ≡ 0 → IsCleanSpan (records o h) (held o h) (passed o h) l r

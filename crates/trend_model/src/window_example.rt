@@ -6,7 +6,8 @@ ghost use Rattle.trend_model.specs.Examples.{at};
 ghost use Rattle.trend_model.specs.Reads.{read_at, value_read};
 ghost use Rattle.trend_model.specs.Windows.{window_value};
 
-/// Reads of lines: exact at a point, rounded half up between, flat after the last, nothing before the first.
+/// Reads: exact at a point, on the line between two points, flat after the last, nothing before the first. A read of a
+/// stair is flat between two points. A half is rounded up.
 pub fn worked_reads()
     ensures line { read_at false (at 0 (pos 4) ∷ at 10 (pos 8) ∷ []) 5 ≡ Line (record { num = pos 60; den = 10 }) }
     ensures half_up { value_read (read_at false (at 0 (pos 0) ∷ at 2 (pos 1) ∷ []) 1) ≡ Some (pos 1) }
@@ -17,7 +18,7 @@ pub fn worked_reads()
     ensures stair { read_at true (at 0 (pos 10) ∷ at 20 (pos 15) ∷ at 30 (pos 14) ∷ []) 15 ≡ Flat (pos 10) }
 {}
 
-/// The window from 5 to 15 over (0,0), (10,10), (20,0).
+/// Measures of the window from 5 to 15, over the line through (0,0), (10,10), (20,0).
 pub fn worked_windows()
     ensures area { window_value false Area (at 0 (pos 0) ∷ at 10 (pos 10) ∷ at 20 (pos 0) ∷ []) 5 15 ≡ Some (pos 150) }
     ensures avg { window_value false Avg (at 0 (pos 0) ∷ at 10 (pos 10) ∷ at 20 (pos 0) ∷ []) 5 15 ≡ Some (pos 8) }
@@ -30,7 +31,7 @@ pub fn worked_windows()
     ensures outside { window_value false Area (at 0 (pos 0) ∷ at 10 (pos 10) ∷ at 20 (pos 0) ∷ []) 15 25 ≡ None }
 {}
 
-/// The window from 0 to 30 over the stair (0,10), (20,15), (30,14).
+/// Measures of the window from 0 to 30, over the stair (0,10), (20,15), (30,14).
 pub fn worked_stair_windows()
     ensures area { window_value true Area (at 0 (pos 10) ∷ at 20 (pos 15) ∷ at 30 (pos 14) ∷ []) 0 30 ≡ Some (pos 700) }
     ensures avg { window_value true Avg (at 0 (pos 10) ∷ at 20 (pos 15) ∷ at 30 (pos 14) ∷ []) 0 30 ≡ Some (pos 12) }

@@ -1,4 +1,4 @@
--- How many there may be. The code names the same numbers; clauses cite these.
+-- Limits: how many of each there may be. The code names the same numbers; clauses cite these.
 use Rattle.std.specs.Prelude.{ℕ}
 
 -- records of one tag

@@ -1,4 +1,4 @@
--- What bytes spell a whole number.
+-- Which bytes are a numeral, and the number that they spell.
 use Rattle.std.specs.Prelude.{ℕ, ◌+◌, ◌-◌, ◌*◌, ℤ, pos, neg_ℤ, ◌&&◌, Bool, List, [], ◌∷◌, length, Option, None, Some, nat_eq, nat_le, if◌then◌else◌}
 use Rattle.std.specs.Char.{is_ascii_digit}
 use Rattle.std.specs.List.{fold, list_all}

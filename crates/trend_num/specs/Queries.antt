@@ -4,7 +4,8 @@ use Rattle.trend_num.specs.declared.query.TagQuery.{TagQuery}
 use Rattle.trend_num.specs.declared.query.TagQuery.TheVariants.{At, Points, Window}
 use Rattle.trend_num.specs.Ranges.{last_time}
 
--- a question of times in range: one for points ends where it begins or later, one for a window later than it begins
+-- a question whose times are in range. One for points does not end before it begins. One for a window ends after it
+-- begins.
 abbrev pub IsTagQuery : TagQuery → Type 0
 IsTagQuery (At t) = t ≤ last_time
 IsTagQuery (Points start end) = (start ≤ end) × (end ≤ last_time)

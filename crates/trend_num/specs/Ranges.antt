@@ -3,15 +3,15 @@ use Rattle.std.specs.Prelude.{ℕ, ◌≤◌, unsigned_abs}
 use Rattle.trend_num.specs.declared.point.Point.{Point}
 use Rattle.trend_num.specs.declared.tuning.Tuning.{Tuning}
 
--- the last millisecond of the year 9999, from 1970
+-- the last millisecond of the year 9999, in milliseconds from 1970
 abbrev pub last_time : ℕ
 last_time = 253402300799999
 
--- the greatest amount of a value or a deviation
+-- the greatest distance of a value from zero, and the greatest deviation, in value units
 abbrev pub largest_value : ℕ
 largest_value = 1000000000000000
 
--- a point whose time is a time, and whose value is a value
+-- a point whose time and value are in range
 pub record InRange (p : Point) : Type 0 where
   pub time : p.t ≤ last_time
   pub value : unsigned_abs p.v ≤ largest_value

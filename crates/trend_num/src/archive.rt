@@ -1,4 +1,5 @@
-// What an archive keeps of a tag: its records, the summary from which it goes on, and what others see of it.
+// What an archive keeps of a tag: its records and the summary from which it continues. Also the snapshot that others
+// see.
 use crate::point::Point;
 use crate::tuning::Tuning;
 
@@ -8,9 +9,9 @@ pub const MAX_RECORDS: u32 = 1_048_576;
 /// How a record came into an archive.
 #[derive(Clone, Copy, Debug, PartialEq, Eq)]
 pub enum Kind {
-    /// An end of a straight line, kept by the compression.
+    /// A point that compression kept. It is an end of a straight line; of a step tag it begins a step.
     Kept,
-    /// A value that came late, recorded as it came.
+    /// A value that came late, recorded unchanged.
     Late,
 }
 
@@ -23,35 +24,35 @@ pub struct Rec {
     pub point: Point,
 }
 
-/// The state of a tag beside its records.
+/// The state of a tag, without its records.
 #[derive(Clone, Copy, Debug, PartialEq, Eq)]
 pub struct Summary {
-    /// How many events, raw values and retunings, were taken since the tag began.
+    /// How many events (raw values and retunings) the tag has taken since it began.
     pub taken: u64,
     /// How many records there are.
     pub records: u32,
-    /// The last value sent in order: the archive's line is closed by it.
+    /// The last value sent in order. It closes the archive's line.
     pub held: Option<Point>,
     /// The newest value in order that was not sent.
     pub pending: Option<Point>,
-    /// The last kept point, on which the doors hang.
+    /// The last kept point. The doors hang at it.
     pub hinge: Option<Point>,
-    /// The upper door of a tag of lines: no value since the hinge has a lesser slope, raised by CompDev. Of a step tag the
-    /// held point. None where no value is since.
+    /// The upper door. Of a tag of lines: the value since the hinge whose slope, raised by CompDev, is least. Of a step
+    /// tag: the held point. `None` if there is no value since the hinge.
     pub upper: Option<Point>,
-    /// The lower door of a tag of lines: no value since the hinge has a greater slope, lowered by CompDev. Of a step tag
-    /// the held point. None where no value is since.
+    /// The lower door. Of a tag of lines: the value since the hinge whose slope, lowered by CompDev, is greatest. Of a
+    /// step tag: the held point. `None` if there is no value since the hinge.
     pub lower: Option<Point>,
-    /// The tuning in force. None stands only in a summary of the older form, which has no tuning, and means the tuning with
-    /// which the tag was made.
+    /// The tuning in force. Only a summary of the older form has `None`. It means the tuning with which the tag was
+    /// made.
     pub tuning: Option<Tuning>,
 }
 
 /// The newest state of a tag, as others see it.
 #[derive(Clone, Copy, Debug, PartialEq, Eq)]
 pub struct Snap {
-    /// How many events, raw values and retunings, were taken since the tag began.
+    /// How many events (raw values and retunings) the tag has taken since it began.
     pub taken: u64,
-    /// The last value sent in order: the archive's line is closed by it.
+    /// The last value sent in order. It closes the archive's line.
     pub held: Option<Point>,
 }

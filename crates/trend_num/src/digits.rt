@@ -7,7 +7,8 @@ ghost use Rattle.trend_num.specs.Numerals.{numeral, signed_by, unsigned_numeral,
 // The most digits of a numeral.
 const MAX_DIGITS: usize = 20;
 
-/// The number that a numeral spells: an optional `-` and 1 to 20 digits. None where the bytes are no numeral.
+/// Returns the number that a numeral spells: an optional `-` and 1 to 20 digits. Returns `None` if the bytes are no
+/// numeral.
 pub fn numeral(bytes: &[u8]) -> Option<i128>
     ensures { result ≡ numeral bytes.now }
 {

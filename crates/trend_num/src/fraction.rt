@@ -10,11 +10,11 @@ use crate::slope::{product, rise};
 #[derive(Clone, Copy, Debug, PartialEq, Eq)]
 pub struct Frac {
     pub num: i128,
-    /// Above 0 wherever a line gave it.
+    /// Above 0 in every fraction that `line_at` returns.
     pub den: u64,
 }
 
-/// The value at `t` of the line from `a` to `b`, exactly.
+/// Returns the exact value at time `t` of the line from `a` to `b`, in value units.
 pub fn line_at(a: Point, b: Point, t: u64) -> Frac
     requires first { InRange a }
     requires last { InRange b }
@@ -31,7 +31,7 @@ pub fn line_at(a: Point, b: Point, t: u64) -> Frac
     }
 }
 
-// A start and a climb from it.
+// The sum of a start and a climb from it.
 fn sum(start: i128, climb: i128) -> i128
     requires start { unsigned_abs start ≤ 3 * largest_value * last_time }
     requires climb { unsigned_abs climb ≤ 3 * largest_value * last_time }
@@ -40,7 +40,7 @@ fn sum(start: i128, climb: i128) -> i128
     start + climb
 }
 
-/// The whole number nearest to `num / den`, the upper one where two are as near.
+/// Returns the whole number nearest to `num / den`. Of two that are equally near it returns the upper one.
 pub fn round_half_up(num: i128, den: u64) -> i128
     requires some { 0 < den }
     requires bounded { den ≤ 2 * last_time }
@@ -50,7 +50,7 @@ pub fn round_half_up(num: i128, den: u64) -> i128
     floor(twice(num, den), 2 * den)
 }
 
-// Twice a fraction and one more, as a number of its halves.
+// The numerator of `num / den + 1/2`, as a fraction over `2 * den`.
 fn twice(num: i128, den: u64) -> i128
     requires bounded { den ≤ 2 * last_time }
     requires small { unsigned_abs num ≤ 10 ^ 30 }

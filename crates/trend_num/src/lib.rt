@@ -1,9 +1,9 @@
 //! Numbers, names and types of a plant historian.
 //!
-//! The types that every layer shares (points, records, tunings, names), and exact arithmetic on lines and slopes. The
-//! definitions in `specs/` are those of ranges, limits, lines, names, numerals and questions; what a tag's archive is
-//! stands in `trend_model`. Each call equals its formula. Nothing here takes memory; what is no name and no numeral is
-//! answered None.
+//! The crate has the types that every layer shares (points, records, tunings, names) and exact arithmetic on lines and
+//! slopes. `specs/` defines ranges, limits, lines, names, numerals and questions; `trend_model` defines what a tag's
+//! archive is. Each call returns exactly what its definition in `specs/` says. No call allocates memory. `name_from`
+//! and `numeral` return `None` if the bytes are no name or no numeral.
 #![tactic(auto)]
 
 mod archive;

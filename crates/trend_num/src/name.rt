@@ -40,7 +40,7 @@ impl Model for Name {
 }
 
 impl Name {
-    /// The bytes that it is spelled by.
+    /// Returns the bytes of the name.
     pub fn bytes(&self) -> &[u8]
         ensures same { result.now ≡ self.now }
         ensures name { IsName result.now }
@@ -48,7 +48,7 @@ impl Name {
         &self.bytes[..usize::from(self.len)]
     }
 
-    /// Its text.
+    /// Returns the text of the name.
     #[tactic(auto, using(crate::proofs::NameText::name_is_text))]
     pub fn text(&self) -> &str
         ensures { result.now ≡ self.now }
@@ -60,7 +60,7 @@ impl Name {
     }
 }
 
-// A letter, a digit, `_`, `.` or `-`.
+// Whether a byte is a letter, a digit, `_`, `.` or `-`.
 fn is_name_byte(b: u8) -> bool
     ensures { result ≡ is_name_byte b }
 {
@@ -72,7 +72,7 @@ fn is_name_byte(b: u8) -> bool
         || b == b'-'
 }
 
-/// The name that these bytes spell, or none where they are no name.
+/// Returns the name that these bytes spell, or `None` if they are no name.
 pub fn name_from(bytes: &[u8]) -> Option<Name>
     ensures { SomeIff result (IsName bytes.now) bytes.now }
 {
@@ -85,14 +85,14 @@ pub fn name_from(bytes: &[u8]) -> Option<Name>
     })
 }
 
-// Whether a name may have each of these bytes.
+// Whether a name may contain each of these bytes.
 fn is_spelled(bytes: &[u8]) -> bool
     ensures { result ≡ list_all is_name_byte bytes.now }
 {
     bytes.iter().all(|b| is_name_byte(*b))
 }
 
-// The bytes, and zeros after them.
+// These bytes with zeros after them.
 fn padded(bytes: &[u8]) -> [u8; 64]
     requires { length bytes.now ≤ 64 }
     ensures { result ≡ bytes.now ++ replicate (64 - length bytes.now) 0 }

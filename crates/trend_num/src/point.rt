@@ -4,7 +4,7 @@ ghost use Rattle.std.specs.Prelude.{◌↔◌, IsTrue};
 /// The greatest time, the last millisecond of the year 9999, in milliseconds from 1970.
 pub const MAX_T: u64 = 253_402_300_799_999;
 
-/// The greatest amount of a value, in value units.
+/// The greatest distance of a value from zero, in value units.
 pub const MAX_V: i64 = 1_000_000_000_000_000;
 
 /// A value at a time.
@@ -18,7 +18,7 @@ pub struct Point {
 
 ghost use Rattle.trend_num.specs.Ranges.{InRange};
 
-/// Whether the time is at most `MAX_T` and the value within `MAX_V` of zero.
+/// Returns whether the time is at most `MAX_T` and the value is at most `MAX_V` away from zero.
 pub fn in_range(p: Point) -> bool
     ensures { IsTrue result ↔ InRange p }
 {

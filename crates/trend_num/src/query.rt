@@ -1,14 +1,14 @@
-// What is asked of a tag.
+// Questions about a tag.
 use crate::measure::Measure;
 
 /// A question about a tag's closed content. Times are milliseconds from 1970.
 #[derive(Clone, Copy, Debug, PartialEq, Eq)]
 pub enum TagQuery {
-    /// What stands at a time.
+    /// What the tag reads at a time.
     At {
         t: u64,
     },
-    /// The points from one time to another, both included.
+    /// The points from one time to another, both times included.
     Points {
         from: u64,
         to: u64,

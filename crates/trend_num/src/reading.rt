@@ -1,15 +1,15 @@
-// What a read of an archive gives.
+// What a read of an archive returns.
 use crate::fraction::Frac;
 
-/// What stands at a time.
+/// What an archive reads at a time.
 #[derive(Clone, Copy, Debug, PartialEq, Eq)]
 pub enum Reading {
-    /// A point stands at the time: its value.
+    /// There is a point at the time. This is its value.
     Exact(i64),
-    /// The time lies between two points of a tag of lines: the value there of the line between them.
+    /// The time is between two points of a tag of lines. This is the value there of the line between them.
     Line(Frac),
-    /// No point follows, or the tag is a step tag: the value of the last point before the time.
+    /// No point follows, or the tag is a step tag. This is the value of the last point before the time.
     Flat(i64),
-    /// No point stands at the time or before it.
+    /// There is no point at the time or before it.
     Nothing,
 }

@@ -27,28 +27,28 @@ pub enum What {
     Records,
     /// Records of all tags of a base together, when they are opened.
     StoreRecords,
-    /// Records that a group copied from its inputs.
+    /// Records that a group has copied from its inputs.
     Copies,
-    /// Complete windows of one group times its calculations.
+    /// Complete windows of one group, times its calculations.
     Cells,
 }
 
-/// Why a row is refused, in the order in which the reasons are tested.
+/// Why a row is refused. The reasons are tested in this order.
 #[derive(Clone, Copy, Debug, PartialEq, Eq)]
 pub enum Reason {
-    /// It has another number of fields than its form.
+    /// Its number of fields is not that of its form.
     Fields,
     /// Its first field is no verb.
     Verb,
-    /// A field is no name that is known here.
+    /// A field is not a known name.
     Name,
-    /// A field is no numeral.
+    /// A field is not a numeral.
     Number,
     /// A number is outside its range.
     Range,
 }
 
-/// No memory was found.
+/// Memory could not be allocated.
 #[derive(Clone, Copy, Debug, PartialEq, Eq)]
 pub struct WantOfMemory;
 

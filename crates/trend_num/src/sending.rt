@@ -1,11 +1,11 @@
-// What an exception test hands on.
+// What an exception test sends on.
 use crate::point::Point;
 
-/// What the exception test hands on of a value, and in which way.
+/// A value that the exception test sends on, and how it is marked.
 #[derive(Clone, Copy, Debug, PartialEq, Eq)]
 pub enum Sending {
-    /// The value is after every value sent in order before it.
+    /// The value is later than every value sent in order before it.
     InOrder(Point),
-    /// The value came after one that is at its time or later.
+    /// A value that came earlier has the same time or a later one.
     Late(Point),
 }

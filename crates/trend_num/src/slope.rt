@@ -8,7 +8,7 @@ use crate::point::Point;
 use std::cmp::Ordering;
 use std::sync::ledger::Ledger;
 
-/// Whether x is more than `d` value units above or below the line from `a` to `b`. One step.
+/// Returns whether x is more than `d` value units above or below the line from `a` to `b`. It counts one step.
 pub fn deviates<L: Ledger>(a: Point, b: Point, x: Point, d: u64, steps: &mut Steps<L>) -> bool
     requires first { InRange a }
     requires last { InRange b }
@@ -24,7 +24,7 @@ pub fn deviates<L: Ledger>(a: Point, b: Point, x: Point, d: u64, steps: &mut Ste
     above(a, b, x).unsigned_abs() > allowed
 }
 
-/// Compares the slope from `a` to x raised by `dx` with the slope from `a` to y raised by `dy`, exactly. One step.
+/// Compares two slopes exactly: from `a` to x raised by `dx`, and from `a` to y raised by `dy`. It counts one step.
 pub fn slope_cmp<L: Ledger>(
     a: Point,
     x: Point,
@@ -66,7 +66,7 @@ pub(crate) fn product(rise: i64, length: u64) -> i128
     ensures value { result ≡ rise *ℤ pos length }
     ensures bound { unsigned_abs result ≤ 3 * largest_value * last_time }
 {
-    // A signed length, since one multiplication of signed words then does.
+    // A signed length, because then one multiplication of signed words is enough.
     i128::from(rise) * i128::from(length as i64)
 }
 

@@ -4,28 +4,28 @@ ghost use Rattle.trend_num.specs.Ranges.{TuningInRange};
 
 use crate::point::{MAX_T, MAX_V};
 
-/// The tuning of a tag, by the attribute names of the PI manuals on exception and compression reporting.
+/// The tuning of a tag. The fields have the attribute names of the PI manuals on exception and compression reporting.
 #[derive(Clone, Copy, Debug, PartialEq, Eq)]
 pub struct Tuning {
-    /// ExcDev: a value is sent where it differs by more than this from the last value sent, in value units.
+    /// ExcDev, in value units. A value is sent if it differs by more than this from the last value sent.
     pub exc_dev: u64,
-    /// ExcMax: a value is sent where it comes this long after the last value sent, or longer, in milliseconds.
+    /// ExcMax, in milliseconds. A value is sent if it comes this long after the last value sent, or longer.
     pub exc_max: u64,
-    /// CompDev: how far the kept line may be from a value sent, in value units.
+    /// CompDev, in value units. How far the kept line may be from a value sent.
     pub comp_dev: u64,
-    /// CompMin: where a value does not fit, and the held point is less than this after the hinge, the values since the
-    /// hinge are passed over, and none of them is kept; of a step tag the value itself, where it is less than this after
-    /// the hinge. In milliseconds.
+    /// CompMin, in milliseconds. It applies to a value that comes within CompMax but does not fit. If the held point is
+    /// less than CompMin after the hinge, all values since the hinge are passed over, and none of them is kept. Of a
+    /// step tag only the value itself is passed over, if it is less than CompMin after the hinge.
     pub comp_min: u64,
-    /// CompMax: where a value comes more than this after the hinge, the held point is kept, and of a step tag the value
-    /// itself, in milliseconds.
+    /// CompMax, in milliseconds. If a value comes more than this after the hinge, the held point is kept. Of a step tag
+    /// the value itself is kept.
     pub comp_max: u64,
 }
 
-/// The greatest deviation, in value units: that of a value from zero.
+/// The greatest deviation, in value units: how far a value may be from zero.
 pub const MAX_DEV: u64 = MAX_V as u64;
 
-/// Whether both deviations are at most 10^15 and the three times at most `MAX_T`.
+/// Returns whether both deviations are at most 10^15 and all three times are at most `MAX_T`.
 pub fn tuning_ok(t: &Tuning) -> bool
     ensures { IsTrue result ↔ TuningInRange t.now }
 {

@@ -5,7 +5,7 @@ use Rattle.trend_num.specs.declared.point.Point.{Point}
 use Rattle.trend_report.specs.declared.drill.Signal.{Signal}
 use Rattle.trend_report.specs.Drill.{signal_after, drill_points, event, signal_at}
 
--- the points of so many events, and the event at that place behind them, are those of one event more
+-- the points of so many events, and the event at that place after them, are those of one event more
 pub one_event_more : (number tag n : ℕ) (rows more : List Point) (s : Signal) (p : Point)
     → rows ≡ drill_points number tag n → s ≡ signal_at number tag n → p ≡ event n s → more ≡ rows ++ p ∷ []
     → more ≡ drill_points number tag (n + 1)

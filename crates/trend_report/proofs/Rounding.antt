@@ -52,6 +52,6 @@ upper z q r n some quotient rest more =
     let below : r <ℤ pos n = rw rest (small_rest z n some).1 in
     rounded_only z (q +ℤ pos 1) n some (upper_next z q r n whole below more)
 
--- a fraction that is not over 0 is told rounded
+-- a fraction that is not over 0 is printed rounded
 pub rounded_told : (num : ℤ) (den : ℕ) → 0 < den → rounded num den ≡ whole_of num den
 rounded_told num den some = grind (arith, nat_tests)

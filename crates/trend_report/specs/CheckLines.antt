@@ -1,4 +1,4 @@
--- What is printed of opened tags.
+-- The lines of opened tags.
 use Rattle.std.specs.Prelude.{ℕ, List}
 use Rattle.std.specs.List.{flat_map, zip}
 use Rattle.trend_num.specs.declared.tag_def.TagDef.{TagDef}

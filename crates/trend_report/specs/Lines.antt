@@ -24,7 +24,7 @@ use Rattle.trend_report.specs.declared.reply_line.ReplyText.TheVariants.{Tag, Sn
 
 -- ---- tags
 
--- a record that came late, and one that was kept
+-- whether a record is late, and whether it is kept
 abbrev pub is_late : Kind → Bool
 is_late Kept = false
 is_late Late = true
@@ -33,7 +33,7 @@ abbrev pub is_kept : Kind → Bool
 is_kept Kept = true
 is_kept Late = false
 
--- what is told of a tag of this name, with these records and this state beside them
+-- the line of a tag with this name, these records and this summary
 abbrev pub tag_line_of : List ℕ → List Rec → Summary → TagLine
 tag_line_of name recs summary = record {
   name = name;
@@ -48,12 +48,12 @@ tag_line_of name recs summary = record {
 abbrev pub point_text : Point → List ℕ
 point_text p = decimal p.t ++ codes "," ++ signed_decimal p.v
 
--- a point that may not be there
+-- a point, or `none` if there is none
 abbrev pub held_text : Option Point → List ℕ
 held_text None = codes "none"
 held_text (Some q) = point_text q
 
--- `taken=N records=R kept=K late=L` with a space before each, and the word of what follows
+-- ` taken=N records=R kept=K late=L held=`, with the spaces
 abbrev pub counts_text : TagLine → List ℕ
 counts_text l =
     codes " taken=" ++ decimal l.taken ++ codes " records=" ++ decimal l.records ++ codes " kept="
@@ -66,23 +66,24 @@ tag_text l = codes "tag " ++ l.name ++ counts_text l ++ held_text l.held ++ code
 
 -- ---- replies
 
--- the whole number next to a fraction, the upper one where two are as near; that over 0, which no read gives, is 0
+-- the whole number nearest to a fraction, the upper one of two that are equally near. A fraction over 0, which no read
+-- returns, gives 0
 abbrev pub whole_of : ℤ → ℕ → ℤ
 whole_of num den = if den == 0 then pos 0 else rounded num den
 
--- what stands at a time; a fraction is rounded
+-- what a tag reads at a time; a fraction is rounded
 abbrev pub reading_text : Reading → List ℕ
 reading_text (Exact v) = codes "exact " ++ signed_decimal v
 reading_text (Line f) = codes "line " ++ signed_decimal (whole_of f.num f.den)
 reading_text (Flat v) = codes "flat " ++ signed_decimal v
 reading_text Nothing = codes "none"
 
--- each point and a space, and then whether others follow
+-- each point and a space after it, and then `more` if others follow, else `end`
 abbrev pub points_text : List Point → Bool → List ℕ
 points_text ps true = flat_map (λ p. point_text p ++ codes " ") ps ++ codes "more"
 points_text ps false = flat_map (λ p. point_text p ++ codes " ") ps ++ codes "end"
 
--- a number that may not be there
+-- a number, or `none` if there is none
 abbrev pub number_text : Option ℤ → List ℕ
 number_text None = codes "none"
 number_text (Some n) = signed_decimal n
@@ -93,7 +94,7 @@ cause_text NoData = codes "bad nodata"
 cause_text DivZero = codes "bad divzero"
 cause_text Range = codes "bad range"
 
--- the value of a calculation, which may not be there
+-- the value of a calculation, or `none` if there is none
 abbrev pub value_text : Option CalcValue → List ℕ
 value_text None = codes "none"
 value_text (Some (Num n)) = signed_decimal n
@@ -111,7 +112,7 @@ told_text (Tag reply) = answer_text reply
 told_text (Snap s) = codes "snap " ++ decimal s.taken ++ codes " " ++ held_text s.held
 told_text (Row value) = value_text value
 
--- `reply READER ROW`, with a space behind it
+-- `reply READER ROW`, with a space after it
 abbrev pub asker_text : ℕ → ℕ → List ℕ
 asker_text reader row = codes "reply " ++ decimal reader ++ codes " " ++ decimal row ++ codes " "
 
@@ -127,7 +128,7 @@ abbrev pub heading_text : List ℕ → ℕ → ℕ → ℕ → List ℕ
 heading_text name windows refreshes evals = codes "group " ++ name ++ codes " windows=" ++ decimal windows ++ codes " refreshes="
     ++ decimal refreshes ++ codes " evals=" ++ decimal evals ++ codes "\n"
 
--- what follows the names of a group and a calculation: the last of so many windows and the value there, if there is one
+-- what follows the names of a group and a calculation: the last of `windows` windows and the value there, or `none`
 abbrev pub last_value_text : ℕ → Option CalcValue → List ℕ
 last_value_text windows None = codes "none"
 last_value_text windows (Some v) = decimal (windows - 1) ++ codes " " ++ value_text (Some v)
@@ -137,7 +138,7 @@ abbrev pub last_text : List ℕ → ℕ → LastRow → List ℕ
 last_text group windows l =
     codes "calc " ++ group ++ codes " " ++ l.calc ++ codes " " ++ last_value_text windows l.value ++ codes "\n"
 
--- these lines, one behind the other
+-- these lines, one after the other
 abbrev pub group_lines : List ℕ → ℕ → ℕ → ℕ → List LastRow → List ℕ
 group_lines name windows refreshes evals lasts =
     heading_text name windows refreshes evals ++ flat_map (last_text name windows) lasts

@@ -7,7 +7,8 @@ use std::alloc::Global;
 use tag_core::TagCore;
 use trend_num::{TagDef, WantOfMemory};
 
-/// A line for each tag, in order, as `check` and `log` print them. The one error is want of memory.
+/// Returns one line for each tag, in order, as `check` and `log` print them. Returns `WantOfMemory` if the memory
+/// cannot be allocated.
 pub fn check_text(alloc: Global, tags: &[TagDef], cores: &[TagCore]) -> Result<String, WantOfMemory>
     requires { length cores.now ≡ length tags.now }
     ensures { IfOk result (λ text. string_bytes text ≡ check_text tags.now cores.now) }

@@ -6,16 +6,16 @@ ghost use Rattle.trend_report.specs.Drill.{signal_after, drill_points, event, fi
 use std::alloc::Global;
 use trend_num::{Point, WantOfMemory};
 
-// Each number that a signal draws from is below this.
+// Each number from which a signal draws is below this.
 const NUMBERS: u64 = 1 << 31;
 
-// What is drawn of a number is its upper fifteen bits: the whole part of the number over this.
+// A draw takes the upper fifteen bits of a number: the whole part of the number divided by this.
 const DRAW: u64 = 1 << 16;
 
-// The signal of a generated tag before an event.
+// The signal of a generated tag, before an event.
 #[derive(Clone, Copy)]
 struct Signal {
-    /// The last number that was drawn from.
+    /// The last number from which it drew.
     number: u64,
     /// The time of the last event in order, in milliseconds.
     clock: u64,
@@ -23,10 +23,10 @@ struct Signal {
     level: i64,
 }
 
-/// The first `events` points of the tag at the place `tag`, counted from 0, in the drill `number`. Of events one behind the other
-/// each is 100 to 999 milliseconds later than the one before it and at most 20 value units off, but each sixteenth goes back
-/// in time, and the next goes on from the one before that. The same three numbers give the same points. The one error is
-/// want of memory.
+/// Returns the first `events` points of a tag in the drill with the number `number`. `tag` is the tag's place, counted
+/// from 0. Usually a point is 100 to 999 milliseconds later than the one before it, and at most 20 value units away
+/// from it. Each sixteenth point goes back in time instead. The next point continues as if the sixteenth were not
+/// there. The same three numbers always give the same points. Returns `WantOfMemory` if the memory cannot be allocated.
 pub fn drill_rows(
     alloc: Global,
     number: u32,
@@ -57,7 +57,7 @@ fn first_signal(number: u32, tag: u32) -> Signal
 }
 
 impl Signal {
-    // The event at a place among those of the tag. The signal is then the one after it.
+    // The event at the place `place` among those of the tag. Afterwards the signal is the one after that event.
     fn event(&mut self, place: u32) -> Point
         requires { IsNear place self.old }
         ensures event { result ≡ event place self.old }
@@ -83,7 +83,7 @@ impl Signal {
     }
 }
 
-// A level after a swing.
+// The level after a swing.
 fn moved(level: i64, swing: i64) -> i64
     requires level { unsigned_abs level ≤ 2 ^ 40 }
     requires swing { unsigned_abs swing ≤ 20 }
@@ -93,7 +93,7 @@ fn moved(level: i64, swing: i64) -> i64
     level + swing
 }
 
-// The number after a number.
+// The number that follows a number.
 fn next_number(number: u64) -> u64
     requires { number < 2 ^ 31 }
     ensures next { result ≡ next_number number }
@@ -102,7 +102,7 @@ fn next_number(number: u64) -> u64
     (1_103_515_245 * number + 12_345) % NUMBERS
 }
 
-// How far from the clock, in milliseconds, an event is that draws after a number.
+// How far from the clock an event is that draws from the number after this one, in milliseconds.
 fn gap_of(number: u64) -> u64
     requires { number < 2 ^ 31 }
     ensures gap { result ≡ gap_of number }

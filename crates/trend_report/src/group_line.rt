@@ -7,7 +7,7 @@ use crate::reply_line::put_value;
 use std::alloc::{AllocError, Global};
 use trend_num::{CalcValue, Name, WantOfMemory};
 
-/// What a session has made of a group.
+/// What a session has made of a group, as its lines print it.
 #[derive(Drop)]
 pub struct GroupLine {
     pub name: Name,
@@ -17,7 +17,7 @@ pub struct GroupLine {
     pub refreshes: u64,
     /// How many values were evaluated.
     pub evals: u64,
-    /// Of each calculation its last value.
+    /// The last value of each calculation.
     pub lasts: Vec<LastRow>,
 }
 
@@ -25,19 +25,21 @@ pub struct GroupLine {
 #[derive(Clone, Copy, Debug, PartialEq, Eq)]
 pub struct LastRow {
     pub calc: Name,
-    /// The value in the last complete window. None where no window is complete.
+    /// The value in the last complete window, or `None` if no window is complete.
     pub value: Option<CalcValue>,
 }
 
-/// The line `group NAME windows=W refreshes=N evals=E` and behind it, of each calculation, `calc GROUP NAME K VALUE` with the value
-/// in the last complete window K, counted from 0, or `calc GROUP NAME none`; each with its line feed.
+/// Returns the line `group NAME windows=W refreshes=N evals=E`, and after it one line for each calculation. That is
+/// `calc GROUP NAME K VALUE` with the value in the last complete window K, counted from 0. Without a complete window it
+/// is `calc GROUP NAME none`. Each line ends with a line feed. Returns `WantOfMemory` if the memory cannot be
+/// allocated.
 pub fn group_text(alloc: Global, line: &GroupLine) -> Result<String, WantOfMemory>
     ensures { IfOk result (λ text. string_bytes text ≡ group_line_text line.now) }
 {
     Ok(group_lines(alloc, line)?)
 }
 
-// The same, with the allocator's own error.
+// Like `group_text`, with the allocator's own error.
 fn group_lines(alloc: Global, line: &GroupLine) -> Result<String, AllocError>
     ensures { IfOk result (λ text. string_bytes text ≡ group_line_text line.now) }
 {
@@ -69,7 +71,7 @@ fn put_lasts(text: &mut String, line: &GroupLine) -> Result<(), AllocError>
     Ok(())
 }
 
-// Adds the line of one.
+// Adds the line of one calculation.
 fn put_last(text: &mut String, group: &Name, windows: u32, last: &LastRow) -> Result<(), AllocError>
     ensures { OnOk result (string_bytes text.new ≡ string_bytes text.old ++ last_text group.now windows last.now) }
 {

@@ -1,12 +1,12 @@
-//! The lines of a report: what a session has made of each tag and of each group, and the answers to the queries of its readers.
+//! The lines of a report: what a session has made of each tag and each group, and the replies to its readers' queries.
 //!
-//! A tag, a group and a query have one text each, whose bytes are those of the definition of the same name: `tag_text`,
-//! `group_text` (a line for the group and one for each calculation) and `reply_text`; `check_text` has the lines of all tags of
-//! a plant. A fraction on a line between two points is rounded to the whole number next to it, the upper one where two are as
-//! near. The one error is want of memory.
+//! `tag_text`, `group_text` and `reply_text` return the text of a tag, a group and a reply. `group_text` has a line for
+//! the group and one for each calculation. `check_text` returns the lines of all tags of a plant. The bytes of each
+//! text are those of the definition of the same name. A fraction on a line between two points is rounded to the nearest
+//! whole number. Of two that are equally near the upper one is taken. The only error is want of memory.
 //!
-//! The crate also gives the points that a drill generates for a tag, those of `drill_points`: in range, however many they
-//! are.
+//! `drill_rows` returns the points that a drill generates for a tag, which are those of `drill_points`. However many
+//! there are, they are in range.
 #![tactic(auto)]
 
 mod check_lines;

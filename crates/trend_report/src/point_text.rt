@@ -13,7 +13,7 @@ pub(crate) fn put_point(text: &mut String, p: Point) -> Result<(), AllocError>
     write!(text, "{t},{v}")
 }
 
-// Adds a point, or `none` where there is none.
+// Adds `T,V`, or `none` if there is no point.
 pub(crate) fn put_held(text: &mut String, held: Option<Point>) -> Result<(), AllocError>
     ensures { OnOk result (string_bytes text.new ≡ string_bytes text.old ++ held_text held) }
 {

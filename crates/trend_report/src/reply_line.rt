@@ -11,15 +11,16 @@ use trend_num::{Bad, CalcValue, Frac, Point, Snap, WantOfMemory};
 /// The answer to a query.
 #[derive(Drop)]
 pub enum ReplyText {
-    /// To a question about a tag.
+    /// The reply to a question about a tag.
     Tag(Reply),
     /// The snapshot of a tag.
     Snap(Snap),
-    /// The value of a calculation in a window. None where there is no such window.
+    /// The value of a calculation in a window, or `None` if there is no such window.
     Row(Option<CalcValue>),
 }
 
-/// The line `reply READER ROW TEXT`, with its line feed. Readers and rows are counted from 1.
+/// Returns the line `reply READER ROW TEXT`, with its line feed. Readers and rows are counted from 1. Returns
+/// `WantOfMemory` if the memory cannot be allocated.
 pub fn reply_text(
     alloc: Global,
     reader: u32,
@@ -31,7 +32,7 @@ pub fn reply_text(
     Ok(reply_line(alloc, reader, row, reply)?)
 }
 
-/// The same line for the answer to a question about a tag, which stays where it is.
+/// Returns the line of [`reply_text`] for a reply to a question about a tag, without taking the reply.
 pub fn answer_line(
     alloc: Global,
     reader: u32,
@@ -43,7 +44,7 @@ pub fn answer_line(
     Ok(line_of_answer(alloc, reader, row, reply)?)
 }
 
-// The same, with the allocator's own error.
+// Like `answer_line`, with the allocator's own error.
 fn line_of_answer(alloc: Global, reader: u32, row: u64, reply: &Reply) -> Result<String, AllocError>
     ensures { IfOk result (λ text. string_bytes text ≡ reply_text reader row (Tag reply.now)) }
 {
@@ -54,7 +55,7 @@ fn line_of_answer(alloc: Global, reader: u32, row: u64, reply: &Reply) -> Result
     Ok(text)
 }
 
-// The same, with the allocator's own error.
+// Like `reply_text`, with the allocator's own error.
 fn reply_line(alloc: Global, reader: u32, row: u64, reply: &ReplyText) -> Result<String, AllocError>
     ensures { IfOk result (λ text. string_bytes text ≡ reply_text reader row reply.now) }
 {
@@ -65,14 +66,14 @@ fn reply_line(alloc: Global, reader: u32, row: u64, reply: &ReplyText) -> Result
     Ok(text)
 }
 
-// Adds who asked, and in which row.
+// Adds `reply`, the reader and the row.
 fn put_asker(text: &mut String, reader: u32, row: u64) -> Result<(), AllocError>
     ensures { OnOk result (string_bytes text.new ≡ string_bytes text.old ++ asker_text reader row) }
 {
     write!(text, "reply {reader} {row} ")
 }
 
-// Adds what is told.
+// Adds the text of a reply.
 fn put_told(text: &mut String, reply: &ReplyText) -> Result<(), AllocError>
     ensures { OnOk result (string_bytes text.new ≡ string_bytes text.old ++ told_text reply.now) }
 {
@@ -86,7 +87,7 @@ fn put_told(text: &mut String, reply: &ReplyText) -> Result<(), AllocError>
     }
 }
 
-// Adds the answer to a question about a tag.
+// Adds the text of a reply to a question about a tag.
 fn put_answer(text: &mut String, reply: &Reply) -> Result<(), AllocError>
     ensures { OnOk result (string_bytes text.new ≡ string_bytes text.old ++ answer_text reply.now) }
 {
@@ -97,7 +98,7 @@ fn put_answer(text: &mut String, reply: &Reply) -> Result<(), AllocError>
     }
 }
 
-// Adds what stands at a time.
+// Adds what a tag reads at a time.
 fn put_reading(text: &mut String, reading: Reading) -> Result<(), AllocError>
     ensures { OnOk result (string_bytes text.new ≡ string_bytes text.old ++ reading_text reading) }
 {
@@ -112,7 +113,7 @@ fn put_reading(text: &mut String, reading: Reading) -> Result<(), AllocError>
     }
 }
 
-// The whole number next to a fraction, the upper one where two are as near; 0 where it is over 0.
+// The whole number nearest to a fraction, the upper one of two that are equally near. A fraction over 0 gives 0.
 fn rounded(f: Frac) -> i128
     ensures { result ≡ whole_of f.num f.den }
 {
@@ -125,7 +126,7 @@ fn rounded(f: Frac) -> i128
     if 2 * rest < den { whole } else { whole + 1 }
 }
 
-// Adds points.
+// Adds each point and a space, and then `more` or `end`.
 fn put_points(text: &mut String, points: &PointList) -> Result<(), AllocError>
     ensures { OnOk result (string_bytes text.new
         ≡ string_bytes text.old ++ points_text points.now.list.items points.now.more) }
@@ -137,7 +138,7 @@ fn put_points(text: &mut String, points: &PointList) -> Result<(), AllocError>
     text.push_str(if points.more { "more" } else { "end" })
 }
 
-// Adds a number, or `none` where there is none.
+// Adds a number, or `none` if there is none.
 fn put_number(text: &mut String, number: Option<i128>) -> Result<(), AllocError>
     ensures { OnOk result (string_bytes text.new ≡ string_bytes text.old ++ number_text number) }
 {
@@ -147,7 +148,7 @@ fn put_number(text: &mut String, number: Option<i128>) -> Result<(), AllocError>
     }
 }
 
-// Adds the value of a calculation, or `none` where there is none.
+// Adds the value of a calculation, or `none` if there is none.
 pub(crate) fn put_value(text: &mut String, value: Option<CalcValue>) -> Result<(), AllocError>
     ensures { OnOk result (string_bytes text.new ≡ string_bytes text.old ++ value_text value) }
 {
@@ -158,7 +159,7 @@ pub(crate) fn put_value(text: &mut String, value: Option<CalcValue>) -> Result<(
     }
 }
 
-// Why a value is no number.
+// The text for the reason why a value is no number.
 fn cause_text(why: Bad) -> &'static str
     ensures { result.now ≡ cause_text why }
 {

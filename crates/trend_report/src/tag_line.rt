@@ -7,13 +7,13 @@ use crate::point_text::put_held;
 use std::alloc::{AllocError, Global};
 use trend_num::{Kind, Name, Point, Rec, Summary, WantOfMemory};
 
-/// What a session has made of a tag.
+/// What a session has made of a tag, as its line prints it.
 #[derive(Clone, Copy, Debug, PartialEq, Eq)]
 pub struct TagLine {
     pub name: Name,
-    /// How many events, raw values and retunings, were taken since the tag began.
+    /// How many events (raw values and retunings) the tag has taken since it began.
     pub taken: u64,
-    /// How many records there are: kept and late ones.
+    /// How many records the tag has, kept and late ones together.
     pub records: u32,
     pub kept: u32,
     pub late: u32,
@@ -21,8 +21,8 @@ pub struct TagLine {
     pub held: Option<Point>,
 }
 
-/// What is told of a tag of this name, with these records and this state beside them. A count that is no `u32` is told as memory
-/// that is not there.
+/// Returns the line's content for a tag with this name, these records and this summary. Returns `WantOfMemory` if the
+/// kept or the late records are too many for a `u32`.
 pub fn line_of(name: Name, recs: &[Rec], summary: &Summary) -> Result<TagLine, WantOfMemory>
     ensures { IfOk result (λ line. line ≡ tag_line_of name recs.now summary.now) }
 {
@@ -44,29 +44,29 @@ pub fn line_of(name: Name, recs: &[Rec], summary: &Summary) -> Result<TagLine, W
     })
 }
 
-// How many records were kept.
+// How many records are kept.
 fn kept_count(recs: &[Rec]) -> usize
     ensures { result ≡ count_by (λ r. is_kept r.kind) recs.now }
 {
     recs.iter().filter(|r| matches!(r.kind, Kind::Kept)).count()
 }
 
-// How many records came late.
+// How many records are late.
 fn late_count(recs: &[Rec]) -> usize
     ensures { result ≡ count_by (λ r. is_late r.kind) recs.now }
 {
     recs.iter().filter(|r| matches!(r.kind, Kind::Late)).count()
 }
 
-/// The line `tag NAME taken=N records=R kept=K late=L held=HELD`, with its line feed. HELD is `T,V` or
-/// `none`.
+/// Returns the line `tag NAME taken=N records=R kept=K late=L held=HELD`, with its line feed. HELD is `T,V` or `none`.
+/// Returns `WantOfMemory` if the memory cannot be allocated.
 pub fn tag_text(alloc: Global, line: &TagLine) -> Result<String, WantOfMemory>
     ensures { IfOk result (λ text. string_bytes text ≡ tag_text line.now) }
 {
     Ok(tag_line(alloc, line)?)
 }
 
-// The same, with the allocator's own error.
+// Like `tag_text`, with the allocator's own error.
 fn tag_line(alloc: Global, line: &TagLine) -> Result<String, AllocError>
     ensures { IfOk result (λ text. string_bytes text ≡ tag_text line.now) }
 {

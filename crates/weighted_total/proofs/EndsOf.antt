@@ -58,7 +58,7 @@ pub not_true : (b : Bool) → (b ≡ true → ⊥) → b ≡ false
 not_true true never = absurd (never refl)
 not_true false never = refl
 
--- where no point stands from the end on, the window is not covered
+-- where no point is from the end on, the window is not covered
 pub uncovered_end : (cs : List Point) (from to : ℕ) (before after : Option Point)
     → AreNeighbours cs to before after → after ≡ None
     → is_covered cs from to ≡ false

@@ -1,4 +1,4 @@
-// Totals over points of a content that stand one after another.
+// Totals over points of a content that follow one another.
 ghost use Rattle.std.specs.Prelude.{◌≡◌, ◌+◌, ◌*◌, ◌^◌, ◌<◌, ◌≤◌, ◌+ℤ◌, ◌∷◌, false, length, slice_range};
 ghost use Rattle.std.specs.Prelude.{unsigned_abs};
 ghost use Rattle.trend_num.specs.Ranges.{InRange, largest_value, last_time};
@@ -10,7 +10,7 @@ ghost use Rattle.trend_model.specs.Windows.{piece};
 use late_insert::{Content, piece};
 use trend_num::Point;
 
-// Points one after another: the first, the last, and twice the area under them.
+// Points that follow one another: the first, the last, and twice the area under them.
 #[derive(Clone, Copy)]
 pub(crate) struct Part {
     pub first: Point,
@@ -18,14 +18,14 @@ pub(crate) struct Part {
     pub area: i128,
 }
 
-// The area under a start and the points after it, with the last of these points.
+// Twice the area under a start and the points after it, and the last of these points.
 #[derive(Clone, Copy)]
 pub(crate) struct Area {
     pub twice: i128,
     pub last: Point,
 }
 
-// Twice the area under the start and the points at the places from `first` on, before `behind`.
+// Twice the area under the start and the points at the places from `first` to `behind`, the latter excluded.
 pub(crate) fn area_inside(
     content: &Content,
     step: bool,
@@ -41,7 +41,7 @@ pub(crate) fn area_inside(
     ensures last { result.last ≡ last_from start (slice_range (points_of content.now.records) first behind) }
     ensures range { InRange result.last }
 {
-    // Called for its clauses: the points rise, and are in range.
+    // Called for its clauses: the points rise and are in range.
     let _len = content.len();
     let mut area = Area {
         twice: 0,
@@ -59,7 +59,7 @@ pub(crate) fn area_inside(
     area
 }
 
-// The area with one part more.
+// The area with one more part.
 fn joined(step: bool, area: Area, part: Part) -> Area
     requires last { InRange area.last }
     requires first { InRange part.first }
@@ -94,8 +94,8 @@ pub(crate) struct Extremes {
     pub high: i64,
 }
 
-// The least value and the greatest of a start and of the points at the places from `first` on, before
-// `behind`.
+// The least value and the greatest of a start and of the points at the places from `first` to `behind`, the latter
+// excluded.
 pub(crate) fn extremes_inside(content: &Content, start: Point, first: u32, behind: u32) -> Extremes
     requires order { first ≤ behind }
     requires within { behind ≤ length content.now.records }
@@ -114,7 +114,7 @@ pub(crate) fn extremes_inside(content: &Content, start: Point, first: u32, behin
     extremes
 }
 
-// The least value and the greatest with two more.
+// The least value and the greatest, of these and two more values.
 pub(crate) fn widened(extremes: Extremes, low: i64, high: i64) -> Extremes
     ensures low { result.low ≡ lesser extremes.low low }
     ensures high { result.high ≡ greater extremes.high high }

@@ -14,9 +14,9 @@ use crate::shape::{Ends, ends_of};
 use late_insert::{Content, piece};
 use trend_num::{Measure, Point, round_half_up};
 
-/// A measure of a tag's window from one time to a later one, by the tag's line or, of a step tag, by its stair: none exactly
-/// where the window starts before the first point, or ends after the last, or there is no point. The held point is not
-/// before a point of the content.
+/// Returns a measure of a tag's window from one time to a later one. The measure is by the tag's line or, of a step
+/// tag, by its stair. Returns `None` exactly if the window starts before the first point, ends after the last, or there
+/// is no point. The caller ensures that no point of the content is after the held point.
 pub fn window_value(
     content: &Content,
     held: Option<Point>,
@@ -35,7 +35,7 @@ pub fn window_value(
     Some(value_between(content, step, measure, from, to, ends))
 }
 
-/// [`window_value`] of a line.
+/// Returns [`window_value`] of a tag of lines.
 pub fn window(
     content: &Content,
     held: Option<Point>,
@@ -52,7 +52,7 @@ pub fn window(
     window_value(content, held, false, measure, from, to)
 }
 
-/// [`window_value`] of a step tag.
+/// Returns [`window_value`] of a step tag.
 pub fn window_step(
     content: &Content,
     held: Option<Point>,
@@ -69,7 +69,7 @@ pub fn window_step(
     window_value(content, held, true, measure, from, to)
 }
 
-// A measure of the points between the ends of a window, and of these.
+// A measure of a window, from its ends and the points between them.
 fn value_between(
     content: &Content,
     step: bool,
@@ -96,7 +96,7 @@ fn value_between(
     }
 }
 
-// Twice the area under the points between the ends of a window, and under these.
+// Twice the area under the ends of a window and the points between them.
 fn twice_area(content: &Content, step: bool, ends: Ends) -> i128
     requires ends { AreEnds (points_of content.now.records) ends }
     ensures value { result ≡ area step (outline (points_of content.now.records) ends) }
@@ -106,7 +106,7 @@ fn twice_area(content: &Content, step: bool, ends: Ends) -> i128
     sum(inside.twice, piece(step, inside.last, ends.end))
 }
 
-// The least value and the greatest that a window takes: a stair does not take that at its end.
+// The least value and the greatest that a window takes. A stair does not take the value at the window's end.
 fn extremes(content: &Content, step: bool, ends: Ends) -> Extremes
     requires ends { AreEnds (points_of content.now.records) ends }
     ensures low { of_first least_from (taken_values step (outline (points_of content.now.records) ends)) ≡ Some result.low }
@@ -119,12 +119,12 @@ fn extremes(content: &Content, step: bool, ends: Ends) -> Extremes
     widened(inside, ends.end.v, ends.end.v)
 }
 
-// How many points of a content are from one time on, and before another.
+// How many points of a content are at the time `from` or later, and before the time `to`.
 fn counted(content: &Content, from: u64, to: u64) -> u32
     requires { from ≤ to }
     ensures { result ≡ length (counted (points_of content.now.records) from to) }
 {
-    // Called for its clauses: the points rise, and are in range.
+    // Called for its clauses: the points rise and are in range.
     let _len = content.len();
     content.below(to) - content.below(from)
 }

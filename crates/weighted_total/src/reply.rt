@@ -1,4 +1,4 @@
-// What a tag answers to a question.
+// The reply of a tag to a question.
 ghost use Rattle.std.specs.Prelude.{IfOk};
 ghost use Rattle.trend_num.specs.Queries.{IsTagQuery};
 ghost use Rattle.trend_num.specs.Ranges.{InRange};
@@ -13,8 +13,9 @@ use late_insert::Content;
 use std::alloc::Global;
 use trend_num::{Point, TagQuery, WantOfMemory};
 
-/// What a tag answers to a question about its closed content, by its line or, of a step tag, by its stair. The held point
-/// is not before a point of the content. The one error is want of memory, for the points that it lists.
+/// Returns a tag's reply to a question about its closed content, by its line or, of a step tag, by its stair. The
+/// caller ensures that no point of the content is after the held point. Returns `WantOfMemory` if the memory for the
+/// points of a list cannot be allocated.
 pub fn answer(
     alloc: Global,
     content: &Content,

@@ -15,19 +15,19 @@ use interp_read::{Neighbours, Reading, neighbours_at, reading_of};
 use late_insert::Content;
 use trend_num::{Point, round_half_up};
 
-// The ends of a shape, and the places of the points inside.
+// The ends of a shape, and the places of the points between them.
 #[derive(Clone, Copy)]
 pub(crate) struct Ends {
     /// The start, as it reads.
     pub start: Point,
-    /// The place of the first point inside, and that behind the last.
+    /// The place of the first point inside, and the place after the last.
     pub first: u32,
     pub behind: u32,
     /// The end, as it reads.
     pub end: Point,
 }
 
-// The shape of a window, where it is covered.
+// The shape of a window, if the window is covered.
 pub(crate) fn ends_of(
     content: &Content,
     held: Option<Point>,
@@ -43,7 +43,7 @@ pub(crate) fn ends_of(
         (IsShape step (points_closed_by held content.now.records) (points_of content.now.records) from to) }
     ensures uncovered { IfNone result (is_covered (points_closed_by held content.now.records) from to ≡ false) }
 {
-    // Called for its clauses: the points rise, and are in range.
+    // Called for its clauses: the points rise and are in range.
     let _len = content.len();
     let begin = neighbours_at(content, held, from);
     let stop = neighbours_at(content, held, to);
@@ -58,7 +58,7 @@ pub(crate) fn ends_of(
     })
 }
 
-// The value of a line or a stair at t, rounded, by the points next to t.
+// The rounded value of a line or a stair at the time t, from the points next to t.
 fn value_at(
     content: &Content,
     held: Option<Point>,
@@ -73,12 +73,12 @@ fn value_at(
     requires after_range { IfSome next.after InRange }
     ensures { result ≡ value_read (read_at step (points_closed_by held content.now.records) t) }
 {
-    // Called for its clauses: the points rise, and are in range.
+    // Called for its clauses: the points rise and are in range.
     let _len = content.len();
     value_of(reading_of(next, step, t))
 }
 
-// The value of what is read, rounded.
+// The value of a read, rounded.
 fn value_of(reading: Reading) -> Option<i64>
     requires { IsReadable reading }
     ensures { result ≡ value_read reading }

@@ -8,7 +8,7 @@ use Rattle.interp_read.proofs.Listing.{copied_first, left_over}
 use Rattle.interp_read.proofs.list.points.Goals as goal
 use Rattle.interp_read.proofs.list.points.Goals.{After-completed}
 
--- the list begins with the first 256 points, and tells whether more are left
+-- the list begins with the first 256 points, and says whether more are left
 listed : (c : After-completed)
     → (c.in_ok-list.list.items ≡ take 256 (points_from_to (points_of c.args.content.now.records) c.args.from c.args.to))
     × (IsTrue (nat_lt c.min-stop.result c.places_from_to-places.result.end)

@@ -12,7 +12,7 @@ use Rattle.late_insert.proofs.Summing.{area_pushed_fits, page_pushed, value_fits
 use Rattle.late_insert.proofs.page.append.Goals as goal
 use Rattle.late_insert.proofs.page.append.Goals.{After-store, After-piece-2}
 
--- the record stands behind the others
+-- the record is after the others
 pushed : (c : After-store) → IsPushed c.args.frame.now c.store.new.frame c.args.rec c.point_at-last.result
 pushed c = is_pushed _ c.store.new.frame c.args.rec _ c.requires.page c.requires.some c.point_at-last.ensures.value
     c.store.ensures.recorded c.store.ensures.records c.store.ensures.area c.store.ensures.low c.store.ensures.high

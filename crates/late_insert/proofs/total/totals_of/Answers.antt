@@ -19,7 +19,7 @@ before c =
     (rec_in_range c.args.frame.now _ c.requires.recorded
     (omega (arith, c.loop-i.invariant.line.below, c.loop-i.invariant.line.within)))
 
--- a total and the piece behind it fit
+-- a total and the piece after it fit
 more_fits : (step : Bool) (c : After-point_at-p) (all part : ℤ) → IsTotal (area step) c.args.frame.now 0 c.loop-i.i all
     → FitsSigned w128 part → part ≡ piece step c.loop-i.before c.point_at-p.result
     → FitsSigned w128 (to_z w128 (of_z w128 all) +ℤ to_z w128 (of_z w128 part))

@@ -18,7 +18,7 @@ loop-run-init c = record {
 next : (c : After-area) → IsRunOf c.loop-run.runs c.in-Some.run' c.next.new.self c.first.result c.last.result
 next c = record { split = c.in-Some.ensures.front; first = c.first.ensures.value; last = c.last.ensures.value }
 
--- so the walk goes on by it
+-- so the walk continues by it
 step : (c : After-area) → IsStep c.args.step c.loop-run.area.last c.first.result c.loop-run.area.twice (area c.args.step c.in-Some.run')
 step c =
     walk_step c.args.step c.args.start (slice_range (points_of c.args.content.now.records) c.args.first c.args.behind) _ _ _ _ _ _ _

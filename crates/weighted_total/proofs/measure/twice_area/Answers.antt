@@ -18,7 +18,7 @@ pub piece-requires-clause-second : goal.piece-requires-clause-second
 piece-requires-clause-second c =
     end_in_range (points_of c.args.content.now.records) c.args.ends c.requires.ends
 
--- the area inside and the piece behind it are those of the whole
+-- the area inside and the piece after it are those of the whole
 sums : (c : After-piece)
     → AreSums c.area_inside-inside.result.twice c.piece.result
     (area c.args.step (outline (points_of c.args.content.now.records) c.args.ends))

@@ -29,7 +29,7 @@ put_in-requires-2-clause-within c =
     let within = subst (λ (s : Listed). c.args.at ≤ length s.items) (sym c.self.view_is) c.requires.within in
     omega (arith, within, listed_length _ _ _ ordered, ordered.firsts, c.self.inside.firsts.ok.0)
 
--- the page behind which it is put is there
+-- the page after which it is put is there
 upto : (c : After-push_reserved) → c.args.at ≤ length c.self.inside.leaves.items
 upto c =
     let ordered : AreOrdered c.self.inside.leaves.items c.self.inside.order.items c.self.inside.firsts.items =
