@@ -11,8 +11,8 @@ use std::alloc::Global;
 const PIECE: usize = 65536;
 
 /// Reads a file to its end, and returns all its bytes. It reads at most `limit + 1` bytes in all. The file stays as it
-/// is. `limit` counts bytes. It fails with `ReadFault` if a read failed, with `TooLong` if the file is longer than
-/// `limit`, and with `WantOfMemory` if there is no memory for the bytes.
+/// is. `limit` counts bytes. It fails with `ReadFault` if a read failed, and with `TooLong` if the file is longer than
+/// `limit`. It fails with `WantOfMemory` if there is no memory for the bytes.
 pub fn read_file<F: Files>(
     alloc: Global,
     files: &mut F,

@@ -46,8 +46,8 @@ impl Calls {
     }
 }
 
-/// A source of bytes in memory. A clause sees the bytes that are left, the numbers of the calls that are to fail,
-/// counted from 0, and how many calls and faults there were.
+/// A source of bytes in memory. A clause sees the bytes that are left, and how many calls and faults there were. It
+/// also sees the numbers of the calls that are to fail, counted from 0.
 #[derive(Debug, Drop)]
 pub struct MemSource {
     bytes: Vec<u8>,
@@ -137,8 +137,8 @@ impl Source for MemSource {
     }
 }
 
-/// A sink that keeps its bytes in memory. A clause sees the bytes that it was given, the numbers of the calls that are
-/// to fail, counted from 0, and how many calls and faults there were.
+/// A sink that keeps its bytes in memory. A clause sees the bytes that it was given, and how many calls and faults
+/// there were. It also sees the numbers of the calls that are to fail, counted from 0.
 #[derive(Debug, Drop)]
 pub struct MemSink {
     bytes: Vec<u8>,

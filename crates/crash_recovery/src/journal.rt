@@ -79,8 +79,8 @@ impl<D: Disk> Journal<D> {
         requires in_range { All InRange points.now }
         requires number { self.old.acked + length points.now < 2 ^ 64 }
 
-        // If the values find room in what each image recovers, a crash at any moment leaves an image that recovers the
-        // same, or that and all of these values. At Ok, it recovers all of these values too.
+        // Let the values find room in what each image recovers. Then a crash at any moment leaves an image that
+        // recovers the same, or that and all of these values. At Ok, it recovers all of these values too.
         ensures crash { (def : TagDef) (s : State) → AllRecover def (D.trace self.old.dev) s
             → AllFit def.step s (map Raw points.now)
             → LeavesEither def (D.trace self.old.dev) (D.trace self.new.dev) s
@@ -109,9 +109,9 @@ impl<D: Disk> Journal<D> {
     /// that the summary counts, then the summary, and then begins the lane anew. At Ok all of the core's events are
     /// acknowledged. If they are already, and each lane slot is free, it makes no call.
     ///
-    /// It fails with WantOfMemory if there is no memory. It also does so, before any call, if the core has taken 10^18
-    /// events or more, or if something is left to do and the core has taken no more events than the last summary
-    /// counts. After DeviceFault the device has to be opened again before it is used.
+    /// It fails with WantOfMemory if there is no memory. It also refuses two cores so, before any call: one that has
+    /// taken 10^18 events or more; and, if something is left to do, one that has taken no more events than the last
+    /// summary counts. After DeviceFault the device has to be opened again before it is used.
     pub fn checkpoint(&mut self, alloc: Global, core: &TagCore) -> Result<(), PutNo>
         requires usable { self.old.failed ≡ false }
 

@@ -60,8 +60,8 @@ pub fn open_tag<D: Disk>(
     requires few { lane_slots ≤ 65536 }
     requires tuned { TuningInRange def.now.tuning }
 
-    // A crash at any moment leaves one of three images: one that a crash before might have left, one that recovers what
-    // the device recovered at the start, or one that recovers that state as it is opened.
+    // A crash at any moment leaves one of three images. The first is one that a crash before might have left. The
+    // second recovers what the device recovered at the start. The third recovers that state as it is opened.
     ensures any_moment { IfOk result (λ o. StaysSame def.now (D.trace dev) (D.trace o.journal.dev)) }
     ensures any_moment_refused { IfErr result (λ e. StaysSame def.now (D.trace dev) (D.trace e.dev)) }
 

@@ -5,8 +5,8 @@ use Rattle.disk_model.specs.declared.memory_disk.Pick.TheVariants.{Old, New, Fil
 use Rattle.disk_model.specs.Traces.{DeviceCall, Wrote, WroteInPart, Resized, ResizedInPart, Synced, Idle, Trace, written, resized, content}
 use Rattle.disk_model.specs.Calls.{next_count}
 
--- a device in memory: its trace, the numbers of the calls that are to fail, the number from which on all are to fail,
--- whether it stops together with others, and its counts
+-- a device in memory: its trace, the numbers of the calls that are to fail, and the number from which all are to fail;
+-- whether it stops together with others; and its counts
 pub record DiskState : Type 0 where
   pub trace : Trace
   pub failing_calls : List ℕ

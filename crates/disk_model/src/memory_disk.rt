@@ -22,8 +22,9 @@ pub enum Pick {
     Fill(u8),
 }
 
-// The calls of a device: the numbers of those that are to fail, the number from which all are to fail, the count that
-// it shares with others, how many calls and faults there were, and the clock. A count stays at the end of its type.
+// The calls of a device. `failing` has the numbers of those that are to fail, and from number `stop` on all are to
+// fail. `share` is the count that the device shares with others. Then come how many calls and faults there were, and
+// the clock. A count stays at the end of its type.
 #[derive(Drop)]
 struct Calls {
     failing: Vec<u64>,

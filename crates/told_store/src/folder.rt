@@ -98,9 +98,9 @@ impl<R: Files<File = File> + AllocGlobal> Folder<R> {
     }
 
     /// Writes the file of a device anew after a call on it has failed. If that fails too, and a sync was among the
-    /// failed calls, the file gets a mark, because what the system shows of it may not be on the disk. The next run
-    /// that can write the file anew does so before it relies on what it reads. A file that may not be written gets no
-    /// mark, because no call has changed it.
+    /// failed calls, the file gets a mark: what the system shows of it may not be on the disk. The next run that can
+    /// write the file anew does so before it relies on what it reads. A file that may not be written gets no mark,
+    /// because no call has changed it.
     pub(crate) fn settle(&self, name: &str, bytes: &[u8], is_unsynced: bool) {
         let Err(error) = self.renew(name, bytes) else {
             return;
