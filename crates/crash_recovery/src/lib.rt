@@ -3,8 +3,8 @@
 //! `device_layout` defines over the bytes of an image what it recovers, and where it is damaged.
 //!
 //! [`open_tag`] makes the layout of a new device, or reads what the device recovers into a core. If the layout is
-//! broken, it returns the first byte of the first field that breaks it. If another tuning than the wanted one is in
-//! force, it retunes the tag.
+//! broken, its error names the first byte of the first field that breaks it. If another tuning than the wanted one is
+//! in force, it retunes the tag.
 //!
 //! [`Journal::commit`] acknowledges a batch of values. [`Journal::checkpoint`] writes the new records and a new
 //! summary, and begins the lane anew.

@@ -200,7 +200,7 @@ fn records_of<D: Disk>(
     }
 }
 
-/// Returns the refusal because the byte at a place is damaged.
+/// Returns the refusal for a damaged byte at a place.
 pub fn damaged(at: u64, byte: u8) -> OpenNo
     ensures { result ≡ Damaged at (Some byte) }
 {

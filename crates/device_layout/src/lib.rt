@@ -9,7 +9,7 @@
 //!
 //! [`make_layout`] makes the layout of a new device. A crash at any moment leaves a new device or the whole layout.
 //! [`read_layout`] and [`read_stored`] read the header, the summary that counts and the records. If the layout is
-//! broken, they return the first byte of the first field that breaks it. The crates above test whether records and
+//! broken, the error names the first byte of the first field that breaks it. The crates above test whether records and
 //! summary can be those of a tag, and whether the lane keeps its layout.
 #![tactic(auto)]
 

@@ -2,9 +2,11 @@
 //!
 //! A [`Disk`] holds bytes, and a [`Store`] hands out disks by name. A proof sees the calls on a device as plain data, a
 //! trace: the bytes at first and the calls since. Three things are defined from the trace alone: what a read returns,
-//! what a crash now may leave, and what a crash at any moment since some call might have left. A crash between two
-//! syncs may leave any bytes in each written range and past the old end, and any length between. A crash after a sync
-//! that answered Ok leaves exactly what a read returns. That a real disk keeps to this is a premise: it is not proved.
+//! what a crash now may leave, and what a crash at any moment since some call might have left.
+//!
+//! A crash between two syncs may leave any bytes in each written range and past the old end. It may leave any length
+//! between the least and the greatest. A crash after a sync that answered Ok leaves exactly what a read returns. That a
+//! real disk keeps to this is a premise: it is not proved.
 //!
 //! [`write_guarded`] writes bytes while their gate is closed, and then opens the gate. A crash at any moment, within
 //! its calls too, leaves the bytes whole and the gate open, or the gate closed. [`close_gates`] closes gates, and never
@@ -12,7 +14,6 @@
 //! given number of bytes of it.
 //!
 //! [`MemDisk`] and [`MemStore`] are in memory. They fail at the calls that a test chooses, and give the images that a
-//! crash may leave.
 //! crash may leave.
 #![tactic(auto)]
 

@@ -4,10 +4,11 @@
 //! **Layer.** It uses the texts of a base, a plan and rows (`tag_base`, `value_rows`), and each command uses it. It
 //! opens no device.
 //!
-//! **Model.** A proof knows of a file what its name reads as (`IsRead` of its bytes). [`base_of`], [`plan_of`],
-//! [`rows_of`] and [`queries_of`] return what the bytes spell. The last two return one list for each file, in plan
-//! order. [`read_session`] returns all four. [`read_collected`] returns all but the queries, for a command whose
-//! readers do not ask.
+//! **Model.** A proof knows one of three things of a file (`FileTold`): nothing, that it is missing, or its bytes.
+//! `IsReadWhole` says that these are its bytes, within the limit. [`base_of`], [`plan_of`], [`rows_of`] and
+//! [`queries_of`] return what the bytes spell. The last two return one list for each file, in plan order.
+//! [`read_session`] returns all four. [`read_collected`] returns all but the queries, for a command whose readers do
+//! not ask.
 //!
 //! **Promise.** What is returned is what the files hold, whole and in form. Otherwise the first cause is returned as a
 //! [`Status`], in the order of base, plan, collectors, readers, number of rows:
@@ -20,9 +21,9 @@
 //! is counted, and it is known of which file (`IsFaultOfPlanned`).
 //!
 //! [`number_upto`] and [`count_upto`] read a word as a number within a limit. [`finish`] prints the text that a command
-//! answers. If the command refuses, it prints by [`refuse`] the one line of the status. It returns the status of the
-//! whole. `IsPrintedSo` and `IsTold` say what the output gained then. `PrintsSo` says it of a command as a whole, whose
-//! texts and refusals are known.
+//! answers. If the command refuses, [`finish`] prints the one line of the refusal, by [`refuse`]. It returns the status
+//! of the whole. `IsPrintedSo` and `IsTold` say what the output gained then. `PrintsSo` says the same of a whole
+//! command, whose texts and refusals are known.
 #![tactic(auto)]
 
 mod answer_text;

@@ -15,18 +15,17 @@
 //! **Only trusted, and to be read**, because no clause knows what the system does:
 //!
 //! - `host.rt`: each method makes the one call that it notes.
-//! - `folder.rt`: it locks the folder, and reads and opens the file that a device's name says. It refuses a link, a
-//!   file
-//! with two names, a file of more than 1 GB, and a file whose length has changed since it was read.
+//! - `folder.rt`: it locks the folder, and reads and opens the file of a device's name. It refuses a link, a file with
+//!   two names, a file of more than 1 GB, and a file whose length has changed since it was read.
 //!
 //! A refused device counts a fault, and its file stays untouched. If another process has the folder, or the folder
 //! cannot be read, every device is refused so. A file that may not be written is opened for reading, and a write of it
 //! is then a fault.
 //!
-//! If a call on a device has failed, the store writes the device anew, whole, when it is given back. The reason is that
-//! the system may show bytes that never came to the disk. The new file is synced and takes the old one's name. If that
-//! fails, a file `NAME.fault` marks the device. The next run that can do it writes the device anew before it relies on
-//! what it reads.
+//! If a write, a cut or a sync of a device has failed, the store writes the device anew, whole, when it is given back.
+//! The reason is that the system may show bytes that never came to the disk. The new file is synced and takes the old
+//! one's name. If that fails too, and a sync had failed, a file `NAME.fault` marks the device. A file that may not be
+//! written gets no mark. The next run that can do it writes the device anew before it relies on what it reads.
 //!
 //! **Premises**, which no program can prove: a crash leaves of a file one of the images that the model allows for these
 //! calls; only this process, which holds the lock, writes to the folder; the next run reads what the crash has left.
@@ -34,7 +33,7 @@
 //! If the first byte of a device in use is damaged, the store refuses the device (`first_byte.rt`), because it would be
 //! made anew. The store takes three kinds of devices for such a one:
 //!
-//! - a device whose first byte is neither an open gate nor 00;
+//! - a device of two bytes or more whose first byte is neither an open gate nor 00;
 //! - a device of a tag or a log that begins with 00, although a later gate was opened;
 //! - a device of a tag that begins with no open gate, and is longer than its making leaves it.
 #![tactic(auto)]
