@@ -72,8 +72,8 @@ most_remembered = 255
 abbrev pub remembered : List ℕ → Option (List ℕ)
 remembered name = if nat_le (length name) most_remembered then Some name else None
 
--- files in memory: their names and bytes, the numbers of the calls that are to fail, the counts, and what they remember of
--- the name whose read failed last
+-- files in memory: their names and bytes, the numbers of the calls that are to fail, and the counts; and what they
+-- remember of the name whose read failed last
 pub record FilesState : Type 0 where
   pub files : NamedFiles
   pub failing_calls : List ℕ

@@ -18,8 +18,8 @@ use Rattle.device_layout.specs.Recovery.{header_of, taken_in, records_in, counti
 
 -- ---- what it shows
 
--- a journal on a device of this type: how many events are acknowledged, how many lane slots there are and how many are free,
--- and whether a call of the device has failed
+-- a journal on a device of this type: how many events are acknowledged, how many lane slots there are, and how many of
+-- them are free; and whether a call of the device has failed
 pub record Logged (D : Type 0) : Type 0 where
   pub dev : D
   pub acked : ℕ

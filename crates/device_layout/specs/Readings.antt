@@ -74,8 +74,8 @@ pub record CountsSummary (def : TagDef) (slots : ℕ) (slot : Slot) (s : Summary
   pub summary : HasSummary c (Some slot) s
   pub tuning : u ≡ recovered_tuning (tuning_in (header_of c)) s.tuning
 
--- this was found on a layout with so many lane slots: the summary that counts, the records that it counts, and the tuning in
--- force
+-- this was found on a layout with so many lane slots: the summary that counts, the records that it counts, and the
+-- tuning in force
 pub record IsFoundOn (def : TagDef) (slots : ℕ) (x : Stored) (c : List ℕ) : Type 0 where
   pub tag : IsOfTag def c
   pub long : log_place c ≤ length c

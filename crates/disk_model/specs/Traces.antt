@@ -1,8 +1,8 @@
 -- A device, as the bytes that it held at first and the calls on it since.
 use Rattle.std.specs.Prelude.{ℕ, ◌+◌, ◌-◌, List, [], ◌∷◌, ◌++◌, length, take, drop, replicate, Option, None, Some}
 
--- a call that may change what a crash leaves. A call in part answered that it failed, and may have done some of its work;
--- an idle one did none
+-- a call that may change what a crash leaves. A call in part answered that it failed, and may have done some of its
+-- work. An idle call did nothing
 pub data DeviceCall : Type 0 where
   Wrote : (at : ℕ) (bytes : List ℕ) → DeviceCall
   WroteInPart : (at : ℕ) (bytes : List ℕ) → DeviceCall

@@ -69,7 +69,6 @@ pub fn short_line(line: &[u8]) -> &'static [u8]
     b"x,,"
 }
 
-// How many commas a line has.
 fn commas(line: &[u8]) -> usize
     ensures { result ≡ count_by (λ b. nat_eq b COMMA) line.now }
 {

@@ -197,7 +197,6 @@ const TENS: [u64; 9] = [
     100_000_000,
 ];
 
-// A power of ten.
 #[inline(always)]
 fn ten_to(n: usize) -> u64
     requires { n ≤ 8 }

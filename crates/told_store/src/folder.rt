@@ -135,7 +135,7 @@ impl<R: Files<File = File> + AllocGlobal> Folder<R> {
         file.sync_all()
     }
 
-    // Marks the file of a device.
+    // Makes the file that marks the device, and syncs it and its name.
     fn mark(&self, name: &str) -> io::Result<()> {
         self.remove(name, MARK)?;
         File::create_new(&self.rt, self.path(name, MARK)?.as_str())?.sync_all()?;
