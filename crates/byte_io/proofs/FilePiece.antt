@@ -17,7 +17,7 @@ IsRead-nil Untold = tt
 IsRead-nil Missing = refl
 IsRead-nil (Holds all) = refl
 
--- two pieces, one behind the other
+-- two pieces, one after the other
 pub IsRead-append : (file : FileTold) (xs ys : List ℕ) → IsRead file xs → HasAt file (length xs) ys → IsRead file (xs ++ ys)
 IsRead-append Untold xs ys before piece = tt
 IsRead-append Missing xs ys before piece = absurd piece

@@ -1,4 +1,4 @@
--- What the files of a folder are seen as: the count of their faults, and nothing of what they hold.
+-- How a proof sees the files of a folder: the count of their faults, and nothing of what they hold.
 use Rattle.std.specs.Prelude.{ℕ}
 use Rattle.byte_io.specs.declared.folder_files.DirFiles.{DirFiles}
 

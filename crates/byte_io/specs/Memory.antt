@@ -1,4 +1,4 @@
--- What a source and a sink in memory are seen as.
+-- How a proof sees a source and a sink in memory.
 use Rattle.std.specs.Prelude.{ℕ, List}
 
 -- a source in memory: its bytes that are left, the numbers of the calls that are to fail, and its counts

@@ -2,8 +2,8 @@
 use Rattle.std.specs.Prelude.{◌≡◌, ℕ, ◌+◌, ◌-◌, ◌^◌, ◌<◌, ◌≤◌, min, List, Option, length, take}
 use Rattle.std.specs.Io.KnownBytes.{Appends, Consumes, IsAtEnd}
 
--- the meaning of a source or of a sink: the bytes that a source has left, or that a sink was given, where it tells them; and
--- how many of its calls have failed
+-- the meaning of a source or of a sink: the bytes that a source has left, or that a sink was given, if they are known;
+-- and how many of its calls have failed
 pub record Outside : Type 0 where
   pub content : Option (List ℕ)
   pub faults : ℕ

@@ -1,4 +1,4 @@
--- What a source and a sink over readers and writers of std are seen as.
+-- How a proof sees a source and a sink over readers and writers of std.
 use Rattle.std.specs.Prelude.{ℕ}
 use Rattle.byte_io.specs.declared.standard.StdSource.{StdSource}
 use Rattle.byte_io.specs.declared.standard.StdSink.{StdSink}

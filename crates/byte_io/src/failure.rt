@@ -11,7 +11,7 @@ pub struct Failed;
 #[error("a write failed")]
 pub struct WriteFault;
 
-/// Why a source was not read to its end. What was read until then is gone from the source.
+/// Why a source was not read to its end. What was read until then has been taken from the source.
 #[derive(Debug, Clone, Copy, PartialEq, Eq, Error)]
 pub enum ReadNo {
     /// A read failed.

@@ -10,8 +10,9 @@ use std::alloc::Global;
 // How many bytes are asked of a file at once.
 const PIECE: usize = 65536;
 
-/// Reads a file to its end, and returns all its bytes. At most `limit + 1` bytes are read in all, and the
-/// file stays as it is. `limit` counts bytes.
+/// Reads a file to its end, and returns all its bytes. It reads at most `limit + 1` bytes in all. The file stays as it
+/// is. `limit` counts bytes. It fails with `ReadFault` if a read failed, and with `TooLong` if the file is longer than
+/// `limit`. It fails with `WantOfMemory` if there is no memory for the bytes.
 pub fn read_file<F: Files>(
     alloc: Global,
     files: &mut F,
@@ -23,7 +24,7 @@ pub fn read_file<F: Files>(
     ensures within { IfOk result (λ v. vec_len v ≤ limit) }
     ensures stays { F.told files.new ≡ F.told files.old }
 
-    // When each error comes. No clause says that there is memory, but a file that holds nothing needs none.
+    // When each error comes. No clause promises that there is memory, but a file that holds nothing needs none.
     ensures too_long { IsErrOf result (TooLong limit) → IsLongerThan (F.told files.old name.now) limit }
     ensures own_limit { (n : ℕ) → IsErrOf result (TooLong n) → n ≡ limit }
     ensures want_of_memory { IsErrOf result WantOfMemory → IsLongerThan (F.told files.old name.now) 0 }

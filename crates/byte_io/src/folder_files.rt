@@ -1,4 +1,4 @@
-// Files of the working folder. Nothing is said of what they hold.
+// Files of the working folder. No clause says what they hold.
 ghost use Rattle.std.specs.Prelude.{◌≡◌, ◌≤◌, length, IfOk};
 
 use crate::retry::read_again;
@@ -16,7 +16,8 @@ struct Opened {
 }
 
 impl Opened {
-    // Opens a file and goes to a place of it. A file without places, as a pipe is, can be read from its beginning alone.
+    // Opens a file and moves to a place of it. A file without places, such as a pipe, can be read only from its
+    // beginning.
     fn at<R: rt::Files<File = File> + AllocGlobal>(
         rt: &R,
         name: &str,
@@ -30,14 +31,15 @@ impl Opened {
         Ok(Opened { name, file, at })
     }
 
-    // Whether this file was read as far as this place.
+    // Returns whether this file was read as far as this place.
     fn is_at(&self, name: &str, at: u64) -> bool {
         self.name.as_str() == name && self.at == at
     }
 }
 
-/// The files of the working folder, or of another where a name is a path. A file stays open while it is read on in order, so all of
-/// it comes from one file, also where another is given its name meanwhile. Each error, also that a file is missing, is a fault.
+/// The files of the working folder, or of another if a name is a path. A file stays open while it is read in order. So
+/// all of it comes from one file, even if another file gets its name meanwhile. Each error is a fault, also if a file
+/// is missing.
 #[derive(Drop)]
 pub struct DirFiles<R> {
     rt: R,
@@ -48,7 +50,7 @@ pub struct DirFiles<R> {
 impl<R> DirFiles<R> {
     ghost use Rattle.byte_io.specs.Folders.{folder_faults};
 
-    /// The files of the working folder, with no fault so far.
+    /// Returns the files of the working folder, with no fault so far.
     pub fn new(rt: R) -> DirFiles<R>
         ensures faults { folder_faults result ≡ 0 }
     {
@@ -59,7 +61,7 @@ impl<R> DirFiles<R> {
         }
     }
 
-    /// How many reads failed. The count stays at the end of its type.
+    /// Returns how many reads failed. The count stays at the end of its type.
     pub fn faults(&self) -> u64
         ensures { result ≡ folder_faults self.now }
     {
@@ -68,7 +70,7 @@ impl<R> DirFiles<R> {
 }
 
 impl<R: rt::Files<File = File> + AllocGlobal> DirFiles<R> {
-    // The file of this name, read as far as this place.
+    // Returns the file of this name, read as far as this place.
     fn file_at(&mut self, name: &str, at: u64) -> io::Result<Opened>
         ensures faults { self.new.faults ≡ self.old.faults }
     {
@@ -80,7 +82,7 @@ impl<R: rt::Files<File = File> + AllocGlobal> DirFiles<R> {
         Opened::at(&self.rt, name, at)
     }
 
-    // Reads on in a file. It is closed at its end, and where a read fails.
+    // Reads the next bytes of a file. The file is closed at its end, and if a read fails.
     fn read_on(&mut self, name: &str, at: u64, buf: &mut [u8]) -> io::Result<usize>
         ensures bound { IfOk result (λ n. n ≤ length buf.new) }
         ensures faults { self.new.faults ≡ self.old.faults }

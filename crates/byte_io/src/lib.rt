@@ -1,20 +1,20 @@
 //! Bytes in and out.
 //!
-//! A [`Source`] gives bytes and a [`Sink`] takes them. Each is something outside of the program
-//! that can fail at any call. To a proof each has one meaning, `Outside`: the bytes that a source
-//! has left or that a sink was given, where it tells them, and a count of its faults. A call that
-//! succeeds leaves that count as it was, and one that fails counts one.
+//! A [`Source`] gives bytes and a [`Sink`] takes them. Each is something outside of the program that can fail at any
+//! call. A proof sees of each only its meaning, `Outside`: the bytes that a source has left or that a sink was given,
+//! if these are known, and a count of its faults. A call that succeeds leaves that count as it was. A call that fails
+//! adds one.
 //!
-//! [`read_all`] takes a source to its end, and [`write_all`] gives a sink all of a text. Both
-//! promise that no byte is lost, added or changed where they succeed, that a fault is told where
-//! one call failed and nowhere else, and how much was read or written by then.
+//! [`read_all`] reads a source to its end, and [`write_all`] writes all of a text to a sink. If they succeed, no byte
+//! is lost, added or changed. They report a fault exactly if one call failed, and their contracts say how much was read
+//! or written by then.
 //!
-//! [`Files`] are read by name, and a read leaves them as they are. Of a file is told nothing, that there
-//! is none of its name, or its bytes. [`read_file`] promises of a file what `read_all` does of a source.
+//! [`Files`] are read by name, and a read leaves them as they are. A proof knows one of three things of a file:
+//! nothing, that no file has its name, or its bytes. [`read_file`] promises of a file what `read_all` does of a source.
 //!
-//! [`MemSource`], [`MemSink`] and [`MemFiles`] are sources, sinks and files in memory, which fail at the
-//! calls that they are told to. [`StdSource`] and [`StdSink`] stand over std's readers and writers, and
-//! [`DirFiles`] over the files of the working folder.
+//! [`MemSource`], [`MemSink`] and [`MemFiles`] are sources, sinks and files in memory. They fail at the calls that a
+//! test chooses. [`StdSource`] and [`StdSink`] wrap std's readers and writers. [`DirFiles`] reads the files of the
+//! working folder.
 #![tactic(auto)]
 
 mod failure;

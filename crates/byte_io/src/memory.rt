@@ -1,4 +1,4 @@
-// A source and a sink in memory, which fail at the calls that they are told to. They serve tests.
+// A source and a sink in memory, which fail at the calls that a test chooses.
 ghost use Rattle.std.specs.Prelude.{◌≡◌, ◌↔◌, ◌⊎◌, ◌+◌, ◌≤◌, ◌<◌, [], ◌++◌, length, take, drop, min, Some, IfOk, OnOk, OnErr, IsErr, IsTrue, Contains};
 ghost use Rattle.std.specs.Io.KnownBytes.{ReadConsumes, WriteAppends};
 ghost use Rattle.byte_io.specs.Outside.{next_fault_count};
@@ -27,7 +27,7 @@ impl Calls {
         }
     }
 
-    // Counts a call, and says whether it is to fail.
+    // Counts a call, and returns whether it is to fail.
     pub(crate) fn begin(&mut self) -> bool
         ensures told { IsTrue result ↔ Contains self.old.failing.items self.old.count }
         ensures counted { self.new ≡ record self.old { count = next_fault_count self.old.count } }
@@ -37,7 +37,7 @@ impl Calls {
         fails
     }
 
-    // Counts a fault, and tells it.
+    // Counts a fault, and returns it.
     pub(crate) fn fault(&mut self) -> Failed
         ensures { self.new ≡ record self.old { faults = next_fault_count self.old.faults } }
     {
@@ -46,8 +46,8 @@ impl Calls {
     }
 }
 
-/// A source of bytes in memory. A clause sees it as the bytes that are left, the numbers of the
-/// calls that are to fail, counted from 0, and how many calls and faults there were.
+/// A source of bytes in memory. A clause sees the bytes that are left, and how many calls and faults there were. It
+/// also sees the numbers of the calls that are to fail, counted from 0.
 #[derive(Debug, Drop)]
 pub struct MemSource {
     bytes: Vec<u8>,
@@ -72,7 +72,7 @@ impl Model for MemSource {
 }
 
 impl MemSource {
-    /// A source of these bytes, whose calls with a number in `fail`, counted from 0, fail.
+    /// Returns a source of these bytes. Its calls with a number in `fail`, counted from 0, fail.
     pub fn new(bytes: Vec<u8>, fail: Vec<u64>) -> MemSource
         ensures left { result.bytes_left ≡ bytes.items }
         ensures failing { result.failing_calls ≡ fail.items }
@@ -86,14 +86,14 @@ impl MemSource {
         }
     }
 
-    /// How many reads there were. The count stays at the end of its type.
+    /// Returns how many reads there were. The count stays at the end of its type.
     pub fn calls(&self) -> u64
         ensures { result ≡ self.now.calls }
     {
         self.calls.count
     }
 
-    /// How many reads failed. The count stays at the end of its type.
+    /// Returns how many reads failed. The count stays at the end of its type.
     pub fn faults(&self) -> u64
         ensures { result ≡ self.now.faults }
     {
@@ -137,9 +137,8 @@ impl Source for MemSource {
     }
 }
 
-/// A sink that keeps its bytes in memory. A clause sees it as the bytes that it was given, the
-/// numbers of the calls that are to fail, counted from 0, and how many calls and faults there
-/// were.
+/// A sink that keeps its bytes in memory. A clause sees the bytes that it was given, and how many calls and faults
+/// there were. It also sees the numbers of the calls that are to fail, counted from 0.
 #[derive(Debug, Drop)]
 pub struct MemSink {
     bytes: Vec<u8>,
@@ -160,7 +159,7 @@ impl Model for MemSink {
 }
 
 impl MemSink {
-    /// A sink that holds nothing yet, whose calls with a number in `fail`, counted from 0, fail.
+    /// Returns a sink that holds nothing yet. Its calls with a number in `fail`, counted from 0, fail.
     pub fn new(alloc: Global, fail: Vec<u64>) -> MemSink
         ensures written { result.bytes_written ≡ [] }
         ensures failing { result.failing_calls ≡ fail.items }
@@ -173,21 +172,21 @@ impl MemSink {
         }
     }
 
-    /// What was written.
+    /// Returns what was written.
     pub fn bytes(&self) -> &[u8]
         ensures { result.now ≡ self.now.bytes_written }
     {
         &self.bytes
     }
 
-    /// How many writes there were. The count stays at the end of its type.
+    /// Returns how many writes there were. The count stays at the end of its type.
     pub fn calls(&self) -> u64
         ensures { result ≡ self.now.calls }
     {
         self.calls.count
     }
 
-    /// How many writes failed. The count stays at the end of its type.
+    /// Returns how many writes failed. The count stays at the end of its type.
     pub fn faults(&self) -> u64
         ensures { result ≡ self.now.faults }
     {
@@ -198,7 +197,7 @@ impl MemSink {
 impl Sink for MemSink {
     ghost meaning = { λ s. record { content = Some s.bytes_written; faults = s.faults } };
 
-    /// Takes all of the piece. It fails also where there is no memory for it.
+    /// Takes all of the piece. It fails also if there is no memory for it.
     fn write(&mut self, bytes: &[u8]) -> Result<usize, Failed>
         ensures bound { IfOk result (λ n. n ≤ length bytes.now) }
         ensures progress { IfOk result (λ n. 0 < length bytes.now → 0 < n) }

@@ -1,4 +1,4 @@
-// Files in memory, whose reads fail at the calls that they are told to. They serve tests.
+// Files in memory, whose reads fail at the calls that a test chooses.
 ghost use Rattle.std.specs.Prelude.{◌≡◌, ◌↔◌, ◌⊎◌, ◌<◌, ◌≤◌, ◌++◌, length, take, drop, min, None, IfNone, IfOk, OnOk, OnErr, IfSome, IsErr, Some, Contains};
 ghost use Rattle.byte_io.specs.Outside.{next_fault_count};
 ghost use Rattle.byte_io.specs.Files.{HasAt, EndsBy, IsFaultOf, bytes_of, told_of, files_named, remembered};
@@ -11,9 +11,9 @@ use std::marker::Model;
 // The most bytes of a name that is remembered.
 const MAX_REMEMBERED: usize = 255;
 
-/// Files in memory. A clause sees them as the names and bytes of the files, of which the first of a name
-/// counts, the numbers of the calls that are to fail, counted from 0, how many calls and faults there
-/// were, and the name whose read failed last, where it has at most 255 bytes.
+/// Files in memory. A clause sees the names and bytes of the files, of which the first of a name counts. It also sees
+/// the numbers of the calls that are to fail, counted from 0, and how many calls and faults there were. Last, it sees
+/// the name whose read failed last, if that has at most 255 bytes.
 #[derive(Debug, Drop)]
 pub struct MemFiles {
     files: Vec<(String, Vec<u8>)>,
@@ -37,7 +37,7 @@ impl Model for MemFiles {
 }
 
 impl MemFiles {
-    /// These files by name, whose calls with a number in `fail`, counted from 0, fail.
+    /// Returns these files by name. Their calls with a number in `fail`, counted from 0, fail.
     pub fn new(files: Vec<(String, Vec<u8>)>, fail: Vec<u64>) -> MemFiles
         ensures files { result.files ≡ files_named files.items }
         ensures failing { result.failing_calls ≡ fail.items }
@@ -52,21 +52,21 @@ impl MemFiles {
         }
     }
 
-    /// How many reads there were. The count stays at the end of its type.
+    /// Returns how many reads there were. The count stays at the end of its type.
     pub fn calls(&self) -> u64
         ensures { result ≡ self.now.calls }
     {
         self.calls.count
     }
 
-    /// How many reads failed. The count stays at the end of its type.
+    /// Returns how many reads failed. The count stays at the end of its type.
     pub fn faults(&self) -> u64
         ensures { result ≡ self.now.faults }
     {
         self.calls.faults
     }
 
-    // Counts a failed read of the file of this name, and tells it.
+    // Counts a failed read of the file of this name, and returns the failure.
     fn fault(&mut self, name: &str) -> Failed
         ensures { self.new ≡ record self.old { faults = next_fault_count self.old.faults; failed_name = remembered name.now } }
     {
@@ -88,8 +88,7 @@ fn find<'f>(files: &'f [(String, Vec<u8>)], name: &str) -> Option<&'f [u8]>
     None
 }
 
-// Copies what stands at a place and after it to the front of a buffer, as far as both go, and says how many
-// bytes.
+// Copies the bytes from a place on to the front of a buffer, as far as both go, and returns how many.
 fn copy_from(bytes: &[u8], at: u64, buf: &mut [u8]) -> usize
     ensures count { result ≡ min (length (drop at bytes.now)) (length buf.old) }
     ensures copied { buf.new ≡ take result (drop at bytes.now) ++ drop result buf.old }
@@ -107,7 +106,7 @@ impl Files for MemFiles {
 
     ghost failed_name = { λ s. s.failed_name };
 
-    /// Gives as many bytes as there are from the place on and fit the buffer.
+    /// Returns as many bytes as there are from the place on and fit the buffer.
     fn read_at(&mut self, name: &str, at: u64, buf: &mut [u8]) -> Result<usize, Failed>
         ensures bound { IfOk result (λ n. n ≤ length buf.new) }
         ensures bytes { IfOk result (λ n. HasAt (told_of self.old.files name.now) at (take n buf.new)) }
@@ -129,7 +128,7 @@ impl Files for MemFiles {
             n ≡ min (length (drop at all)) (length buf.old))) }
         ensures untouched { OnErr result (buf.new ≡ buf.old) }
 
-        // A name is remembered where it is no longer than that.
+        // A name is remembered if it has at most 255 bytes.
         ensures remembers { OnErr result (self.new.failed_name ≡ remembered name.now) }
     {
         if self.calls.begin() {

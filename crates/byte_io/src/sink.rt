@@ -7,8 +7,7 @@ use crate::Failed;
 
 /// Something outside of the program that takes bytes, and may fail at any call.
 pub trait Sink {
-    /// The bytes that it was given so far, or `None` where the sink does not tell, and how often a
-    /// write has failed.
+    /// The bytes that it was given so far, or `None` if they are not known, and how often a write has failed.
     ghost meaning: { Self → Outside };
 
     /// Writes some bytes from the front of `bytes`, and returns how many: at least one, unless

@@ -7,12 +7,11 @@ use crate::Failed;
 
 /// Something outside of the program that gives bytes, and may fail at any call.
 pub trait Source {
-    /// The bytes that reads will give from here on, or `None` where the source does not tell, and
-    /// how often a read has failed.
+    /// The bytes that reads will give from here on, or `None` if they are not known, and how often a read has failed.
     ghost meaning: { Self → Outside };
 
-    /// Reads some bytes to the front of `buf`, and returns how many. A read of none into a buffer
-    /// with room is the end of the source. A read that failed has taken no byte.
+    /// Reads some bytes to the front of `buf`, and returns how many. If it reads none into a buffer with room, the
+    /// source is at its end. A read that failed has taken no byte.
     fn read(&mut self, buf: &mut [u8]) -> Result<usize, Failed>
         ensures bound { IfOk result (λ n. n ≤ length buf.new) }
         ensures bytes { ReadConsumes (meaning self.old).content (meaning self.new).content

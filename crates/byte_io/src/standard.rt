@@ -5,8 +5,8 @@ use crate::retry::{read_again, write_again};
 use crate::{Failed, Sink, Source};
 use std::io::{Read, Write};
 
-/// A reader of std as a source. A read that a signal interrupts is made again; each other error of the reader, also one that says
-/// that a read would have to wait, is a fault.
+/// A reader of std as a source. If a signal interrupts a read, the read is made again. Each other error of the reader
+/// is a fault, also one that says that a read would have to wait.
 #[derive(Drop)]
 pub struct StdSource<R> {
     inner: R,
@@ -16,7 +16,7 @@ pub struct StdSource<R> {
 impl<R: Read> StdSource<R> {
     ghost use Rattle.byte_io.specs.Standard.{source_inner, source_faults};
 
-    /// The reader as a source, with no fault so far.
+    /// Returns the reader as a source, with no fault so far.
     pub fn new(inner: R) -> StdSource<R>
         ensures inner { source_inner result ≡ inner }
         ensures faults { source_faults result ≡ 0 }
@@ -42,8 +42,9 @@ impl<R: Read> Source for StdSource<R> {
     }
 }
 
-/// A writer of std as a sink. A write that a signal interrupts is made again; each other error of the writer, and each write of a
-/// piece of which it takes nothing, is a fault. A writer with a buffer of its own may keep bytes back.
+/// A writer of std as a sink. If a signal interrupts a write, the write is made again. Each other error of the writer
+/// is a fault. So is a write of which the writer takes no byte, unless the piece is empty. A writer with a buffer of
+/// its own may keep bytes back.
 #[derive(Drop)]
 pub struct StdSink<W> {
     inner: W,
@@ -53,7 +54,7 @@ pub struct StdSink<W> {
 impl<W: Write> StdSink<W> {
     ghost use Rattle.byte_io.specs.Standard.{sink_inner, sink_faults};
 
-    /// The writer as a sink, with no fault so far.
+    /// Returns the writer as a sink, with no fault so far.
     pub fn new(inner: W) -> StdSink<W>
         ensures inner { sink_inner result ≡ inner }
         ensures faults { sink_faults result ≡ 0 }
@@ -61,7 +62,7 @@ impl<W: Write> StdSink<W> {
         StdSink { inner, faults: 0 }
     }
 
-    /// The writer, with all that it took.
+    /// Returns the writer, with all that it took.
     pub fn into_inner(self) -> W
         ensures { result ≡ sink_inner self }
     {

@@ -9,15 +9,15 @@ use std::alloc::Global;
 // How many bytes are asked of a source at once.
 const PIECE: usize = 65536;
 
-/// Reads a source to its end, and returns all its bytes. At most `limit + 1` bytes are taken in all,
-/// and after an error those are gone. `limit` counts bytes.
+/// Reads a source to its end, and returns all its bytes. It takes at most `limit + 1` bytes in all, and after an error
+/// those are lost. `limit` counts bytes. It fails with `ReadFault` if a read failed, with `TooLong` if more than
+/// `limit` bytes came, and with `WantOfMemory` if there is no memory for the bytes.
 pub fn read_all<S: Source>(alloc: Global, src: &mut S, limit: u64) -> Result<Vec<u8>, ReadNo>
     // All that the source had left, and no more than the limit.
     ensures whole { IfOk result (λ v. TakesAll (S.meaning src.old) (S.meaning src.new) v.items) }
     ensures within { IfOk result (λ v. vec_len v ≤ limit) }
 
-    // When each error comes. No clause says that there is memory, but a source at its end needs
-    // none.
+    // When each error comes. No clause promises that there is memory, but a source at its end needs none.
     ensures too_long { IsErrOf result (TooLong limit) →
         TakesExactly (S.meaning src.old) (S.meaning src.new) (limit + 1) }
     ensures own_limit { (n : ℕ) → IsErrOf result (TooLong n) → n ≡ limit }
@@ -50,8 +50,8 @@ pub fn read_all<S: Source>(alloc: Global, src: &mut S, limit: u64) -> Result<Vec
     }
 }
 
-/// Writes all of `bytes` to a sink. After an error some of them, from the first on, are written,
-/// and never all. It takes no memory.
+/// Writes all of `bytes` to a sink. If a write fails, it returns an error; some of the bytes, from the first on, are
+/// then written, and never all. It takes no memory.
 pub fn write_all<O: Sink>(out: &mut O, bytes: &[u8]) -> Result<(), WriteFault>
     ensures whole { OnOk result (IsWritten (O.meaning out.old) (O.meaning out.new) bytes.now) }
     ensures cut_short { OnErr result

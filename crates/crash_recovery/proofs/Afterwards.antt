@@ -21,7 +21,7 @@ pub not_new : (c : List ℕ) → IsBegun c → IsNew c → ⊥
 not_new c begun (inl short) = absurd (omega (arith, short, begun.long))
 not_new c begun (inr shut) = shut begun.opened
 
--- one on which a journal stands is not
+-- a device that has the place of a journal is not new
 not_seated : (p : Seat) (c : List ℕ) → IsSeat p c → IsNew c → ⊥
 not_seated p c seat (inl short) = absurd (omega (arith, short, seat.laid.long))
 not_seated p c seat (inr shut) = shut seat.laid.opened

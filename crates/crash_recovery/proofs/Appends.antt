@@ -119,7 +119,7 @@ module _ (p : Seat) (points : List Point) (batch : IsTaken p points) where
         points a b batch.free
         batch.some batch.few batch.inside batch.small (filled_of p a laid batch.fresh) guarded shut
 
-    -- it is open: the batch stands there too
+    -- it is open: the batch is there too
     put_in : IsOpen (gate_of p.lane.used) b
         → IsFilled p.lane.slots p.taken (p.lane.used + 1) (p.lane.next + length points) b
         (lane_points p.lane.slots a p.taken ++ points)
@@ -165,7 +165,7 @@ module _ (p : Seat) (points : List Point) (batch : IsTaken p points) where
         (λ shut. inl (recovers_less def s recovers shut))
         (cases_eq (get_or b (gate_of p.lane.used) 0) open_byte)
 
-    -- and the place is one behind
+    -- and the place is one further
     laid_behind : IsOpen (gate_of p.lane.used) b
         → IsLaid (moved p false (p.lane.used + 1) (p.lane.next + length points)) b
     laid_behind opened =
@@ -219,7 +219,7 @@ module _ (p : Seat) (points : List Point) (batch : IsTaken p points) where
           (settled_on p o laid) (known def s all) opened
           (λ a b q guarded is_open. recovers_more a b q.0 guarded def s q.1 fits is_open) during)
 
-      -- and the place stands
+      -- and the place is valid
       pub append_seated : SeatedOn (moved p false (p.lane.used + 1) (p.lane.next + length points)) new
       append_seated =
           let q = moved p false (p.lane.used + 1) (p.lane.next + length points) in

@@ -1,4 +1,4 @@
--- The summary of a core is put behind its records.
+-- The summary of a core is written after its records.
 use Rattle.disk_model.specs.Calls.{Shows}
 use Rattle.std.proofs.Common.{◌≡◌, ◌≢◌, inl, inr, ⊎_elim, ℕ, ◌+◌, ◌*◌, ◌^◌, ◌<◌, ◌≤◌, Bool, false, List, []}
 use Rattle.std.proofs.Common.{◌∷◌, ◌++◌, length, get_or, take, drop, map, Option, Some, refl, sym, ◌∙◌, ap}
@@ -68,7 +68,7 @@ in_range_each : (rs : List Rec) → Each (λ (r : Rec). InRange r.point) rs → 
 in_range_each [] each = tt
 in_range_each (r ∷ rs) each = (each.0, in_range_each rs each.1)
 
--- bytes that stand at a place end within the device
+-- bytes that are at a place end within the device
 holds_long : (at : ℕ) (bytes c : List ℕ) → at ≤ length c → Holds at bytes c → at + length bytes ≤ length c
 holds_long at bytes c le holds =
     omega (arith, ap length holds, length-take (length bytes) (drop at c), length-drop at c)
@@ -139,7 +139,7 @@ module _ (p : Seat) (u : Tuning) (step : Bool) (r : State) (fit : IsFit u step r
   module _ (a b : List ℕ) (logged : IsLoggedFor p r a)
       (guarded : IsGuarded (summary_place (spare_slot p.counts)) (summary_image r.summary)
       (summary_gate (spare_slot p.counts)) a b) where
-    -- the place stands on it
+    -- the place is valid on it
     laid : IsLaid p a
     laid = logged.laid
 
@@ -202,7 +202,7 @@ module _ (p : Seat) (u : Tuning) (step : Bool) (r : State) (fit : IsFit u step r
                 r.records,
           )
 
-      -- the place stands on it
+      -- the place is valid on it
       laid_summed : (stale : Bool) → (stale ≡ false → p.lane.used ≡ 0) → IsLaid (summed p stale r) b
       laid_summed stale used = record {
         opened = first_kept p a b laid only ∙ laid.opened;
@@ -270,7 +270,7 @@ module _ (p : Seat) (u : Tuning) (step : Bool) (r : State) (fit : IsFit u step r
               count : p.records ≡ length rs
               count = records_known def p a laid rs sm stored ∙ sym stored.records.counted
 
-              -- the new records are those behind the log
+              -- the new records are those after the log
               new_are : drop p.records r.records ≡ new
               new_are = ap (drop p.records) grown ∙ drop_at rs new p.records (sym count)
 
@@ -287,7 +287,7 @@ module _ (p : Seat) (u : Tuning) (step : Bool) (r : State) (fit : IsFit u step r
                   ∙ ap (λ n. take (17 * p.records) (drop (lane_end n) a)) (sym laid.slots)
                   ∙ sym (log_kept p a b laid only)
 
-              -- the part that was put behind them
+              -- the part that was written after them
               new_part : recs_image new ≡ take (17 * length new) (drop (log_end p) b)
               new_part =
                   let size = length-recs_image new in
@@ -354,7 +354,7 @@ module _ (p : Seat) (u : Tuning) (step : Bool) (r : State) (fit : IsFit u step r
                     (subst (λ x. ArePartsOk u x r.records r.summary) goes.0 fit.parts);
               }
 
-              -- the lane goes on from the state of the core
+              -- the lane continues from the state of the core
               start_is : r ≡ start_of b r.records r.summary
               start_is =
                   let tuning = fit.tuned ∙ sym (ap Some in_force_is) in
@@ -393,7 +393,7 @@ module _ (p : Seat) (u : Tuning) (step : Bool) (r : State) (fit : IsFit u step r
                           is.1 is.2 grown.0 grown.1,
                     )
 
-  -- a core that goes on has taken all that is acknowledged
+  -- a core that continues has taken all that is acknowledged
   beyond_of : (a : List ℕ) → IsLaid p a → (def : TagDef) (s : State) → Recovers def a s
       → GoesOnFrom def s step r → p.lane.next ≤ r.summary.taken
   beyond_of a laid def s recovers goes =
@@ -429,7 +429,7 @@ module _ (p : Seat) (u : Tuning) (step : Bool) (r : State) (fit : IsFit u step r
         (shown_so o (IsLoggedFor p r) (IsShut gate) (λ c logged. subst (λ g. IsShut g c)
         (sym is_gate) logged.ready.shut) logged_shown)
 
-    -- the summary behind its gate
+    -- the summary, guarded by its gate
     as_guarded : (a b : List ℕ) → IsGuarded at bytes gate a b
         → IsGuarded (summary_place (spare_slot p.counts)) (summary_image r.summary)
         (summary_gate (spare_slot p.counts)) a b
@@ -486,7 +486,7 @@ module _ (p : Seat) (u : Tuning) (step : Bool) (r : State) (fit : IsFit u step r
             (λ a b q guarded opened. overrun_summed a b q.0 (as_guarded a b guarded) opened
             (beyond_of a q.0.laid def s q.1 goes) stale) during
 
-        -- and the place stands
+        -- and the place is valid
         pub summary_laid : (stale : Bool) → (stale ≡ false → p.lane.used ≡ 0) → LaidOn (summed p stale r) new
         summary_laid stale used =
             laid_again (summed p stale r) new settled

@@ -1,4 +1,4 @@
--- Which summary counts, before and behind a change of the slot that does not.
+-- Which summary counts, before and after a change of the slot that does not.
 use Rattle.std.proofs.Common.{◌≡◌, ◌≢◌, ◌⊎◌, inl, inr, ⊎_elim, ℕ, ◌<◌, Bool, true, false, List, get_or, take}
 use Rattle.std.proofs.Common.{Option, None, Some, refl, ◌∙◌, ap, arith}
 use Rattle.std.specs.Prelude.{nat_le, nat_eq}

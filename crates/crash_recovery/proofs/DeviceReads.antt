@@ -1,4 +1,4 @@
--- What a read gives of a settled device that tells its calls, before some calls and after them.
+-- What a read returns of a settled device that records its calls, before some calls and after them.
 use Rattle.disk_model.specs.Calls.{Shows}
 use Rattle.std.proofs.Common.{ℕ, ◌≤◌, List, [], ◌∷◌, length, get_or, Option, None, Some, sym, ◌∙◌, ap}
 use Rattle.std.proofs.Common.{subst, arith}
@@ -56,7 +56,7 @@ shown_from (Some t) (Some u) R Q S P settled shown after step during =
     step (seen (Some t)) (seen (Some u)) shown (subst (λ d. R d (seen (Some u))) (settled.each from.0 from.1)
     from.2) after
 
--- a gate that was opened behind bytes that were written reads open
+-- a gate that was opened after bytes were written reads open
 pub opened_after : (o new : Option Trace) (P : List ℕ → Type 0) (at : ℕ) (bytes : List ℕ) (gate : ℕ)
     → Reaches o at → Reaches o gate
     → During o new P → Sees new (written (written (seen o) at bytes) gate (open_byte ∷ []))

@@ -1,4 +1,4 @@
--- Where the values of a lane stand.
+-- The places of the values of a lane.
 use Rattle.std.proofs.Common.{◌≡◌, ℕ, ◌+◌, ◌-◌, ◌*◌, ◌<◌, ◌≤◌, min, List, ◌++◌, length}
 use Rattle.std.proofs.Common.{take, drop}
 use Rattle.std.proofs.Common.{get_or, Option, None, Some, sym, ◌∙◌, ap, subst, arith, length-append}
@@ -32,7 +32,7 @@ count_shown (Some t) slots j at bytes m n is size read m_is n_is =
     let count = count_here slots j at bytes (seen (Some t)) is size read in
     omega (arith, count, m_is, n_is)
 
--- so many of the values stand in the first j slots, and `rest` more come before value n
+-- so many of the values are in the first j slots, and `rest` more come before value n
 pub record IsCountedTo (slots taken n j rest : ℕ) (c : List ℕ) : Type 0 where
   pub counted : n ≡ length (points_before slots c taken j) + rest
 
@@ -53,7 +53,7 @@ module _ (slots taken used n : ℕ) (c : List ℕ) (holds : HoldsValue slots tak
   held_there = ap length all_beyond ∙ length-points_in (min 64 (count_in (slot_at slots c j))) (drop 10
       (slot_at slots c j)) ∙ sym is
 
-  -- value n is behind them
+  -- value n is after them
   pub counted_more : (rest : ℕ) → IsCountedTo slots taken n j rest c → m ≤ rest → IsCountedTo slots taken n
       (j + 1) (rest - m) c
   counted_more rest so_far behind =

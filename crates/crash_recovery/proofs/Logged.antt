@@ -1,4 +1,4 @@
--- Records are put behind the log, and the gate of the slot that does not count is closed.
+-- Records are written after the log, and the gate of the slot that does not count is closed.
 use Rattle.disk_model.specs.Calls.{Shows}
 use Rattle.std.proofs.Common.{◌≡◌, ◌≢◌, inl, inr, ⊎_elim, ℕ, ◌+◌, ◌-◌, ◌<◌, ◌≤◌, min, List, length, get_or}
 use Rattle.std.proofs.Common.{take, drop, Option, None, Some, Result, sym, ◌∙◌, ap, subst, arith, length-drop}
@@ -53,11 +53,11 @@ torn_moments r o new at bytes noted =
 
 -- ---- the bytes
 
--- a place beside a gate
+-- a place next to a gate
 beside_gate : (gate i : ℕ) → i ≢ gate → IsOutside gate 1 i
 beside_gate gate i other = grind arith
 
--- a write behind the log, and then the gate closed
+-- a write after the log, and then the gate closed
 logged_of : (at n gate : ℕ) (a m b : List ℕ) → at ≤ length a → gate < at → IsTorn at n a m
     → IsClosing gate 1 m b → IsLogged at gate a b
 logged_of at n gate a m b long before torn closing = record {
@@ -72,7 +72,7 @@ logged_of at n gate a m b long before torn closing = record {
     as_before : get_or m gate 0 ≡ get_or a gate 0
     as_before = torn.outside gate (omega (arith, long, before)) (inl before)
 
--- the gates lie behind both slots
+-- the gates lie after both slots
 pub gate_behind : (j : Slot) → 384 ≤ summary_gate j
 gate_behind First = omega arith
 gate_behind Second = omega arith
@@ -91,7 +91,7 @@ module _ (p : Seat) (a b : List ℕ) (laid : IsLaid p a) (only : OnlySpare p.cou
     points = λ lane. same_points p.lane.slots p.taken p.lane.slots a b same_slots p.lane.slots (omega arith);
   }
 
-  -- no gate behind it was opened
+  -- no gate after it was opened
   pub room_kept : HasRoom p.lane.slots p.lane.used b
   room_kept = record {
     long = omega (arith, laid.long, only.no_shorter);
@@ -141,7 +141,7 @@ module _ (p : Seat) (a b : List ℕ) (laid : IsLaid p a) (logged : IsLogged (log
   logged_recovers def s recovers = recovers_same def p a b s laid logged_keeps
       (lane_kept p a b laid logged_only) recovers
 
-  -- and the place stands
+  -- and the place is valid
   logged_laid : p.lane.used ≤ p.lane.slots → IsLaid p b
   logged_laid within = laid_moved p p.stale p.lane.used p.lane.next a b laid logged_keeps
       (room_kept p a b laid logged_only)
@@ -235,7 +235,7 @@ module _ (p : Seat) (n gate : ℕ) (is_gate : gate ≡ summary_gate (spare_slot 
     pub log_moments : (def : TagDef) (s : State) → AllRecover def o s → During o new (λ c. Recovers def c s)
     log_moments def s all = recovers_through new def s all logged_moments
 
-    -- once all was done, the place stands
+    -- once all was done, the place is valid
     pub log_laid : p.lane.used ≤ p.lane.slots → IsSettled new → LaidOn p new
     log_laid within settled =
         laid_again p new settled (shown_from o new (IsLogged (log_end p) gate) (IsLaid p) (λ c. Unit {0})

@@ -151,7 +151,7 @@ Promises mid new step r = r.summary.taken < 10 ^ 18 → (def : TagDef) (s : Stat
 
 module _ (def : TagDef) (t : Trace) (mid new : Option Trace) (step : Bool) (r : State) (kind : step ≡ def.step)
     (read : IsReadAs def (Some t) mid true r) (countable : IsCountable def (seen (Some t))) where
-  -- the core goes on from what was recovered
+  -- the core continues from what was recovered
   goes : GoesOnFrom def read.0 step r
   goes = (kind, (Tune def.tuning ∷ [], read.3.1))
 
@@ -190,9 +190,9 @@ recovers_retuned def (Some t) mid new step r kind read promise = λ countable.
     promise (few def t mid new step r kind read countable) def read.0 read.2
     (goes def t mid new step r kind read countable)
 
--- ---- what is recovered now, whether or not the device tells its calls
+-- ---- what is recovered now, whether or not the device records its calls
 
--- a device that does not tell them comes from one that does not
+-- a device that does not record them comes from one that does not
 untold : (def : TagDef) (mid : Option Trace) (r : State) → ComesAfter None mid → AllRecover def mid r
 untold def None r later = record { each = λ c may. absurd may.image }
 untold def (Some t) r later = absurd later

@@ -14,7 +14,7 @@ same_piece at n a b a_long b_long same =
     ∙ holds_same at (take n (drop at a)) b a (omega (arith, size)) (omega (arith, size))
     (λ i low below. same i low (omega (arith, size, below))) (ap (λ m. take m (drop at a)) size)
 
--- one byte that was written stands there
+-- one byte that was written is there
 pub byte_written : (old : List ℕ) (at b : ℕ) → at ≤ length old → get_or (written old at (b ∷ [])) at 0 ≡ b
 byte_written old at b le =
     let new = written old at (b ∷ []) in

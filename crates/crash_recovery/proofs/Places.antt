@@ -49,7 +49,7 @@ only_lane p a b laid only = record {
     slot_same First = front 128 128 (omega arith)
     slot_same Second = front 256 128 (omega arith)
 
--- ---- only the slot that does not count, its gate, and what is behind the log have changed
+-- ---- only the slot that does not count, its gate, and what is after the log have changed
 
 pub record OnlySpare (counts : Option Slot) (end : ℕ) (a b : List ℕ) : Type 0 where
   pub no_shorter : length a ≤ length b
@@ -57,7 +57,7 @@ pub record OnlySpare (counts : Option Slot) (end : ℕ) (a b : List ℕ) : Type 
       → i ≢ summary_gate (spare_slot counts)
       → get_or b i 0 ≡ get_or a i 0
 
--- the two slots and their gates lie apart, behind the header and before the lane
+-- the two slots and their gates lie apart, after the header and before the lane
 apart_slot : (j i : Slot) → j ≢ i → (k : ℕ) → summary_place i ≤ k → k < summary_place i + 128
     → IsOutside (summary_place j) 128 k × (k ≢ summary_gate j)
 apart_slot First First apart k low below = absurd (apart refl)
@@ -163,7 +163,7 @@ module _ (p : Seat) (a b : List ℕ) (laid : IsLaid p a) (only : OnlySpare p.cou
 
 -- ---- the place
 
--- a place that stands elsewhere in its lane
+-- a place that is elsewhere in its lane
 abbrev pub moved : Seat → Bool → ℕ → ℕ → Seat
 moved p stale used next = record p { stale = stale; lane = record p.lane { used = used; next = next } }
 

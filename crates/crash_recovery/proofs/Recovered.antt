@@ -116,7 +116,7 @@ recovered_at def p a s laid over (inr is) =
               (record { lane = lane; stale = over.stale }) p.lane.slots (omega arith)),
         )
 
--- a state that goes on from there has taken so many more
+-- a state that continues from there has taken so many more
 pub goes_beyond : (def : TagDef) (n : ℕ) (s : State) (step : Bool) (r : State) → IsAt n s
     → (goes : GoesOnFrom def s step r)
     → r.summary.taken ≡ n + length goes.1.0

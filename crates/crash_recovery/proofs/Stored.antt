@@ -1,4 +1,4 @@
--- The records and the summary that are stored, where only bytes beside them change.
+-- The records and the summary that are stored, if only bytes besides them change.
 use Rattle.std.proofs.Common.{◌≡◌, inl, inr, ℕ, ◌*◌, ◌≤◌, Bool, List, length, get_or, take, drop, map, Option}
 use Rattle.std.proofs.Common.{None, Some, refl, sym, ◌∙◌, ap, subst, arith}
 use Rattle.std.specs.Int.{w32, w64, from_be_bytes}
@@ -126,7 +126,7 @@ module _ (def : TagDef) (p : Seat) (a : List ℕ) (laid : IsLaid p a) where
             ∙ ap (λ n. take (17 * p.records) (drop n a)) (sym place_known)
             ∙ ap (λ n. take (17 * n) (drop (log_place a) a)) (sym count)
 
-    -- the lane goes on from the same state
+    -- the lane continues from the same state
     start_kept : (rs : List Rec) (s : Summary) → start_of b rs s ≡ start_of a rs s
     start_kept rs s = ap (λ h. state_of rs s (recovered_tuning (tuning_in h) s.tuning)) keeps.header
 

@@ -1,4 +1,4 @@
--- What a journal shows, and how it stands to its device.
+-- What a journal shows, and how it relates to its device.
 use Rattle.std.specs.Prelude.{◌≡◌, ◌⊎◌, ℕ, ◌+◌, ◌*◌, ◌-◌, ◌<◌, ◌≤◌, Bool, true, false, if◌then◌else◌, List, length}
 use Rattle.std.specs.Prelude.{Option, None, Some, Result, OnOk}
 use Rattle.trend_num.specs.declared.tag_def.TagDef.{TagDef}
@@ -18,8 +18,8 @@ use Rattle.device_layout.specs.Recovery.{header_of, taken_in, records_in, counti
 
 -- ---- what it shows
 
--- a journal on a device of this type: how many events are acknowledged, how many lane slots there are and how many are free,
--- and whether a call of the device has failed
+-- a journal on a device of this type: how many events are acknowledged, how many lane slots there are, and how many of
+-- them are free; and whether a call of the device has failed
 pub record Logged (D : Type 0) : Type 0 where
   pub dev : D
   pub acked : ℕ
@@ -31,7 +31,7 @@ pub record Logged (D : Type 0) : Type 0 where
 abbrev pub AllRecover : TagDef → Option Trace → State → Type 0
 AllRecover def o s = Now o (λ c. Recovers def c s)
 
--- a state of the tag's kind that goes on by some events from what is recovered
+-- a state of the tag's kind that continues by some events from what is recovered
 abbrev pub GoesOnFrom : TagDef → State → Bool → State → Type 0
 GoesOnFrom def s step r = (step ≡ def.step) × ((events : List Event) × (r ≡ replay def.step s events))
 
@@ -39,7 +39,8 @@ GoesOnFrom def s step r = (step ≡ def.step) × ((events : List Event) × (r �
 abbrev pub RecoversEither : TagDef → State → State → List ℕ → Type 0
 RecoversEither def s r c = Recovers def c s ⊎ Recovers def c r
 
--- a crash at any moment of a call leaves an image that recovers the one state or the other; at Ok, the latter
+-- a crash at any moment of a call leaves an image that recovers the one state or the other; at Ok, it recovers the
+-- latter
 pub record LeavesEither {T E : Type 0} (def : TagDef) (old new : Option Trace) (s r : State)
     (result : Result T E) : Type 0 where
   pub any_moment : During old new (RecoversEither def s r)
@@ -66,7 +67,7 @@ pub record StaysAs {D : Type 0} (is_failed : Bool) (old new : Logged D) : Type 0
   pub slots : new.slots ≡ old.slots
   pub failed : new.failed ≡ is_failed
 
--- ---- how it stands to its device
+-- ---- how it relates to its device
 
 -- how many events the summary that counts has, and how many records
 abbrev pub taken_of : List ℕ → Option Slot → ℕ
@@ -77,7 +78,7 @@ abbrev pub journal_records_of : List ℕ → Option Slot → ℕ
 journal_records_of c None = 0
 journal_records_of c (Some i) = records_in c i
 
--- the lane keeps the layout, and its first `used` slots number on from the summary to `next`
+-- the lane keeps the layout, and its first `used` slots are numbered from the summary on, up to `next`
 pub record IsInUse (slots taken used next : ℕ) (c : List ℕ) : Type 0 where
   pub lane : IsLane slots c taken slots
   pub opened : (k : ℕ) → k < used → IsOpen (gate_of k) c
@@ -88,7 +89,7 @@ pub record IsInUse (slots taken used next : ℕ) (c : List ℕ) : Type 0 where
 abbrev pub log_end : Seat → ℕ
 log_end p = lane_end p.lane.slots + 17 * p.records
 
--- a place on a device of these bytes; where a summary has overtaken the lane, nothing is said of that
+-- a place on a device of these bytes; it claims nothing of what an overtaken lane holds
 pub record IsLaid (p : Seat) (c : List ℕ) : Type 0 where
   pub opened : IsOpen 0 c
   pub header : IsHeader (header_of c)
@@ -110,21 +111,21 @@ pub record IsSeat (p : Seat) (c : List ℕ) : Type 0 where
   pub laid : IsLaid p c
   pub overrun : p.stale ≡ true → IsOverrun p c
 
--- a device on which that is a place, and of which a crash leaves what a read gives
+-- a device on which that is a place, and of which a crash leaves what a read returns
 pub record IsSeated (p : Seat) (t : Trace) : Type 0 where
   pub settled : IsSettled (Some t)
   pub seat : IsSeat p (seen (Some t))
 
--- the same where the device tells its calls
+-- the same if the device records its calls
 abbrev pub SeatedOn : Seat → Option Trace → Type 0
 SeatedOn p None = Unit {0}
 SeatedOn p (Some t) = IsSeated p t
 
--- how many lane slots are free: all of them where the lane is stale, since its gates are closed before the next write
+-- how many lane slots are free; all of them if the lane is stale, because its gates are closed before the next write
 abbrev pub free_in : Seat → ℕ
 free_in p = if p.stale then p.lane.slots else p.lane.slots - p.lane.used
 
--- where each lane slot is free, the lane holds nothing that the summary does not count
+-- if each lane slot is free, the lane holds nothing that the summary does not count
 abbrev pub IsNumbered : Seat → Type 0
 IsNumbered p = free_in p ≡ p.lane.slots → p.lane.next ≡ p.taken
 

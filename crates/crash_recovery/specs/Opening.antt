@@ -1,4 +1,4 @@
--- What opening a tag's device gives.
+-- What opening a tag's device returns.
 use Rattle.std.specs.Prelude.{◌≡◌, ◌≢◌, ◌⊎◌, ℕ, ◌+◌, ◌^◌, ◌<◌, ◌≤◌, Bool, true, false, List, length, Option}
 use Rattle.std.specs.Prelude.{Some, IfSome, slice_index}
 use Rattle.trend_num.specs.Limits.{most_records}
@@ -31,31 +31,31 @@ abbrev pub IsRetuned : TagDef → State → State → Type 0
 IsRetuned def s r = (s.summary.tuning ≢ Some def.tuning) × (r ≡ after def.step s (Tune def.tuning))
     × (length s.records + 2 ≤ most_records)
 
--- what is opened of a tag that recovers s: s itself where the wanted tuning is in force, and else s retuned
+-- what opening makes of a tag that recovers s: s itself if the wanted tuning is in force, and else s retuned
 abbrev pub IsOpenedAs : TagDef → State → State → Type 0
 IsOpenedAs def s r = ((s.summary.tuning ≡ Some def.tuning) × (r ≡ s))
     ⊎ IsRetuned def s r
 
--- what is recovered is not to be retuned, or has taken fewer than 10^18 events with the retuning
+-- what is recovered need not be retuned, or has taken fewer than 10^18 events with the retuning
 abbrev pub IsCountable : TagDef → List ℕ → Type 0
 IsCountable def c = (s : State) → Recovers def c s
     → (s.summary.tuning ≡ Some def.tuning) ⊎ (s.summary.taken + 1 < 10 ^ 18)
 
--- an image recovers what these bytes recover, or that as it is opened
+-- an image recovers what these bytes recover, or that state as it is opened
 abbrev pub RecoversSame : TagDef → List ℕ → List ℕ → Type 0
 RecoversSame def seen c = (s : State) × (r : State) × Recovers def seen s × IsOpenedAs def s r
     × (Recovers def c s ⊎ Recovers def c r)
 
--- it is one that a crash might have left before, or recovers the same
+-- an image that a crash might have left before, or that recovers the same
 abbrev pub IsTagLeftOrSame : TagDef → Option Trace → List ℕ → Type 0
 IsTagLeftOrSame def o c = MayLeave o c ⊎ RecoversSame def (seen o) c
 
--- where the device tells its calls, and what it shows is countable, a crash at any moment since leaves such an image
+-- if the device records its calls, and what it shows is countable, a crash at any moment since leaves such an image
 abbrev pub StaysSame : TagDef → Option Trace → Option Trace → Type 0
 StaysSame def old new = IfSome old (λ t. IsCountable def (seen (Some t))
     → During (Some t) new (IsTagLeftOrSame def (Some t)))
 
--- and a crash now leaves what recovers this state
+-- if the same holds, a crash now leaves what recovers this state
 abbrev pub RecoversThen : TagDef → Option Trace → Option Trace → State → Type 0
 RecoversThen def old new r = IfSome old (λ t. IsCountable def (seen (Some t)) → AllRecover def new r)
 
@@ -66,7 +66,7 @@ pub record HoldsValue (slots taken used n : ℕ) (c : List ℕ) : Type 0 where
   pub filled : IsFilled slots taken used next c held
   pub there : n < length held
 
--- value n of the lane is told as one that finds no room, or a call of the device has failed
+-- the refusal names value n of the lane as one that finds no room, or a call of the device has failed
 abbrev pub IsOverfull : Option Trace → ℕ → ℕ → ℕ → OpenNo → Type 0
 IsOverfull o slots taken n (Damaged a byte) =
     Shows o (λ c. (j : ℕ) × (i : ℕ) × IsValuePlace slots c taken n a j i × StandsThere c a byte)
@@ -78,23 +78,23 @@ abbrev pub OpensAs : TagDef → Bool → State → State → Type 0
 OpensAs def false s r = (s.summary.tuning ≡ Some def.tuning) × (r ≡ s)
 OpensAs def true s r = IsRetuned def s r
 
--- a new device gets the wanted number of lane slots, and any other keeps those that its header tells
+-- a new device gets the wanted number of lane slots, and any other keeps the number in its header
 abbrev pub HasSlots : ℕ → ℕ → List ℕ → Type 0
 HasSlots wanted slots c = (IsNew c × (slots ≡ wanted)) ⊎ ((IsNew c → ⊥) × (slots ≡ slots_in (header_of c)))
 
--- what a device shows at first is recovered of it now, and this is that state as it is opened
+-- the device now recovers what it showed at first, and this is that state as it is opened
 abbrev pub IsReadAs : TagDef → Option Trace → Option Trace → Bool → State → Type 0
 IsReadAs def old new retuned r = Shows old (λ c. (s : State) × Recovers def c s × AllRecover def new s
     × OpensAs def retuned s r)
 
--- the refusal to open where a checkpoint or a layout was not written
+-- the refusal to open if a checkpoint or a layout could not be written
 abbrev pub refusal_of_put : PutNo → OpenNo
 refusal_of_put put.DeviceFault = DeviceFault
 refusal_of_put put.WantOfMemory = WantOfMemory
 
--- ---- what becomes of the device
+-- ---- what happens to the device
 
--- of the lane slots the first `used` are open, with values that the summary does not count, and the others are closed
+-- the first `used` lane slots are open, with values that the summary does not count, and the others are closed
 pub record AreUsed (slots used : ℕ) (c : List ℕ) : Type 0 where
   pub opened : (k : ℕ) → k < used → IsOpen (gate_of k) c
   pub beyond : (k : ℕ) → k < used
@@ -106,28 +106,28 @@ abbrev pub AreOvertaken : ℕ → List ℕ → Type 0
 AreOvertaken slots c = (k : ℕ) → k < slots → IsOpen (gate_of k) c
     → IsStale (taken_of c (counting c)) (batch_at slots c k)
 
--- so many lane slots are free, of a device whose layout was finished: all where each open one is overtaken, and else those
--- behind the used ones
+-- so many lane slots are free on a device whose layout was finished: all if each open one is overtaken, and else those
+-- after the used ones
 abbrev pub HasFree : ℕ → ℕ → List ℕ → Type 0
 HasFree slots free c = (AreOvertaken slots c × (free ≡ slots)) ⊎ ((used : ℕ) × AreUsed slots used c × (used + free ≡ slots))
 
--- as it is read: all of a new device
+-- the same of any device as it is read: all slots of a new device are free
 pub record HasFreeAtFirst (slots free : ℕ) (c : List ℕ) : Type 0 where
   pub new : IsNew c → free ≡ slots
   pub begun : (IsNew c → ⊥) → HasFree slots free c
 
--- as it is opened: all where it is new or the tag was retuned
+-- the same of a device as it is opened: all slots are free if it is new or the tag was retuned
 pub record LeavesFree (def : TagDef) (slots free : ℕ) (c : List ℕ) : Type 0 where
   pub new : IsNew c → free ≡ slots
   pub retuned : (s : State) → Recovers def c s → s.summary.tuning ≢ Some def.tuning → free ≡ slots
   pub kept : (IsNew c → ⊥) → (s : State) → Recovers def c s → s.summary.tuning ≡ Some def.tuning
       → HasFree slots free c
 
--- a new device has a whole layout with so many lane slots now
+-- a new device now has a whole layout with so many lane slots
 abbrev pub MakesLayout : TagDef → ℕ → Option Trace → Option Trace → Type 0
 MakesLayout def slots old new = Shows old (λ c. IsNew c → Shows new (IsMade def slots))
 
--- one that is neither new nor of a tag that is retuned gains a sync alone
+-- a device that is not new, and whose tag is not retuned, gains only a sync
 abbrev pub GainsSync : TagDef → Option Trace → Option Trace → Type 0
 GainsSync def old new = Shows old (λ c. (IsNew c → ⊥) → (s : State) → Recovers def c s
     → s.summary.tuning ≡ Some def.tuning → new ≡ noted Synced old)

@@ -1,4 +1,4 @@
--- What the steps of a journal keep true of its place, between one and the next, and what they make of the device.
+-- What the steps of a journal keep true of its place, and what they make of the device.
 use Rattle.std.specs.Prelude.{◌≡◌, ◌≢◌, ◌⊎◌, ℕ, ◌<◌, ◌≤◌, false, List, length, drop}
 use Rattle.std.specs.Prelude.{slice_index, Option, None, Some, IfSome}
 use Rattle.trend_num.specs.declared.archive.Rec.{Rec}
@@ -17,17 +17,17 @@ spare_slot None = First
 spare_slot (Some First) = Second
 spare_slot (Some Second) = First
 
--- a device on which that is a place, whatever an overtaken lane holds, and of which a crash leaves what a read gives
+-- a device on which that is a place, whatever an overtaken lane holds, and of which a crash leaves what a read returns
 pub record IsLaidOut (p : Seat) (t : Trace) : Type 0 where
   pub settled : IsSettled (Some t)
   pub laid : IsLaid p (seen (Some t))
 
--- the same where the device tells its calls
+-- the same if the device records its calls
 abbrev pub LaidOn : Seat → Option Trace → Type 0
 LaidOn p None = Unit {0}
 LaidOn p (Some t) = IsLaidOut p t
 
--- where the device tells its calls, the summary has overtaken each open lane slot of it
+-- if the device records its calls, the summary has overtaken each open lane slot of it
 abbrev pub OverrunOn : Seat → Option Trace → Type 0
 OverrunOn p o = IfSome o (λ t. IsOverrun p (seen (Some t)))
 
@@ -35,17 +35,18 @@ OverrunOn p o = IfSome o (λ t. IsOverrun p (seen (Some t)))
 abbrev pub restarted : Seat → Seat
 restarted p = record p { stale = false; lane = record p.lane { used = 0 } }
 
--- new is old with more behind the log, and with that gate as it was or closed
+-- new is old with more bytes after the log, and with that gate as it was or closed
 pub record IsLogged (at gate : ℕ) (old new : List ℕ) : Type 0 where
   pub no_shorter : length old ≤ length new
   pub same : (i : ℕ) → i < at → i ≢ gate → slice_index new i ≡ slice_index old i
   pub gate_same : (slice_index new gate ≢ open_byte) ⊎ (slice_index new gate ≡ slice_index old gate)
 
--- all is there for a summary of these records: its gate is closed, and behind the log stand those that were not counted
+-- all is there for a summary of these records: its gate is closed, and after the log lie the records that were not
+-- counted
 pub record IsReady (p : Seat) (gate : ℕ) (recs : List Rec) (c : List ℕ) : Type 0 where
   pub shut : IsShut gate c
   pub logged : Holds (log_end p) (recs_image (drop p.records recs)) c
 
--- the same where the device tells its calls
+-- the same if the device records its calls
 abbrev pub ReadyOn : Seat → ℕ → List Rec → Option Trace → Type 0
 ReadyOn p gate recs o = IfSome o (λ t. IsReady p gate recs (seen (Some t)))

@@ -29,9 +29,9 @@ use trend_num::Rec;
 const MOST_TAKEN: u64 = 1_000_000_000_000_000_000;
 
 impl Seat {
-    // Makes a checkpoint of a core that goes on from what the device recovers. Nothing is called where the
-    // summary counts all of its events and each lane slot is free. A core that has taken no more events than
-    // the summary counts, or too many, is none of these, and is refused as memory that is not there.
+    // Makes a checkpoint of a core that continues from what the device recovers. If the summary counts all of the
+    // core's events and each lane slot is free, it makes no call. A core that has taken no more events than the summary
+    // counts, or too many, does not continue so. It is refused as want of memory.
     pub(crate) fn checkpoint<D: Disk>(
         &mut self,
         alloc: Global,
@@ -43,8 +43,8 @@ impl Seat {
         requires numbered { IsNumbered self.old }
         requires seated { SeatedOn self.old (D.trace dev.old) }
 
-        // A crash at any moment leaves an image that recovers what each recovered before, or the state of the
-        // core; at Ok, the latter.
+        // A crash at any moment leaves an image that recovers what each recovered before, or the state of the core. At
+        // Ok, it recovers the state of the core.
         ensures any_moment { core.now.state.summary.taken < 10 ^ 18
             → (def : TagDef) (s : State) → AllRecover def (D.trace dev.old) s
             → GoesOnFrom def s core.now.step core.now.state
@@ -94,7 +94,7 @@ impl Seat {
         Ok(())
     }
 
-    // Whether the summary counts as many events as the core has taken, and no values are in the lane.
+    // Returns whether the summary counts as many events as the core has taken, and no values are in the lane.
     fn has_all_of(&self, core: &TagCore) -> bool
         requires { self.now.lane.used ≤ self.now.lane.slots }
         ensures { IsTrue result ↔ ((self.now.taken ≡ core.now.state.summary.taken)
@@ -106,8 +106,8 @@ impl Seat {
             && self.free_slots() == self.lane.slots
     }
 
-    // Puts those records behind the log that the summary does not count, closes the gate of the summary slot that does not
-    // count, and syncs.
+    // Writes the records that the summary does not count after the log, closes the gate of the summary slot that does
+    // not count, and syncs.
     fn log_records<D: Disk>(&self, alloc: Global, dev: &mut D, recs: &[Rec]) -> Result<(), PutNo>
         requires within { self.now.lane.used ≤ self.now.lane.slots }
         requires laid { LaidOn self.now (D.trace dev.old) }
@@ -129,7 +129,7 @@ impl Seat {
         }
     }
 
-    // Puts those records behind the log that the summary does not count, with no sync.
+    // Writes the records that the summary does not count after the log. It does not sync.
     fn put_new_records<D: Disk>(
         &self,
         alloc: Global,
@@ -138,7 +138,7 @@ impl Seat {
     ) -> Result<(), PutNo>
         requires room { Reaches (D.trace dev.old) (log_end self.now) }
 
-        // A crash at any moment leaves an image from before with other bytes behind the log.
+        // A crash at any moment leaves an image from before with other bytes after the log.
         ensures any_moment { During (D.trace dev.old) (D.trace dev.new) (FromOld (D.trace dev.old)
             (IsTorn (log_end self.now) (length (recs_image (drop self.now.records recs.now))))) }
         ensures reads { OnOk result (Sees (D.trace dev.new)
@@ -156,8 +156,8 @@ impl Seat {
         put_records(alloc, dev, self.log_end(), recs)
     }
 
-    // Puts the summary of a core into the summary slot that does not count; the records that are new stand on the device
-    // already. The seat that it answers is that of the journal from then on.
+    // Writes the summary of a core into the summary slot that does not count. The new records are on the device
+    // already. Returns the seat of the journal from then on.
     fn put_summary<D: Disk>(&self, dev: &mut D, core: &TagCore) -> Result<Seat, DeviceFault>
         requires fresh { self.now.stale ≡ false }
         requires within { self.now.lane.used ≤ self.now.lane.slots }
@@ -167,8 +167,8 @@ impl Seat {
         requires more { self.now.taken < core.now.state.summary.taken }
         requires countable { core.now.state.summary.taken < 10 ^ 18 }
 
-        // A crash at any moment leaves an image that recovers what each recovered before, or the state of the
-        // core; at Ok, the latter, and then the summary has overtaken the lane.
+        // A crash at any moment leaves an image that recovers what each recovered before, or the state of the core. At
+        // Ok, it recovers the state of the core, and the summary has overtaken the lane.
         ensures any_moment { (def : TagDef) (s : State) → AllRecover def (D.trace dev.old) s
             → GoesOnFrom def s core.now.step core.now.state
             → During (D.trace dev.old) (D.trace dev.new) (RecoversEither def s core.now.state) }
@@ -188,7 +188,7 @@ impl Seat {
         ensures cause { HasCause (D.fault_count dev.old) (D.fault_count dev.new) result }
     {
         let slot = self.spare_slot();
-        // Asked for what their contracts say: the tuning and the records are in range.
+        // These calls are made for their contracts alone: the tuning and the records are in range.
         let _tuning = core.tuning();
         let _recs = core.recs();
         let summary = core.summary();
@@ -207,7 +207,7 @@ impl Seat {
         })
     }
 
-    // Where the records end that the summary counts.
+    // The place at which the records end that the summary counts.
     fn log_end(&self) -> u64
         ensures { result ≡ log_end self.now }
     {
@@ -225,7 +225,7 @@ impl Seat {
     }
 }
 
-// Where so many records end, behind so many lane slots.
+// The place at which so many records end, after so many lane slots.
 fn records_end(slots: u32, records: u32) -> u64
     ensures { result ≡ lane_end slots + 17 * records }
 {

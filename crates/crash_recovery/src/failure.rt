@@ -1,7 +1,7 @@
 // A tag's device that is not opened.
 use device_layout::OpenNo;
 
-/// A device that was not opened.
+/// A device that could not be opened.
 #[derive(Drop)]
 pub struct OpenFail<D> {
     /// The device, given back.

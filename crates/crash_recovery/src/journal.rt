@@ -18,7 +18,7 @@ use std::marker::Model;
 use tag_core::TagCore;
 use trend_num::Point;
 
-/// The device of an opened tag. What it acknowledges, no crash takes away.
+/// The device of an opened tag. No crash loses what the journal has acknowledged.
 #[derive(Drop)]
 pub struct Journal<D: Disk> {
     dev: D,
@@ -47,7 +47,7 @@ impl<D: Disk> Journal<D> {
     ghost use Rattle.crash_recovery.specs.Journals.{StaysAs, SeatedOn, IsNumbered, free_in};
     ghost use Rattle.device_layout.specs.Recovery.{AllFit};
 
-    // The journal of a device that was opened.
+    // Returns the journal of a device that was opened.
     pub(crate) fn new(dev: D, seat: Seat) -> Journal<D>
         requires within { seat.lane.used ≤ seat.lane.slots }
         requires some { 1 ≤ seat.lane.slots }
@@ -69,9 +69,9 @@ impl<D: Disk> Journal<D> {
         }
     }
 
-    /// Puts 1 to 64 values, those after the acknowledged ones, into the lane as one batch. At Ok they are acknowledged: a
-    /// crash leaves them. LaneFull where no lane slot is free; then nothing was called. After DeviceFault the device is
-    /// opened again before it is used.
+    /// Writes 1 to 64 values, those after the acknowledged ones, into the lane as one batch. At Ok they are
+    /// acknowledged: no crash loses them. It fails with LaneFull if no lane slot is free; then it made no call. After
+    /// DeviceFault the device has to be opened again before it is used.
     pub fn commit(&mut self, points: &[Point]) -> Result<(), LaneNo>
         requires usable { self.old.failed ≡ false }
         requires some { 1 ≤ length points.now }
@@ -79,8 +79,8 @@ impl<D: Disk> Journal<D> {
         requires in_range { All InRange points.now }
         requires number { self.old.acked + length points.now < 2 ^ 64 }
 
-        // Where the values find room in what each image recovers, a crash at any moment leaves an image that recovers the
-        // same, or that and all of these values; at Ok, the latter.
+        // Let the values find room in what each image recovers. Then a crash at any moment leaves an image that
+        // recovers the same, or that and all of these values. At Ok, it recovers all of these values too.
         ensures crash { (def : TagDef) (s : State) → AllRecover def (D.trace self.old.dev) s
             → AllFit def.step s (map Raw points.now)
             → LeavesEither def (D.trace self.old.dev) (D.trace self.new.dev) s
@@ -105,17 +105,19 @@ impl<D: Disk> Journal<D> {
         Ok(())
     }
 
-    /// Makes a checkpoint of a core that goes on from what the device recovers: puts the new records behind those that the
-    /// summary counts, then the summary, and then begins the lane anew. At Ok all of the core's events are acknowledged.
-    /// Nothing is called where they are already. WantOfMemory also answers, before any call, a core that has taken 10^18
-    /// events or more, or, where something is left to do, no more than the last summary counts. After DeviceFault the device
-    /// is opened again before it is used.
+    /// Makes a checkpoint of a core that continues from what the device recovers. It writes the new records after those
+    /// that the summary counts, then the summary, and then begins the lane anew. At Ok all of the core's events are
+    /// acknowledged. If they are already, and each lane slot is free, it makes no call.
+    ///
+    /// It fails with WantOfMemory if there is no memory. It also refuses two cores so, before any call: one that has
+    /// taken 10^18 events or more; and, if something is left to do, one that has taken no more events than the last
+    /// summary counts. After DeviceFault the device has to be opened again before it is used.
     pub fn checkpoint(&mut self, alloc: Global, core: &TagCore) -> Result<(), PutNo>
         requires usable { self.old.failed ≡ false }
 
-        // Where the core goes on by some events from what each image recovers, a crash at any moment leaves an image that
-        // recovers the same, or the state of the core; at Ok, the latter. This is said of a core that has taken fewer than
-        // 10^18 events.
+        // Let the core continue by some events from what each image recovers, and have taken fewer than 10^18 events.
+        // Then a crash at any moment leaves an image that recovers the same, or the state of the core. At Ok, it
+        // recovers the state of the core.
         ensures crash { core.now.state.summary.taken < 10 ^ 18
             → (def : TagDef) (s : State) → AllRecover def (D.trace self.old.dev) s
             → GoesOnFrom def s core.now.step core.now.state
@@ -125,7 +127,7 @@ impl<D: Disk> Journal<D> {
         ensures idle { self.old.acked ≡ core.now.state.summary.taken → self.old.free ≡ self.old.slots
             → IsOk result × (self.new ≡ self.old) }
 
-        // Want of memory leaves what each image recovers; it comes before any call where no lane slot is free.
+        // Want of memory leaves what each image recovers. If no lane slot is free, it comes before any call.
         ensures kept { IsErrOf result NoMemory → (def : TagDef) (s : State)
             → AllRecover def (D.trace self.old.dev) s → AllRecover def (D.trace self.new.dev) s }
         ensures untouched { IsErrOf result NoMemory → self.old.free ≡ 0 → self.new ≡ self.old }
@@ -146,42 +148,42 @@ impl<D: Disk> Journal<D> {
         }
     }
 
-    /// How many events are acknowledged, counted since the tag began.
+    /// Returns how many events are acknowledged, counted since the tag began.
     pub fn acked(&self) -> u64
         ensures { result ≡ self.now.acked }
     {
         self.seat.lane.next
     }
 
-    /// How many lane slots are free.
+    /// Returns how many lane slots are free.
     pub fn free_slots(&self) -> u32
         ensures { result ≡ self.now.free }
     {
         self.seat.free_slots()
     }
 
-    /// How many calls the device has counted.
+    /// Returns how many calls the device has counted.
     pub fn clock(&self) -> u64
         ensures { result ≡ D.ticks self.now.dev }
     {
         self.dev.clock()
     }
 
-    /// How often a call of the device has failed.
+    /// Returns how often a call of the device has failed.
     pub fn faults(&self) -> u64
         ensures { result ≡ D.fault_count self.now.dev }
     {
         self.dev.faults()
     }
 
-    /// Whether a call of this journal has answered DeviceFault.
+    /// Returns whether a call of this journal has answered DeviceFault.
     pub fn failed(&self) -> bool
         ensures { result ≡ self.now.failed }
     {
         self.failed
     }
 
-    /// The device, moved out.
+    /// Returns the device, and gives up the journal.
     pub fn into_device(self) -> D
         ensures { result ≡ self.dev }
     {

@@ -1,4 +1,4 @@
-// What is opened of a device, and what that stands for.
+// What opening makes of a device, and which history that stands for.
 ghost use Rattle.std.specs.Prelude.{◌⊎◌, ℕ, List, ◌∷◌};
 ghost use Rattle.trend_num.specs.declared.tag_def.TagDef.{TagDef};
 ghost use Rattle.trend_model.specs.History.{Event, Origin, Tune};
@@ -7,9 +7,9 @@ ghost use Rattle.device_layout.specs.Recovery.{Recovers};
 ghost use Rattle.crash_recovery.specs.Opening.{IsOpenedAs, RecoversSame};
 ghost use Rattle.crash_recovery.specs.TagImages.{ImageStands, StandsOpened};
 
-/// For each history for which a tag's device stood, what is opened of it stands for that history where the wanted tuning is
-/// in force after it, and else for that history and a retuning. So does each image that recovers the same, or that as it is
-/// opened.
+/// Let a tag's device stand for a history. If the wanted tuning is in force after it, the opened tag stands for that
+/// history. Else it stands for that history and a retuning. So does each image that recovers what the device recovers,
+/// or that state as it is opened.
 pub fn an_opened_tag_stands()
     ensures opened { (def : TagDef) (o : Origin) (h : List Event) (c : List ℕ) (s r : State) → ImageStands def o h c
         → Recovers def c s → IsOpenedAs def s r → StandsOpened def o h r }

@@ -1,13 +1,19 @@
 //! A tag's device as a whole: opening it, and the journal that keeps what its tag takes.
 //!
-//! What an image of a device recovers, and where it is damaged, `device_layout` defines over its bytes.
+//! `device_layout` defines over the bytes of an image what it recovers, and where it is damaged.
 //!
-//! [`open_tag`] makes the layout of a new device, or reads what the device recovers into a core, or names the first byte of the
-//! first field that breaks the layout. Where another tuning than the wanted one is in force it retunes the tag.
-//! [`Journal::commit`] acknowledges a batch of values, and [`Journal::checkpoint`] puts the new records and a new summary, and
-//! begins the lane anew. A crash at any moment of a commit leaves what was acknowledged, or that and the whole batch; a crash
-//! at any moment of a checkpoint leaves the same state or that of the core; a crash while a device is opened leaves what one
-//! before might have left, or what recovers the same.
+//! [`open_tag`] makes the layout of a new device, or reads what the device recovers into a core. If the layout is
+//! broken, its error names the first byte of the first field that breaks it. If another tuning than the wanted one is
+//! in force, it retunes the tag.
+//!
+//! [`Journal::commit`] acknowledges a batch of values. [`Journal::checkpoint`] writes the new records and a new
+//! summary, and begins the lane anew.
+//!
+//! What a crash leaves:
+//!
+//! - at any moment of a commit: what was acknowledged, or that and the whole batch;
+//! - at any moment of a checkpoint: the same state as before, or that of the core;
+//! - while a device is opened: what a crash before might have left, or what recovers the same.
 #![tactic(auto)]
 
 mod checkpoint;

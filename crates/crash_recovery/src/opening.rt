@@ -39,16 +39,16 @@ use trend_num::{Steps, TagDef, same_tuning};
 /// A tag whose device is open: its journal, and the core that holds what the device recovers.
 #[derive(Drop)]
 pub struct Opened<D: Disk> {
-    /// What keeps the device.
+    /// The journal of the device.
     pub journal: Journal<D>,
     /// The tag in memory.
     pub core: TagCore,
 }
 
-/// Opens the device of a tag, with memory for `room` values more. It begins with a sync. A new device gets the layout, with
-/// `lane_slots` slots. Of any other the header, the summary that counts, the records and the lane are read, and the lane's
-/// values are taken; where another tuning than the wanted one is in force, the tag is retuned, and a checkpoint is made.
-/// All values that are found are acknowledged.
+/// Opens the device of a tag, with memory for `room` values more. It begins with a sync. A new device gets the layout,
+/// with `lane_slots` slots. From any other device it reads the header, the summary that counts, the records and the
+/// lane, and takes the lane's values. If another tuning than the wanted one is in force, it retunes the tag and makes a
+/// checkpoint. All values that it finds are acknowledged. If it fails, [`OpenFail`] has the device and the cause.
 pub fn open_tag<D: Disk>(
     alloc: Global,
     dev: D,
@@ -60,12 +60,12 @@ pub fn open_tag<D: Disk>(
     requires few { lane_slots ≤ 65536 }
     requires tuned { TuningInRange def.now.tuning }
 
-    // A crash at any moment leaves an image that one before might have left, or that recovers what the device recovered at
-    // the start, or that as it is opened.
+    // A crash at any moment leaves one of three images. The first is one that a crash before might have left. The
+    // second recovers what the device recovered at the start. The third recovers that state as it is opened.
     ensures any_moment { IfOk result (λ o. StaysSame def.now (D.trace dev) (D.trace o.journal.dev)) }
     ensures any_moment_refused { IfErr result (λ e. StaysSame def.now (D.trace dev) (D.trace e.dev)) }
 
-    // The core is what the device recovered, retuned where another tuning than the wanted one was in force.
+    // The core is what the device recovered. If another tuning than the wanted one was in force, it is retuned.
     ensures opened { IfOk result (λ o. Shows (D.trace dev) (λ c. (s : State) × Recovers def.now c s
         × IsOpenedAs def.now s o.core.state)) }
     ensures recovers { IfOk result (λ o. RecoversThen def.now (D.trace dev) (D.trace o.journal.dev) o.core.state) }
@@ -82,7 +82,7 @@ pub fn open_tag<D: Disk>(
     ensures room { IfOk result (λ o. 2 * room ≤ o.core.spare) }
     ensures countable { IfOk result (λ o. o.core.state.summary.taken < 2 ^ 63) }
 
-    // A refusal tells its cause. One fault is counted where a call of the device has failed, and else none.
+    // A refusal names its cause. One fault is counted if a call of the device has failed, and none else.
     ensures cause { IfErr result (λ e. IsCause def.now (D.trace dev) e.why) }
     ensures faultless { IfOk result (λ o. D.fault_count o.journal.dev ≡ D.fault_count dev) }
     ensures counts { IfErr result (λ e. CountsRefusal e.why (D.fault_count dev) (D.fault_count e.dev)) }
@@ -104,7 +104,7 @@ pub fn open_tag<D: Disk>(
 }
 
 impl<D: Disk> Opened<D> {
-    // The same once a checkpoint is made of the core.
+    // Makes a checkpoint of the core, and returns the opened tag.
     fn with_checkpoint(self, alloc: Global) -> Result<Opened<D>, OpenFail<D>>
         requires usable { self.journal.failed ≡ false }
         ensures any_moment { IfOk result (λ o. self.core.state.summary.taken < 10 ^ 18
@@ -141,7 +141,7 @@ impl<D: Disk> Opened<D> {
     }
 }
 
-// What was read of a tag's device: the place on it, the tag in memory, and whether it had to be retuned.
+// What was read of a tag's device: the journal's seat, the tag in memory, and whether it had to be retuned.
 #[derive(Drop)]
 struct Read {
     seat: Seat,
@@ -149,7 +149,8 @@ struct Read {
     retuned: bool,
 }
 
-// Makes a new device's layout, or reads what another device recovers, and retunes it in memory where that is wanted.
+// Makes a new device's layout, or reads what another device recovers. If that has another tuning, it is retuned in
+// memory.
 fn read_tag<L: Ledger, D: Disk>(
     alloc: Global,
     dev: &mut D,
@@ -196,7 +197,7 @@ fn read_tag<L: Ledger, D: Disk>(
     }
 }
 
-// A new device with its layout, and a tag before its first event.
+// Makes the layout of a new device, and returns a tag before its first event.
 fn made<D: Disk>(
     alloc: Global,
     dev: &mut D,
@@ -247,7 +248,8 @@ fn made<D: Disk>(
     })
 }
 
-// What a device recovers whose layout was finished, retuned where another tuning than the wanted one is in force.
+// Reads what a device with a finished layout recovers. If another tuning than the wanted one is in force, it is
+// retuned.
 fn read_back<L: Ledger, D: Disk>(
     alloc: Global,
     dev: &mut D,
@@ -279,7 +281,7 @@ fn read_back<L: Ledger, D: Disk>(
     tuned(seat, core, def, steps)
 }
 
-// The tag, retuned where another tuning than the wanted one is in force.
+// Returns the tag. If another tuning than the wanted one is in force, it is retuned.
 fn tuned<L: Ledger>(
     seat: Seat,
     core: TagCore,
@@ -320,7 +322,7 @@ fn tuned<L: Ledger>(
     }
 }
 
-// The refusal to open where a checkpoint or a layout was not written.
+// The refusal to open if a checkpoint or a layout could not be written.
 fn refusal_of_put(why: PutNo) -> OpenNo
     ensures { result ≡ refusal_of_put why }
 {

@@ -13,8 +13,8 @@ use disk_model::{Disk, read_part};
 use std::alloc::Global;
 use tag_core::parts_ok;
 
-// Refuses records and a summary that cannot be those of a tag together; the damage is told at the summary's beginning.
-// Before the first checkpoint there are none, and nothing is refused.
+// Refuses records and a summary that together cannot be those of a tag. The damage is then placed at the summary's
+// beginning. Before the first checkpoint there are none, and nothing is refused.
 fn test_parts<D: Disk>(dev: &mut D, stored: &Stored, step: bool) -> Result<(), OpenNo>
     requires long { Reaches (D.trace dev.old) 400 }
     requires tuned { TuningInRange stored.now.tuning }
@@ -39,7 +39,8 @@ fn test_parts<D: Disk>(dev: &mut D, stored: &Stored, step: bool) -> Result<(), O
     Err(damaged(slot.place(), first[0]))
 }
 
-// The summary that counts and its records, which can be those of a tag together, and the tuning in force.
+// Reads the summary that counts, its records and the tuning in force. It refuses records and a summary that together
+// cannot be those of a tag.
 pub(crate) fn read_parts<D: Disk>(
     alloc: Global,
     dev: &mut D,

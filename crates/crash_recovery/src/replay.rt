@@ -26,7 +26,7 @@ use std::sync::ledger::Ledger;
 use tag_core::TagCore;
 use trend_num::{Point, Steps};
 
-// Where the fields of a lane slot begin: how many values there are, and the values.
+// Where the fields of a lane slot begin: the number of its values, and the values.
 const COUNT: u64 = 8;
 
 const POINTS: u64 = 10;
@@ -34,7 +34,7 @@ const POINTS: u64 = 10;
 // How many bytes a value has.
 const POINT_LEN: u64 = 16;
 
-// Takes each of these values. Answers how many were taken before one found no room.
+// Takes each of these values. It returns how many it took before one found no room.
 pub(crate) fn replay<L: Ledger>(
     core: &mut TagCore,
     points: &[Point],
@@ -62,7 +62,7 @@ pub(crate) fn replay<L: Ledger>(
     Ok(())
 }
 
-// Where a value of the lane stands, by its number among all of them.
+// The place of a value of the lane, by its number among all of them.
 fn value_place<D: Disk>(dev: &mut D, slots: u32, used: u32, number: usize) -> Result<u64, OpenNo>
     requires some { 1 ≤ slots }
     requires within { used ≤ slots }
@@ -83,11 +83,11 @@ fn value_place<D: Disk>(dev: &mut D, slots: u32, used: u32, number: usize) -> Re
         }
         rest -= count;
     }
-    // Not reached where the lane holds a value of this number.
+    // Not reached if the lane holds a value of this number.
     Ok(value_start(slots, 0, 0))
 }
 
-// How many values a lane slot holds, which stands 8 bytes behind its beginning.
+// How many values a lane slot holds. That number is at byte 8 of the slot.
 fn count_at<D: Disk>(dev: &mut D, slots: u32, slot: u32) -> Result<u16, OpenNo>
     requires within { slot < slots }
     requires there { Reaches (D.trace dev.old) (400 + 1035 * slots) }
@@ -102,7 +102,7 @@ fn count_at<D: Disk>(dev: &mut D, slots: u32, slot: u32) -> Result<u16, OpenNo>
     Ok(u16::from_be_bytes(bytes).min(BATCH_MOST))
 }
 
-// Where a value begins, by its number among those of a lane slot.
+// The place at which a value begins, by its number among those of a lane slot.
 fn value_start(slots: u32, slot: u32, number: usize) -> u64
     requires { number ≤ 64 }
     ensures { result ≡ place_of slots slot + (10 + 16 * number) }
@@ -110,14 +110,14 @@ fn value_start(slots: u32, slot: u32, number: usize) -> u64
     slot_start(slots, slot) + (POINTS + POINT_LEN * number as u64)
 }
 
-// Where a lane slot begins.
+// The place at which a lane slot begins.
 fn slot_start(slots: u32, number: u32) -> u64
     ensures { result ≡ place_of slots number }
 {
     LANE + u64::from(slots) + SLOT_LEN as u64 * u64::from(number)
 }
 
-// The refusal of a lane of which value `number` finds no room.
+// The refusal of a lane in which value `number` finds no room.
 fn overfull<D: Disk>(dev: &mut D, slots: u32, used: u32, number: usize) -> OpenNo
     requires some { 1 ≤ slots }
     requires within { used ≤ slots }
@@ -139,7 +139,8 @@ fn overfull<D: Disk>(dev: &mut D, slots: u32, used: u32, number: usize) -> OpenN
     }
 }
 
-// The core of what a device stores and its lane holds beyond that, with memory for `room` events more and a retuning.
+// Returns the core of what a device stores and of the lane's values after that. It has memory for `room` events more
+// and for a retuning.
 pub(crate) fn read_core<L: Ledger, D: Disk>(
     alloc: Global,
     dev: &mut D,

@@ -17,7 +17,7 @@ use disk_model::Disk;
 use event_queue::{DeviceFault, Lane, LaneNo};
 use trend_num::Point;
 
-// Where a journal stands on its device.
+// The place of a journal on its device.
 #[derive(Clone, Copy, Debug, PartialEq, Eq)]
 pub(crate) struct Seat {
     /// The place in the lane.
@@ -33,7 +33,7 @@ pub(crate) struct Seat {
 }
 
 impl Seat {
-    // Whether no lane slot is free.
+    // Returns whether no lane slot is free.
     pub(crate) fn is_full(&self) -> bool
         requires { self.now.lane.used ≤ self.now.lane.slots }
         ensures { IsTrue result ↔ (free_in self.now ≡ 0) }
@@ -41,7 +41,7 @@ impl Seat {
         self.free_slots() == 0
     }
 
-    // How many lane slots are free.
+    // Returns how many lane slots are free.
     pub(crate) fn free_slots(&self) -> u32
         requires { self.now.lane.used ≤ self.now.lane.slots }
         ensures { result ≡ free_in self.now }
@@ -53,8 +53,7 @@ impl Seat {
         }
     }
 
-    // Puts 1 to 64 values into a free lane slot as one batch. The gates that are still to be closed are
-    // closed first.
+    // Writes 1 to 64 values into a free lane slot as one batch. First it closes the gates that are still to be closed.
     pub(crate) fn append<D: Disk>(
         &mut self,
         dev: &mut D,
@@ -68,8 +67,8 @@ impl Seat {
         requires in_range { All InRange points.now }
         requires number { self.old.lane.next + length points.now < 2 ^ 64 }
 
-        // A crash at any moment leaves an image that recovers what each recovered before, or that and all of
-        // these values; at Ok, the latter.
+        // A crash at any moment leaves an image that recovers what each recovered before, or that and all of these
+        // values. At Ok, it recovers all of these values too.
         ensures any_moment { (def : TagDef) (s : State) → AllRecover def (D.trace dev.old) s
             → AllFit def.step s (map Raw points.now)
             → During (D.trace dev.old) (D.trace dev.new)
@@ -98,7 +97,7 @@ impl Seat {
         }
     }
 
-    // Closes the gates of an overtaken lane. Nothing is called where it is not overtaken.
+    // Closes the gates of an overtaken lane. If the lane is not overtaken, it makes no call.
     pub(crate) fn close_stale<D: Disk>(&mut self, dev: &mut D) -> Result<(), DeviceFault>
         requires within { self.old.lane.used ≤ self.old.lane.slots }
         requires laid { LaidOn self.old (D.trace dev.old) }

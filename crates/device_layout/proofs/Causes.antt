@@ -1,4 +1,4 @@
--- What was read and why it was refused, of a device that may not tell its calls.
+-- What was read and why it was refused, of a device that may not record its calls.
 use Rattle.std.proofs.Common.{◌≡◌, ℕ, ◌<◌, ◌≤◌, Bool, List, [], length, get_or, nat_eq, nat_le}
 use Rattle.std.proofs.Common.{Option, None, Some, subst, arith}
 use Rattle.std.specs.Int.{w64, from_be_bytes}

@@ -1,4 +1,4 @@
--- The header of a tag, behind a gate, keeps the layout, and says what it was made of.
+-- The header of a tag, after a gate, keeps the layout, and reads as what it was made of.
 use Rattle.std.proofs.Common.{◌≡◌, ℕ, zero, suc, ◌+◌, ◌-◌, ◌^◌, ◌<◌, ◌≤◌, Bool, true, false, cond}
 use Rattle.std.proofs.Common.{◌&&◌, eqb, leb, List, [], ◌∷◌, ◌++◌, length, get_or, take, drop, replicate}
 use Rattle.std.proofs.Common.{refl, sym, ◌∙◌}
@@ -21,7 +21,7 @@ use Rattle.device_layout.specs.Headers.{letters, most_slots, header_number_at, n
 use Rattle.device_layout.specs.Headers.{is_step_in}
 use Rattle.device_layout.specs.Headers.{def_in, is_field_ok, IsHeader, tuning_image, header_image}
 
--- what stands behind the name and its zeros
+-- what comes after the name and its zeros
 abbrev numbers_image : TagDef → ℕ → List ℕ
 numbers_image def slots =
     tuning_image def.tuning ++ (number_bytes 4 slots ++ (cond def.step 1 0 ∷ replicate 13 0))
@@ -30,11 +30,11 @@ numbers_image def slots =
 abbrev numbers_front : TagDef → ℕ → List ℕ
 numbers_front def slots = tuning_image def.tuning ++ (number_bytes 4 slots ++ (cond def.step 1 0 ∷ []))
 
--- the zeros behind the name
+-- the zeros after the name
 abbrev padding_of : TagDef → List ℕ
 padding_of def = replicate (64 - length def.name) 0
 
--- the header behind a gate of this byte
+-- the header after a gate of this byte
 abbrev pub header_with : ℕ → TagDef → ℕ → List ℕ
 header_with gate def slots = gate ∷ header_image def slots
 
@@ -50,7 +50,7 @@ header_built def slots a b c d e f first name tuning lane step zeros =
     ∙ ap (λ l. letters ++ (length def.name ∷ l))
     (append_assoc def.name (padding_of def) (numbers_image def slots))
 
--- a name, its length before it and zeros behind it, is added piece by piece
+-- a name, its length before it and zeros after it, is added piece by piece
 pub name_built : (name a b c d zeros : List ℕ) → b ≡ a ++ (length name ∷ []) → c ≡ b ++ name → d ≡ c ++ zeros
     → zeros ≡ replicate (64 - length name) 0
     → d ≡ a ++ (length name ∷ (name ++ replicate (64 - length name) 0))
@@ -78,7 +78,7 @@ flag_small : (b : Bool) → leb (cond b 1 0) 1 ≡ true
 flag_small true = refl
 flag_small false = refl
 
--- how long the header is behind the gate
+-- how long the header is after the gate
 pub length-header_image : (def : TagDef) (slots : ℕ) → IsName def.name → length (header_image def slots) ≡ 127
 length-header_image def slots name =
     let rest = padding_of def ++ numbers_image def slots in
@@ -91,7 +91,7 @@ length-header_image def slots name =
     )
 
 module _ (gate : ℕ) (def : TagDef) (slots : ℕ) (name : IsName def.name) where
-  -- the numbers stand behind the name
+  -- the numbers come after the name
   behind_name : drop 70 (header_with gate def slots) ≡ numbers_image def slots
   behind_name =
       ap (drop 64) (sym (append_assoc def.name (padding_of def) (numbers_image def slots)))
@@ -111,7 +111,7 @@ module _ (gate : ℕ) (def : TagDef) (slots : ℕ) (name : IsName def.name) wher
       ∙ ap (drop k) behind_name)
       ∙ ap (from_be_bytes w64) is ∙ from_be_bytes-to_be_bytes_8 n small
 
-  -- a byte of the name, or of the zeros behind it
+  -- a byte of the name, or of the zeros after it
   byte_named : (i : ℕ) → 6 ≤ i → get_or (header_with gate def slots) i 0
       ≡ get_or (def.name ++ (padding_of def ++ numbers_image def slots)) (i - 6) 0
   byte_named i low =
@@ -119,7 +119,7 @@ module _ (gate : ℕ) (def : TagDef) (slots : ℕ) (name : IsName def.name) wher
       ap (λ k. get_or (header_with gate def slots) k 0) place
       ∙ sym (get_or-drop 6 (header_with gate def slots) (i - 6) 0)
 
-  -- a byte behind these
+  -- a byte after these
   byte_behind : (i : ℕ) → 70 ≤ i
       → get_or (header_with gate def slots) i 0 ≡ get_or (numbers_image def slots) (i - 70) 0
   byte_behind i low =
@@ -128,7 +128,7 @@ module _ (gate : ℕ) (def : TagDef) (slots : ℕ) (name : IsName def.name) wher
       ∙ sym (get_or-drop 70 (header_with gate def slots) (i - 70) 0)
       ∙ ap (λ l. get_or l (i - 70) 0) behind_name
 
-  -- the zeros behind the name
+  -- the zeros after the name
   padding_zero : (i : ℕ) → 5 + length def.name < i → i < 70 → get_or (header_with gate def slots) i 0 ≡ 0
   padding_zero i low high =
       let n = length def.name in

@@ -65,9 +65,9 @@ new_synced q o o2 o3 so_far synced =
     goes_on Synced Idle q o o2 o3 IsNew so_far synced
     (record { each = λ c may. (during_now o o2 IsNew so_far).each c (synced_now q o2 o3 c synced may) })
 
--- ---- the layout is written behind it
+-- ---- the layout is written after it
 
--- bytes written behind the gate begin behind it
+-- bytes written after the gate begin after it
 pub shut_reached : (o : Option Trace) → Now o (IsShut 0) → Reaches o 1
 shut_reached None shut = tt
 shut_reached (Some t) shut = omega (arith, (shut.each (seen (Some t)) (present t)).there)
@@ -94,7 +94,7 @@ module _ (def : TagDef) (slots : ℕ) (bytes : List ℕ) (name : IsName def.name
     length-replicate {A = ℕ} (272 + 1035 * slots) 0,
   )
 
-  -- behind the open gate they are a layout
+  -- after the open gate they are a layout
   guarded_made : (d c : List ℕ) → IsGuarded 1 bytes 0 d c → get_or c 0 0 ≡ open_byte → IsMade def slots c
   guarded_made d c guarded opened = record { opened = opened; header = header; long = long; zeros = zeros }
     where

@@ -30,7 +30,7 @@ no_parts u step = record {
   same_tuning = tt;
 }
 
--- the first bytes are the header behind the gate
+-- the first bytes are the header after the gate
 pub made_first : (def : TagDef) (slots : ℕ) (c : List ℕ) → IsMade def slots c
     → header_of c ≡ header_with open_byte def slots
 made_first def slots [] made = absurd (omega (arith, made.long))
@@ -78,7 +78,7 @@ module _ (def : TagDef) (slots : ℕ) (c : List ℕ) (made : IsMade def slots c)
     made_slots = ap slots_in (made_first def slots c made)
         ∙ slots_image open_byte def slots name (omega arith)
 
-    -- the records would begin behind the lane
+    -- the records would begin after the lane
     pub made_long : log_place c ≤ length c
     made_long = omega (arith, made_slots, made.long)
 

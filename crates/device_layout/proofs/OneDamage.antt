@@ -1,4 +1,5 @@
--- A device has one damage at most: a later rule is told only where all before it hold, and each rule has one first place.
+-- A device has at most one damage: a later rule is reported only if all before it hold, and each rule has one first
+-- place.
 use Rattle.std.proofs.Common.{◌≡◌, inl, inr, ℕ, zero, suc, ◌+◌, ◌-◌, ◌*◌, ◌<◌, ◌≤◌, min, Bool, true, false, List, [], length}
 use Rattle.std.proofs.Common.{get_or, take, drop, map, Option, None, Some, refl, sym, ◌∙◌, ap, ap₂, subst, arith, length-take}
 use Rattle.std.proofs.Common.{add-zero, add-suc}
@@ -73,7 +74,7 @@ one_break b a k (inr (inl x)) (inr (inr y)) = omega (arith, x.2, y.2)
 one_break b a k (inr (inr x)) (inr (inl y)) = omega (arith, x.2, y.2)
 one_break b a k (inr (inr x)) (inr (inr y)) = x.0 ∙ sym y.0
 
--- of a log, of which a later record is told only where those before it are whole
+-- of a log, of which a later record is reported only if those before it are whole
 earlier : (c : List ℕ) (at count a b : ℕ) (byte other : Option ℕ) (rs xs : List Rec) (k j : ℕ) → at ≤ length c
     → IsRecordBroken c at count a byte rs k → IsRecordBroken c at count b other xs j → length rs < length xs → ⊥
 earlier c at count a b byte other rs xs k j long x y less =
@@ -198,7 +199,7 @@ one_value slots c taken n a b j i k l x y = elim (cases_order j k) [
           ap (λ m. length (points_before slots c taken m)) whole,
         )
 
--- ---- which rules hold where a later one is told
+-- ---- which rules hold if a later one is reported
 
 module _ (def : TagDef) (c : List ℕ) where
   -- what rule k finds
@@ -250,7 +251,7 @@ module _ (def : TagDef) (c : List ℕ) where
   reach k zero h = subst Held (add-zero k) h
   reach k (suc more) h = reach k more (down (k + more) (subst Held (add-suc k more) h))
 
-  -- where rule k + 1 is told, rule k and all before it hold
+  -- if rule k + 1 is reported, rule k and all before it hold
   before : (k a : ℕ) (byte : Option ℕ) → At (suc k) a byte → Held k
   before zero a byte d = d.long
   before (suc zero) a byte d = d.tag.header
@@ -270,7 +271,7 @@ module _ (def : TagDef) (c : List ℕ) where
   same_recs s x rs xs same has other =
       records_are_one c (log_place c) s.records x.records rs xs (ap (λ y. y.records) same) has other
 
-  -- where rule k holds, it is not told
+  -- if rule k holds, it is not reported
   refuted : (k a : ℕ) (byte : Option ℕ) → At k a byte → Held k → ⊥
   refuted zero a byte d h = omega (arith, d.1.short, h)
   refuted (suc zero) a byte d h = never (is_field_ok (header_of c) a) d.broken.fails (h.fields a d.broken.low d.broken.within)
@@ -302,7 +303,7 @@ module _ (def : TagDef) (c : List ℕ) where
       slot_of d None = d
       slot_of d (Some k) = k
 
-  -- each rule tells one place
+  -- each rule reports one place
   one_at : (k a b : ℕ) (byte other : Option ℕ) → At k a byte → At k b other → (a ≡ b) × (byte ≡ other)
   one_at zero a b byte other x y = (x.1.place ∙ sym y.1.place, x.1.none_there ∙ sym y.1.none_there)
   one_at (suc zero) a b byte other x y =
@@ -338,7 +339,7 @@ module _ (def : TagDef) (c : List ℕ) where
       ]
   one_at (suc (suc (suc (suc (suc (suc (suc (suc k)))))))) a b byte other x y = absurd x
 
-  -- a later rule is told only where the earlier one is not
+  -- a later rule is reported only if the earlier one is not
   in_order : (k j a b : ℕ) (byte other : Option ℕ) → At k a byte → At j b other → k < j → ⊥
   in_order k zero a b byte other x y less = omega (arith, less)
   in_order k (suc j) a b byte other x y less =

@@ -1,4 +1,4 @@
--- What was read of a device stands on it: the header, the slot that counts, its summary, and where they are broken.
+-- What was read of a device is on it: the header, the slot that counts, its summary, and where they are broken.
 use Rattle.std.proofs.Common.{◌≡◌, ℕ, ◌+◌, ◌<◌, ◌≤◌, Bool, List, [], length, take, drop}
 use Rattle.std.proofs.Common.{get_or, Option, None, Some, refl, sym, ◌∙◌, ap, subst, arith, nat_le, nat_eq}
 use Rattle.std.proofs.lemmas.List.{take-take, get_or-take, get_or-drop}
@@ -168,7 +168,7 @@ slot_end : (i : Slot) → summary_place i + 128 ≤ 384
 slot_end First = omega arith
 slot_end Second = omega arith
 
--- a lane ends behind the first 400 bytes
+-- a lane ends after the first 400 bytes
 front_end : (slots : ℕ) → 400 ≤ lane_end slots
 front_end slots = omega arith
 
@@ -225,7 +225,7 @@ parts_broken def slots i s u step rs first c same_step records broken size here 
 
 -- ---- all that is stored
 
--- no records stand at any place
+-- no records are at any place
 no_records : (c : List ℕ) (at : ℕ) → HasRecords c at 0 []
 no_records c at = record { counted = refl; records = record { in_range = tt; image = refl } }
 

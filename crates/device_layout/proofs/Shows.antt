@@ -1,4 +1,4 @@
--- What a read gives of a device that tells its calls.
+-- What a read returns of a device that records its calls.
 use Rattle.std.proofs.Common.{◌≡◌, ℕ, List, Option, None, Some, Result, Ok, Err, IfOk, IfErr, sym, subst}
 use Rattle.disk_model.specs.Traces.{Trace, seen}
 use Rattle.disk_model.specs.Calls.{Shows}

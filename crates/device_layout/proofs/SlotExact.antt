@@ -22,13 +22,13 @@ use Rattle.device_layout.proofs.SlotTests.{inside_is}
 use Rattle.device_layout.proofs.SlotFlags.{AreBeside, beside_passes, AreBits, bits_of_flags}
 use Rattle.device_layout.proofs.SlotPieces.{five_and_more}
 
--- what is behind a piece
+-- what is after a piece
 behind_piece : (b piece rest : List ℕ) (at n : ℕ) → length piece ≡ n → drop at b ≡ piece ++ rest
     → drop (at + n) b ≡ rest
 behind_piece b piece rest at n long is =
     sym (drop-drop n at b) ∙ ap (drop n) is ∙ drop_at piece rest n long
 
--- a place where a point stands, or zeros
+-- a place of a point, or of zeros
 place_passes : (o : Option Point) (there : Bool) (b rest : List ℕ) (at : ℕ) → there ≡ is_some o
     → drop at b ≡ place_bytes o ++ rest → (there || are_zeros b at 16) ≡ true
 place_passes None there b rest at flag is =

@@ -5,9 +5,9 @@ use Rattle.std.proofs.lemmas.Bool.{and_parts, eqb-true, not-true, agree_below_at
 use Rattle.trend_num.specs.declared.archive.Summary.{Summary}
 use Rattle.archive_file.specs.Summaries.{flag, flags}
 
--- ---- what stands beside what
+-- ---- which parts occur together
 
--- held and hinge stand together, and a pending value and doors only beside them
+-- held and hinge occur together, and a pending value and doors only together with them
 pub record AreBeside (held pending hinge doors : Bool) : Type 0 where
   pub together : held ≡ hinge
   pub pending_after : pending ≡ true → held ≡ true

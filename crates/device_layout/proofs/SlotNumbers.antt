@@ -51,7 +51,7 @@ if_some : {A : Type 0} (P : A → Type 0) (o : Option A) → IfThere P o → IfS
 if_some P None there = tt
 if_some P (Some x) there = there
 
--- which of a summary's points stand together
+-- which of a summary's points occur together
 record StandTogether (held hinge upper lower : Option Point) : Type 0 where
   together : is_some held ≡ is_some hinge
   doors : is_some upper ≡ is_some lower
@@ -80,7 +80,7 @@ stands_together step d rs (Some q) (Some a) (Some u) (Some l) begun = record {
   doors_after = λ there. refl;
 }
 
--- a pending value is there only beside a held one
+-- a pending value is there only together with a held one
 pending_beside : (u : Tuning) (held pending : Option Point) → PendingFits u held pending
     → is_some pending ≡ true → is_some held ≡ true
 pending_beside u held None fits there = absurd (cc (there))

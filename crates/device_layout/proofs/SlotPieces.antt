@@ -11,14 +11,14 @@ use Rattle.std.proofs.lemmas.List.{get_or_past, append_assoc}
 use Rattle.archive_file.specs.Fields.{number_bytes, point_bytes, point_at}
 use Rattle.archive_file.proofs.Points.{IsBytes, point_bytes-at}
 
--- what stands from a place on: a piece, and what is behind it
+-- what is there from a place on: a piece, and what is after it
 pub cut : (b : List ℕ) (at n : ℕ) (piece rest : List ℕ) → take n (drop at b) ≡ piece → drop (at + n) b ≡ rest
     → drop at b ≡ piece ++ rest
 cut b at n piece rest is behind =
     sym (take-append-drop n (drop at b)) ∙ ap (λ l. take n (drop at b) ++ l) (drop-drop n at b)
     ∙ ap (λ l. l ++ drop (at + n) b) is ∙ ap (λ l. piece ++ l) behind
 
--- five points and what is behind them
+-- five points and what is after them
 pub five_and_more : (a b c d e t : List ℕ) → (a ++ (b ++ (c ++ (d ++ e)))) ++ t
     ≡ a ++ (b ++ (c ++ (d ++ (e ++ t))))
 five_and_more a b c d e t = simp append_assoc
@@ -34,12 +34,12 @@ all_zeros (x ∷ l) all =
 pub zeros_are : (l : List ℕ) (n : ℕ) → length l ≡ n → list_all (λ x. eqb x 0) l ≡ true → l ≡ replicate n 0
 zeros_are l n long all = all_zeros l all ∙ ap (λ k. replicate k 0) long
 
--- bytes behind a zero
+-- bytes after a zero
 bytes_behind_zero : (l : List ℕ) → IsBytes l → IsBytes (0 ∷ l)
 bytes_behind_zero l bytes zero = omega arith
 bytes_behind_zero l bytes (suc i) = bytes i
 
--- a point stands in the first 16 bytes
+-- a point is in the first 16 bytes
 point_of_piece : (l : List ℕ) → point_at (take 16 l) ≡ point_at l
 point_of_piece l =
     let first : take 8 (take 16 l) ≡ take 8 l = take-take 8 16 l (omega arith) in

@@ -50,7 +50,7 @@ tuning_inside false t exc_dev exc_max comp_dev comp_min comp_max = tt
 
 -- ---- the summary
 
--- the tuning that stands in the last 32 bytes
+-- the tuning in the last 32 bytes
 abbrev tuning_there : List ℕ → Tuning
 tuning_there b = record {
   exc_dev = short_number b 96 7;
@@ -64,7 +64,7 @@ tuning_there b = record {
 abbrev place_there : List ℕ → ℕ → ℕ → Option Point
 place_there b bit at = cond (has_flag b bit) (Some (point_at (drop at b))) None
 
--- the summary that stands in a slot
+-- the summary in a slot
 abbrev summary_there : List ℕ → Summary
 summary_there b = record {
   taken = from_be_bytes w64 (take 8 b);

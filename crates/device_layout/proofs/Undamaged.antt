@@ -57,7 +57,7 @@ length-recs : (rs : List Rec) → length (recs_image rs) ≡ 17 * length rs
 length-recs [] = refl
 length-recs (r ∷ rs) = omega (arith, length-append (rec_image r) (recs_image rs), length-recs rs)
 
--- a record of several stands among their bytes
+-- a record of several is among their bytes
 record_there : (rs : List Rec) (k : ℕ) → k < length rs → AreInRange rs
     → (r : Rec) × InRange r.point × (take 17 (drop (17 * k) (recs_image rs)) ≡ rec_image r)
 record_there [] k below inside = absurd (omega (arith, below))
@@ -99,7 +99,7 @@ log_undamaged c at count a byte rs within has (inr (front, k, broken)) =
 
 -- ---- the lane
 
--- a point of several stands among their bytes
+-- a point of several is among their bytes
 pub point_there : (n i : ℕ) (bytes : List ℕ) (d : Point) → i < n
     → get_or (slot_points n bytes) i d ≡ point_at (drop (16 * i) bytes)
 point_there zero i bytes d below = absurd (omega (arith, below))

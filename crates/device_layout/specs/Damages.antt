@@ -1,4 +1,5 @@
--- Where a tag's device first breaks the layout: eight kinds of damage, each looked for where there is none of those before.
+-- Where a tag's device first breaks the layout. There are eight kinds of damage. Each is looked for only if there is
+-- none of those before it.
 use Rattle.std.specs.Prelude.{◌≡◌, ℕ, ◌+◌, ◌*◌, ◌<◌, ◌≤◌, List, length, take, map, slice_index}
 use Rattle.std.specs.Prelude.{Option, None, Some}
 use Rattle.trend_num.specs.Limits.{most_records}
@@ -25,7 +26,7 @@ pub record EndsBefore (n : ℕ) (c : List ℕ) (a : ℕ) (byte : Option ℕ) : T
   pub place : a ≡ length c
   pub none_there : byte ≡ None
 
--- this byte stands there
+-- this byte is at that place
 pub record StandsThere (c : List ℕ) (a : ℕ) (byte : Option ℕ) : Type 0 where
   pub within : a < length c
   pub byte_there : byte ≡ Some (slice_index c a)
@@ -42,7 +43,7 @@ pub record IsLayoutDamage (def : TagDef) (c : List ℕ) (a : ℕ) (byte : Option
   pub tag : IsOfTag def c
   pub ends : EndsBefore (log_place c) c a byte
 
--- the summary that counts is broken, so many bytes behind its beginning
+-- the summary that counts is broken, so many bytes after its beginning
 pub record IsSummaryDamage (def : TagDef) (c : List ℕ) (a : ℕ) (byte : Option ℕ) (i : Slot) (o : ℕ) : Type 0 where
   pub tag : IsOfTag def c
   pub long : log_place c ≤ length c
@@ -58,7 +59,7 @@ pub record IsLogDamage (def : TagDef) (c : List ℕ) (a : ℕ) (byte : Option �
   pub summary : HasSummary c (counting c) s
   pub broken : IsDamage c (log_place c) s.records a byte
 
--- the records and the summary cannot be those of a tag, which is told at the summary's beginning
+-- the records and the summary cannot be those of a tag; the place of this damage is the summary's beginning
 pub record ArePartsDamaged (def : TagDef) (c : List ℕ) (a : ℕ) (byte : Option ℕ) (rs : List Rec) (s : Summary)
     (i : Slot) : Type 0 where
   pub tag : IsOfTag def c
@@ -76,7 +77,7 @@ pub record IsQueueDamage (def : TagDef) (c : List ℕ) (a : ℕ) (byte : Option 
   pub stored : IsStored def c rs s
   pub broken : IsLaneDamage (slots_in (header_of c)) c s.taken a byte
 
--- value number n of the lane stands at this place
+-- value number n of the lane is at this place
 pub record IsValuePlace (slots : ℕ) (c : List ℕ) (taken n a j i : ℕ) : Type 0 where
   pub slot : j < slots
   pub number : n ≡ length (points_before slots c taken j) + i

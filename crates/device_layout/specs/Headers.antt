@@ -1,6 +1,6 @@
--- The header of a tag's device, its first 128 bytes: the layout's gate, and behind it four letters, the length of the tag's
--- name and the name, the five numbers of the tuning with which the tag was made, how many lane slots there are, and whether
--- it is a step tag. The rest is zeros.
+-- The header of a tag's device, its first 128 bytes. It begins with the layout's gate. Then come four letters, the
+-- length of the tag's name and the name, and the five numbers of the tuning with which the tag was made. Then come the
+-- number of lane slots, and whether it is a step tag. The rest is zeros.
 use Rattle.std.specs.Prelude.{◌≡◌, ℕ, ◌+◌, ◌-◌, ◌&&◌, Bool, true, List, ◌++◌, ◌∷◌, length, take}
 use Rattle.std.specs.Prelude.{drop, replicate}
 use Rattle.std.specs.Prelude.{slice_index, codes, nat_le, nat_eq, if◌then◌else◌}
@@ -12,7 +12,7 @@ use Rattle.trend_num.specs.Ranges.{last_time, largest_value}
 use Rattle.archive_file.specs.Fields.{number_bytes}
 use Rattle.device_layout.specs.Firsts.{HoldsFrom, FailsFirst}
 
--- the letters behind the gate
+-- the letters after the gate
 abbrev pub letters : List ℕ
 letters = codes "PHT1"
 
@@ -20,7 +20,7 @@ letters = codes "PHT1"
 abbrev pub most_slots : ℕ
 most_slots = 65536
 
--- ---- what a header says
+-- ---- the content of a header
 
 -- the number of 8 bytes at a place
 abbrev pub header_number_at : List ℕ → ℕ → ℕ
@@ -50,7 +50,7 @@ def_in h = record { name = name_in h; tuning = tuning_in h; step = is_step_in h 
 
 -- ---- which bytes are a header
 
--- the field that begins at a place keeps the layout; behind the beginning of a number there is none
+-- the field that begins at a place keeps the layout; no field begins within a number
 abbrev pub is_field_ok : List ℕ → ℕ → Bool
 is_field_ok h at =
     if nat_le at 4 then nat_eq (slice_index h at) (slice_index letters (at - 1))
@@ -67,12 +67,12 @@ is_field_ok h at =
     else if nat_le 115 at then nat_eq (slice_index h at) 0
     else true
 
--- each field keeps it
+-- each field keeps the layout
 pub record IsHeader (h : List ℕ) : Type 0 where
   pub size : length h ≡ 128
   pub fields : HoldsFrom (is_field_ok h) 1 128
 
--- the first that does not begins here
+-- the first field that breaks it begins here
 abbrev pub IsHeaderBroken : List ℕ → ℕ → Type 0
 IsHeaderBroken h at = FailsFirst (is_field_ok h) 1 128 at
 
@@ -83,7 +83,7 @@ abbrev pub tuning_image : Tuning → List ℕ
 tuning_image t = number_bytes 8 t.exc_dev ++ (number_bytes 8 t.exc_max
     ++ (number_bytes 8 t.comp_dev ++ (number_bytes 8 t.comp_min ++ number_bytes 8 t.comp_max)))
 
--- the header behind the gate
+-- the header after the gate
 abbrev pub header_image : TagDef → ℕ → List ℕ
 header_image def slots =
     letters ++ (length def.name ∷ (def.name ++ (replicate (64 - length def.name) 0

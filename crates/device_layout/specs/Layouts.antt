@@ -1,4 +1,4 @@
--- A layout that was just made: the gate is open, the header is that of a tag, and all behind it is zeros.
+-- A layout that was just made: the gate is open, the header is that of a tag, and all after it is zeros.
 use Rattle.std.specs.Prelude.{◌≡◌, ℕ, ◌<◌, ◌≤◌, List, length, take, drop, slice_index}
 use Rattle.trend_num.specs.declared.tag_def.TagDef.{TagDef}
 use Rattle.disk_model.specs.Gates.{IsOpen}

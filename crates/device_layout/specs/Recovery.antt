@@ -1,5 +1,5 @@
--- What an image of a tag's device recovers: the records of its log, the summary that counts, and what the lane holds beyond
--- that summary. All of it is read of bytes at places, so it is said of each image that a crash may leave.
+-- What an image of a tag's device recovers: the records of its log, the summary that counts, and what the lane holds
+-- beyond that summary. All of it is read of bytes at places, so it applies to each image that a crash may leave.
 use Rattle.std.specs.Prelude.{◌≡◌, ◌⊎◌, ℕ, ◌+◌, ◌≤◌, Bool, true, false, List, [], ◌∷◌}
 use Rattle.std.specs.Prelude.{length, take, drop, map}
 use Rattle.std.specs.Prelude.{slice_index, nat_eq, nat_le, Option, None, Some}
@@ -55,7 +55,7 @@ taken_in c i = from_be_bytes w64 (take 8 (slot_bytes c i))
 abbrev pub records_in : List ℕ → Slot → ℕ
 records_in c i = from_be_bytes w32 (take 4 (drop 8 (slot_bytes c i)))
 
--- of the open summary slots that which counts more events, the first where they are equal
+-- that of the open summary slots which counts more events; the first if both count the same
 abbrev pub chosen : Bool → Bool → Bool → Option Slot
 chosen true true true = Some First
 chosen true true false = Some Second
@@ -101,7 +101,7 @@ AllFit step s (e ∷ events) = (length s.records + 2 ≤ most_records) × AllFit
 abbrev pub state_of : List Rec → Summary → Tuning → State
 state_of rs s u = record { records = rs; summary = record s { tuning = Some u } }
 
--- the state from which the lane goes on; a summary without its tuning has that of the header
+-- the state from which the lane continues; a summary without a tuning has that of the header
 abbrev pub start_of : List ℕ → List Rec → Summary → State
 start_of c rs s = state_of rs s (recovered_tuning (tuning_in (header_of c)) s.tuning)
 
@@ -124,7 +124,7 @@ pub record IsStored (def : TagDef) (c : List ℕ) (rs : List Rec) (s : Summary) 
 abbrev pub values_beyond : List ℕ → ℕ → List Event
 values_beyond c taken = map Raw (lane_points (slots_in (header_of c)) c taken)
 
--- the lane keeps the layout, and its values find room and go on from a state to this one
+-- the lane keeps the layout, and its values find room and lead from the first state to this one
 pub record IsReplayed (step : Bool) (c : List ℕ) (start : State) (taken : ℕ) (s : State) : Type 0 where
   pub lane : IsLane (slots_in (header_of c)) c taken (slots_in (header_of c))
   pub fits : AllFit step start (values_beyond c taken)
@@ -135,6 +135,6 @@ abbrev pub IsRecovered : TagDef → List ℕ → State → Type 0
 IsRecovered def c s = (rs : List Rec) × (summary : Summary) × IsStored def c rs summary
     × IsReplayed def.step c (start_of c rs summary) summary.taken s
 
--- an image of this tag's device recovers this state: a new one that before any event
+-- an image of this tag's device recovers this state; a new device recovers the state before any event
 abbrev pub Recovers : TagDef → List ℕ → State → Type 0
 Recovers def c s = (IsNew c × (s ≡ nothing_taken def.tuning)) ⊎ IsRecovered def c s

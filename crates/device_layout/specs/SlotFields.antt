@@ -1,6 +1,5 @@
--- The fields of a summary slot of 128 bytes, and which of them is the first to break the layout. A slot is
--- tested three times over: the form of each field, then the points that are there, then the numbers of the
--- tuning if it is there.
+-- The fields of a summary slot of 128 bytes, and which of them is the first to break the layout. A slot is tested three
+-- times: the form of each field, then the points that are there, then the numbers of the tuning if it is there.
 use Rattle.std.specs.Prelude.{◌⊎◌, ℕ, ◌-◌, ◌/◌, ◌%◌, ◌&&◌, ◌||◌, not, Bool, true, List, ◌++◌, take, drop}
 use Rattle.std.specs.Prelude.{replicate, slice_index, nat_le, nat_eq, if◌then◌else◌, unsigned_abs}
 use Rattle.std.specs.List.{list_all}
@@ -14,8 +13,8 @@ use Rattle.device_layout.specs.Firsts.{HoldsFrom, FailsFirst}
 abbrev pub has_flag : List ℕ → ℕ → Bool
 has_flag b bit = nat_eq (slice_index b 12 / bit % 2) 1
 
--- held and hinge stand together or not at all, a pending value and doors only beside held, and there are no
--- other bits
+-- held and hinge are both there or both absent; a pending value and doors are there only together with held; there are
+-- no other bits
 abbrev pub are_flags_ok : List ℕ → Bool
 are_flags_ok b =
     nat_le (slice_index b 12) 31
@@ -72,7 +71,7 @@ IsSlotBroken b at = FailsFirst (is_form_ok b) 0 128 at
     ⊎ (HoldsFrom (is_form_ok b) 0 128 × (FailsFirst (is_point_ok b) 0 128 at
     ⊎ (HoldsFrom (is_point_ok b) 0 128 × FailsFirst (is_number_ok b) 0 128 at)))
 
--- none does
+-- no field breaks the layout
 pub record IsSlotWhole (b : List ℕ) : Type 0 where
   pub forms : HoldsFrom (is_form_ok b) 0 128
   pub points : HoldsFrom (is_point_ok b) 0 128

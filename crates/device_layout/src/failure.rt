@@ -1,4 +1,4 @@
-// Why a tag's device is not opened.
+// The reasons for which a tag's device is not opened.
 use disk_model::Failed;
 use thiserror::Error;
 use trend_num::TagDef;
@@ -9,7 +9,7 @@ pub enum OpenNo {
     /// A call of the device failed.
     #[error("a call of the device failed")]
     DeviceFault,
-    /// The byte at `at`, the first of a field, breaks the layout; `None` where the device ends there.
+    /// The byte at `at`, the first of a field, breaks the layout. `byte` is `None` if the device ends there.
     #[error("damaged at {at}")]
     Damaged { at: u64, byte: Option<u8> },
     /// The device is that of a tag of another name or another kind.

@@ -15,10 +15,10 @@ use trend_num::{MAX_DEV, MAX_T, Name, TagDef, Tuning, name_from};
 /// How many bytes a header has, the gate among them.
 pub const HEADER_LEN: usize = 128;
 
-// How many of them are behind the gate.
+// How many of them follow the gate.
 const BEHIND_GATE: usize = 127;
 
-// The letters behind the gate.
+// The letters after the gate.
 const LETTERS: [u8; 4] = *b"PHT1";
 
 // The most bytes of a name.
@@ -27,7 +27,7 @@ const NAME_MOST: u8 = 64;
 // The most lane slots.
 const SLOTS_MOST: u32 = 65_536;
 
-/// What a header says of a tag's device.
+/// The content of a device's header.
 #[derive(Clone, Copy, Debug, PartialEq, Eq)]
 pub struct Header {
     /// The definition of the tag, with the tuning with which it was made.
@@ -36,8 +36,8 @@ pub struct Header {
     pub slots: u32,
 }
 
-/// What the 128 bytes at a device's beginning say, the gate aside, or the place of the first byte of the
-/// first field that breaks the layout.
+/// Reads the 128 bytes at a device's beginning, except for the gate. If a field breaks the layout, the error is the
+/// place of the first byte of the first such field.
 pub fn read_header(h: &[u8; HEADER_LEN]) -> Result<Header, usize>
     ensures header { IfOk result (λ x. IsHeader h.now × (x.def ≡ def_in h.now) × (x.slots ≡ slots_in h.now)) }
     ensures tuned { IfOk result (λ x. TuningInRange x.def.tuning) }
@@ -53,7 +53,7 @@ pub fn read_header(h: &[u8; HEADER_LEN]) -> Result<Header, usize>
     Ok(header_in(h))
 }
 
-// Whether the field that begins at a place keeps the layout. Behind the beginning of a number there is none.
+// Returns whether the field that begins at a place keeps the layout. No field begins within a number.
 fn is_field_ok(h: &[u8; HEADER_LEN], at: usize) -> bool
     requires low { 1 ≤ at }
     requires within { at < 128 }
@@ -74,7 +74,7 @@ fn is_field_ok(h: &[u8; HEADER_LEN], at: usize) -> bool
     is_rest_ok(h, at)
 }
 
-// The same behind the name and its zeros.
+// The same after the name and its zeros.
 fn is_rest_ok(h: &[u8; HEADER_LEN], at: usize) -> bool
     requires behind { 5 + slice_index h.now 5 < at }
     requires low { 70 ≤ at }
@@ -91,21 +91,21 @@ fn is_rest_ok(h: &[u8; HEADER_LEN], at: usize) -> bool
     }
 }
 
-// Whether a name may have this byte: whether it is a name by itself.
+// Returns whether a name may have this byte: the byte alone has to be a name.
 fn is_name_byte(byte: u8) -> bool
     ensures { result ≡ is_name_byte byte }
 {
     name_from(&[byte]).is_some()
 }
 
-// Whether there may be so many lane slots.
+// Returns whether there may be so many lane slots.
 fn are_slots(slots: u32) -> bool
     ensures { result ≡ (nat_le 1 slots && nat_le slots most_slots) }
 {
     1 <= slots && slots <= SLOTS_MOST
 }
 
-// What a header says.
+// Returns the content of a whole header.
 fn header_in(h: &[u8; HEADER_LEN]) -> Header
     requires { IsHeader h.now }
     ensures def { result.def ≡ def_in h.now }
@@ -164,7 +164,7 @@ fn slots_in(h: &[u8; HEADER_LEN]) -> u32
     u32::from_be_bytes(*slots)
 }
 
-/// The header behind the gate.
+/// Returns the bytes of the header after the gate.
 pub fn header_bytes(def: &TagDef, slots: u32) -> [u8; BEHIND_GATE]
     requires { slots ≤ 65536 }
     ensures image { result ≡ header_image def.now slots }

@@ -21,19 +21,18 @@ use event_queue::SLOT_LEN;
 use std::alloc::{AllocError, Global};
 use trend_num::TagDef;
 
-// Where the gate of the layout is.
+// The place of the gate of the layout.
 const GATE: u64 = 0;
 
 // The byte of the gate before the layout is whole.
 const CLOSED: u8 = 0;
 
-// How many bytes stand between the gate of the layout and those of the lane slots.
+// How many bytes lie between the gate of the layout and those of the lane slots.
 const FRONT: usize = 399;
 
-/// Makes the layout of a new device: closes its gate, writes the header and zeros behind it, and opens it.
-/// Memory for the bytes is taken before the first write. A crash at any moment leaves a new device or the
-/// whole layout, and either recovers that nothing was taken. After DeviceFault the device is opened again
-/// before it is used.
+/// Makes the layout of a new device: closes its gate, writes the header and zeros after it, and opens it. It takes
+/// memory for the bytes before the first write. A crash at any moment leaves a new device or the whole layout. Either
+/// recovers a tag that has taken nothing. After DeviceFault the device has to be opened again before it is used.
 pub fn make_layout<D: Disk>(
     alloc: Global,
     dev: &mut D,
@@ -66,7 +65,7 @@ pub fn make_layout<D: Disk>(
     Ok(())
 }
 
-// All bytes of a new layout behind its gate: the header, and zeros.
+// All bytes of a new layout after its gate: the header, and zeros.
 fn layout_bytes(alloc: Global, def: &TagDef, slots: u32) -> Result<Vec<u8>, AllocError>
     requires { slots ≤ 65536 }
     ensures image { IfOk result (λ v. v.items
@@ -80,8 +79,8 @@ fn layout_bytes(alloc: Global, def: &TagDef, slots: u32) -> Result<Vec<u8>, Allo
     Ok(bytes)
 }
 
-// Sees to it that a new device has a closed gate, and syncs. One of length 0 begins with it; any other is
-// written only where its gate is open, and then has no other byte.
+// Makes sure that a new device has a closed gate, and syncs. A device of length 0 gets one. Any other is written only
+// if its gate is open, and then it has no other byte.
 fn close_layout<D: Disk>(dev: &mut D) -> Result<(), Failed>
     requires new { IfSome (D.trace dev.old) (λ t. IsNew (seen (Some t))) }
     requires settled { IsSettled (D.trace dev.old) }

@@ -1,4 +1,4 @@
-// Reading of a tag's device: its header, the summary that counts, and the records.
+// Reads a tag's device: its header, the summary that counts, and the records.
 ghost use Rattle.std.specs.Prelude.{◌≡◌, ◌+◌, ◌*◌, ◌^◌, ◌<◌, ◌≤◌, ℕ, length, slice_index};
 ghost use Rattle.std.specs.Prelude.{[], None, Some, Err, IfOk, IfErr, OnOk, OnErr};
 ghost use Rattle.trend_num.specs.declared.tuning.Tuning.{Tuning};
@@ -27,13 +27,13 @@ use trend_num::{Rec, Summary, TagDef, Tuning, same_name};
 /// What a device stores: the summary that counts, the records that it counts, and the tuning in force.
 #[derive(Drop)]
 pub struct Stored {
-    /// The summary slot that counts; None before the first checkpoint, where the summary is empty.
+    /// The summary slot that counts. It is None before the first checkpoint, when the summary is empty.
     pub slot: Option<Slot>,
     /// The summary in that summary slot.
     pub summary: Summary,
     /// The records that it counts, the oldest first.
     pub recs: Vec<Rec>,
-    /// The tuning in force: the summary's, or the header's where the summary has none.
+    /// The tuning in force: the summary's, or the header's if the summary has none.
     pub tuning: Tuning,
 }
 
@@ -52,7 +52,8 @@ const NO_SUMMARY: Summary = Summary {
 /// Where the lane begins, with its gates.
 pub const LANE: u64 = 400;
 
-/// The header of a device whose layout was finished, where it is this tag's and the layout is as long as it says.
+/// Reads the header of a device whose layout was finished. It fails if a field of the header is broken, if the device
+/// is another tag's, or if it ends before the end of its layout.
 pub fn read_layout<D: Disk>(dev: &mut D, def: &TagDef) -> Result<Header, OpenNo>
     requires { Shows (D.trace dev.old) IsBegun }
     ensures layout { IfOk result (λ h. Shows (D.trace dev.old) (HasLayout def.now h.slots h.def.tuning)) }
@@ -74,7 +75,7 @@ pub fn read_layout<D: Disk>(dev: &mut D, def: &TagDef) -> Result<Header, OpenNo>
     Ok(header)
 }
 
-// The header of a device of this length.
+// Reads the header of a device of this length.
 fn header_of<D: Disk>(dev: &mut D, len: u64) -> Result<Header, OpenNo>
     requires { HasLength (D.trace dev.old) len }
     ensures header { IfOk result (λ h. Shows (D.trace dev.old) (HasHeader h)) }
@@ -112,14 +113,14 @@ fn check_tag(found: &TagDef, wanted: &TagDef) -> Result<(), OpenNo>
     })
 }
 
-/// Where the records begin, behind so many lane slots.
+/// Returns the place at which the records begin, after so many lane slots.
 pub fn log_start(slots: u32) -> u64
     ensures { result ≡ 400 + 1035 * slots }
 {
     LANE + (SLOT_LEN as u64 + 1) * u64::from(slots)
 }
 
-// A device ends too early.
+// The refusal of a device that ends too early.
 fn ends_at(len: u64) -> OpenNo
     ensures { result ≡ Damaged len None }
 {
@@ -129,7 +130,7 @@ fn ends_at(len: u64) -> OpenNo
     }
 }
 
-// The summary slot that counts, if one does.
+// Returns the summary slot that counts, if one does.
 fn counting_slot<D: Disk>(dev: &mut D) -> Result<Option<Slot>, OpenNo>
     requires { Reaches (D.trace dev.old) 400 }
     ensures slot { IfOk result (λ x. Shows (D.trace dev.old) (λ c. counting c ≡ x)) }
@@ -144,7 +145,8 @@ fn counting_slot<D: Disk>(dev: &mut D) -> Result<Option<Slot>, OpenNo>
     Ok(chosen(gates[0] == OPEN, gates[1] == OPEN, second <= first))
 }
 
-// The summary slot that counts, by which gates are open, and whether the second counts no more events than the first.
+// The summary slot that counts. It depends on which gates are open, and on whether the second counts no more events
+// than the first.
 fn chosen(first_open: bool, second_open: bool, first_counts: bool) -> Option<Slot>
     ensures { result ≡ chosen first_open second_open first_counts }
 {
@@ -157,7 +159,7 @@ fn chosen(first_open: bool, second_open: bool, first_counts: bool) -> Option<Slo
     }
 }
 
-// The summary in the summary slot that counts.
+// Reads the summary in the summary slot that counts.
 fn counted<D: Disk>(dev: &mut D, slot: Slot) -> Result<Summary, OpenNo>
     requires long { Reaches (D.trace dev.old) 400 }
     ensures bytes { IfOk result (λ s. Shows (D.trace dev.old) (λ c. slot_bytes c slot ≡ summary_image s)) }
@@ -176,7 +178,7 @@ fn counted<D: Disk>(dev: &mut D, slot: Slot) -> Result<Summary, OpenNo>
     }
 }
 
-// The records that this summary counts.
+// Reads the records that this summary counts.
 fn records_of<D: Disk>(
     alloc: Global,
     dev: &mut D,
@@ -198,7 +200,7 @@ fn records_of<D: Disk>(
     }
 }
 
-/// The byte at a place is damaged.
+/// Returns the refusal for a damaged byte at a place.
 pub fn damaged(at: u64, byte: u8) -> OpenNo
     ensures { result ≡ Damaged at (Some byte) }
 {
@@ -218,8 +220,8 @@ fn in_force(made: Tuning, tuning: Option<Tuning>) -> Tuning
     }
 }
 
-/// The summary that counts, its records, and the tuning in force. Whether records and summary can be those of a tag is not
-/// tested.
+/// Reads the summary that counts, its records, and the tuning in force. It does not test whether records and summary
+/// can be those of a tag.
 pub fn read_stored<D: Disk>(alloc: Global, dev: &mut D, header: &Header) -> Result<Stored, OpenNo>
     requires long { Reaches (D.trace dev.old) 400 }
     requires tuned { TuningInRange header.now.def.tuning }
@@ -254,7 +256,7 @@ pub fn read_stored<D: Disk>(alloc: Global, dev: &mut D, header: &Header) -> Resu
     })
 }
 
-/// The refusal to open what was not read.
+/// Returns the refusal to open a device whose records could not be read.
 pub fn refusal_of(why: ScanNo) -> OpenNo
     ensures { result ≡ refusal_of why }
 {

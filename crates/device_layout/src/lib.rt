@@ -1,15 +1,16 @@
 //! The layout of a tag's device, what an image of it recovers, and where it is damaged.
 //!
-//! A device begins with a header and two places for a summary; then come the lane, which is the durable queue of raw values,
-//! and the log of records. What an image of it recovers is defined over its bytes (`specs/Recovery.antt`): the records that
-//! the summary counts, that summary, and the values of the lane that it does not count, taken one after the other. A device
-//! on which no layout was finished recovers a tag before its first event. Where a device breaks the layout is defined by
-//! eight kinds of damage, each looked for where there is none of those before it (`specs/Damages.antt`).
+//! A device begins with a header and two places for a summary. Then come the lane, which is the durable queue of raw
+//! values, and the log of records. What an image of it recovers is defined over its bytes (`specs/Recovery.antt`). It
+//! is the summary that counts, the records that this summary counts, and the lane's values that it does not count,
+//! taken one after the other. A device on which no layout was finished recovers a tag before its first event. Eight
+//! kinds of damage define where a device breaks the layout. Each is looked for only if there is none of those before it
+//! (`specs/Damages.antt`).
 //!
-//! [`make_layout`] makes the layout of a new device: a crash at any moment leaves a new device or the whole layout.
-//! [`read_layout`] and [`read_stored`] read the header, the summary that counts and the records, or name the first byte of
-//! the first field that breaks the layout. Whether records and summary can be those of a tag, and whether the lane keeps its
-//! layout, is tested by the crates above.
+//! [`make_layout`] makes the layout of a new device. A crash at any moment leaves a new device or the whole layout.
+//! [`read_layout`] and [`read_stored`] read the header, the summary that counts and the records. If the layout is
+//! broken, the error names the first byte of the first field that breaks it. The crates above test whether records and
+//! summary can be those of a tag, and whether the lane keeps its layout.
 #![tactic(auto)]
 
 mod failure;

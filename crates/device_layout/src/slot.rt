@@ -12,7 +12,7 @@ pub enum Slot {
 }
 
 impl Slot {
-    /// Where the slot begins.
+    /// Returns the place at which the slot begins, in bytes.
     pub fn place(self) -> u64
         ensures { result ≡ summary_place self }
     {
@@ -22,7 +22,7 @@ impl Slot {
         }
     }
 
-    /// Where its gate is.
+    /// Returns the place of its gate, in bytes.
     pub fn gate(self) -> u64
         ensures { result ≡ summary_gate self }
     {

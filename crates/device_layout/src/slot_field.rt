@@ -26,8 +26,8 @@ const DOORS: u8 = 8;
 
 const TUNING: u8 = 16;
 
-// The summary that the bytes of a slot spell, or the place of the first byte of the first field that breaks
-// the layout.
+// Reads the summary that the bytes of a slot spell. If a field breaks the layout, the error is the place of the first
+// byte of the first such field.
 pub(crate) fn read_summary(b: &[u8; SUMMARY_LEN]) -> Result<Summary, usize>
     ensures summary { IfOk result (λ s. IsSummary s × (b.now ≡ summary_image s)) }
     ensures broken { IfErr result (IsSlotBroken b.now) }
@@ -56,7 +56,7 @@ fn broken_field(b: &[u8; SUMMARY_LEN]) -> Option<usize>
     broken_number(b)
 }
 
-// The first field of a form that it may not have.
+// The place of the first field whose form is not allowed.
 fn broken_form(b: &[u8; SUMMARY_LEN]) -> Option<usize>
     ensures { MatchOption result (HoldsFrom (is_form_ok b.now) 0 128)
         (FailsFirst (is_form_ok b.now) 0 128) }
@@ -64,7 +64,7 @@ fn broken_form(b: &[u8; SUMMARY_LEN]) -> Option<usize>
     (0..SUMMARY_LEN).find(|&at| !form_holds(b, at))
 }
 
-// The first point that is there and out of range.
+// The place of the first point that is there and out of range.
 fn broken_point(b: &[u8; SUMMARY_LEN]) -> Option<usize>
     ensures { MatchOption result (HoldsFrom (is_point_ok b.now) 0 128)
         (FailsFirst (is_point_ok b.now) 0 128) }
@@ -72,7 +72,7 @@ fn broken_point(b: &[u8; SUMMARY_LEN]) -> Option<usize>
     (0..SUMMARY_LEN).find(|&at| !point_holds(b, at))
 }
 
-// The first number of a tuning that is there and out of range.
+// The place of the first number of a tuning that is there and out of range.
 fn broken_number(b: &[u8; SUMMARY_LEN]) -> Option<usize>
     ensures { MatchOption result (HoldsFrom (is_number_ok b.now) 0 128)
         (FailsFirst (is_number_ok b.now) 0 128) }
@@ -80,7 +80,7 @@ fn broken_number(b: &[u8; SUMMARY_LEN]) -> Option<usize>
     (0..SUMMARY_LEN).find(|&at| !number_holds(b, at))
 }
 
-// Whether the field that begins at a place has a form that it may have.
+// Returns whether the form of the field that begins at a place is allowed.
 fn form_holds(b: &[u8; SUMMARY_LEN], at: usize) -> bool
     ensures { result ≡ is_form_ok b.now at }
 {
@@ -97,7 +97,7 @@ fn form_holds(b: &[u8; SUMMARY_LEN], at: usize) -> bool
     }
 }
 
-// Whether the point that begins at a place is in range, if it is there.
+// Returns whether the point that begins at a place is in range, or absent.
 fn point_holds(b: &[u8; SUMMARY_LEN], at: usize) -> bool
     ensures { result ≡ is_point_ok b.now at }
 {
@@ -111,7 +111,7 @@ fn point_holds(b: &[u8; SUMMARY_LEN], at: usize) -> bool
     }
 }
 
-// Whether the number of the tuning that begins at a place is in range, if it is there.
+// Returns whether the number of the tuning that begins at a place is in range, or absent.
 fn number_holds(b: &[u8; SUMMARY_LEN], at: usize) -> bool
     ensures { result ≡ is_number_ok b.now at }
 {
@@ -125,7 +125,7 @@ fn number_holds(b: &[u8; SUMMARY_LEN], at: usize) -> bool
     }
 }
 
-// Whether one of the flags is set.
+// Returns whether one of the flags is set.
 fn is_set(b: &[u8; SUMMARY_LEN], bit: u8) -> bool
     requires { 0 < bit }
     ensures { result ≡ has_flag b.now bit }
@@ -133,7 +133,7 @@ fn is_set(b: &[u8; SUMMARY_LEN], bit: u8) -> bool
     b[FLAGS] / bit % 2 == 1
 }
 
-// Whether the flags go together.
+// Returns whether the flags may occur together.
 fn flags_hold(b: &[u8; SUMMARY_LEN]) -> bool
     ensures { result ≡ are_flags_ok b.now }
 {
@@ -146,7 +146,7 @@ fn flags_hold(b: &[u8; SUMMARY_LEN]) -> bool
     b[FLAGS] <= 31 && together
 }
 
-// Whether so many bytes from a place on are zeros.
+// Returns whether `len` bytes from a place on are zeros.
 fn is_zero(b: &[u8; SUMMARY_LEN], at: usize, len: usize) -> bool
     requires { at + len ≤ 128 }
     ensures { result ≡ are_zeros b.now at len }
@@ -154,7 +154,7 @@ fn is_zero(b: &[u8; SUMMARY_LEN], at: usize, len: usize) -> bool
     b[at..at + len].iter().all(|x| *x == 0)
 }
 
-// Whether the part with this flag is there, or else so many bytes from a place on are zeros.
+// Returns whether the part with this flag is there. If it is not, `len` bytes from a place on have to be zeros.
 fn is_there_or_zero(b: &[u8; SUMMARY_LEN], bit: u8, at: usize, len: usize) -> bool
     requires flag { 0 < bit }
     requires within { at + len ≤ 128 }
@@ -163,7 +163,7 @@ fn is_there_or_zero(b: &[u8; SUMMARY_LEN], bit: u8, at: usize, len: usize) -> bo
     is_set(b, bit) || is_zero(b, at, len)
 }
 
-// Whether the point at a place is in range, if the part with this flag is there.
+// Returns whether the point at a place is in range, or the part with this flag is absent.
 fn is_absent_or_in_range(b: &[u8; SUMMARY_LEN], bit: u8, at: usize) -> bool
     requires flag { 0 < bit }
     requires within { at + 16 ≤ 128 }
@@ -181,7 +181,7 @@ fn place_at(b: &[u8; SUMMARY_LEN], at: usize) -> Point
     point
 }
 
-// Whether the number of 7 bytes at a place is a deviation, if the tuning is there.
+// Returns whether the number of 7 bytes at a place is a deviation, or the tuning is absent.
 fn is_absent_or_deviation(b: &[u8; SUMMARY_LEN], at: usize) -> bool
     requires { at + 7 ≤ 128 }
     ensures { result ≡ (not (has_flag b.now 16) || nat_le (short_number b.now at 7) largest_value) }
@@ -189,7 +189,7 @@ fn is_absent_or_deviation(b: &[u8; SUMMARY_LEN], at: usize) -> bool
     !is_set(b, TUNING) || deviation_at(b, at) <= MAX_DEV
 }
 
-// Whether the number of 6 bytes at a place is a time, if the tuning is there.
+// Returns whether the number of 6 bytes at a place is a time, or the tuning is absent.
 fn is_absent_or_time(b: &[u8; SUMMARY_LEN], at: usize) -> bool
     requires { at + 6 ≤ 128 }
     ensures { result ≡ (not (has_flag b.now 16) || nat_le (short_number b.now at 6) last_time) }

@@ -1,12 +1,13 @@
-// What no clause says: that calls succeed where there is memory, and the images by hand.
+// What no clause says: that calls succeed if there is memory; and images that were computed by hand.
 use crate::spelled::{change, number};
 use disk_model::{Disk, Failed, MemDisk, MemStore, Pick, Store, close_gates};
 use std::alloc::{AllocError, Global};
 use std::process::Abort;
 use std::test::Fail;
 
-// Calls on a device of "abc": a write of bytes at a place, a cut to a length, a sync. Behind them the call that fails. Then
-// the images that a crash may leave: nothing of what was not synced, all of it, or "-" in its place.
+// Calls on a device of "abc": a write of bytes at a place, a cut to a length, a sync. Then comes the number of the call
+// that fails. Then come the images that a crash may leave: without what was not synced, with all of it, or with "-" in
+// its place.
 const IMAGES: &str = "\
 1:xy 9 => abc axy a--
 3:de 9 => abc abcde abc--
@@ -22,7 +23,7 @@ const GATES: &str = "\
 0=165 1=7 2=165 => [0, 7, 0, 0] 3
 0=165 1=165 2=165 3=165 => [0, 0, 0, 0] 5";
 
-// Makes a call, and says whether it was done.
+// Makes a call, and returns whether it was done.
 fn is_done(rt: &impl Abort, disk: &mut MemDisk, step: &str) -> bool {
     match step.split_once(':') {
         None => disk.sync().is_ok(),
@@ -81,7 +82,7 @@ fn a_device_in_memory_counts(rt: HostRuntime) -> Result<(), Fail> {
     Ok(())
 }
 
-// The device of these four gates, once they are closed.
+// The device of these four gates, after they were closed.
 fn closed(bytes: Vec<u8>) -> Option<MemDisk> {
     if bytes.len() != 4 {
         return None;

@@ -1,4 +1,4 @@
-// Lanes by hand: what a scan finds, and the first field that breaks the layout.
+// Lanes written by hand: what a scan finds, and the first field that breaks the layout.
 use crate::spelled::{change, number};
 use disk_model::MemDisk;
 use event_queue::scan;
@@ -9,11 +9,13 @@ use std::test::Fail;
 // A device of four lane slots, of which the first two are open: (0,0) and (10,10), and then (20,20).
 const TWO_BATCHES: &str = "400=165 401=165 413=2 437=10 445=10 1445=2 1447=1 1455=20 1463=20";
 
-// How many raw values the summary counts, and which bytes are changed. Then how many lane slots are used, the next number,
-// how many points there are beyond the summary, and whether they are stale; or the first byte of the first broken field.
+// How many raw values the summary counts, and which bytes are changed. Then comes what a scan finds: how many lane
+// slots are used, the next number, how many points there are beyond the summary, and whether they are stale. If the
+// layout is broken, it is the first byte of the first broken field.
 //
-// Bytes that no lane slot has; counts, and first numbers; a closed gate; times and values; bytes behind a closed gate. Then
-// summaries that count all, or all of the lane slots that are open; and some that end within a batch, or before a gap.
+// The rows are: bytes that no lane slot has; counts, and first numbers; a closed gate; times and values; bytes after a
+// closed gate. Then come summaries that count all, or all of the lane slots that are open. Last come some that end
+// within a batch, or before a gap.
 const SCANS: &str = "\
 0 0=0 386=165 => 2 3 3 false
 0 412=1 => Damaged { at: 412, byte: Some(1) }
@@ -39,7 +41,7 @@ const SCANS: &str = "\
 2 400=0 => Damaged { at: 1438, byte: Some(0) }
 0 401=0 => 1 2 2 false";
 
-// What a scan of the device finds, once it is changed, for a summary that counts so many.
+// What a scan of the changed device finds, if the summary counts `taken` values.
 fn found(rt: &impl Abort, alloc: Global, taken: u64, changes: &str) -> Result<String, Fail> {
     let mut bytes = vec![in alloc; 0; 4540]?;
     change(rt, bytes.as_mut_slice(), TWO_BATCHES);

@@ -1,4 +1,4 @@
-//! Tests of devices and of what is kept on them: bytes by hand, crashes, damage, and how many calls are made.
+//! Tests of devices and of what is kept on them: bytes written by hand, crashes, damage, and the number of calls.
 #![tactic(auto)]
 
 #[cfg(test)]

@@ -1,4 +1,4 @@
-// Records and summaries in bytes, by hand.
+// Records and summaries in bytes that were written by hand.
 use crate::spelled::{change, number, point};
 use archive_file::{
     DeviceFault, Kind, Point, PutNo, Rec, ScanNo, Summary, Tuning, put_records, read_records,
@@ -17,8 +17,8 @@ late 1500,60 => 4c00000000000005dc000000000000003c
 kept 253402300799999,-2 => 4b0000e677d21fdbfffffffffffffffffe
 late 1,-1000000000000000 => 4c0000000000000001fffc72815b398000";
 
-// The call that fails, what is changed of a device of "abc", (0,5) kept and (1500,60) late, and what is read of it: both;
-// a fault; an unknown kind, a time past the year 9999, a value too large.
+// The call that fails, and what is changed of a device of "abc", (0,5) kept and (1500,60) late. Then comes what is read
+// of it: both records; a fault; an unknown kind, a time past the year 9999, a value that is too large.
 const READS: &str = "\
 9  => Ok(2)
 0  => Err(DeviceFault)
@@ -27,8 +27,8 @@ const READS: &str = "\
 9 23=230 24=119 25=210 26=31 27=220 28=0 => Err(Damaged { at: 21, byte: Some(0) })
 9 30=3 31=141 32=126 33=164 34=198 35=128 36=1 => Err(Damaged { at: 29, byte: Some(0) })";
 
-// The changes that make no summary of one: no held point, no hinge, an unknown flag, zeros that are none, parts that are
-// there and absent, a time out of range, and a tuning without its flag.
+// Changes after which the bytes are no summary: no held point, no hinge, an unknown flag, a byte that should be zero.
+// Then parts whose flag and bytes disagree, a time out of range, and a tuning without its flag.
 const BROKEN: &str = "\
 12=4
 12=1

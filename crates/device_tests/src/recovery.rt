@@ -1,4 +1,4 @@
-// Devices that are opened again: stories by hand, and damaged bytes.
+// Devices that are opened again: stories written by hand, and damaged bytes.
 ghost use Rattle.std.specs.Prelude.{◌≡◌, ◌<◌};
 
 use crate::spelled::{change, point};
@@ -13,12 +13,14 @@ use std::sync::ledger::{Blank, Ledger};
 use std::test::Fail;
 use trend_num::{Kind, Point, Rec, Steps, TagDef, Tuning, in_range, name_from, tuning_ok};
 
-// How many lane slots there are, and what happens: a tuning's name, with which the device is opened; a value, which is put
-// into the lane or, where that is full, by a checkpoint; and a checkpoint. Then the records, the held point, the raw values
-// that are acknowledged, the free lane slots, and the writes and syncs since the device was opened last.
+// How many lane slots there are, and what happens. The name of a tuning opens the device with that tuning. A value is
+// put into the lane or, if the lane is full, a checkpoint keeps it. `check` makes a checkpoint. Then come the records,
+// the held point, and how many raw values are acknowledged and how many lane slots are free. Last come the writes and
+// syncs since the device was opened last.
 //
-// A batch takes four of them. A checkpoint takes two for new records, two for the summary, two for its gate, one for each
-// gate of the lane that it closes, and one behind these; and two where the gate of its summary slot was open.
+// A batch takes four writes and syncs. A checkpoint takes two for new records, two for the summary and two for its
+// gate. It also takes one for each gate of the lane that it closes, and one after these. It takes two more if the gate
+// of its summary slot was open.
 const STORIES: &str = "\
 64 plain => none 0 64 0
 1 plain 0,0 10,10 20,0 30,5 => 0,0 10,10 20,0 held 30,5 4 1 24
@@ -28,9 +30,9 @@ const STORIES: &str = "\
 64 dull 0,0 10,1 plain => 0,0 10,1 held 10,1 3 64 0
 4 plain 0,0 dull 10,1 5,3 => 0,0 5,3* held 10,1 4 2 8";
 
-// Bytes of a device of the tag T1 that are changed, and what is told when it is opened. Of the header: letters, the name
-// and its zeros, the tuning, the number of lane slots, the kind, zeros. Of the summary: flags, zeros, absent parts that are
-// there, points and tunings out of range. The kind of a record. Of the lane: a count, a number.
+// Changed bytes of the device of the tag T1, and the answer when it is opened. Of the header: letters, the name and its
+// zeros, the tuning, the number of lane slots, the kind, zeros. Of the summary: flags, zeros, absent parts that have
+// bytes, points and tunings out of range. Of a record: the kind. Of the lane: a count, a number.
 const DAMAGED: &str = "\
 386=165 => opened
 1=81 => Damaged { at: 1, byte: Some(81) }
@@ -64,7 +66,7 @@ const DAMAGED: &str = "\
 473=0 => Damaged { at: 472, byte: Some(0) }
 471=7 => Damaged { at: 464, byte: Some(0) }";
 
-// The tag T1 with the tuning of a name, where that is one.
+// The tag T1 with the tuning of this name, if there is one.
 pub fn tag(name: &str) -> Option<TagDef> {
     let (exc_dev, comp_dev) = match name {
         "plain" => (0, 0),
@@ -112,7 +114,7 @@ fn check(alloc: Global, tag: &mut Opened<MemDisk>) -> Result<(), Fail> {
     )
 }
 
-// Takes a value, and puts it into the lane or, where that is full, by a checkpoint.
+// Takes a value, and puts it into the lane. If the lane is full, a checkpoint keeps it.
 fn keep<L: Ledger>(
     rt: &impl Abort,
     alloc: Global,
@@ -138,12 +140,12 @@ fn keep<L: Ledger>(
     }
 }
 
-// Does so on a ledger of its own.
+// Takes a value and keeps it, on a ledger of its own.
 fn put(rt: &impl Abort, alloc: Global, tag: &mut Opened<MemDisk>, p: Point) -> Result<(), Fail> {
     keep::<Brand>(rt, alloc, tag, p, Blank::new(1))
 }
 
-// A story to its end, and the clock of its device when that was opened last.
+// Plays a story to its end. It returns the tag, and the clock of its device when that was opened last.
 fn stored(
     rt: &impl Abort,
     alloc: Global,
@@ -171,7 +173,7 @@ fn stored(
     Ok((now, start))
 }
 
-// The records of a tag and its held point.
+// The records of a tag and its held point, as text.
 fn archive_told(alloc: Global, recs: &[Rec], held: Option<Point>) -> Result<String, Fail> {
     let mut told = String::new(alloc);
     for rec in recs {
@@ -185,7 +187,7 @@ fn archive_told(alloc: Global, recs: &[Rec], held: Option<Point>) -> Result<Stri
     Ok(told)
 }
 
-// What a story comes to on a device of so many lane slots.
+// What a story leaves on a device of so many lane slots, as text.
 fn story_told(rt: &impl Abort, alloc: Global, slots: u32, events: &str) -> Result<String, Fail> {
     let (now, start) = stored(rt, alloc, slots, events)?;
     let archive = archive_told(alloc, now.core.recs(), now.core.held())?;
@@ -211,7 +213,7 @@ fn good(rt: &impl Abort, alloc: Global) -> Result<Vec<u8>, Fail> {
     Ok(tag.journal.into_device().bytes().to_vec(alloc)?)
 }
 
-// What is told when a device of these bytes is opened.
+// The answer when a device of these bytes is opened, as text.
 fn answer(alloc: Global, bytes: Vec<u8>, def: &TagDef) -> Result<String, Fail> {
     Ok(
         match opened(alloc, MemDisk::new(bytes, Vec::new(alloc)), def, 64) {
@@ -247,7 +249,7 @@ fn a_damaged_byte_is_told_at_its_field(rt: HostRuntime) -> Result<(), Fail> {
     Ok(())
 }
 
-// Opens the device of these bytes, makes a checkpoint there, and gives the bytes then.
+// Opens the device of these bytes, makes a checkpoint there, and returns the bytes that it then has.
 fn checked(rt: &impl Abort, alloc: Global, bytes: Vec<u8>) -> Result<Vec<u8>, Fail> {
     let def = tag("plain").ok_or("tag")?;
     let dev = MemDisk::new(bytes, Vec::new(alloc));

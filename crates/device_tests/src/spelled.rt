@@ -2,12 +2,12 @@
 use std::process::Abort;
 use trend_num::Point;
 
-/// The number that a field spells.
+/// Returns the number that a field spells.
 pub fn number(rt: &impl Abort, field: &str) -> u64 {
     field.parse::<u64>().expect(rt, "a number")
 }
 
-/// The point `T,V`.
+/// Returns the point that `T,V` spells.
 pub fn point(rt: &impl Abort, field: &str) -> Point {
     let (t, v) = field.split_once(',').expect(rt, "a point");
     let t = number(rt, t);

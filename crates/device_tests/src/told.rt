@@ -1,4 +1,4 @@
-// The store of files: what no clause says, since none knows what a file holds.
+// The store of files: what no clause says, because no clause knows what a file holds.
 use crate::recovery::{opened, tag};
 use crate::spelled::{change, number};
 use disk_model::{Disk, Failed, MemDisk, OPEN, Pick, Store};
@@ -11,12 +11,14 @@ use std::rt::Files;
 use std::test::Fail;
 use told_store::{DirStore, Wanted};
 
-// How long a file is and which of its bytes are no zeros, and whether the store hands it out.
+// How long a file is, which of its bytes are not zero, and whether the store hands it out.
 //
-// The first byte alone; then, behind a first byte 00, a tag's layout of 64 lane slots, with an open gate of a summary, between
-// the gates, of the lane's ends and behind them; a log's, of a text of two bytes, with an open gate before the first block,
-// there and behind it; a group's, which is begun anew with gates open; and zeros, as many as the making of a tag's device writes,
-// and one more.
+// First come files that their first byte decides. All later files begin with 00. A tag's layout of 64 lane slots has
+// one a5: before its gates, at the gate of either summary, between the gates, at the last gate of the lane, and after
+// it. Then come another layout's letters, and files that end within a tag's layout. A log's layout with a text of two
+// bytes has one a5: before the gate of its first block, there, and after it. The next file ends within a log's layout.
+// A group's layout is begun anew with gates open. Last come zeros: as many as the making of a tag's device writes, and
+// one more.
 const FILES: &str = "\
 0 => handed out
 1 0=164 => handed out
@@ -44,9 +46,10 @@ const FILES: &str = "\
 66640 => handed out
 66641 => refused";
 
-// The calls after which the making of a tag's device stops, and whether the store hands out each file that a crash leaves then:
-// with nothing of what was done since the last sync, all of it, or `-` or an open gate in place of each byte. Of the first byte
-// no disk leaves a `-` where 00 was and an open gate was written; the model allows it, and it is refused.
+// The calls after which the making of a tag's device stops, and whether the store hands out each file that a crash then
+// leaves. The crash leaves nothing of what was done since the last sync, all of it, or `-` or an open gate in place of
+// each byte. No disk leaves a `-` in the first byte if 00 was there and an open gate was written. The model allows it,
+// and the store refuses it.
 const MAKINGS: &str = "\
 0 1 2 => handed out, handed out, handed out, handed out
 3 4 5 6 => handed out, handed out, handed out, handed out
@@ -73,7 +76,8 @@ fn content(alloc: Global, dev: &mut impl Disk) -> Result<Vec<u8>, Fail> {
     Ok(bytes)
 }
 
-// Whether a store that reads the folder hands out the file of these bytes. It gives back just these, and leaves them there.
+// Returns whether a store that reads the folder hands out the file of these bytes. Then it also checks that the device
+// has exactly these bytes, and that the file keeps them.
 fn answer<R: Files<File = File> + AllocGlobal + Abort>(
     rt: &R,
     bytes: &[u8],
@@ -121,7 +125,7 @@ fn answers<R: Files<File = File> + AllocGlobal + Abort>(
     Ok(told)
 }
 
-// A new device, whose making stops after so many calls.
+// A new device, whose making stops after `calls` calls.
 fn stopped(alloc: Global, calls: u64) -> Option<MemDisk> {
     let mut dev = MemDisk::new(Vec::new(alloc), Vec::new(alloc));
     dev.stop_after(calls);
@@ -173,7 +177,8 @@ fn files_of_a_folder_are_devices(rt: HostRuntime) -> Result<(), Fail> {
     Ok(())
 }
 
-// A device that stops, since there is no memory for so long a cut. It is written anew, and the next store hands it out.
+// A device that stops, because there is no memory for so long a cut. It is written anew, and the next store hands it
+// out.
 #[test]
 fn each_call_after_a_failed_one_is_a_fault(rt: HostRuntime) -> Result<(), Fail> {
     begin(&rt)?;
@@ -201,7 +206,7 @@ fn each_call_after_a_failed_one_is_a_fault(rt: HostRuntime) -> Result<(), Fail> 
     Ok(())
 }
 
-// Which devices a store hands out that read the wanted ones: of a tag, of a group, and the log.
+// Whether a store that reads the wanted devices hands out that of a tag, that of a group, and the log.
 fn handed_out<R: Files<File = File> + AllocGlobal>(rt: &R, wanted: Wanted) -> [bool; 3] {
     let mut store = DirStore::read(rt, wanted);
     [
@@ -227,7 +232,7 @@ fn a_device_that_was_not_read_is_refused(rt: HostRuntime) -> Result<(), Fail> {
     Ok(())
 }
 
-// What another run has left of a new file is overwritten.
+// The store overwrites what another run has left of a new file.
 #[test]
 fn a_device_with_a_mark_is_written_anew(rt: HostRuntime) -> Result<(), Fail> {
     begin(&rt)?;
@@ -267,7 +272,7 @@ fn a_second_store_is_refused_while_the_first_one_lives(rt: HostRuntime) -> Resul
     Ok(())
 }
 
-// Files of a folder, and folders, that are no devices: what a store makes of each.
+// Checks that a store refuses files and folders in the folder that are no devices.
 fn are_refused<S: Store>(rt: &impl Abort, store: &mut S)
 where
     S::Dev: Drop,
@@ -299,7 +304,8 @@ fn what_is_no_plain_file_of_one_name_is_refused(rt: HostRuntime) -> Result<(), F
     Ok(())
 }
 
-// A store that did not read a file tells it as empty, and so does one for which the file became longer since.
+// If a store did not read a file, its trace is empty, so the store refuses the file. It also refuses a file that became
+// longer since it was read.
 #[test]
 fn a_file_that_is_not_as_it_was_told_is_refused(rt: HostRuntime) -> Result<(), Fail> {
     begin(&rt)?;

@@ -65,14 +65,14 @@ between_resized old len = record {
 pub between_self : (len : ℕ) (c : List ℕ) → IsBetween len c c
 between_self len c = record { no_shorter = omega arith; no_longer = omega arith; both = λ i there reached. refl }
 
--- what was written stands there
+-- what was written is there
 pub holds_written : (old : List ℕ) (at : ℕ) (bytes : List ℕ) → at ≤ length old → Holds at bytes (written old at bytes)
 holds_written old at bytes le =
     let front : length (take at old) ≡ at = omega (arith, length-take at old) in
     ap (λ l. take (length bytes) l) (drop_at (take at old) (bytes ++ drop (at + length bytes) old) at front)
     ∙ take_at bytes (drop (at + length bytes) old) (length bytes) refl
 
--- bytes that stand at a place of one list stand there in another that has the same bytes there
+-- bytes that are at a place of one list are there in another that has the same bytes there
 pub holds_same : (at : ℕ) (bytes c d : List ℕ) → at + length bytes ≤ length c → at + length bytes ≤ length d
     → ((i : ℕ) → at ≤ i → i < at + length bytes → get_or c i 0 ≡ get_or d i 0) → Holds at bytes d → Holds at bytes c
 holds_same at bytes c d c_long d_long same holds =

@@ -9,7 +9,7 @@ use Rattle.disk_model.proofs.Bytes.{length-written, holds_written, holds_same}
 use Rattle.disk_model.proofs.Images.{present, wrote_now, synced_now}
 use Rattle.disk_model.proofs.Moments.{started, during_now, goes_on}
 
--- nothing is behind a closed gate
+-- a closed gate guards nothing
 guarded_self : (at : ℕ) (bytes : List ℕ) (gate : ℕ) (c : List ℕ) → IsShut gate c → IsGuarded at bytes gate c c
 guarded_self at bytes gate c shut = record {
   whole = λ opened. absurd (shut.closed opened);
@@ -18,7 +18,7 @@ guarded_self at bytes gate c shut = record {
   no_longer = omega arith;
 }
 
--- a write behind a closed gate that a crash cuts short
+-- a write that a crash cuts short while its gate is closed
 guarded_torn : (at : ℕ) (bytes : List ℕ) (gate : ℕ) (d c : List ℕ) → IsOutside at (length bytes) gate → IsShut gate d → IsTorn at (length bytes) d c
     → IsGuarded at bytes gate d c
 guarded_torn at bytes gate d c apart shut torn = record {
@@ -28,7 +28,7 @@ guarded_torn at bytes gate d c apart shut torn = record {
   no_longer = torn.no_longer;
 }
 
--- the gate, torn, before bytes that stand whole
+-- the gate, torn, of bytes that are whole
 guarded_opening : (at : ℕ) (bytes : List ℕ) (gate : ℕ) (d0 d c : List ℕ) → IsOutside at (length bytes) gate → gate < length d0
     → at + length bytes ≤ length d → Holds at bytes d → IsGuarded at bytes gate d0 d → IsTorn gate 1 d c → IsGuarded at bytes gate d0 c
 guarded_opening at bytes gate d0 d c apart there long holds before torn = record {
@@ -50,7 +50,7 @@ gate_there : (o : Option Trace) (gate : ℕ) → Now o (IsShut gate) → Reaches
 gate_there None gate shut = tt
 gate_there (Some t) gate shut = omega (arith, (shut.each (seen (Some t)) (present t)).there)
 
--- after the first write and a sync the bytes stand there whole
+-- after the first write and a sync the bytes there are whole
 whole_there : (o : Option Trace) (at : ℕ) (bytes d : List ℕ) → Reaches o at → MayLeave (noted Synced (noted (Wrote at bytes) o)) d
     → (at + length bytes ≤ length d) × Holds at bytes d
 whole_there None at bytes d room may = absurd may.image
@@ -71,7 +71,7 @@ pub all_read : (o : Option Trace) (at : ℕ) (bytes : List ℕ) (gate : ℕ)
 all_read None at bytes gate = tt
 all_read (Some t) at bytes gate = refl
 
--- an image from before with the bytes whole behind the open gate, or the gate closed
+-- an image from before with the bytes whole and the gate open, or the gate closed
 abbrev Guarded : Option Trace → ℕ → List ℕ → ℕ → List ℕ → Type 0
 Guarded o at bytes gate = FromOld o (IsGuarded at bytes gate)
 

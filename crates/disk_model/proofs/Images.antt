@@ -15,7 +15,7 @@ honest first (ResizedInPart len ∷ es) = (content first es, honest first es, be
 honest first (Synced ∷ es) = refl
 honest first (Idle ∷ es) = honest first es
 
--- so it is of a device that tells its calls
+-- the same of a device that records its calls
 pub present : (t : Trace) → MayLeave (Some t) (seen (Some t))
 present t = record { image = honest t.first t.calls }
 
@@ -61,7 +61,7 @@ kept_since_sync first since before c image =
     let earlier = kept first since (Synced ∷ before) c image in
     subst (λ d. KeepsUntouched since d c) earlier.1 earlier.2
 
--- a device that tells its calls tells one of four things after one more
+-- a device that records its calls records one of four things after one more
 pub cases_noted : {T E : Type 0} (whole part : DeviceCall) (r : Result T E) (old new : Option Trace) → IsNoted whole part r old new
     → (new ≡ noted whole old) ⊎ ((new ≡ noted part old) ⊎ ((new ≡ noted Idle old) ⊎ (new ≡ old)))
 cases_noted whole part (Ok x) old new is = inl is

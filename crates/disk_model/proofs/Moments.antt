@@ -1,4 +1,4 @@
--- How what a crash at any moment might have left goes on from call to call.
+-- How what a crash at any moment might have left changes from call to call.
 use Rattle.std.proofs.Common.{◌≡◌, ◌⊎◌, inl, inr, ⊎_elim, ℕ, ◌≤◌, List, [], ◌∷◌, ◌++◌, length, Option, None, Some, IfSome, Result, refl, sym, ◌∙◌, ap, subst, arith, append_assoc, length-append}
 use Rattle.disk_model.specs.Traces.{DeviceCall, Idle, Trace, noted, moment}
 use Rattle.disk_model.specs.Images.{IsImage, MayLeave, Now}
@@ -25,7 +25,7 @@ pub only_now : (o : Option Trace) (c : List ℕ) → LeftSince o (moment o) c �
 only_now None c left = absurd left.image
 only_now (Some t) c left = record { image = only_calls t.first t.calls (length t.calls) c (omega arith) left.image }
 
--- nor since any moment that is not before the clock, which counts the calls that the device tells
+-- nor since any moment that is not before the clock, which counts the calls that the device records
 pub only_since : (o : Option Trace) (ticks m : ℕ) (c : List ℕ) → IfSome o (λ t. length t.calls ≡ ticks) → ticks ≤ m → LeftSince o m c → MayLeave o c
 only_since None ticks m c told le left = absurd left.image
 only_since (Some t) ticks m c told le left = record { image = only_calls t.first t.calls m c (omega (arith, told, le)) left.image }

@@ -30,7 +30,7 @@ none_cond : (b : Bool) (d : DiskState) (o : Option DiskState) → cond b (Some d
 none_cond true d o is = absurd (cc (is))
 none_cond false d o is = (refl, is)
 
--- a device of the name is found behind those among which there is none
+-- a device of the name is found after those among which there is none
 pub device_of-append : (xs ys : Devices) (name : List ℕ) → device_of xs name ≡ None → device_of (xs ++ ys) name ≡ device_of ys name
 device_of-append [] ys name none = refl
 device_of-append (x ∷ xs) ys name none =

@@ -1,4 +1,4 @@
--- What the calls of a device say and do.
+-- What the calls of a device answer and do.
 use Rattle.std.specs.Prelude.{◌≡◌, ◌⊎◌, ℕ, ◌+◌, ◌-◌, ◌^◌, ◌<◌, ◌≤◌, min, List, length, take, drop, Option, Result, MatchResult, IfSome, OnOk, OnErr, IsErrOf}
 use Rattle.disk_model.specs.Traces.{DeviceCall, Idle, Trace, seen, noted}
 
@@ -14,48 +14,48 @@ sum_of_counts m n = min (m + n) (2 ^ 64 - 1)
 abbrev pub Rose : ℕ → ℕ → Type 0
 Rose before now = now ≡ next_count before
 
--- over one call, or over some of which none follows one that failed, no fault is counted where the answer is Ok, and one
--- where it is an error
+-- over one call, or over several that end at the first one that failed: no fault is counted if the answer is Ok, and
+-- one if it is an error
 pub record HasCause {T E : Type 0} (before now : ℕ) (result : Result T E) : Type 0 where
   pub later : before ≤ now
   pub passed : OnOk result (now ≡ before)
   pub failed : OnErr result (Rose before now)
 
--- over some calls of which none follows one that failed, one fault is counted where the answer is the error of a failed
--- call, and none where it is Ok or another error
+-- over several calls that end at the first one that failed: one fault is counted if the answer is the error of a failed
+-- call, and none if it is Ok or another error
 pub record CountsFault {T E : Type 0} (result : Result T E) (fault : E) (before now : ℕ) : Type 0 where
   pub later : before ≤ now
   pub passed : OnOk result (now ≡ before)
   pub failed : IsErrOf result fault → Rose before now
   pub refused : OnErr result ((IsErrOf result fault → ⊥) → now ≡ before)
 
--- over one call the clock goes on by one, or stays at the end of its type, where the call fails
+-- over one call the clock rises by one; at the end of its type it stays, and the call fails
 pub record IsTimed {T E : Type 0} (before now : ℕ) (result : Result T E) : Type 0 where
   pub later : before ≤ now
   pub counted : now ≡ next_count before
   pub in_time : OnOk result (before < 2 ^ 64 - 1)
 
--- where the device tells its calls, what a read gives of it has P
+-- if the device records its calls, what a read returns of it has P
 abbrev pub Shows : Option Trace → (List ℕ → Type 0) → Type 0
 Shows o P = IfSome o (λ t. P (seen (Option.Some t)))
 
--- where the device tells its calls, a read gives these bytes in all
+-- if the device records its calls, a read of all of it returns these bytes
 abbrev pub Sees : Option Trace → List ℕ → Type 0
 Sees o bytes = IfSome o (λ t. seen (Option.Some t) ≡ bytes)
 
--- where the device tells its calls, this is its length
+-- if the device records its calls, this is its length
 abbrev pub HasLength : Option Trace → ℕ → Type 0
 HasLength o n = IfSome o (λ t. length (seen (Option.Some t)) ≡ n)
 
--- where the device tells its calls, it has at least this many bytes
+-- if the device records its calls, it has at least this many bytes
 abbrev pub Reaches : Option Trace → ℕ → Type 0
 Reaches o n = IfSome o (λ t. n ≤ length (seen (Option.Some t)))
 
--- where the device tells its calls, these bytes stand at the place
+-- if the device records its calls, these bytes are at the place
 abbrev pub Reads : Option Trace → ℕ → List ℕ → Type 0
 Reads o at bytes = IfSome o (λ t. bytes ≡ take (length bytes) (drop at (seen (Option.Some t))))
 
--- the calls that a device tells after one more: that call, or where it failed the same in part, or an idle one, or, at the
+-- the trace after one more call: that call is added; if it failed, the same call in part, or an idle one, or, at the
 -- end of the clock, none
 abbrev pub IsNoted : {T E : Type 0} → DeviceCall → DeviceCall → Result T E → Option Trace → Option Trace → Type 0
 IsNoted whole part result old new = MatchResult result (λ _. new ≡ noted whole old) (λ _. (new ≡ noted part old) ⊎ (new ≡ noted Idle old) ⊎ (new ≡ old))

@@ -24,11 +24,11 @@ pub record IsShut (gate : ℕ) (c : List ℕ) : Type 0 where
   pub there : gate < length c
   pub closed : slice_index c gate ≢ open_byte
 
--- these bytes stand at the place
+-- these bytes are at the place
 abbrev pub Holds : ℕ → List ℕ → List ℕ → Type 0
 Holds at bytes c = take (length bytes) (drop at c) ≡ bytes
 
--- new is old but for the bytes behind the gate and the gate itself, and where the gate is open it guards the bytes whole
+-- new is old except for the guarded bytes and the gate itself; if the gate is open, it guards the bytes whole
 pub record IsGuarded (at : ℕ) (bytes : List ℕ) (gate : ℕ) (old new : List ℕ) : Type 0 where
   pub whole : IsOpen gate new → Holds at bytes new
   pub outside : (i : ℕ) → i < length old → IsOutside at (length bytes) i → i ≢ gate → slice_index new i ≡ slice_index old i
@@ -44,7 +44,7 @@ pub record HasGatesOf (s : List ℕ) (at n : ℕ) (c : List ℕ) : Type 0 where
 abbrev pub AreShut : ℕ → ℕ → List ℕ → Type 0
 AreShut at n c = (i : ℕ) → at ≤ i → i < at + n → IsShut i c
 
--- new is old but for open ones of the n gates from at on: what reads closed is not touched
+-- new is old except for open ones of the n gates from at on: what reads closed is not touched
 pub record IsClosing (at n : ℕ) (old new : List ℕ) : Type 0 where
   pub same_length : length new ≡ length old
   pub same : (i : ℕ) → IsOutside at n i ⊎ (slice_index old i ≢ open_byte) → slice_index new i ≡ slice_index old i

@@ -1,5 +1,6 @@
--- What a crash may leave of a device: between two syncs each written range, and all past the old end, may hold any bytes,
--- and the length is any between the least and the greatest; other bytes stay; after a sync there is what a read gives.
+-- What a crash may leave of a device. Between two syncs each written range, and all past the old end, may hold any
+-- bytes, and the length is any between the least and the greatest. Other bytes stay. After a sync it leaves what a read
+-- returns.
 use Rattle.std.specs.Prelude.{◌≡◌, ◌⊎◌, ℕ, ◌+◌, ◌<◌, ◌≤◌, min, max, List, [], ◌∷◌, length, slice_index, Option, IsSomeAnd}
 use Rattle.disk_model.specs.Traces.{DeviceCall, Wrote, WroteInPart, Resized, ResizedInPart, Synced, Idle, Trace, content, seen}
 
@@ -29,7 +30,7 @@ IsImage first (ResizedInPart len ∷ es) c = (d : List ℕ) × IsImage first es 
 IsImage first (Synced ∷ es) c = c ≡ content first es
 IsImage first (Idle ∷ es) c = IsImage first es c
 
--- an image that a crash now may leave; of a device that does not tell its calls nothing is said
+-- an image that a crash now may leave; false if the device does not record its calls
 pub record MayLeave (o : Option Trace) (c : List ℕ) : Type 0 where
   pub image : IsSomeAnd o (λ t. IsImage t.first t.calls c)
 
@@ -37,7 +38,7 @@ pub record MayLeave (o : Option Trace) (c : List ℕ) : Type 0 where
 pub record Now (o : Option Trace) (P : List ℕ → Type 0) : Type 0 where
   pub each : (c : List ℕ) → MayLeave o c → P c
 
--- a crash now leaves exactly what a read gives
+-- a crash now leaves exactly what a read returns
 abbrev pub IsSettled : Option Trace → Type 0
 IsSettled o = Now o (λ c. c ≡ seen o)
 

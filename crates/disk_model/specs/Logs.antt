@@ -1,4 +1,4 @@
--- What the log of a device in memory is seen as.
+-- How a proof sees the log of a device in memory.
 use Rattle.std.specs.Prelude.{ℕ, Bool, true, false, List, [], ◌∷◌, ◌++◌, replicate, Option, None, Some, Vec}
 use Rattle.std.specs.declared.alloc.Global.{Global}
 use Rattle.disk_model.specs.declared.memory_log.Call.{Call}
@@ -17,7 +17,7 @@ abbrev pub resize_call : Bool → ℕ → DeviceCall
 resize_call true len = Resized len
 resize_call false len = ResizedInPart len
 
--- what is told of a noted call
+-- the call of the model that a noted call stands for
 abbrev pub call_of : Call → DeviceCall
 call_of (Write at bytes whole) = write_call whole at bytes.items
 call_of (Resize len whole) = resize_call whole len

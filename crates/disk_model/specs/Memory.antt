@@ -1,12 +1,12 @@
--- What a device in memory is seen as, and which image of it is picked.
+-- How a proof sees a device in memory, and which image of it is picked.
 use Rattle.std.specs.Prelude.{◌≡◌, ◌⊎◌, ℕ, ◌≤◌, Bool, List, [], ◌∷◌, length, replicate, Contains, Option, IsSomeAnd, Result, IsErr, is_ok, if◌then◌else◌}
 use Rattle.disk_model.specs.declared.memory_disk.Pick.{Pick}
 use Rattle.disk_model.specs.declared.memory_disk.Pick.TheVariants.{Old, New, Fill}
 use Rattle.disk_model.specs.Traces.{DeviceCall, Wrote, WroteInPart, Resized, ResizedInPart, Synced, Idle, Trace, written, resized, content}
 use Rattle.disk_model.specs.Calls.{next_count}
 
--- a device in memory: its trace, the numbers of the calls that are to fail, the number from which on all are to fail,
--- whether it stops together with others, and its counts
+-- a device in memory: its trace, the numbers of the calls that are to fail, and the number from which all are to fail;
+-- whether it stops together with others; and its counts
 pub record DiskState : Type 0 where
   pub trace : Trace
   pub failing_calls : List ℕ
@@ -19,7 +19,7 @@ pub record DiskState : Type 0 where
 abbrev pub IsToFail : DiskState → Type 0
 IsToFail s = Contains s.failing_calls s.calls ⊎ IsSomeAnd s.stop (λ stop. stop ≤ s.calls)
 
--- over one call: it is counted, what is to fail stays, and the faults rise by one where it failed
+-- over one call: it is counted, the calls that are to fail stay, and the faults rise by one if it failed
 pub record IsCalled {T E : Type 0} (old new : DiskState) (result : Result T E) : Type 0 where
   pub calls : new.calls ≡ next_count old.calls
   pub failing_calls : new.failing_calls ≡ old.failing_calls
@@ -40,8 +40,8 @@ picked_length Old image len = image
 picked_length New image len = resized image len
 picked_length (Fill b) image len = resized image len
 
--- the image that is picked: none of what was done since the last sync, all of it, or all of it with one byte in place of
--- each that was written; of calls that failed, a write counts as done and a change of the length does not
+-- the image that is picked: none of what was done since the last sync, all of it, or all of it with one byte in place
+-- of each that was written. Of the calls that failed, a write counts as done, and a change of the length does not
 abbrev pub picked : Pick → List ℕ → List DeviceCall → List ℕ
 picked pick first [] = first
 picked pick first (Wrote at bytes ∷ es) = picked_bytes pick bytes (picked pick first es) at

@@ -8,7 +8,7 @@ abbrev pub WasImageSince : List ℕ → List DeviceCall → ℕ → List ℕ →
 WasImageSince first [] t c = IsImage first [] c
 WasImageSince first (e ∷ es) t c = IsImage first (e ∷ es) c ⊎ ((t ≤ length es) × WasImageSince first es t c)
 
--- the same of a device; of one that does not tell its calls nothing is said
+-- the same of a device; false if the device does not record its calls
 pub record LeftSince (o : Option Trace) (t : ℕ) (c : List ℕ) : Type 0 where
   pub image : IsSomeAnd o (λ trace. WasImageSince trace.first trace.calls t c)
 

@@ -1,4 +1,4 @@
--- What a store in memory is seen as.
+-- How a proof sees a store in memory.
 use Rattle.std.specs.Prelude.{◌≡◌, ◌≢◌, ℕ, Bool, true, List, [], ◌∷◌, bytes_eq, if◌then◌else◌, map, String, string_bytes, Option, None, Some, is_some}
 use Rattle.std.specs.declared.alloc.Global.{Global}
 use Rattle.disk_model.specs.Traces.{Trace}
@@ -23,12 +23,12 @@ device_of (d ∷ ds) name = if bytes_eq d.0 name then Some d.1 else device_of ds
 abbrev pub empty_trace : Trace
 empty_trace = record { first = []; calls = [] }
 
--- the trace of a device, or that of one that holds nothing
+-- the trace of a device; it is empty if there is no device
 abbrev pub trace_or_empty : Option DiskState → Trace
 trace_or_empty None = empty_trace
 trace_or_empty (Some d) = d.trace
 
--- the trace of the device of a name; that of one that holds nothing where there is none
+-- the trace of the device of a name; it is empty if there is none
 abbrev pub trace_at : Devices → List ℕ → Trace
 trace_at ds name = trace_or_empty (device_of ds name)
 

@@ -1,8 +1,8 @@
 -- A device, as the bytes that it held at first and the calls on it since.
 use Rattle.std.specs.Prelude.{ℕ, ◌+◌, ◌-◌, List, [], ◌∷◌, ◌++◌, length, take, drop, replicate, Option, None, Some}
 
--- a call that may change what a crash leaves. A call in part answered that it failed, and may have done some of its work;
--- an idle one did none
+-- a call that may change what a crash leaves. A call in part answered that it failed, and may have done some of its
+-- work. An idle call did nothing
 pub data DeviceCall : Type 0 where
   Wrote : (at : ℕ) (bytes : List ℕ) → DeviceCall
   WroteInPart : (at : ℕ) (bytes : List ℕ) → DeviceCall
@@ -24,7 +24,7 @@ written old at bytes = take at old ++ (bytes ++ drop (at + length bytes) old)
 abbrev pub resized : List ℕ → ℕ → List ℕ
 resized old len = take len old ++ replicate (len - length old) 0
 
--- what a read gives
+-- what a read returns
 abbrev pub content : List ℕ → List DeviceCall → List ℕ
 content first [] = first
 content first (Wrote at bytes ∷ es) = written (content first es) at bytes
@@ -34,7 +34,7 @@ content first (ResizedInPart len ∷ es) = content first es
 content first (Synced ∷ es) = content first es
 content first (Idle ∷ es) = content first es
 
--- what a read gives of a device that tells its calls
+-- what a read returns of a device that records its calls
 abbrev pub seen : Option Trace → List ℕ
 seen None = []
 seen (Some t) = content t.first t.calls
@@ -44,7 +44,7 @@ abbrev pub noted : DeviceCall → Option Trace → Option Trace
 noted e None = None
 noted e (Some t) = Some (record { first = t.first; calls = e ∷ t.calls })
 
--- how many calls were told
+-- how many calls the device has recorded
 abbrev pub moment : Option Trace → ℕ
 moment None = 0
 moment (Some t) = length t.calls

@@ -5,10 +5,10 @@ ghost use Rattle.disk_model.specs.Calls.{HasCause, IsTimed, HasLength, Reaches, 
 
 use crate::Failed;
 
-/// Something that holds bytes through a crash, and may fail at any call. After a call that failed it is opened again
-/// before it is used. `at` and `len` count bytes.
+/// Something that holds bytes through a crash, and may fail at any call. After a call has failed, the device has to be
+/// opened again before it is used. `at` and `len` count bytes.
 pub trait Disk {
-    /// What it held at first and the calls since, or `None` where the device does not tell.
+    /// What it held at first and the calls since, or `None` if the device does not record its calls.
     ghost trace: { Self → Option Trace } = { λ _. None };
 
     /// How many calls of `write_at`, `cut` and `sync` there were.
@@ -17,7 +17,7 @@ pub trait Disk {
     /// How often a call has failed.
     ghost fault_count: { Self → ℕ };
 
-    /// How many bytes it holds.
+    /// Returns how many bytes it holds.
     fn len(&mut self) -> Result<u64, Failed>
         ensures length { IfOk result (HasLength (trace self.old)) }
         ensures same { trace self.new ≡ trace self.old }
@@ -32,7 +32,7 @@ pub trait Disk {
         ensures untimed { ticks self.new ≡ ticks self.old }
         ensures cause { HasCause (fault_count self.old) (fault_count self.new) result };
 
-    /// Writes the bytes from `at` on, over what is there and past the end. It begins at or before the end.
+    /// Writes the bytes from `at` on, over what is there and past the end. `at` lies at the end or before it.
     fn write_at(&mut self, at: u64, bytes: &[u8]) -> Result<(), Failed>
         requires { Reaches (trace self.old) at }
         ensures noted { IsNoted (Wrote at bytes.now) (WroteInPart at bytes.now) result
@@ -47,21 +47,21 @@ pub trait Disk {
         ensures clock { IsTimed (ticks self.old) (ticks self.new) result }
         ensures cause { HasCause (fault_count self.old) (fault_count self.new) result };
 
-    /// At Ok all that was written before is on the device.
+    /// Syncs the device. At Ok, all that was written before is on the device.
     fn sync(&mut self) -> Result<(), Failed>
         ensures noted { IsNoted Synced Idle result (trace self.old) (trace self.new) }
         ensures clock { IsTimed (ticks self.old) (ticks self.new) result }
         ensures cause { HasCause (fault_count self.old) (fault_count self.new) result };
 
-    /// How many calls of `write_at`, `cut` and `sync` there were. At the end of its type the clock stays, and each of
-    /// these calls fails.
+    /// Returns how many calls of `write_at`, `cut` and `sync` there were. At the end of its type the clock stays, and
+    /// each of these calls fails.
     fn clock(&self) -> u64
         ensures { result ≡ ticks self.now };
 
-    /// How often a call has failed. The count stays at the end of its type.
+    /// Returns how often a call has failed. The count stays at the end of its type.
     fn faults(&self) -> u64
         ensures { result ≡ fault_count self.now };
 
-    /// The clock counts the calls that the device tells.
+    /// The clock counts the calls that the device records.
     ghost told: { (d : Self) → IfSome (trace d) (λ t. length t.calls ≡ ticks d) };
 }

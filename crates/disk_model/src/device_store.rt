@@ -7,10 +7,10 @@ use crate::{Disk, Failed};
 
 /// Something that keeps devices by name, and may fail at any call.
 pub trait Store {
-    /// A device that it hands out, which may go to another thread.
+    /// A device that the store hands out. It may go to another thread.
     type Dev: Disk + Send;
 
-    /// The trace of the device of a name, or `None` where the store does not tell.
+    /// The trace of the device of a name, or `None` if the store does not record it.
     ghost device_at: { Self → List ℕ → Option Trace } = { λ _ _. None };
 
     /// There is a place for the device of this name, which a call of `device` has made.
@@ -19,8 +19,8 @@ pub trait Store {
     /// How often a call of the store, or of a device that was given back, has failed.
     ghost fault_count: { Self → ℕ };
 
-    /// Hands out the device of a name, and makes it where there is none. Until it is given back the store says nothing
-    /// of it.
+    /// Hands out the device of a name, and makes it if there is none. Until it is given back, no clause says what the
+    /// store has at that name.
     fn device(&mut self, name: &str) -> Result<Self::Dev, Failed>
         ensures told { IfOk result (λ dev. Self.Dev.trace dev ≡ device_at self.old name.now) }
         ensures faultless { IfOk result (λ dev. Self.Dev.fault_count dev ≡ 0) }

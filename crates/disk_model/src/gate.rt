@@ -1,4 +1,4 @@
-// Writing behind a gate, and closing gates.
+// Writing while a gate is closed, and closing gates.
 ghost use Rattle.std.specs.Prelude.{◌≡◌, ◌⊎◌, ◌+◌, ◌<◌, ◌≤◌, ◌^◌, [], ◌∷◌, ◌≢◌, length, slice_index, OnOk};
 ghost use Rattle.disk_model.specs.Traces.{seen, written};
 ghost use Rattle.disk_model.specs.Images.{Now, FromOld, IsSettled, IsOutside};
@@ -14,14 +14,15 @@ pub const OPEN: u8 = 0xa5;
 // The byte that closes a gate.
 const CLOSED: u8 = 0;
 
-/// Writes `bytes` at `at`, which are to count once the gate is open, syncs, opens the gate, and syncs. At Ok all of it is
-/// on the device. After a failure the device is opened again. `at` and `gate` count bytes.
+/// Writes `bytes` at `at`, syncs, opens the gate, and syncs. The bytes count once the gate is open. At Ok, all of it is
+/// on the device. After a failure the device has to be opened again. `at` and `gate` count bytes.
 pub fn write_guarded<D: Disk>(dev: &mut D, at: u64, bytes: &[u8], gate: u64) -> Result<(), Failed>
     requires room { Reaches (D.trace dev.old) at }
     requires apart { IsOutside at (length bytes.now) gate }
     requires shut { Now (D.trace dev.old) (IsShut gate) }
 
-    // A crash at any moment leaves an image from before with the bytes whole behind the open gate, or the gate closed.
+    // A crash at any moment leaves an image from before, changed so: the bytes are whole and the gate is open, or it is
+    // closed.
     ensures any_moment { During (D.trace dev.old) (D.trace dev.new)
         (FromOld (D.trace dev.old) (IsGuarded at bytes.now gate)) }
 
@@ -38,8 +39,9 @@ pub fn write_guarded<D: Disk>(dev: &mut D, at: u64, bytes: &[u8], gate: u64) -> 
     dev.sync()
 }
 
-/// Closes those of the `count` gates from `at` on that read open, and syncs. What reads closed is left as it is: to write it
-/// once more might open it in a crash. After a failure the device is opened again. `at` counts bytes.
+/// Closes those of the `count` gates from `at` on that read open, and syncs. It leaves a gate that reads closed as it
+/// is, because a crash during another write might open it. After a failure the device has to be opened again. `at`
+/// counts bytes.
 pub fn close_gates<D: Disk>(dev: &mut D, at: u64, count: u32) -> Result<(), Failed>
     requires end { at + count < 2 ^ 64 }
     requires room { Reaches (D.trace dev.old) (at + count) }
@@ -62,7 +64,7 @@ pub fn close_gates<D: Disk>(dev: &mut D, at: u64, count: u32) -> Result<(), Fail
     dev.sync()
 }
 
-// Closes a gate if it reads open, with no sync.
+// Closes a gate if it reads open. It does not sync.
 fn close_gate<D: Disk>(dev: &mut D, gate: u64) -> Result<(), Failed>
     requires room { Reaches (D.trace dev.old) (gate + 1) }
     requires gates { Now (D.trace dev.old) (HasGatesOf (seen (D.trace dev.old)) gate 1) }

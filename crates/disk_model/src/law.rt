@@ -1,19 +1,19 @@
-// What the disk model says of every trace of calls.
+// What the disk model implies for every trace of calls.
 ghost use Rattle.std.specs.Prelude.{◌≡◌, ◌<◌, ◌++◌, ◌∷◌, ℕ, List, Some, length, slice_index};
 ghost use Rattle.disk_model.specs.Traces.{DeviceCall, Synced, Trace, content, seen, noted};
 ghost use Rattle.disk_model.specs.Images.{IsImage, MayLeave, IsSettled, IsUntouched, KeepsUntouched};
 
-/// What a read gives is one of the images that a crash now may leave.
+/// What a read returns is one of the images that a crash now may leave.
 pub fn a_read_gives_an_image()
     ensures { (t : Trace) → MayLeave (Some t) (seen (Some t)) }
 {}
 
-/// After a sync that answered Ok there is one image, and it is what a read gives.
+/// After a sync that answered Ok there is one image: what a read returns.
 pub fn a_sync_leaves_one_image()
     ensures { (t : Trace) → IsSettled (noted Synced (Some t)) }
 {}
 
-/// An image of a longer trace is one of a shorter one, but for the places that were written or cut off since.
+/// An image of a longer trace is one of a shorter trace, except at the places that were written or cut off since.
 pub fn a_later_image_keeps_what_no_call_touched()
     ensures { (first : List ℕ) (since before : List DeviceCall) (c : List ℕ) → IsImage first (since ++ before) c →
         (d : List ℕ) × IsImage first before d × KeepsUntouched since d c }

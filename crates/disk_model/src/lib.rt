@@ -1,17 +1,19 @@
 //! Devices, what a crash may leave of them, and the one way to write what must be there whole or not at all.
 //!
-//! A [`Disk`] holds bytes; a [`Store`] hands disks out by name. To a proof a device tells its calls as plain data, a
-//! trace: the bytes at first and the calls since. What a read gives, what a crash now may leave, and what a crash at
-//! any moment since some call might have left, are defined from the trace alone. Between two syncs each written range
-//! and all past the old end may hold any bytes after a crash, and the length is any between; after a sync that
-//! answered Ok a crash leaves exactly what a read gives. That a real disk keeps to this is a premise, and no proof.
+//! A [`Disk`] holds bytes, and a [`Store`] hands out disks by name. A proof sees the calls on a device as plain data, a
+//! trace: the bytes at first and the calls since. Three things are defined from the trace alone: what a read returns,
+//! what a crash now may leave, and what a crash at any moment since some call might have left.
 //!
-//! [`write_guarded`] writes bytes behind a closed gate and then opens it: at every moment, within its calls too, a
-//! crash leaves the bytes whole behind an open gate, or the gate closed. [`close_gates`] closes gates, and never
-//! touches one that reads closed. [`is_new`] tells whether no layout was finished on a device, and [`read_part`] reads
-//! so many bytes of it.
+//! A crash between two syncs may leave any bytes in each written range and past the old end. It may leave any length
+//! between the least and the greatest. A crash after a sync that answered Ok leaves exactly what a read returns. That a
+//! real disk keeps to this is a premise: it is not proved.
 //!
-//! [`MemDisk`] and [`MemStore`] are in memory, fail at the calls that they are told to, and give the images that a
+//! [`write_guarded`] writes bytes while their gate is closed, and then opens the gate. A crash at any moment, within
+//! its calls too, leaves the bytes whole and the gate open, or the gate closed. [`close_gates`] closes gates, and never
+//! touches one that reads closed. [`is_new`] returns whether no layout was finished on a device. [`read_part`] reads a
+//! given number of bytes of it.
+//!
+//! [`MemDisk`] and [`MemStore`] are in memory. They fail at the calls that a test chooses, and give the images that a
 //! crash may leave.
 #![tactic(auto)]
 

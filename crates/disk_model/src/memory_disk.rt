@@ -1,4 +1,4 @@
-// A device in memory, which fails at the calls that it is told to, and gives the images that a crash may leave.
+// A device in memory. It fails at the calls that a test chooses, and gives the images that a crash may leave.
 ghost use Rattle.std.specs.Prelude.{◌≡◌, ◌⊎◌, ◌↔◌, ◌+◌, ◌-◌, ◌^◌, ◌<◌, ◌≤◌, [], ◌∷◌, length, take, drop, Option, None, Some, IfOk, IsErr, OnOk, OnErr, IsTrue, Contains, MatchResult, IsSomeAnd, IsSome, is_some, IsOk, is_ok, false, true, if◌then◌else◌};
 ghost use Rattle.disk_model.specs.Logs.{log_first, log_calls};
 ghost use Rattle.disk_model.specs.Traces.{Trace, Wrote, WroteInPart, Resized, ResizedInPart, Synced, Idle, seen, noted};
@@ -22,8 +22,9 @@ pub enum Pick {
     Fill(u8),
 }
 
-// The calls of a device: the numbers of those that are to fail, from which number on all are to fail, the count that it
-// shares with others, how many calls and faults there were, and the clock. A count stays at the end of its type.
+// The calls of a device. `failing` has the numbers of those that are to fail, and from number `stop` on all are to
+// fail. `share` is the count that the device shares with others. Then come how many calls and faults there were, and
+// the clock. A count stays at the end of its type.
 #[derive(Drop)]
 struct Calls {
     failing: Vec<u64>,
@@ -35,7 +36,7 @@ struct Calls {
 }
 
 impl Calls {
-    // Counts a call, and says whether it is to fail.
+    // Counts a call, and returns whether it is to fail.
     fn begin(&mut self) -> bool
         ensures to_fail { Contains self.old.failing.items self.old.count
             ⊎ IsSomeAnd self.old.stop (λ stop. stop ≤ self.old.count) → IsTrue result }
@@ -53,7 +54,7 @@ impl Calls {
         fails || stopped
     }
 
-    // Lets the clock go on, and says whether it did.
+    // Adds one to the clock, and returns whether it could.
     fn tick(&mut self) -> bool
         ensures told { IsTrue result ↔ (self.old.clock < 2 ^ 64 - 1) }
         ensures timed { self.new ≡ record self.old { clock = next_count self.old.clock } }
@@ -63,7 +64,7 @@ impl Calls {
         goes_on
     }
 
-    // Counts a fault, and tells it.
+    // Counts a fault, and returns it.
     fn fault(&mut self) -> Failed
         ensures counted { self.new ≡ record self.old { faults = next_count self.old.faults } }
         ensures later { self.old.faults ≤ self.new.faults }
@@ -74,9 +75,9 @@ impl Calls {
     }
 }
 
-/// A device in memory. A clause sees it as its trace, the numbers of the calls that are to fail, counted from 0, the number
-/// from which on all fail, whether it stops together with others, and how many calls and faults there were. Calls of `len`
-/// and `read` count among them.
+/// A device in memory. A clause sees its trace, the numbers of the calls that are to fail, counted from 0, and the
+/// number from which on all fail. It also sees whether the device stops together with others, and how many calls and
+/// faults there were. Calls of `len` and `read` are among those counted.
 #[derive(Drop)]
 pub struct MemDisk {
     log: CallLog,
@@ -107,7 +108,7 @@ impl Model for MemDisk {
 impl MemDisk {
     ghost use Rattle.disk_model.specs.Memory.{picked};
 
-    /// A device of these bytes, whose calls with a number in `fail`, counted from 0, fail.
+    /// Returns a device of these bytes. Its calls with a number in `fail`, counted from 0, fail.
     pub fn new(bytes: Vec<u8>, fail: Vec<u64>) -> MemDisk
         ensures trace { result.trace ≡ record { first = bytes.items; calls = [] } }
         ensures failing { result.failing_calls ≡ fail.items }
@@ -136,7 +137,8 @@ impl MemDisk {
         self.calls.stop = Some(calls);
     }
 
-    /// A new device that holds an image which a crash now may leave: the picked one.
+    /// Returns a new device that holds the picked one of the images that a crash now may leave. It fails if there is no
+    /// memory for that.
     pub fn crash(&self, pick: Pick) -> Result<MemDisk, WantOfMemory>
         ensures trace { IfOk result (λ d. d.trace
             ≡ record { first = picked pick self.now.trace.first self.now.trace.calls; calls = [] }) }
@@ -154,28 +156,29 @@ impl MemDisk {
         Ok(MemDisk::new(image, Vec::new(alloc)))
     }
 
-    /// How many calls there were, those of `len` and `read` among them. The count stays at the end of its type.
+    /// Returns how many calls there were, those of `len` and `read` among them. The count stays at the end of its type.
     pub fn calls(&self) -> u64
         ensures { result ≡ self.now.calls }
     {
         self.calls.count
     }
 
-    /// The bytes that it holds.
+    /// Returns the bytes that it holds.
     pub fn bytes(&self) -> &[u8]
         ensures { result.now ≡ seen (Some self.now.trace) }
     {
         &self.log.content
     }
 
-    // Its calls are counted with those of the others that share the count, and fail once there were too many.
+    // From now on its calls count together with those of the others that share the count, and fail once there were too
+    // many.
     pub(crate) fn stop_with(&mut self, share: Option<Share>)
         ensures { self.new ≡ record self.old { shares = is_some share } }
     {
         self.calls.share = share;
     }
 
-    // The faults so far, of which it forgets.
+    // Returns the faults so far, and sets their count to 0.
     pub(crate) fn take_faults(&mut self) -> u64
         ensures result { result ≡ self.old.faults }
         ensures zero { self.new ≡ record self.old { faults = 0 } }
@@ -186,7 +189,7 @@ impl MemDisk {
     }
 }
 
-// Ends a call: it was idle where there was no memory to note it, and it is whole where it was noted so.
+// Ends a call. If there was no memory to note it, it was idle. Else it was done as it was noted, whole or in part.
 fn end(
     log: &mut CallLog,
     calls: &mut Calls,
@@ -253,7 +256,7 @@ impl Disk for MemDisk {
         Ok(())
     }
 
-    /// It fails also where there is no memory to note it; then it did nothing. Where it is to fail it is done in part.
+    /// It fails also if there is no memory to note it; then it did nothing. If it is to fail, it is done in part.
     fn write_at(&mut self, at: u64, bytes: &[u8]) -> Result<(), Failed>
         ensures noted { IsNoted (Wrote at bytes.now) (WroteInPart at bytes.now) result
             (Some self.old.trace) (Some self.new.trace) }
@@ -269,7 +272,7 @@ impl Disk for MemDisk {
         end(&mut self.log, &mut self.calls, noted, whole)
     }
 
-    /// It fails also where there is no memory to note it; then it did nothing. Where it is to fail it is done in part.
+    /// It fails also if there is no memory to note it; then it did nothing. If it is to fail, it is done in part.
     fn cut(&mut self, len: u64) -> Result<(), Failed>
         ensures noted { IsNoted (Resized len) (ResizedInPart len) result
             (Some self.old.trace) (Some self.new.trace) }
@@ -285,7 +288,7 @@ impl Disk for MemDisk {
         end(&mut self.log, &mut self.calls, noted, whole)
     }
 
-    /// It fails also where there is no memory to note it.
+    /// It fails also if there is no memory to note it.
     fn sync(&mut self) -> Result<(), Failed>
         ensures noted { IsNoted Synced Idle result (Some self.old.trace) (Some self.new.trace) }
         ensures clock { IsTimed (length self.old.trace.calls) (length self.new.trace.calls) result }

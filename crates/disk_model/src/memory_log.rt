@@ -8,7 +8,7 @@ ghost use Rattle.disk_model.specs.Logs.{call_of, write_call, resize_call, first_
 use crate::memory_disk::Pick;
 use std::alloc::AllocError;
 
-// A call that was noted. `whole` is false where it failed.
+// A call that was noted. `whole` is false if it failed.
 #[derive(Drop)]
 pub(crate) enum Call {
     Write {
@@ -23,15 +23,15 @@ pub(crate) enum Call {
     Sync,
 }
 
-// A call, and how many idle ones came before it and after the one that was noted before.
+// A call, and how many idle calls came between it and the one noted before.
 #[derive(Drop)]
 pub(crate) struct Note {
     pub(crate) idle: u64,
     pub(crate) call: Call,
 }
 
-// What a device holds, and its calls so far. `base` has the first bytes once they may have changed, `notes` the calls,
-// the oldest first, and `idle` counts the idle ones since the last note: those need no memory.
+// What a device holds, and its calls so far. `base` has the first bytes once they may have changed, and `notes` the
+// calls, the oldest first. `idle` counts the idle calls since the last note, which need no memory.
 #[derive(Drop)]
 pub(crate) struct CallLog {
     pub(crate) base: Option<Vec<u8>>,
@@ -55,7 +55,7 @@ impl CallLog {
         }
     }
 
-    // A call that did nothing.
+    // Records a call that did nothing.
     pub(crate) fn rest(&mut self)
         requires { length (log_calls self.old) < 2 ^ 64 - 1 }
         ensures first { log_first self.new ≡ log_first self.old }
@@ -65,7 +65,7 @@ impl CallLog {
         self.idle += 1;
     }
 
-    // A write, which fails in part unless it is whole.
+    // Makes and notes a write. Unless it is whole, it fails in part.
     pub(crate) fn write(&mut self, at: u64, bytes: &[u8], whole: bool) -> Result<(), AllocError>
         ensures first { log_first self.new ≡ log_first self.old }
         ensures told { OnOk result
@@ -88,7 +88,7 @@ impl CallLog {
         Ok(())
     }
 
-    // A change of the length, which fails in part unless it is whole.
+    // Makes and notes a change of the length. Unless it is whole, it fails in part.
     pub(crate) fn resize(&mut self, len: u64, whole: bool) -> Result<(), AllocError>
         ensures first { log_first self.new ≡ log_first self.old }
         ensures told { OnOk result
@@ -106,7 +106,7 @@ impl CallLog {
         Ok(())
     }
 
-    // A sync.
+    // Notes a sync.
     pub(crate) fn sync(&mut self) -> Result<(), AllocError>
         ensures first { log_first self.new ≡ log_first self.old }
         ensures told { OnOk result (log_calls self.new ≡ Synced ∷ log_calls self.old) }
@@ -156,7 +156,7 @@ impl CallLog {
         }
     }
 
-    // The picked one of the images that a crash now may leave.
+    // Returns the picked one of the images that a crash now may leave.
     pub(crate) fn picked(&self, pick: Pick) -> Result<Vec<u8>, AllocError>
         ensures { IfOk result (λ v. v.items ≡ picked pick (log_first self.now) (log_calls self.now)) }
     {
@@ -170,7 +170,7 @@ impl CallLog {
     }
 }
 
-// Writes bytes over what is there and past the end; at the end where `at` is past it.
+// Writes bytes over what is there and past the end. If `at` is past the end, it writes them at the end.
 fn put(held: &mut Vec<u8>, at: u64, bytes: &[u8]) -> Result<(), AllocError>
     ensures ok { OnOk result (held.new.items ≡ written held.old.items at bytes.now) }
     ensures err { OnErr result (held.new.items ≡ held.old.items) }
@@ -182,7 +182,7 @@ fn put(held: &mut Vec<u8>, at: u64, bytes: &[u8]) -> Result<(), AllocError>
     Ok(())
 }
 
-// Does a call once more on what a read gives and on the picked image.
+// Does a call once more, on what a read returns and on the picked image.
 fn replay(
     call: &Call,
     pick: Pick,
@@ -211,7 +211,7 @@ fn replay(
     }
 }
 
-// What is picked of a write.
+// Does the picked part of a write on the image.
 fn put_picked(pick: Pick, image: &mut Vec<u8>, at: u64, bytes: &[u8]) -> Result<(), AllocError>
     ensures { OnOk result (image.new.items ≡ picked_bytes pick bytes.now image.old.items at) }
 {
@@ -225,7 +225,7 @@ fn put_picked(pick: Pick, image: &mut Vec<u8>, at: u64, bytes: &[u8]) -> Result<
     }
 }
 
-// What is picked of a change of the length.
+// Does the picked part of a change of the length on the image.
 fn resize_picked(pick: Pick, image: &mut Vec<u8>, len: u64) -> Result<(), AllocError>
     ensures { OnOk result (image.new.items ≡ picked_length pick image.old.items len) }
 {

@@ -9,8 +9,9 @@ use std::alloc::AllocError;
 use std::marker::Model;
 use std::mem;
 
-/// A store of devices in memory. A clause sees it as the devices by name, of which the first of a name counts, the count of
-/// faults, and whether the devices that it hands out stop together. While a device is out, an empty one stands in its place.
+/// A store of devices in memory. A clause sees the devices by name, of which the first of a name counts. It also sees
+/// the count of faults, and whether the devices that it hands out stop together. While a device is out, an empty one
+/// takes its place.
 #[derive(Drop)]
 pub struct MemStore {
     devices: Vec<(String, MemDisk)>,
@@ -28,7 +29,7 @@ impl Model for MemStore {
 }
 
 impl MemStore {
-    /// A store of these devices.
+    /// Returns a store of these devices.
     pub fn new(devices: Vec<(String, MemDisk)>) -> MemStore
         ensures devices { result.devices ≡ named devices.items }
         ensures faults { result.faults ≡ 0 }
@@ -41,8 +42,9 @@ impl MemStore {
         }
     }
 
-    /// Lets the devices that it hands out from now on share one count of their calls, from 0. Each call after that many
-    /// fails, on whichever device it comes, and counts a fault there. Nothing changes where there is no memory for it.
+    /// The devices that the store hands out from now on share one count of their calls, from 0. Each call after that
+    /// many fails, on whichever device it comes, and counts a fault there. If there is no memory for the count, nothing
+    /// changes.
     pub fn stop_after(&mut self, calls: u64) -> Result<(), WantOfMemory>
         ensures ok { OnOk result (self.new ≡ record self.old { stops = true }) }
         ensures err { OnErr result (self.new ≡ self.old) }
@@ -54,7 +56,7 @@ impl MemStore {
         Ok(())
     }
 
-    // The count for one more device, if the devices are to share one; nothing where there is no room for it.
+    // The count for one more device, if the devices are to share one. It returns `None` if there is no room for it.
     fn shared(&self) -> Option<Option<Share>> {
         match &self.share {
             Some(share) => Some(Some(share.another()?)),
@@ -62,7 +64,7 @@ impl MemStore {
         }
     }
 
-    // Counts a fault, and tells it.
+    // Counts a fault, and returns it.
     fn fault(&mut self) -> Failed
         ensures counted { self.new ≡ record self.old { faults = next_count self.old.faults } }
         ensures later { self.old.faults ≤ self.new.faults }
@@ -88,7 +90,7 @@ fn place_of(devices: &[(String, MemDisk)], name: &str) -> Option<usize>
     None
 }
 
-// Puts a device in the place of that of a name, which it returns; where there is none, nothing is put.
+// Puts a device in the place of the device of a name, and returns that one. If there is none, it puts nothing.
 fn exchange(devices: &mut Vec<(String, MemDisk)>, name: &str, dev: MemDisk) -> Option<MemDisk>
     ensures found { IfSome result (λ old. device_of (named devices.old.items) name.now ≡ Some old) }
     ensures put { OnSome result (Puts (named devices.old.items) (named devices.new.items) name.now dev) }
@@ -99,7 +101,7 @@ fn exchange(devices: &mut Vec<(String, MemDisk)>, name: &str, dev: MemDisk) -> O
     Some(mem::replace(&mut devices[place].1, dev))
 }
 
-// Adds a device of a name, and says whether there was memory for it.
+// Adds a device of a name. It fails if there is no memory for it.
 fn add(devices: &mut Vec<(String, MemDisk)>, name: &str, dev: MemDisk) -> Result<(), AllocError>
     requires { device_of (named devices.old.items) name.now ≡ None }
     ensures ok { OnOk result (Puts (named devices.old.items) (named devices.new.items) name.now dev) }
@@ -121,7 +123,7 @@ impl Store for MemStore {
 
     ghost fault_count = { λ s. s.faults };
 
-    /// It fails only where there is no memory to make the device.
+    /// It fails only if there is no memory to make the device.
     fn device(&mut self, name: &str) -> Result<MemDisk, Failed> {
         let Some(share) = self.shared() else {
             return Err(self.fault());

@@ -1,11 +1,11 @@
-// Reading of a device: so many bytes, and whether it has a layout.
+// Reading a device: a part of given length, and whether it has a layout.
 ghost use Rattle.std.specs.Prelude.{◌≡◌, ◌+◌, true, false, length, IfOk};
 ghost use Rattle.disk_model.specs.Calls.{HasCause, Reaches, Reads, Shows};
 ghost use Rattle.disk_model.specs.Gates.{IsNew, IsBegun};
 
 use crate::{Disk, Failed, OPEN};
 
-/// So many bytes of a device, from `at` on. They all lie within the device. `at` counts bytes.
+/// Returns the `N` bytes of a device from `at` on. They all lie within the device. `at` counts bytes.
 pub fn read_part<const N: usize, D: Disk>(dev: &mut D, at: u64) -> Result<[u8; N], Failed>
     requires { Reaches (D.trace dev.old) (at + N) }
     ensures bytes { IfOk result (λ b. Reads (D.trace dev.old) at b) }
@@ -19,7 +19,7 @@ pub fn read_part<const N: usize, D: Disk>(dev: &mut D, at: u64) -> Result<[u8; N
     Ok(bytes)
 }
 
-/// Whether no layout was finished on a device: it has one byte at most, or the gate at its beginning is closed.
+/// Returns whether no layout was finished on a device: it has at most one byte, or the gate at its beginning is closed.
 pub fn is_new<D: Disk>(dev: &mut D) -> Result<bool, Failed>
     ensures new { IfOk result (λ b. b ≡ true → Shows (D.trace dev.old) IsNew) }
     ensures begun { IfOk result (λ b. b ≡ false → Shows (D.trace dev.old) IsBegun) }

@@ -3,7 +3,7 @@ use std::alloc::{AllocError, Global};
 use std::sync::Arc;
 use std::sync::atomic::{AtomicU64, Ordering};
 
-// How many calls the devices had that share it, and how many of them there are before each fails.
+// How many calls the devices that share it had, and how many they may have before each call fails.
 #[derive(Drop)]
 pub(crate) struct Share {
     calls: Arc<AtomicU64>,
@@ -16,7 +16,7 @@ impl Share {
         Ok(Share { calls, most })
     }
 
-    // The same count once more, or nothing where there is no room to count those who share it.
+    // Returns the same count once more, or `None` if there is no room to count those that share it.
     pub(crate) fn another(&self) -> Option<Share> {
         let Ok(calls) = Arc::try_clone(&self.calls) else {
             return None;
@@ -27,7 +27,7 @@ impl Share {
         })
     }
 
-    // Counts a call, and says whether it is to fail.
+    // Counts a call, and returns whether it is to fail.
     pub(crate) fn begin(&self) -> bool {
         self.calls.fetch_add(1, Ordering::SeqCst) >= self.most
     }

@@ -1,4 +1,4 @@
--- What the lines of an input have come to so far. For private functions: no public call cites it.
+-- What the rows read so far amount to. Only private functions cite it.
 use Rattle.std.specs.Prelude.{◌≡◌, ℕ, ◌+◌, ◌≤◌, Bool, false, if◌then◌else◌, List, [], ◌∷◌, ◌++◌, length, map, take, None, Some, nat_eq, Result, Ok, Err}
 use Rattle.trend_num.specs.Limits.{most_records}
 use Rattle.trend_num.specs.declared.point.Point.{Point}
@@ -20,15 +20,15 @@ use Rattle.pack_command.specs.declared.intake.Standing.TheVariants.{Taken, Full,
 abbrev pub MayCome : Bool → List ℕ → Type 0
 MayCome further more = further ≡ false → more ≡ []
 
--- whatever follows, the lines of these bytes are those of these points, and then those of what is left
+-- whatever follows, the lines of these bytes read as these points, and then as the lines of what is left
 pub record IsReadUpTo (further : Bool) (bytes rest : List ℕ) (found : List Point) : Type 0 where
   pub reads : (more : List ℕ) → MayCome further more → reads_of (bytes ++ more) ≡ map (λ p. Ok p) found ++ reads_of (rest ++ more)
 
--- whatever follows, the first line of what is left reads so, and the others are those of what comes after it
+-- whatever follows, the first line of what is left reads so, and the others are the lines of what comes after it
 pub record IsNextRow (further : Bool) (rest after : List ℕ) (read : Result Point Reason) : Type 0 where
   pub reads : (more : List ℕ) → MayCome further more → reads_of (rest ++ more) ≡ read ∷ reads_of (after ++ more)
 
--- whatever follows, the rows of these bytes are refused so
+-- whatever follows, the rows of these bytes are refused for this reason
 pub record AreRefused (further : Bool) (bytes : List ℕ) (why : RowNo) : Type 0 where
   pub refused : (more : List ℕ) → MayCome further more → line_points_of most_rows (bytes ++ more) ≡ Err why
 
@@ -38,7 +38,7 @@ pub record AreTaken (o : Origin) (core : Core) (found : List Point) : Type 0 whe
   pub stands : Stands o (history_of found) core.state
   pub room : first_full o (history_of found) ≡ None
 
--- what the rows of these bytes have come to, of which this part is left
+-- what the rows of these bytes amount to; `rest` is the part of them that is left
 abbrev pub HasCome : Bool → Origin → List ℕ → List ℕ → Core → ℕ → Standing → Type 0
 HasCome further o bytes rest core rows Taken =
     (found : List Point) × IsReadUpTo further bytes rest found × (length found ≡ rows) × AreTaken o core found
@@ -76,7 +76,7 @@ pub record IsReadAfter (before now : Outside) (begun n : ℕ) (old new : List �
   pub counted : length piece ≡ n
   pub front : take (begun + n) new ≡ take begun old ++ piece
 
--- all of the input was read, and its rows have come to this
+-- all of the input was read, and its rows amount to this
 pub record IsAllRead (o : Origin) (before now : Outside) (core : Core) (rows : ℕ) (standing : Standing) : Type 0 where
   pub bytes : List ℕ
   pub whole : TakesAll before now bytes

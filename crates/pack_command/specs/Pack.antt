@@ -1,4 +1,4 @@
--- What `pack` answers to the bytes of its standard input.
+-- What `pack` answers for the bytes of its standard input.
 use Rattle.std.specs.Prelude.{◌≡◌, ℕ, ◌+◌, ◌<◌, ◌≤◌, ◌⊎◌, if◌then◌else◌, false, List, [], ◌∷◌, length, map, reverse, Option, None, Some, nat_lt, Result, Ok, Err}
 use Rattle.std.specs.Io.KnownBytes.{IsAtEnd}
 use Rattle.std.specs.Option.{option_or}
@@ -39,7 +39,7 @@ origin_of tuning = record { tuning = tuning; step = false }
 abbrev pub history_of : List Point → List Event
 history_of points = map Raw (reverse points)
 
--- the records that stood at the first event of a history that had no room for two more
+-- how many records there were at the first event of a history that found no room for two more
 abbrev pub first_full : Origin → List Event → Option ℕ
 first_full o [] = None
 first_full o (e ∷ h) =
@@ -60,7 +60,7 @@ status_of_rows (row_no.BadRow row reason) = BadRow Input row reason
 status_of_rows (row_no.TooMany count) = Limit Rows count
 status_of_rows row_no.WantOfMemory = WantOfMemory
 
--- the answer to what the lines say
+-- the answer to what the lines read as
 abbrev pub answer_rows : Tuning → Result (List Point) RowNo → Answer
 answer_rows tuning (Ok points) = history_answer (origin_of tuning) (history_of points)
 answer_rows tuning (Err why) = Refuses (status_of_rows why)
@@ -70,7 +70,7 @@ abbrev pub pack_answer : Tuning → List ℕ → Answer
 pack_answer tuning bytes =
     if nat_lt most_input_bytes (length bytes) then Refuses (Limit FileBytes (most_input_bytes + 1)) else answer_rows tuning (line_points_of most_rows bytes)
 
--- ---- what was read of the input, where `pack` answers so
+-- ---- what was read of the input, if `pack` answers so
 
 -- all of the input was read, no read failed, and its lines are these points
 pub record IsInputRead (before now : Outside) (points : List Point) : Type 0 where
@@ -80,14 +80,14 @@ pub record IsInputRead (before now : Outside) (points : List Point) : Type 0 whe
   pub within : length bytes ≤ most_input_bytes
   pub rows : line_points_of most_rows bytes ≡ Ok points
 
--- all of the input was read, and its history is to be printed so
+-- all of the input was read, and this text is to be printed for its history
 pub record IsPrinted (tuning : Tuning) (before now : Outside) (text : List ℕ) : Type 0 where
   pub points : List Point
   pub read : IsInputRead before now points
   pub room : first_full (origin_of tuning) (history_of points) ≡ None
   pub same : text ≡ archive_text (records (origin_of tuning) (history_of points)) (held (origin_of tuning) (history_of points))
 
--- all of the input, or more than may be read, was taken, no read failed, and the answer to it is this refusal
+-- all of the input was taken, or more than may be read; no read failed, and the answer to it is this refusal
 pub record RefusesBytes (tuning : Tuning) (before now : Outside) (refusal : Status) : Type 0 where
   pub bytes : List ℕ
   pub taken : Takes before now bytes
@@ -95,7 +95,7 @@ pub record RefusesBytes (tuning : Tuning) (before now : Outside) (refusal : Stat
   pub no_fault : CountsNoFault before now
   pub answer : pack_answer tuning bytes ≡ Refuses refusal
 
--- why nothing is printed, by the status
+-- the status says why nothing is printed
 abbrev pub IsPackRefusal : Tuning → Outside → Outside → Status → Type 0
 IsPackRefusal tuning before now (ReadFault file) = (file ≡ Input) × CountsOneFault before now × TakesAtMost before now most_input_bytes
 IsPackRefusal tuning before now (BadRow file row reason) = RefusesBytes tuning before now (BadRow file row reason)

@@ -8,7 +8,8 @@ use point_text::write_archive;
 use std::marker::Model;
 use tag_core::TagCore;
 
-/// The text of an archive, which is printed from its records, and is nowhere as a whole. A clause sees it as its bytes.
+/// The text of an archive. It is printed from the archive's records, and is never in memory as a whole. A clause sees
+/// its bytes.
 #[derive(Drop)]
 pub struct ArchiveText {
     core: TagCore,
@@ -31,8 +32,8 @@ impl ArchiveText {
         ArchiveText { core }
     }
 
-    /// Prints it, a piece of fixed size at a time. It takes no memory. After an error some of the bytes, from the first on,
-    /// are written, and never all.
+    /// Prints the text, a piece of fixed size at a time. It takes no memory. If a write fails, it returns an error;
+    /// some of the bytes, from the first on, are then written, and never all.
     pub fn print<O: Sink>(&self, out: &mut O) -> Result<(), WriteFault>
         ensures whole { OnOk result (IsWritten (O.meaning out.old) (O.meaning out.new) self.now) }
         ensures cut_short { OnErr result (IsCutShort (O.meaning out.old) (O.meaning out.new) self.now) }

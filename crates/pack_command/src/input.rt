@@ -1,4 +1,4 @@
-// All of the input, a piece at a time.
+// Reads all of the input, a piece at a time.
 ghost use Rattle.std.specs.Prelude.{◌≡◌, ◌+◌, ◌<◌, ◌≤◌, [], List, ℕ, true, length, take, slice_range, IfOk, IfErr, OnOk, OnErr, vec_len};
 ghost use Rattle.std.specs.Io.KnownBytes.{Keeps};
 ghost use Rattle.trend_num.specs.Ranges.{TuningInRange};
@@ -23,10 +23,10 @@ const MAX_FILE_BYTES: u64 = 67_108_864;
 // How many bytes are read at once at most.
 const PIECE: usize = 262_144;
 
-// The most bytes of a line that has begun, which lie before the next piece.
+// The most bytes of a begun line, which is kept before the next piece.
 const BEGUN: usize = 64;
 
-// Reads the input to its end, and takes the values of its rows, or tells why the input is not read.
+// Reads the input to its end, and takes the values of its rows. If the input is not read, it returns the status of why.
 pub(crate) fn read_input<L: Ledger, I: Source>(
     alloc: Global,
     tuning: Tuning,
@@ -54,7 +54,7 @@ pub(crate) fn read_input<L: Ledger, I: Source>(
     }
 }
 
-// The same, by pieces that lie in this buffer after the line that has begun.
+// The same by pieces, each of which is read into this buffer after the begun line.
 fn read_pieces<L: Ledger, I: Source>(
     intake: &mut Intake,
     buffer: &mut [u8],
@@ -94,14 +94,14 @@ fn read_pieces<L: Ledger, I: Source>(
     }
 }
 
-// Room for a line that has begun and a piece after it.
+// Room for a begun line and a piece after it.
 fn new_buffer(alloc: Global) -> Result<Vec<u8>, AllocError>
     ensures { IfOk result (λ v. vec_len v ≡ BEGUN + PIECE) }
 {
     vec![in alloc; 0; BEGUN + PIECE]
 }
 
-// Reads at most so many bytes into a buffer, after those that are there.
+// Reads at most `wanted` bytes into a buffer, after the `begun` ones that are there.
 fn read_after<I: Source>(
     input: &mut I,
     buffer: &mut [u8],
@@ -121,7 +121,7 @@ fn read_after<I: Source>(
     }
 }
 
-// Takes the rows of the front of a buffer, and brings the line that has begun to its front. Says how long that is.
+// Takes the rows at the front of a buffer, and moves the begun line to the front. It returns the length of that line.
 fn take_piece<L: Ledger>(
     intake: &mut Intake,
     buffer: &mut [u8],
@@ -142,8 +142,8 @@ fn take_piece<L: Ledger>(
     bring_forward(buffer, filled - left, filled)
 }
 
-// Brings a line that has begun to the front of a buffer, cut short where it is too long to have a point. Says how long it
-// is then.
+// Moves a begun line to the front of a buffer. If it is too long to have a point, a short line that reads the same
+// replaces it. It returns the length of the line there.
 fn bring_forward(buffer: &mut [u8], from: usize, to: usize) -> usize
     requires order { from ≤ to }
     requires within { to ≤ length buffer.old }

@@ -15,10 +15,10 @@ use trend_num::{MAX_RECORDS, Point, Reason, Steps, Tuning, WantOfMemory};
 // The most lines of standard input.
 const MAX_ROWS: u64 = 4_000_000;
 
-// For how many values a core has memory that is never full before its tag is.
+// For how many values a core has memory. With so much, its memory is never full before its tag is.
 const ROOM: u32 = MAX_RECORDS / 2 + 1;
 
-// What has become of the rows that were read.
+// What happened to the rows that were read.
 #[derive(Clone, Copy, Debug, PartialEq, Eq)]
 pub(crate) enum Standing {
     /// Each value was taken.
@@ -29,7 +29,7 @@ pub(crate) enum Standing {
     Refused { why: RowNo },
 }
 
-// The core that takes the values of the rows, how many rows were read, and what has become of them.
+// The core that takes the values of the rows, how many rows were read, and what happened to them.
 #[derive(Drop)]
 pub(crate) struct Intake {
     pub(crate) core: TagCore,
@@ -38,7 +38,7 @@ pub(crate) struct Intake {
 }
 
 impl Intake {
-    // Before the first row.
+    // Returns the intake before the first row.
     pub(crate) fn new(alloc: Global, tuning: Tuning) -> Result<Intake, WantOfMemory>
         requires { TuningInRange tuning }
         ensures ready { IfOk result (λ i. IsReady i.core i.rows) }
@@ -52,7 +52,7 @@ impl Intake {
         })
     }
 
-    // Takes the rows of a text but the last that has no line feed, and says how long that is.
+    // Takes the rows of a text, except the last one if it has no line feed. It returns the length of that last one.
     pub(crate) fn take_lines<L: Ledger>(&mut self, text: &[u8], steps: &mut Steps<L>) -> usize
         requires { IsReady self.old.core self.old.rows }
         ensures ready { IsReady self.new.core self.new.rows }
@@ -73,7 +73,8 @@ impl Intake {
         }
     }
 
-    // Takes the rows of the plain lines that a text begins with, as long as each value is taken. Says what is left.
+    // Takes the rows of the plain lines that a text begins with, as long as each value is taken. It returns what is
+    // left.
     #[inline(never)]
     fn take_plain_lines<'t, L: Ledger>(&mut self, text: &'t [u8], steps: &mut Steps<L>) -> &'t [u8]
         requires { IsReady self.old.core self.old.rows }
@@ -105,7 +106,7 @@ impl Intake {
         rest
     }
 
-    // Takes the last row, which has no line feed, where there is one: the input is at its end.
+    // Takes the last row of the input if that has no line feed. The input is at its end.
     pub(crate) fn take_last<L: Ledger>(&mut self, line: &[u8], steps: &mut Steps<L>)
         requires ready { IsReady self.old.core self.old.rows }
         requires begun { HasNoFeed line.now }
@@ -135,7 +136,7 @@ impl Intake {
     }
 }
 
-// What becomes of the rows with the next one, which comes after this many.
+// Takes the next row, which comes after `rows` others, and returns what happened to the rows.
 #[inline(always)]
 fn after_row<L: Ledger>(
     core: &mut TagCore,

@@ -1,4 +1,4 @@
-// The command: the input's points, taken into an archive.
+// The command: it takes the input's points into an archive.
 ghost use Rattle.std.specs.Prelude.{◌≡◌, IfOk, IfErr};
 ghost use Rattle.trend_num.specs.Ranges.{TuningInRange};
 ghost use Rattle.pack_command.specs.Pack.{IsPackRefusal, IsPrinted, status_of_rows};
@@ -14,7 +14,8 @@ use std::marker::Brand;
 use std::sync::ledger::Blank;
 use trend_num::Tuning;
 
-/// What `pack` prints for its standard input, or why it prints nothing.
+/// Reads standard input to its end, and returns the text that `pack` prints for it. If `pack` refuses the input, it
+/// returns the status of the refusal.
 pub fn pack<I: Source>(alloc: Global, tuning: Tuning, input: &mut I) -> Result<ArchiveText, Status>
     requires { TuningInRange tuning }
     ensures printed { IfOk result (λ text.

@@ -59,7 +59,7 @@ nobody test xs k d none below =
     let past : length xs ≤ position_or_len test xs = grind (arith, common_steps) in
     fails_before_first test xs k d (omega arith)
 
--- a tag whose name no earlier one has stands apart from them
+-- a tag whose name no earlier one has is distinct from them
 AreApart-push : (earlier : List TagDef) (tag : TagDef) → AreApart earlier → tag_place earlier tag.name ≡ None → AreApart (earlier ++ tag ∷ [])
 AreApart-push earlier tag apart none =
     subst (AllPairs (λ x y. x ≢ y)) (sym (map_push (λ t. t.name) earlier tag))
@@ -69,7 +69,7 @@ AreApart-push earlier tag apart none =
     let other = nobody (λ t. bytes_eq t.name tag.name) earlier k tag none within in
     false≢true (sym other ∙ (bytes_eq-Decides (get_or earlier k tag).name tag.name).1 (sym here ∙ same))))
 
--- tags that are read stand apart where the earlier ones do
+-- tags that are read are distinct if the earlier ones are
 tags_apart : (earlier : List TagDef) (tables : List Members) (tags : List TagDef) → AreApart earlier → tags_after earlier tables ≡ Ok tags → AreApart tags
 tags_apart earlier [] tags apart e = let same : earlier ≡ tags = cc in subst AreApart same apart
 tags_apart earlier (ms ∷ tables) tags apart e =
@@ -95,7 +95,7 @@ tags_first (Ok tags) tables base read = let same : tags ≡ base.tags.items = sy
     by (Err why) follows = absurd (cc)
     by (Ok groups) follows = follows.0
 
--- the tags of a base that tables come to stand apart
+-- the tags of a base that tables come to are distinct
 of_tables : (tables : Result BaseForm TextNo) (base : Base) → Follows tables TablesRead (Ok base) → AreApart base.tags.items
 of_tables (Err why) base read = absurd (cc)
 of_tables (Ok tables) base read =

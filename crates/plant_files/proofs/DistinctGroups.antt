@@ -65,7 +65,7 @@ new_name earlier (Some n) name e = by (group_place earlier n) refl e
     by None is taken = let same : n ≡ name = cc in subst (λ m. group_place earlier m ≡ None) same is
     by (Some k) is taken = absurd (cc)
 
--- a group whose name no earlier one has stands apart from them
+-- a group whose name no earlier one has is distinct from them
 AreApart-push : (earlier : List GroupDef) (g : GroupDef) → AreApart earlier → group_place earlier g.name ≡ None
     → AreApart (earlier ++ g ∷ [])
 AreApart-push earlier g apart none = all_pairs_push (λ a b. a.name ≢ b.name) earlier g apart (λ k d below same.
@@ -98,7 +98,7 @@ new_group tags earlier ms g read = by (group_text tags earlier ms) refl read
         subst (λ n. group_place earlier n ≡ None) (sym (name_read (length earlier) text g follows))
         (new_name earlier (name_at (codes "name") ms) text.name named)
 
--- groups that are read stand apart where the earlier ones do
+-- groups that are read are distinct if the earlier ones are
 groups_apart : (tags : List TagDef) (earlier : List GroupDef) (tables : List Members) (groups : List GroupDef) → AreApart earlier
     → GroupsRead tags earlier tables (Ok groups) → AreApart groups
 groups_apart tags earlier [] groups apart e = let same : earlier ≡ groups = cc in subst AreApart same apart
@@ -112,7 +112,7 @@ groups_apart tags earlier (ms ∷ tables) groups apart read =
     by (Err why) is follows further = absurd (cc)
     by (Ok g) is follows further = further g (AreApart-push earlier g apart (new_group tags earlier ms g is)) follows
 
--- the groups of a base that tables come to stand apart
+-- the groups of a base that tables come to are distinct
 of_tables : (tables : Result BaseForm TextNo) (base : Base) → Follows tables TablesRead (Ok base) → AreApart base.groups.items
 of_tables (Err why) base read = absurd (cc)
 of_tables (Ok tables) base read = by (tags_after [] tables.tags) read

@@ -1,4 +1,4 @@
--- Of which file a read fault is told.
+-- Of which file a read fault is reported.
 use Rattle.std.proofs.Common.{◌≡◌, ◌∙◌, ◌+◌, ℕ, List, Option, subst, sym}
 use Rattle.std.specs.Prelude.{◌≢◌}
 use Rattle.byte_io.specs.Files.{FileTold, IsFaultOf}
@@ -62,7 +62,7 @@ reader_is_no_collector : (place other : ℕ) → file.Collector other ≢ file.R
 reader_is_no_collector place other same = cc
 
 module _ (name plan_name : List ℕ) (told : ToldFiles) (failed : Option (List ℕ)) (why : Status) where
-  -- what is no read fault is told of no file
+  -- what is no read fault is reported of no file
   pub of_none : ((which : FileId) → why ≢ ReadFault which) → IsFaultOfPlanned name plan_name told failed why
   of_none other = record {
     base = λ same. absurd (other file.Base same);
@@ -75,7 +75,7 @@ module _ (name plan_name : List ℕ) (told : ToldFiles) (failed : Option (List �
   pub of_rows : (rows : ℕ) → AreRowsTooMany rows why → IsFaultOfPlanned name plan_name told failed why
   of_rows rows many = of_none (λ which same. limit_is_no_fault (most_collector_rows + 1) which (sym many.told ∙ same))
 
-  -- the refusal of a base tells of the base
+  -- the refusal of a base names the base
   pub of_base : (t : FileTold) → IsBaseRefusal t why → ((which : FileId) → why ≡ ReadFault which → IsFaultOf failed name)
       → IsFaultOfPlanned name plan_name told failed why
   of_base t refused whose = record {
@@ -85,7 +85,7 @@ module _ (name plan_name : List ℕ) (told : ToldFiles) (failed : Option (List �
     reader = λ place same. absurd (base_is_no_reader place (subst (IsBaseRefusal t) same refused));
   }
 
-  -- that of a plan tells of the plan
+  -- that of a plan names the plan
   pub of_plan : (groups : List GroupDef) (t : FileTold) → IsPlanRefusal groups t why
       → ((which : FileId) → why ≡ ReadFault which → IsFaultOf failed plan_name) → IsFaultOfPlanned name plan_name told failed why
   of_plan groups t refused whose = record {
@@ -95,7 +95,7 @@ module _ (name plan_name : List ℕ) (told : ToldFiles) (failed : Option (List �
     reader = λ place same. absurd (plan_is_no_reader place (subst (IsPlanRefusal groups t) same refused));
   }
 
-  -- that of the rows tells of a collector
+  -- that of the rows names a collector
   pub of_collector : (base : Base) (plan : Plan) → IsBaseFile (told name) base → IsPlanFile base.groups.items (told plan_name) plan
       → IsCollectedRefusal base told plan.collectors.items why
       → ((place : ℕ) → why ≡ ReadFault (file.Collector place) → IsFaultAt plan.collectors.items place failed)
@@ -110,7 +110,7 @@ module _ (name plan_name : List ℕ) (told : ToldFiles) (failed : Option (List �
         (memory_is_no_fault (file.Reader place))).refused);
   }
 
-  -- that of the queries tells of a reader
+  -- that of the queries names a reader
   pub of_reader : (base : Base) (plan : Plan) → IsBaseFile (told name) base → IsPlanFile base.groups.items (told plan_name) plan
       → IsQueriesRefusal base told plan.readers.items why
       → ((place : ℕ) → why ≡ ReadFault (file.Reader place) → IsFaultAt plan.readers.items place failed)

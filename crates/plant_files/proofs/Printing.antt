@@ -1,4 +1,4 @@
--- What is printed of a text or of a refusal, and what a status tells.
+-- What is printed of a text or of a refusal, and what a status reports.
 use Rattle.std.proofs.Common.{◌≡◌, inl, inr, ℕ, List, Result, Ok, Err, IfOk, IfErr, OnOk, OnErr, String, Global, string_bytes, sym, subst}
 use Rattle.byte_io.specs.Outside.{Outside, IsWritten, IsCutShort}
 use Rattle.plant_status.specs.declared.status.Status.{Status}

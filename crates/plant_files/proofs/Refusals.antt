@@ -11,7 +11,7 @@ use Rattle.plant_status.specs.declared.file.FileId.{FileId}
 use Rattle.plant_files.specs.Reading.{IsReadWhole}
 use Rattle.plant_files.specs.RowFiles.{IsRowRefusal, most_file_bytes, row_status}
 
--- rows that are too many are told as one more than there may be
+-- rows that are too many are reported as one more than there may be
 one_row_more : {R : Type 0} (most count : ℕ) (found : Result (List R) (ℕ × Reason)) (number : ℕ)
     → unless_more most count found ≡ Err (row_no.TooMany number) → number ≡ most + 1
 one_row_more most count (Err bad) number e = absurd (cc)

@@ -1,4 +1,4 @@
--- What the readers of a plan ask, each the rows of a file.
+-- What the readers of a plan ask. The queries of a reader are the rows of a file.
 use Rattle.std.specs.Prelude.{◌≡◌, ◌≢◌, ℕ, ◌-◌, ◌^◌, ◌<◌, ◌≤◌, min, List, [], ◌∷◌, length, slice_get, ⊤}
 use Rattle.std.specs.Option.{option_map_or}
 use Rattle.byte_io.specs.Files.{FileTold}
@@ -23,14 +23,14 @@ use Rattle.plant_files.specs.Texts.{tag_names}
 abbrev pub most_queries : ℕ
 most_queries = 4096
 
--- ---- the names that queries are asked by
+-- ---- the names that queries use
 
 -- the names of a group and of its calculations
 pub record IsNamed (group : GroupDef) (names : GroupNames) : Type 0 where
   pub name : names.name ≡ group.name
   pub calcs : names.calcs.items ≡ names_of group.calcs.calcs
 
--- those of each group, in order
+-- the names of each group and of its calculations, in order
 abbrev pub AreNamed : List GroupDef → List GroupNames → Type 0
 AreNamed [] [] = ⊤
 AreNamed (g ∷ gs) (n ∷ ns) = IsNamed g n × AreNamed gs ns
@@ -53,7 +53,7 @@ IsQueryOfBase base (Row group calc k) = (group < length base.groups.items)
 abbrev pub IsReaderFile : List (List ℕ) → List GroupNames → FileTold → List Query → Type 0
 IsReaderFile tags groups told queries = IsRowFile (query_rows tags groups most_queries) told queries
 
--- why the queries of a file are not read, by the status
+-- the status says why the queries of a file are not read
 abbrev pub IsReaderRefusal : List (List ℕ) → List GroupNames → FileId → FileTold → Status → Type 0
 IsReaderRefusal tags groups file told why =
     IsRowRefusal Queries most_queries (query_rows tags groups most_queries) file told why
@@ -69,7 +69,7 @@ AreReaderFiles tags groups told files lists = AreRowFiles (IsReaderFile tags gro
 abbrev pub reader_at : ℕ → FileId
 reader_at place = Reader (min place (2 ^ 32 - 1))
 
--- the queries of the first readers' files are read, and then one is refused so
+-- the queries of the first readers' files are read, and then one file is refused with this status
 abbrev pub IsReaderRefused : List (List ℕ) → List GroupNames → ToldFiles → List (List ℕ) → Status → Type 0
 IsReaderRefused tags groups told files why = IsFirstRefused (IsReaderFile tags groups)
     (λ place. IsReaderRefusal tags groups (reader_at place)) told files why
@@ -81,13 +81,13 @@ pub record AreQueries (base : Base) (told : ToldFiles) (files : List (List ℕ))
   pub named : AreNamed base.groups.items groups
   pub asked : AreReaderFiles (tag_names base.tags.items) groups told files lists
 
--- a file is the first that is refused over the names of a base, and so
+-- a file is the first that is refused over the names of a base, with this status
 pub record IsRefusedFirst (base : Base) (told : ToldFiles) (files : List (List ℕ))
     (why : Status) : Type 0 where
   pub groups : List GroupNames
   pub named : AreNamed base.groups.items groups
   pub first : IsReaderRefused (tag_names base.tags.items) groups told files why
 
--- why the queries of files are not read. No memory may be found at any time
+-- the status says why the queries of files are not read; want of memory may come at any time
 abbrev pub IsQueriesRefusal : Base → ToldFiles → List (List ℕ) → Status → Type 0
 IsQueriesRefusal base told files why = why ≢ WantOfMemory → IsRefusedFirst base told files why

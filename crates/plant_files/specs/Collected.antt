@@ -1,4 +1,4 @@
--- What the collectors of a plan take, each the rows of a file.
+-- What the collectors of a plan take. The values of a collector are the rows of a file.
 use Rattle.std.specs.Prelude.{◌≡◌, ◌≢◌, ℕ, ◌+◌, ◌-◌, ◌^◌, ◌<◌, min, List, length, sum_by}
 use Rattle.byte_io.specs.Files.{FileTold}
 use Rattle.trend_num.specs.declared.refusal.What.TheVariants.{Rows}
@@ -28,7 +28,7 @@ pub record IsRowOfBase (base : Base) (row : RawRow) : Type 0 where
 abbrev pub IsCollectorFile : List (List ℕ) → FileTold → List RawRow → Type 0
 IsCollectorFile tags told rows = IsRowFile (raw_rows tags most_collector_rows) told rows
 
--- why the rows of a file are not read, by the status
+-- the status says why the rows of a file are not read
 abbrev pub IsCollectorRefusal : List (List ℕ) → FileId → FileTold → Status → Type 0
 IsCollectorRefusal tags file told why = IsRowRefusal Rows most_collector_rows (raw_rows tags most_collector_rows) file told why
 
@@ -42,7 +42,7 @@ AreCollectorFiles tags told files lists = AreRowFiles (IsCollectorFile tags) tol
 abbrev pub collector_at : ℕ → FileId
 collector_at place = Collector (min place (2 ^ 32 - 1))
 
--- the rows of the first collectors' files are read, and then one is refused so
+-- the rows of the first collectors' files are read, and then one file is refused with this status
 abbrev pub IsCollectorRefused : List (List ℕ) → ToldFiles → List (List ℕ) → Status → Type 0
 IsCollectorRefused tags told files why = IsFirstRefused (IsCollectorFile tags)
     (λ place. IsCollectorRefusal tags (collector_at place)) told files why
@@ -52,7 +52,7 @@ pub record AreCollectedRows (base : Base) (told : ToldFiles) (files : List (List
     (lists : List (List RawRow)) : Type 0 where
   pub read : AreCollectorFiles (tag_names base.tags.items) told files lists
 
--- why the rows of files are not read. No memory may be found at any time
+-- the status says why the rows of files are not read; want of memory may come at any time
 abbrev pub IsCollectedRefusal : Base → ToldFiles → List (List ℕ) → Status → Type 0
 IsCollectedRefusal base told files why =
     why ≢ WantOfMemory → IsCollectorRefused (tag_names base.tags.items) told files why
@@ -63,7 +63,7 @@ IsCollectedRefusal base told files why =
 abbrev pub row_count : List (List RawRow) → ℕ
 row_count lists = sum_by length lists
 
--- so many rows are more than there may be, and this is told of it
+-- so many rows are more than there may be, and the status says so
 pub record AreRowsTooMany (rows : ℕ) (why : Status) : Type 0 where
   pub more : most_collector_rows < rows
   pub told : why ≡ Limit Rows (most_collector_rows + 1)

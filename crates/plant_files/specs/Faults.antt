@@ -1,4 +1,4 @@
--- Whose read failed, where a read fault is told.
+-- Whose read failed, if the status is a read fault.
 use Rattle.std.specs.Prelude.{◌≡◌, ℕ, List, Option}
 use Rattle.byte_io.specs.Files.{IsFaultOf}
 use Rattle.tag_base.specs.declared.definition.Base.{Base}
@@ -10,8 +10,8 @@ use Rattle.plant_files.specs.Reading.{IsFaultAt}
 use Rattle.plant_files.specs.RowFiles.{ToldFiles}
 use Rattle.plant_files.specs.Texts.{IsBaseFile, IsPlanFile}
 
--- where a read fault is told, and it is told whose read failed last, that is the file that is told of: the base's, the plan's, or
--- that of a collector or a reader of the plan that was read
+-- if the status is a read fault, and it is known whose read failed last, that is the file in the status: the file of
+-- the base, of the plan, or of a collector or a reader of the plan that was read
 pub record IsFaultOfPlanned (name plan_name : List ℕ) (told : ToldFiles) (failed : Option (List ℕ)) (why : Status) : Type 0 where
   pub base : why ≡ ReadFault file.Base → IsFaultOf failed name
   pub plan : why ≡ ReadFault file.Plan → IsFaultOf failed plan_name

@@ -1,4 +1,4 @@
--- What is read of a base, a plan over it and its files, and why it is not.
+-- What is read of a base, a plan over it and its files, and why it is refused.
 use Rattle.std.specs.Prelude.{◌≡◌, ◌≢◌, ℕ, ◌<◌, ◌≤◌, List, All, AllPairs, length, vec_len}
 use Rattle.trend_num.specs.Ranges.{TuningInRange}
 use Rattle.plant_status.specs.declared.status.Status.{Status}
@@ -15,7 +15,8 @@ use Rattle.plant_files.specs.Texts.{IsBaseFile, IsBaseRefusal, IsPlanFile, IsPla
 
 -- ---- what is read
 
--- the tunings of a base are in range, its groups name tags and calculations that are there, and no two tags or groups have one name
+-- the tunings of a base are in range, its groups name only tags and calculations that exist, and no two tags or groups
+-- have one name
 pub record IsGoodBase (base : Base) : Type 0 where
   pub tuned : All (λ def. TuningInRange def.tuning) base.tags.items
   pub sound : All (IsSoundGroup (length base.tags.items)) base.groups.items
@@ -30,31 +31,32 @@ AreRowsOfBase base rows = All (All (IsRowOfBase base)) rows
 abbrev pub AreRefreshersOf : Base → Plan → Type 0
 AreRefreshersOf base plan = All (λ r. r.group < vec_len base.groups) plan.refreshers.items
 
--- the rows of a plan over a base are of its tags and in range, its queries are of its tags and groups, and so are its refreshers
+-- the rows of a plan over a base are of its tags and in range; the queries are of its tags and groups, and the
+-- refreshers of its groups
 pub record IsGoodPlan (base : Base) (plan : Plan) (rows : List (List RawRow)) (queries : List (List Query)) : Type 0 where
   pub rows_of_tags : AreRowsOfBase base rows
   pub queries_of_base : All (All (IsQueryOfBase base)) queries
   pub refreshers_of_groups : AreRefreshersOf base plan
 
--- the base was read of the file of the first name, the plan of that of the second, and these are the rows of its collectors, each
--- of its file
+-- the base was read from the file of the first name, and the plan from that of the second; these are the rows of its
+-- collectors, each read from its file
 pub record ArePlanRowsRead (name plan_name : List ℕ) (told : ToldFiles) (base : Base) (plan : Plan) (rows : List (List RawRow)) : Type 0 where
   pub read : IsBaseFile (told name) base
   pub planned : IsPlanFile base.groups.items (told plan_name) plan
   pub fed : AreCollectedRows base told plan.collectors.items rows
 
--- so it was, and there are not too many rows
+-- the files were read so, and there are not too many rows
 pub record IsCollected (name plan_name : List ℕ) (told : ToldFiles) (base : Base) (plan : Plan) (rows : List (List RawRow)) : Type 0 where
   pub files : ArePlanRowsRead name plan_name told base plan rows
   pub few : row_count rows ≤ most_collector_rows
 
--- so it was, and these are the queries of the plan's readers, each of its file
+-- the files were read so, and these are the queries of the plan's readers, each read from its file
 pub record IsPlanned (name plan_name : List ℕ) (told : ToldFiles) (base : Base) (plan : Plan) (rows : List (List RawRow))
     (queries : List (List Query)) : Type 0 where
   pub collected : IsCollected name plan_name told base plan rows
   pub asked : AreQueries base told plan.readers.items queries
 
--- ---- why it is not
+-- ---- why it is refused
 
 -- the refusals, in their order: of the base, of the plan, of a collector's file
 pub data IsReadRefusal (name plan_name : List ℕ) (told : ToldFiles) (why : Status) : Type 0 where
@@ -70,7 +72,8 @@ pub data IsCollectingRefusal (name plan_name : List ℕ) (told : ToldFiles) (why
   OfMany : (base : Base) (plan : Plan) (rows : List (List RawRow)) → ArePlanRowsRead name plan_name told base plan rows
       → AreRowsTooMany (row_count rows) why → IsCollectingRefusal name plan_name told why
 
--- the refusals, in their order: of those files, of a reader's; or the rows are too many. No memory may be found at any time
+-- the refusals, in their order: of those files, of a reader's; or the rows are too many. Want of memory may come at any
+-- time
 pub data IsPlanningRefusal (name plan_name : List ℕ) (told : ToldFiles) (why : Status) : Type 0 where
   OfFiles : IsReadRefusal name plan_name told why → IsPlanningRefusal name plan_name told why
   OfReader : (base : Base) (plan : Plan) (rows : List (List RawRow)) → ArePlanRowsRead name plan_name told base plan rows

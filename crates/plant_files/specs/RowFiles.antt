@@ -1,4 +1,4 @@
--- Files of rows of any kind, one after another: what each says, and the first one that is refused.
+-- Files of rows of any kind, one after another: what each holds, and the first one that is refused.
 use Rattle.std.specs.Prelude.{◌≡◌, ◌⊎◌, ℕ, ◌+◌, List, [], ◌∷◌, ◌++◌, length, ⊤, Result, Ok, Err}
 use Rattle.byte_io.specs.Files.{FileTold}
 use Rattle.trend_num.specs.declared.refusal.What.{What}
@@ -14,7 +14,7 @@ use Rattle.plant_files.specs.Reading.{IsReadWholeAs, IsTooLong}
 abbrev pub most_file_bytes : ℕ
 most_file_bytes = 67108864
 
--- what is told of the file of each name
+-- what is known of the file of each name
 abbrev pub ToldFiles : Type 0
 ToldFiles = List ℕ → FileTold
 
@@ -28,24 +28,24 @@ ReadsAs R = List ℕ → Result (List R) RowNo
 abbrev pub IsRowFile : {R : Type 0} → ReadsAs R → FileTold → List R → Type 0
 IsRowFile reads told rows = IsReadWholeAs told most_file_bytes (λ bytes. reads bytes ≡ Ok rows)
 
--- its rows are refused for this
+-- its rows are refused for this reason
 abbrev pub IsRefusedFile : {R : Type 0} → ReadsAs R → FileTold → RowNo → Type 0
 IsRefusedFile reads told why = IsReadWholeAs told most_file_bytes (λ bytes. reads bytes ≡ Err why)
 
--- the status of a file whose rows are refused for this; its rows are of this quantity
+-- the status of a file whose rows are refused for this reason; its rows are of this quantity
 abbrev pub row_status : What → FileId → RowNo → Status
 row_status kind file (row_no.BadRow row reason) = BadRow file row reason
 row_status kind file (row_no.TooMany rows) = Limit kind rows
 row_status kind file row_no.WantOfMemory = WantOfMemory
 
--- there is a row more than there may be, and this is told of it: the quantity, and one more than the limit
+-- there is a row more than there may be; the status names the quantity, and one more than the limit
 pub record AreTooMany {R : Type 0} (kind : What) (most : ℕ) (reads : ReadsAs R) (told : FileTold) (what : What)
     (number : ℕ) : Type 0 where
   pub quantity : what ≡ kind
   pub one_more : number ≡ most + 1
   pub refused : IsRefusedFile reads told (row_no.TooMany number)
 
--- why the rows of a file are not read, by the status; they are of this quantity, and so many at most
+-- the status says why the rows of a file are not read; they are of this quantity, and at most so many
 abbrev pub IsRowRefusal : {R : Type 0} → What → ℕ → ReadsAs R → FileId → FileTold → Status → Type 0
 IsRowRefusal kind most reads file told (ReadFault which) = which ≡ file
 IsRowRefusal kind most reads file told (Limit what number) =
@@ -61,13 +61,13 @@ IsRowRefusal kind most reads file told other = ⊥
 abbrev pub IsFileOf : Type 0 → Type 1
 IsFileOf R = FileTold → List R → Type 0
 
--- the rows of files, in order, by what those of one are
+-- the rows of files, in order; the predicate says what the rows of one file are
 abbrev pub AreRowFiles : {R : Type 0} → IsFileOf R → ToldFiles → List (List ℕ) → List (List R) → Type 0
 AreRowFiles IsFile told [] [] = ⊤
 AreRowFiles IsFile told (file ∷ files) (rows ∷ lists) = IsFile (told file) rows × AreRowFiles IsFile told files lists
 AreRowFiles IsFile told files lists = ⊥
 
--- the rows of the first files are read, and then one is refused so: the refusal of a file is told by its place
+-- the rows of the first files are read, and then one file is refused; its status depends on its place
 pub record IsFirstRefused {R : Type 0} (IsFile : IsFileOf R) (IsRefusal : ℕ → FileTold → Status → Type 0) (told : ToldFiles)
     (files : List (List ℕ)) (why : Status) : Type 0 where
   pub front : List (List ℕ)

@@ -23,13 +23,13 @@ most_text_bytes = 1048576
 
 -- ---- refusals
 
--- the status of a file whose text is refused for this
+-- the status of a file whose text is refused for this reason
 abbrev pub text_status : FileId → TextNo → Status
 text_status file (text_no.BadText rule place at) = BadText file rule place at
 text_status file (text_no.Limit what number) = Limit what number
 text_status file text_no.WantOfMemory = WantOfMemory
 
--- why a text is not taken from its file, by the status; texts may be refused so
+-- the status says why a text is not read from its file; the predicate says for which reasons a text is refused
 abbrev pub IsTextRefusal : FileId → (List ℕ → TextNo → Type 0) → FileTold → Status → Type 0
 IsTextRefusal file IsRefused told (ReadFault which) = which ≡ file
 IsTextRefusal file IsRefused told (Limit what number) = IsTooLong TextBytes most_text_bytes told what number
@@ -49,7 +49,7 @@ tag_names tags = map (λ t. t.name) tags
 abbrev pub IsBaseFile : FileTold → Base → Type 0
 IsBaseFile told base = IsReadWholeAs told most_text_bytes (λ bytes. BaseRead bytes (Ok base))
 
--- why a base is not read
+-- the status says why a base is not read
 abbrev pub IsBaseRefusal : FileTold → Status → Type 0
 IsBaseRefusal told why = IsTextRefusal file_id.Base (λ bytes no. BaseRead bytes (Err no)) told why
 
@@ -60,7 +60,7 @@ abbrev pub IsPlanFile : List GroupDef → FileTold → Plan → Type 0
 IsPlanFile groups told plan =
     IsReadWholeAs told most_text_bytes (λ bytes. plan_read groups bytes ≡ Ok (plan_parts plan))
 
--- why a plan is not read
+-- the status says why a plan is not read
 abbrev pub IsPlanRefusal : List GroupDef → FileTold → Status → Type 0
 IsPlanRefusal groups told why =
     IsTextRefusal file_id.Plan (λ bytes no. plan_read groups bytes ≡ Err no) told why

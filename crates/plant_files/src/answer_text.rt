@@ -1,12 +1,12 @@
-// A text is printed, or the line of a refusal.
+// Printing the text of an answer, or the line of a refusal.
 ghost use Rattle.std.specs.Prelude.{◌≡◌, ◌≢◌, string_bytes, IfOk, IfErr, OnOk, OnErr};
 ghost use Rattle.plant_files.specs.Printing.{IsPrintedSo, IsTold};
 
 use byte_io::{Sink, WriteFault, write_all};
 use plant_status::{Status, line};
 
-/// Prints the text of an answer, or the line of its refusal, and gives the status of that: a text that is not printed
-/// whole is a fault of the output, and a refusal stays what it is.
+/// Prints the text of an answer, or the line of its refusal, and returns the status of the whole. If a text is not
+/// printed whole, that is a `WriteFault`. The status of a refusal stays what it is.
 pub fn finish<O: Sink>(answer: Result<String, Status>, out: &mut O) -> Status
     ensures text { IfOk answer (λ text. IsPrintedSo (string_bytes text) (O.meaning out.old) (O.meaning out.new) result) }
     ensures refused { IfErr answer (λ why. (result ≡ why) × IsTold (O.meaning out.old) (O.meaning out.new) why) }
@@ -18,7 +18,7 @@ pub fn finish<O: Sink>(answer: Result<String, Status>, out: &mut O) -> Status
     }
 }
 
-/// The status of a text that was printed.
+/// Returns the status of a text after it was printed: `Done`, or `WriteFault` if a write failed.
 pub fn printed(answer: Result<(), WriteFault>) -> Status
     ensures done { OnOk answer (result ≡ Status.Done) }
     ensures fault { OnErr answer (result ≡ Status.WriteFault) }
@@ -29,7 +29,7 @@ pub fn printed(answer: Result<(), WriteFault>) -> Status
     }
 }
 
-/// Prints the line of a refusal, and answers it. Where that fails the status stays.
+/// Prints the line of a refusal, and returns its status. The status stays the same if that print fails.
 pub fn refuse<O: Sink>(status: Status, out: &mut O) -> Status
     ensures same { result ≡ status }
     ensures line { IsTold (O.meaning out.old) (O.meaning out.new) status }

@@ -16,8 +16,8 @@ use plant_status::{FileId, Status, What};
 use std::alloc::Global;
 use tag_base::{Base, read_base};
 
-/// The base, read from the file of this name, which has at most 1,048,576 bytes. No two of its tags have one name, and no
-/// two of its groups; its tunings are in range, and the inputs of its groups are tags of it.
+/// Reads the base from the file of this name. The file has at most 1,048,576 bytes. No two of its tags have one name,
+/// and no two of its groups. Its tunings are in range, and the inputs of its groups are tags of it.
 pub fn base_of<F: Files>(alloc: Global, files: &mut F, name: &str) -> Result<Base, Status>
     ensures base { IfOk result (IsBaseFile (F.told files.old name.now)) }
     ensures sound { IfOk result (λ base. All (IsSoundGroup (length base.tags.items)) base.groups.items) }

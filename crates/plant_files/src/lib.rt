@@ -1,20 +1,29 @@
-//! The files of a plant, read by their names; and the two ends of a command: the numbers among its words, and what is printed of it.
+//! The files of a plant, read by their names; and the two ends of a command: the numbers among its words, and what it
+//! prints.
 //!
-//! **Layer.** Below it stand the texts of a base, a plan and rows (`tag_base`, `value_rows`); above it each command. It opens no device.
+//! **Layer.** It uses the texts of a base, a plan and rows (`tag_base`, `value_rows`), and each command uses it. It
+//! opens no device.
 //!
-//! **Model.** A file is what is told of its name (`IsRead` of its bytes). [`base_of`], [`plan_of`], [`rows_of`] and [`queries_of`] give what
-//! the bytes spell, the last two as one list for each file in plan order; [`read_session`] gives all four, [`read_collected`] all but the
-//! queries, for a command whose readers do not ask.
+//! **Model.** A proof knows one of three things of a file (`FileTold`): nothing, that it is missing, or its bytes.
+//! `IsReadWhole` says that these are its bytes, within the limit. [`base_of`], [`plan_of`], [`rows_of`] and
+//! [`queries_of`] return what the bytes spell. The last two return one list for each file, in plan order.
+//! [`read_session`] returns all four. [`read_collected`] returns all but the queries, for a command whose readers do
+//! not ask.
 //!
-//! **Promise.** What is given is what the files tell, whole and in form. Else the first cause is told as a [`Status`], in the order of
-//! base, plan, collectors, readers, number of rows: `ReadFault`, `BadText` and `BadRow` name the file, the last two with the place or the
-//! row at which it breaks a rule first; `Limit` names the quantity that is over its limit, and no file. Want of memory may come at any
-//! time, and no other status comes. The files stay as they are. One fault is counted where a read failed, and then it is known of which
-//! file (`IsFaultOfPlanned`).
+//! **Promise.** What is returned is what the files hold, whole and in form. Otherwise the first cause is returned as a
+//! [`Status`], in the order of base, plan, collectors, readers, number of rows:
 //!
-//! [`number_upto`] and [`count_upto`] read a word as a number within a limit. [`finish`] prints the text that a command answers, or by
-//! [`refuse`] the one line of the status that it refuses with, and gives the status of the whole: what the output gained then say
-//! `IsPrintedSo` and `IsTold`, and `PrintsSo` of a command as a whole, whose texts and refusals are known.
+//! - `ReadFault` names the file.
+//! - `BadText` and `BadRow` name the file, and the first place or row at which it breaks a rule.
+//! - `Limit` names the quantity that is over its limit, and no file.
+//!
+//! Want of memory may come at any time. No other status comes. The files stay as they are. If a read failed, one fault
+//! is counted, and it is known of which file (`IsFaultOfPlanned`).
+//!
+//! [`number_upto`] and [`count_upto`] read a word as a number within a limit. [`finish`] prints the text that a command
+//! answers. If the command refuses, [`finish`] prints the one line of the refusal, by [`refuse`]. It returns the status
+//! of the whole. `IsPrintedSo` and `IsTold` say what the output gained then. `PrintsSo` says the same of a whole
+//! command, whose texts and refusals are known.
 #![tactic(auto)]
 
 mod answer_text;

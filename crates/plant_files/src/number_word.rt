@@ -4,7 +4,7 @@ ghost use Rattle.plant_files.specs.NumberWords.{count_upto, number_upto};
 
 use trend_num::numeral;
 
-/// The number of a numeral, from 0 up to `most`.
+/// Returns the number that a numeral spells, if it is from 0 up to `most`.
 pub fn number_upto(most: u64, word: &[u8]) -> Option<u64>
     ensures value { result ≡ number_upto most word.now }
     ensures small { IfSome result (λ n. n ≤ most) }
@@ -17,7 +17,7 @@ pub fn number_upto(most: u64, word: &[u8]) -> Option<u64>
     }
 }
 
-/// The number of a numeral, from 1 up to `most`.
+/// Returns the number that a numeral spells, if it is from 1 up to `most`.
 pub fn count_upto(most: u32, word: &[u8]) -> Option<u32>
     ensures value { result ≡ count_upto most word.now }
     ensures range { IfSome result (λ n. (1 ≤ n) × (n ≤ most)) }

@@ -13,7 +13,7 @@ use plant_status::{FileId, Status, What};
 use std::alloc::Global;
 use tag_base::{Base, Plan, read_plan};
 
-/// The plan over a base, read from the file of this name, which has at most 1,048,576 bytes.
+/// Reads the plan over a base from the file of this name. The file has at most 1,048,576 bytes.
 pub fn plan_of<F: Files>(
     alloc: Global,
     files: &mut F,

@@ -34,21 +34,21 @@ pub struct SessionFiles {
     pub queries: Vec<Vec<Query>>,
 }
 
-/// Reads the base of the first name and the plan of the second, and the files of its collectors. More than 4,000,000 rows are
-/// refused.
+/// Reads the base from the file `name`, the plan from the file `plan_name`, and the files of the plan's collectors. It
+/// refuses more than 4,000,000 rows.
 pub fn read_collected<F: Files>(
     alloc: Global,
     files: &mut F,
     name: &str,
     plan_name: &str,
 ) -> Result<CollectedFiles, Status>
-    // What was read is what the files tell, whole and in form.
+    // What is returned is what the files hold, whole and in form.
     ensures collected { IfOk result (λ s. IsCollected name.now plan_name.now (F.told files.old) s.base s.plan
         (map (λ list. list.items) s.rows.items)) }
     ensures base { IfOk result (λ s. IsGoodBase s.base) }
     ensures rows { IfOk result (λ s. AreRowsOfBase s.base (map (λ list. list.items) s.rows.items)) }
 
-    // A refusal tells its first cause.
+    // A refusal names its first cause.
     ensures refused { IfErr result (IsCollectingRefusal name.now plan_name.now (F.told files.old)) }
     ensures stays { F.told files.new ≡ F.told files.old }
     ensures faults { F.fault_count files.new ≡ faults_after result (F.fault_count files.old) }
@@ -59,22 +59,22 @@ pub fn read_collected<F: Files>(
     Ok(read)
 }
 
-/// Reads the base of the first name and the plan of the second, and the files of its collectors and readers. More than 4,000,000
-/// rows are refused.
+/// Reads the base from the file `name`, the plan from the file `plan_name`, and the files of the plan's collectors and
+/// readers. It refuses more than 4,000,000 rows.
 pub fn read_session<F: Files>(
     alloc: Global,
     files: &mut F,
     name: &str,
     plan_name: &str,
 ) -> Result<SessionFiles, Status>
-    // What was read is what the files tell, whole and in form.
+    // What is returned is what the files hold, whole and in form.
     ensures planned { IfOk result (λ s. IsPlanned name.now plan_name.now (F.told files.old) s.base s.plan
         (map (λ list. list.items) s.rows.items) (map (λ list. list.items) s.queries.items)) }
     ensures base { IfOk result (λ s. IsGoodBase s.base) }
     ensures plan { IfOk result (λ s. IsGoodPlan s.base s.plan (map (λ list. list.items) s.rows.items)
         (map (λ list. list.items) s.queries.items)) }
 
-    // A refusal tells its first cause.
+    // A refusal names its first cause.
     ensures refused { IfErr result (IsPlanningRefusal name.now plan_name.now (F.told files.old)) }
     ensures stays { F.told files.new ≡ F.told files.old }
     ensures faults { F.fault_count files.new ≡ faults_after result (F.fault_count files.old) }
@@ -91,7 +91,7 @@ pub fn read_session<F: Files>(
     })
 }
 
-// Reads the base of the first name and the plan of the second, and the files of its collectors, however many rows they have.
+// Reads the base, the plan and the files of the plan's collectors, however many rows these have.
 fn read_files<F: Files>(
     alloc: Global,
     files: &mut F,

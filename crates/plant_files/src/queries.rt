@@ -20,8 +20,8 @@ use value_rows::{GroupNames, Query, RowNo, query_rows};
 // The most queries of a reader.
 const MAX_QUERIES: u64 = 4096;
 
-/// The queries of the plan's reader files, in plan order. A file has at most 67,108,864 bytes and 4,096
-/// queries. The first file that is refused decides.
+/// Reads the plan's reader files, and returns the queries of each, in plan order. A file has at most 67,108,864 bytes
+/// and 4,096 queries. If a file is refused, the status of the first such file is returned.
 pub fn queries_of<F: Files>(
     alloc: Global,
     files: &mut F,
@@ -51,7 +51,7 @@ pub fn queries_of<F: Files>(
     row_lists(alloc, files, &plan.readers, &asked)
 }
 
-// The files of readers, over these names of tags and of groups.
+// The files of readers, with the names of tags and of groups that their queries may have.
 #[derive(Drop)]
 struct ReaderFiles<'n> {
     tags: &'n [Name],

@@ -8,7 +8,7 @@ use value_rows::RowNo;
 // The most bytes of a file of rows.
 pub(crate) const MAX_FILE_BYTES: u64 = 67_108_864;
 
-// The status of a file whose rows are refused for this; its rows are of this quantity.
+// The status of a file whose rows are refused for this reason. `kind` is the quantity of its rows.
 pub(crate) fn row_status(kind: What, file: FileId, why: RowNo) -> Status
     ensures { result ≡ row_status kind file why }
 {

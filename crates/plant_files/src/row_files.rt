@@ -17,7 +17,7 @@ use std::alloc::Global;
 use tag_base::FileName;
 use value_rows::RowNo;
 
-// What the rows of files are, and as which files these are told.
+// How the files of one kind are read: what their rows are, and the status in which each file is named.
 pub(crate) trait RowFiles {
     type Row: Drop;
 
@@ -31,7 +31,7 @@ pub(crate) trait RowFiles {
 
     ghost file_at: { Self → ℕ → FileId };
 
-    // The rows of the bytes of a file.
+    // Returns the rows that the bytes of a file spell.
     fn rows(&self, alloc: Global, bytes: &[u8]) -> Result<Vec<Self::Row>, RowNo>
         ensures rows { IfOk result (λ rows. rows_of_text (row_of self.now) (most self.now) bytes.now ≡ Ok rows.items) }
         ensures are_rows { IfOk result (λ rows. All (is_row self.now) rows.items) }
@@ -41,12 +41,12 @@ pub(crate) trait RowFiles {
     fn what(&self) -> What
         ensures { result ≡ what self.now };
 
-    // The file at a place. The number stays at the end of its type.
+    // The file at a place, as a status names it. The number stays at the end of its type.
     fn file_at(&self, place: usize) -> FileId
         ensures { result ≡ file_at self.now place };
 }
 
-// The rows of a file.
+// Reads the rows of a file.
 fn rows_in<K: RowFiles, F: Files>(
     alloc: Global,
     files: &mut F,
@@ -72,7 +72,7 @@ fn rows_in<K: RowFiles, F: Files>(
     }
 }
 
-// The rows of files, or the first refusal.
+// Reads the rows of each file, or returns the first refusal.
 pub(crate) fn row_lists<K: RowFiles, F: Files>(
     alloc: Global,
     files: &mut F,

@@ -19,8 +19,8 @@ use value_rows::{RawRow, RowNo, raw_rows};
 // The most rows of a collector, and of all collectors together.
 const MAX_ROWS: u64 = 4_000_000;
 
-/// The rows of the plan's collector files, in plan order. A file has at most 67,108,864 bytes and 4,000,000
-/// rows. The first file that is refused decides.
+/// Reads the plan's collector files, and returns the rows of each, in plan order. A file has at most 67,108,864 bytes
+/// and 4,000,000 rows. If a file is refused, the status of the first such file is returned.
 pub fn rows_of<F: Files>(
     alloc: Global,
     files: &mut F,
@@ -43,8 +43,8 @@ pub fn rows_of<F: Files>(
     row_lists(alloc, files, &plan.collectors, &taken)
 }
 
-/// Looks whether the collectors have at most 4,000,000 rows together. Where they have more, `Limit` tells 4,000,001,
-/// however many there are.
+/// Checks that the collectors have at most 4,000,000 rows together. If they have more, `Limit` names 4,000,001, however
+/// many there are.
 pub fn check_row_count(collectors: &[Vec<RawRow>]) -> Result<(), Status>
     ensures few { OnOk result (row_count (map (λ rows. rows.items) collectors.now) ≤ most_collector_rows) }
     ensures refused { IfErr result (AreRowsTooMany (row_count (map (λ rows. rows.items) collectors.now))) }
@@ -63,7 +63,7 @@ pub fn check_row_count(collectors: &[Vec<RawRow>]) -> Result<(), Status>
     }
 }
 
-// The files of collectors, over these names of tags.
+// The files of collectors, with the names of tags that their rows may have.
 #[derive(Drop)]
 struct CollectorFiles<'n> {
     tags: &'n [Name],

@@ -8,7 +8,7 @@ use tag_base::TextNo;
 // The most bytes of a base or a plan.
 pub(crate) const MAX_TEXT_BYTES: u64 = 1_048_576;
 
-// The status of a file whose text is refused for this.
+// The status of a file whose text is refused for this reason.
 pub(crate) fn text_status(file: FileId, why: TextNo) -> Status
     ensures { result ≡ text_status file why }
 {

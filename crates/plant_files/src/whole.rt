@@ -9,7 +9,7 @@ use byte_io::{Files, ReadNo, read_file};
 use plant_status::{FileId, Status, What};
 use std::alloc::Global;
 
-// All bytes of a file, of at most so many.
+// Reads all bytes of a file. If it has more than `most`, a read fails or there is no memory, the status says so.
 pub(crate) fn whole_of<F: Files>(
     alloc: Global,
     files: &mut F,

@@ -18,7 +18,7 @@ pub record IsDigitRun (bytes : List ℕ) (n v : ℕ) : Type 0 where
   pub digits : list_all is_ascii_digit (take n bytes) ≡ true
   pub value : v ≡ digits_value (take n bytes)
 
--- what stands before the first other byte is digits
+-- what is before the first other byte is digits
 run_digits : (xs : List ℕ) (n : ℕ) → n ≤ digits_len xs → list_all is_ascii_digit (take n xs) ≡ true
 run_digits xs zero few = refl
 run_digits [] (suc n) few = refl
@@ -78,7 +78,7 @@ value_lt ds k all few =
 pub spelt_lt : (ds : List ℕ) (k : ℕ) → list_all is_ascii_digit ds ≡ true → length ds ≤ k → digits_value ds < 10 ^ k
 spelt_lt ds k all few = rw (← value_is ds all) (value_lt ds k all few)
 
--- and one that goes on in the second
+-- and one that continues in the second
 pub two_words : (xs : List ℕ) (c v d w tens : ℕ) → 16 ≤ length xs → c ≡ 8 → d ≤ 8 → c ≡ digits_len (take 8 xs) → v ≡ ascii_value 10 (take c (take 8 xs))
     → d ≡ digits_len (take 8 (drop 8 xs)) → w ≡ ascii_value 10 (take d (take 8 (drop 8 xs))) → tens ≡ 10 ^ d
     → IsDigitRun xs (8 + d) ((v * tens % 2 ^ 64 + w) % 2 ^ 64)

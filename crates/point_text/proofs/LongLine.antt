@@ -186,7 +186,7 @@ bad_same a b A B one two same more (Some i) at =
     ap (λ l. reads_of (a ++ l)) cut.0 ∙ fed_reads a front after A one cut.1 ∙ ap (λ r. r ∷ reads_of after) (same (commas front))
     ∙ sym (fed_reads b front after B two cut.1) ∙ ap (λ l. reads_of (b ++ l)) (sym cut.0)
 
--- an x and commas stand for a long line
+-- an x and commas replace a long line
 short_same : (line f : List ℕ) → 44 < length line → HasNoFeed line → HasNoFeed (120 ∷ f)
     → ((n : ℕ) → bad_by (commas line + n) ≡ bad_by (commas (120 ∷ f) + n)) → ReadSame line (120 ∷ f)
 short_same line f long one two same =

@@ -12,7 +12,7 @@ use Rattle.point_text.specs.Row.{point_of_line}
 abbrev pub HasNoFeed : List ℕ → Type 0
 HasNoFeed bytes = All (λ b. nat_eq b 10 ≡ false) bytes
 
--- the text begins with a line that reads so, and then comes its line feed and the rest
+-- the text begins with a line that reads so, then its line feed and the rest
 pub record IsFirstPoint (text after : List ℕ) (read : Result Point Reason) : Type 0 where
   pub line : List ℕ
   pub cut : text ≡ line ++ 10 ∷ after
@@ -27,13 +27,13 @@ reads_of text = map point_of_line (lines text)
 pub record ReadSame (a b : List ℕ) : Type 0 where
   pub same : (more : List ℕ) → reads_of (a ++ more) ≡ reads_of (b ++ more)
 
--- at this index stands what ends a line, a line feed or a carriage return and a line feed, and at that one its line feed
+-- at `end` begins what ends a line: a line feed, or a carriage return and a line feed; at `feed` is the line feed
 pub record EndsAt (text : List ℕ) (end feed : ℕ) : Type 0 where
   pub is : ((get_or text end 0 ≡ 10) × (feed ≡ end)) ⊎ ((get_or text end 0 ≡ 13) × (feed ≡ end + 1))
   pub fed : get_or text feed 0 ≡ 10
   pub within : feed < length text
 
--- from one index to another there are digits, which spell n, and then this byte
+-- from one index to another there are digits, which spell n; after them comes this byte
 pub record IsField (text : List ℕ) (at end byte n : ℕ) : Type 0 where
   pub some : at < end
   pub few : end ≤ at + 16

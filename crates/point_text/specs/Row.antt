@@ -12,30 +12,30 @@ use Rattle.trend_num.specs.Numerals.{numeral, natural_upto}
 
 -- ---- rows of any kind
 
--- a row before the others: it moves the place of a bad one among them
+-- a row before the others; it moves the place of a bad row among them by one
 abbrev pub with_first : {R : Type 0} → R → Result (List R) (ℕ × Reason) → Result (List R) (ℕ × Reason)
 with_first r (Ok rs) = Ok (r ∷ rs)
 with_first r (Err bad) = Err (bad.0 + 1, bad.1)
 
--- all rows, where each line has one; otherwise the place of the first line that has none, counted from 1, and its reason
+-- all rows, if each line has one; otherwise the place of the first line that has none, counted from 1, and its reason
 abbrev pub all_rows : {R : Type 0} → List (Result R Reason) → Result (List R) (ℕ × Reason)
 all_rows [] = Ok []
 all_rows (Err reason ∷ reads) = Err (1, reason)
 all_rows (Ok r ∷ reads) = with_first r (all_rows reads)
 
--- these rows of the first `most` lines, where there are no more lines than that
+-- these rows of the first `most` lines, if there are no more lines than that
 abbrev pub unless_more : {R : Type 0} → ℕ → ℕ → Result (List R) (ℕ × Reason) → Result (List R) RowNo
 unless_more most count (Err bad) = Err (BadRow bad.0 bad.1)
 unless_more most count (Ok rs) = if nat_lt most count then Err (TooMany (most + 1)) else Ok rs
 
--- the rows of lines: refused is the first bad one of the first `most` lines, with its place and its first reason; else that
--- there are more lines
+-- the rows of lines. A bad line among the first `most` is refused first: the first such line, with its place and its
+-- first reason. If there is none, more than `most` lines are refused
 abbrev pub rows_of : {R : Type 0} → (List ℕ → Result R Reason) → ℕ → List (List ℕ) → Result (List R) RowNo
 rows_of row_of most texts = unless_more most (length texts) (all_rows (map row_of (take most texts)))
 
 -- ---- points
 
--- a point of these numbers, where they are in range
+-- a point of these numbers, if they are in range
 abbrev pub point_of : Option ℕ → ℤ → Result Point Reason
 point_of None v = Err Range
 point_of (Some t) v = if nat_le (unsigned_abs v) largest_value then Ok (record { t = t; v = v }) else Err Range

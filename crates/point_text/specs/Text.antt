@@ -19,7 +19,7 @@ kind_word Late = codes "late,"
 abbrev pub record_line : Rec → List ℕ
 record_line r = kind_word r.kind ++ point_line r.point
 
--- `held,T,V`, where a point is held
+-- `held,T,V`, if a point is held
 abbrev pub held_line : Option Point → List ℕ
 held_line None = []
 held_line (Some q) = codes "held," ++ point_line q

@@ -1,4 +1,4 @@
-// Why a text is not read.
+// The reasons for which a text is not read.
 use std::alloc::AllocFailed;
 use thiserror::Error;
 use trend_num::Reason;
@@ -9,7 +9,7 @@ pub enum RowNo {
     /// The first bad row, counted from 1, and its first reason.
     #[error("row {row} is bad: {reason:?}")]
     BadRow { row: u64, reason: Reason },
-    /// There are at least this many rows, one more than there may be.
+    /// There are more rows than there may be. `rows` is one more than that limit.
     #[error("there are {rows} rows or more")]
     TooMany { rows: u64 },
     /// No memory was found.

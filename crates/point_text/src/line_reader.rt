@@ -10,17 +10,17 @@ ghost use Rattle.point_text.specs.FirstPoint.{HasNoFeed, IsFirstPoint, ReadSame}
 use crate::plain_line::{Front, plain_point};
 use trend_num::{MAX_T, MAX_V, Point, Reason, numeral};
 
-// What stands between the fields of a line.
+// The byte between the fields of a line.
 const COMMA: u8 = b',';
 
-// What ends a line.
+// The byte that ends a line.
 const FEED: u8 = b'\n';
 
 // The most bytes of a line that has a point: two numerals of at most 20 digits and a sign, and a comma.
 const POINT_BYTES: usize = 43;
 
-/// The point of the first line of a text, or the first reason why it has none, and what follows its line feed. None where
-/// no line feed is in the text.
+/// Returns the point of the first line of a text, or the first reason why it has none, and what follows its line feed.
+/// It returns `None` if the text has no line feed.
 #[inline(always)]
 pub fn first_point(text: &[u8]) -> Option<(Result<Point, Reason>, &[u8])>
     ensures point { IfSome result (λ p. IsFirstPoint text.now p.1.now p.0) }
@@ -34,7 +34,7 @@ pub fn first_point(text: &[u8]) -> Option<(Result<Point, Reason>, &[u8])>
     }
 }
 
-// The same, whatever the line.
+// The same for any line.
 #[cold]
 fn point_of_any_line(text: &[u8]) -> Option<(Result<Point, Reason>, &[u8])>
     ensures point { IfSome result (λ p. IsFirstPoint text.now p.1.now p.0) }
@@ -50,7 +50,8 @@ fn point_of_any_line(text: &[u8]) -> Option<(Result<Point, Reason>, &[u8])>
     }
 }
 
-/// A short line that reads as this one does, whatever follows: as badly, since this one is too long to have a point.
+/// Returns a short line that reads the same as this one, whatever follows. This one is too long to have a point, so the
+/// short one is refused for the same reason.
 pub fn short_line(line: &[u8]) -> &'static [u8]
     requires long { POINT_BYTES + 1 < length line.now }
     requires begun { HasNoFeed line.now }
@@ -68,21 +69,20 @@ pub fn short_line(line: &[u8]) -> &'static [u8]
     b"x,,"
 }
 
-// How many commas a line has.
 fn commas(line: &[u8]) -> usize
     ensures { result ≡ count_by (λ b. nat_eq b COMMA) line.now }
 {
     line.iter().filter(|b| **b == COMMA).count()
 }
 
-// The first index at which the byte stands.
+// The first index of a byte.
 fn find_byte(bytes: &[u8], byte: u8) -> Option<usize>
     ensures { result ≡ position (λ b. nat_eq b byte) bytes.now }
 {
     bytes.iter().position(|b| *b == byte)
 }
 
-// The line, less the one carriage return at its end, if it has one.
+// The line without the one carriage return at its end, if it has one.
 fn without_carriage_return(line: &[u8]) -> &[u8]
     ensures { result.now ≡ strip_carriage_return line.now }
 {
@@ -92,7 +92,7 @@ fn without_carriage_return(line: &[u8]) -> &[u8]
     }
 }
 
-/// The point of a line, or the first reason why it has none.
+/// Returns the point of a line, or the first reason why it has none.
 pub fn point_of_line(line: &[u8]) -> Result<Point, Reason>
     ensures { result ≡ point_of_line line.now }
 {
@@ -102,7 +102,7 @@ pub fn point_of_line(line: &[u8]) -> Result<Point, Reason>
     point_of(t, v)
 }
 
-// The two fields of a line that has one comma.
+// The two fields of a line, if it has exactly one comma.
 fn two_fields(line: &[u8]) -> Option<(&[u8], &[u8])>
     ensures two { IfSome result (λ p. slice_split (λ b. nat_eq b COMMA) line.now ≡ p.0.now ∷ p.1.now ∷ []) }
     ensures none { IfNone result (length (slice_split (λ b. nat_eq b COMMA) line.now) ≢ 2) }
@@ -115,7 +115,7 @@ fn two_fields(line: &[u8]) -> Option<(&[u8], &[u8])>
     }
 }
 
-// The point of a time and a value, where both are in range.
+// The point of a time and a value, if both are in range.
 fn point_of(t: i128, v: i128) -> Result<Point, Reason>
     ensures { result ≡ point_of (natural_upto last_time t) v }
 {

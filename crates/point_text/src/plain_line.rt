@@ -1,4 +1,4 @@
-// A line as most are, read in one pass, eight digits at a time.
+// Reads a plain line, as most lines are, in one pass, eight digits at a time.
 ghost use Rattle.std.specs.Prelude.{◌≡◌, ℕ, ◌+◌, ◌-◌, ◌*◌, ◌%◌, ◌^◌, ◌<◌, ◌≤◌, true, length, get_or, take, drop, nat_le, slice_range, List, IfSome};
 ghost use Rattle.std.specs.Char.{is_ascii_digit};
 ghost use Rattle.std.specs.List.{list_all};
@@ -20,7 +20,7 @@ const PLAIN_DIGITS: usize = 16;
 // The most bytes of a plain line: two numbers, a comma, a sign, a carriage return and a line feed.
 const PLAIN_BYTES: usize = 2 * PLAIN_DIGITS + 4;
 
-/// Eight digits that lines began with, as a word, and their number: lines that follow one another mostly begin alike.
+/// Eight digits with which a line began, as a word, and their number. Lines that follow one another mostly begin alike.
 #[derive(Clone, Copy)]
 pub struct Front {
     word: u64,
@@ -30,7 +30,7 @@ pub struct Front {
 }
 
 impl Front {
-    /// Eight zeros.
+    /// Returns a front of eight zeros.
     pub fn new() -> Front {
         Front {
             word: 0x3030_3030_3030_3030,
@@ -38,7 +38,7 @@ impl Front {
         }
     }
 
-    // The number of a word of eight digits, which is kept in place of the last one.
+    // The number of a word of eight digits. It replaces the last one that was kept.
     #[inline(always)]
     fn number_of(&mut self, word: u64) -> Option<u64>
         ensures { IfSome result (λ n. (bytes : List ℕ) → IsEightBytes bytes → word ≡ number_l 256 bytes
@@ -56,9 +56,9 @@ impl Front {
     }
 }
 
-/// The point of a plain line that a text begins with, and what follows the line. Plain is a line whose numbers are in range
-/// and of 1 to 16 digits, with a `-` at most before the value, and after it a line feed or `\r` and a line feed. None says
-/// nothing of the text.
+/// Returns the point of a plain line that a text begins with, and what follows the line. In a plain line both numbers
+/// are in range and have 1 to 16 digits. One `-` may come before the value. After the value comes a line feed, or `\r`
+/// and a line feed. `None` says nothing of the text.
 #[inline(always)]
 pub fn plain_point<'t>(text: &'t [u8], front: &mut Front) -> Option<(Point, &'t [u8])>
     ensures point { IfSome result (λ p. IsFirstPoint text.now p.1.now (Ok p.0)) }
@@ -92,7 +92,7 @@ fn time(text: &[u8], front: &mut Front) -> Option<(u64, usize)>
     Some((t, end))
 }
 
-// The time of thirteen digits that a text begins with: so are those from 2001 to 2286 spelled.
+// The time of thirteen digits that a text begins with. All times from 2001 to 2286 have thirteen.
 #[inline(always)]
 fn usual_time(text: &[u8], front: &mut Front) -> Option<u64>
     requires { PLAIN_DIGITS < length text.now }
@@ -107,7 +107,7 @@ fn usual_time(text: &[u8], front: &mut Front) -> Option<u64>
     Some(high.wrapping_mul(100_000).wrapping_add(low))
 }
 
-// The point of a plain line with this time and this place of its comma, and what follows the line.
+// The point of a plain line, from its time and the place of its comma, and what follows the line.
 #[inline(always)]
 fn point_after(text: &[u8], t: u64, comma: usize) -> Option<(Point, &[u8])>
     requires time { IsField text.now 0 comma 44 t }
@@ -148,7 +148,7 @@ fn amount(text: &[u8], from: usize) -> Option<(u64, usize)>
     Some((size, end))
 }
 
-// The index of the line feed that ends a line whose digits end here, after `\r` or not.
+// The index of the line feed that ends a line whose digits end at `end`. A `\r` may come before the line feed.
 #[inline(always)]
 fn feed_at(text: &[u8], end: usize) -> Option<usize>
     requires { end + 1 < length text.now }
@@ -197,7 +197,6 @@ const TENS: [u64; 9] = [
     100_000_000,
 ];
 
-// A power of ten.
 #[inline(always)]
 fn ten_to(n: usize) -> u64
     requires { n ≤ 8 }
@@ -222,7 +221,7 @@ fn digits_of_word(word: u64) -> (usize, u64)
     (count as usize, value_of_eight(keep_first(lanes, count)))
 }
 
-// The same of a word behind eight digits. Mostly five of its bytes are digits, since a time mostly has thirteen.
+// The same for the word after eight digits. Mostly five of its bytes are digits, because a time mostly has thirteen.
 #[inline(always)]
 fn more_digits(word: u64) -> (usize, u64)
     ensures most { result.0 ≤ 8 }
@@ -237,7 +236,7 @@ fn more_digits(word: u64) -> (usize, u64)
     digits_of_word(word)
 }
 
-// The eight bytes from an index on, the first of them the lowest.
+// The eight bytes from an index on as a word, with the first byte lowest.
 #[inline(always)]
 fn word_at(bytes: &[u8], at: usize) -> u64
     requires { at + 8 ≤ length bytes.now }
@@ -271,11 +270,12 @@ fn keep_first(word: u64, count: u32) -> u64
     requires { count < 8 }
     ensures { result ≡ word * 256 ^ (8 - count) % 2 ^ 64 }
 {
-    // Two shifts, since a shift by 64 is not defined.
+    // Two shifts, because a shift by 64 is not defined.
     word << (56 - 8 * count) << 8
 }
 
-// The number that eight digits spell, the first of them in the lowest byte: first each two as one number, then all four.
+// The number that eight digits spell, with the first digit in the lowest byte. It joins the digits by twos, and then
+// the four results.
 #[inline(always)]
 fn value_of_eight(word: u64) -> u64
     ensures { (ds : List ℕ) → IsEightDigits ds → word ≡ number_l 256 ds

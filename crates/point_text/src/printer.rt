@@ -9,15 +9,15 @@ use byte_io::{Sink, WriteFault, write_all};
 use itoa::write_digits;
 use trend_num::{Kind, Point, Rec};
 
-// Room for a line: a word and a comma, a time of at most 20 digits and a comma, a value of at most 20 bytes, and a line
-// feed, which are 47 bytes at most.
+// Room for a line of at most 47 bytes: a word and a comma, a time of at most 20 digits and a comma, a value of at most
+// 20 bytes, and a line feed.
 const LINE_BYTES: usize = 48;
 
 // The most lines of a piece.
 const LINES: usize = 1024;
 
 /// Writes the lines of the records, then that of the held point, a piece of fixed size at a time. It takes no memory.
-/// After an error some of the bytes, from the first on, are written, and never all.
+/// If a write fails, it returns an error; some of the bytes, from the first on, are then written, and never all.
 pub fn write_archive<O: Sink>(
     out: &mut O,
     recs: &[Rec],
@@ -38,7 +38,7 @@ pub fn write_archive<O: Sink>(
     write_held(out, &mut piece, held)
 }
 
-// Writes the lines of records, by a piece that has room for them.
+// Writes the lines of records, through a piece that has room for them.
 fn write_records<O: Sink>(out: &mut O, piece: &mut [u8], recs: &[Rec]) -> Result<(), WriteFault>
     requires { LINE_BYTES * length recs.now ≤ length piece.old }
     ensures whole { OnOk result
@@ -50,7 +50,7 @@ fn write_records<O: Sink>(out: &mut O, piece: &mut [u8], recs: &[Rec]) -> Result
     write_all(out, &piece[start..])
 }
 
-// Writes the line of the held point, where there is one, by a piece that has room for it.
+// Writes the line of the held point, if there is one, through a piece that has room for it.
 fn write_held<O: Sink>(out: &mut O, piece: &mut [u8], held: Option<Point>) -> Result<(), WriteFault>
     requires { LINE_BYTES ≤ length piece.old }
     ensures whole { OnOk result (IsWritten (O.meaning out.old) (O.meaning out.new) (held_line held)) }
@@ -60,7 +60,7 @@ fn write_held<O: Sink>(out: &mut O, piece: &mut [u8], held: Option<Point>) -> Re
     write_all(out, &piece[start..])
 }
 
-// Prints the lines of records to the end of a piece. Says where they start.
+// Prints the lines of records to the end of a piece, and returns where they start.
 fn print_records(piece: &mut [u8], recs: &[Rec]) -> usize
     requires { LINE_BYTES * length recs.now ≤ length piece.old }
     ensures within { result ≤ length piece.old }
@@ -73,7 +73,7 @@ fn print_records(piece: &mut [u8], recs: &[Rec]) -> usize
     start
 }
 
-// Prints the line of the held point, where there is one, to the end of a piece. Says where it starts.
+// Prints the line of the held point, if there is one, to the end of a piece. It returns where the line starts.
 fn print_held(piece: &mut [u8], held: Option<Point>) -> usize
     requires { LINE_BYTES ≤ length piece.old }
     ensures within { result ≤ length piece.old }
@@ -89,7 +89,7 @@ fn print_held(piece: &mut [u8], held: Option<Point>) -> usize
     }
 }
 
-// Prints the line of a record right before an index of a piece. Says where it starts.
+// Prints the line of a record so that it ends before index `end` of a piece, and returns where it starts.
 fn print_record(piece: &mut [u8], end: usize, rec: Rec) -> usize
     requires room { LINE_BYTES ≤ end }
     requires within { end ≤ length piece.old }
@@ -104,7 +104,7 @@ fn print_record(piece: &mut [u8], end: usize, rec: Rec) -> usize
     }
 }
 
-// Prints `T,V` and a line feed right before an index of a piece. Says where they start.
+// Prints `T,V` and a line feed so that they end before index `end` of a piece, and returns where they start.
 fn print_point(piece: &mut [u8], end: usize, p: Point) -> usize
     requires room { LINE_BYTES ≤ end }
     requires within { end ≤ length piece.old }
@@ -118,7 +118,7 @@ fn print_point(piece: &mut [u8], end: usize, p: Point) -> usize
     write_digits(p.t, piece, comma)
 }
 
-// Prints a value right before an index of a piece. Says where it starts.
+// Prints a value so that it ends before index `end` of a piece, and returns where it starts.
 fn print_value(piece: &mut [u8], end: usize, v: i64) -> usize
     requires room { 20 ≤ end }
     requires within { end ≤ length piece.old }
@@ -133,7 +133,7 @@ fn print_value(piece: &mut [u8], end: usize, v: i64) -> usize
     start
 }
 
-// Prints bytes right before an index of a piece. Says where they start.
+// Prints bytes so that they end before index `end` of a piece, and returns where they start.
 fn print_bytes(piece: &mut [u8], end: usize, bytes: &[u8]) -> usize
     requires room { length bytes.now ≤ end }
     requires within { end ≤ length piece.old }

@@ -1,10 +1,10 @@
--- What a folder of devices is seen as.
+-- How a proof sees a folder of devices.
 use Rattle.std.specs.Prelude.{ℕ, List}
 use Rattle.disk_model.specs.Traces.{Trace}
 use Rattle.told_store.specs.Places.{told_in}
 use Rattle.told_store.specs.declared.dir_store.DirStore.{DirStore}
 
--- what is told of the device of a name
+-- the trace of the device of a name
 abbrev pub told_at : {R : Type 0} → DirStore R → List ℕ → Trace
 told_at store name = told_in store.places name
 

@@ -1,4 +1,4 @@
--- What a store of files tells at each name.
+-- The traces that a store of files has at each name.
 use Rattle.std.specs.Prelude.{ℕ, Bool, false, List, Option, None, Some, String, is_some}
 use Rattle.std.specs.BTreeMap.{BTreeMap, get_by_text}
 use Rattle.std.specs.declared.alloc.Global.{Global}
@@ -11,12 +11,12 @@ use Rattle.told_store.specs.declared.kept.Kept.{Kept}
 abbrev pub Places : Type 0
 Places = BTreeMap (String Global) Kept
 
--- what is told of a device; of one that is not there, that it is empty
+-- the trace of a device; it is empty if there is no device
 abbrev pub told_of : Option Kept → Trace
 told_of None = empty_trace
 told_of (Some kept) = told_by kept.log.notes
 
--- what is told of the device of a name
+-- the trace of the device of a name
 abbrev pub told_in : Places → List ℕ → Trace
 told_in places name = told_of (get_by_text places name)
 

@@ -1,11 +1,11 @@
-// What is asked of a real file: that it tells its calls, whatever they answer.
+// What is asked of a real file: it records its calls, whatever they answer.
 ghost use Rattle.std.specs.Prelude.{◌≡◌, OnErr, OnOk};
 ghost use Rattle.disk_model.specs.Traces.{Trace, Wrote, WroteInPart, Resized, ResizedInPart, Synced, Idle};
 ghost use Rattle.told_store.specs.Notes.{after_call};
 
 use std::io;
 
-/// The calls on a file that may change it, of which each is told with its answer. Nothing is said of what the file holds.
+/// The calls on a file that may change it. Each is recorded with its answer. No clause says what the file holds.
 pub trait Calls {
     /// The bytes that were read of the file at first, and the calls since.
     ghost told: { Self → Trace };
@@ -25,7 +25,7 @@ pub trait Calls {
         ensures done { OnOk result (told self.new ≡ after_call Synced (told self.old)) }
         ensures failed { OnErr result (told self.new ≡ after_call Idle (told self.old)) };
 
-    /// Makes no call, and tells that.
+    /// Makes no call, and records an idle one.
     fn rest(&mut self)
         ensures { told self.new ≡ after_call Idle (told self.old) };
 }

@@ -25,7 +25,7 @@ pub enum Wanted {
 }
 
 impl Wanted {
-    // Whether the device of a name is one of these.
+    // Returns whether the device of a name is one of these.
     fn has(self, name: &str) -> bool {
         match self {
             Wanted::Archives => name.ends_with(".tag") || name.ends_with(".grp"),
@@ -34,8 +34,9 @@ impl Wanted {
     }
 }
 
-/// The files of the folder `historian.d`, which lies in the working folder and is made where it is missing. A device's name is its
-/// file's. A device that is out, one that has failed, and one whose file is refused, is not handed out.
+/// The files of the folder `historian.d` in the working folder. The store makes the folder if it is missing. The name
+/// of a device is the name of its file. The store does not hand out a device that is out, that has failed, or whose
+/// file is refused.
 #[derive(Drop)]
 pub struct DirStore<R> {
     folder: Folder<R>,
@@ -47,7 +48,8 @@ pub struct DirStore<R> {
 impl<R: Files<File = File> + AllocGlobal> DirStore<R> {
     ghost use Rattle.told_store.specs.Folders.{told_at, folder_faults};
 
-    /// The folder, of which nothing is read: each device is told as empty, and refused where its file has a byte.
+    /// Returns the folder, of which nothing is read. The trace of each device is empty, and a device is refused if its
+    /// file has a byte.
     pub fn new(rt: R) -> DirStore<R>
         ensures told { (n : List ℕ) → told_at result n ≡ empty_trace }
         ensures faults { folder_faults result ≡ 0 }
@@ -61,8 +63,9 @@ impl<R: Files<File = File> + AllocGlobal> DirStore<R> {
         }
     }
 
-    /// The folder, locked, with each wanted device as it reads now; any other is told as empty, and refused where its file has a byte.
-    /// Where another process has the folder, or it cannot be read, each device is refused.
+    /// Locks the folder and reads each wanted device as it is now. The trace of any other device is empty, and it is
+    /// refused if its file has a byte. If another process has the folder, or the folder cannot be read, every device is
+    /// refused.
     pub fn read(rt: R, wanted: Wanted) -> DirStore<R>
     where
         R: Clone + Drop,
@@ -74,7 +77,7 @@ impl<R: Files<File = File> + AllocGlobal> DirStore<R> {
         store
     }
 
-    // Locks the folder where there is one, and reads its wanted devices.
+    // Locks the folder if there is one, and reads its wanted devices.
     fn read_all(&mut self, wanted: Wanted) -> io::Result<()>
     where
         R: Clone + Drop,
@@ -88,7 +91,7 @@ impl<R: Files<File = File> + AllocGlobal> DirStore<R> {
         Ok(())
     }
 
-    // The device of a name, over its file.
+    // Returns the device of a name, over its file.
     fn hand_out(&mut self, name: &str) -> io::Result<DirDisk<Host<File>>>
         ensures told { IfOk result (λ dev. told_by dev.calls.log.notes ≡ told_in self.old.places name.now) }
         ensures faultless { IfOk result (λ dev. dev.counts.faults ≡ 0) }
@@ -138,7 +141,7 @@ fn read_devices<R: Files<File = File> + AllocGlobal + Clone + Drop>(
     Ok(())
 }
 
-// Reads the file of a device.
+// Reads the file of a device, and puts what was read at the device's name.
 fn keep<R: Files<File = File> + AllocGlobal>(
     folder: &Folder<R>,
     places: &mut BTreeMap<String, Kept>,

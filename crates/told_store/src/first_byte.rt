@@ -1,4 +1,4 @@
-// Whether the first byte of a device was damaged.
+// Was the first byte of a device damaged?
 ghost use Rattle.std.specs.Prelude.{◌≡◌, ◌≢◌, ◌<◌, ◌≤◌, length, slice_index, true, false, ◌^◌};
 ghost use Rattle.disk_model.specs.Gates.{open_byte};
 
@@ -7,29 +7,30 @@ use disk_model::OPEN;
 // Where the letters of a layout end.
 const LETTERS_END: usize = 5;
 
-// Where the gates of a tag's device begin, those of its summaries and then those of its lane, of which the second begin 16 bytes on.
+// Where the gates of a tag's device begin: those of its summaries, and 16 bytes further those of its lane.
 const TAG_GATES: usize = 384;
 
 const LANE_GATES: usize = 400;
 
-// Where the number of a tag's lane slots stands, and the length of the text of a log, which ends before the log's first gate.
+// The place of the number of a tag's lane slots, and of the length of the text of a log. The first gate of a log
+// follows that text.
 const LANE_SLOTS: usize = 110;
 
 const TEXT_LEN: usize = 5;
 
 const TEXT: usize = 9;
 
-// What the making of a tag's device writes, with all its lane slots.
+// How many bytes the making of a tag's device writes, with all its lane slots.
 const TAG_MAKING: usize = 66_640;
 
-// Whether bytes of a tag's device begin with no open gate, and are more than its making leaves: so it was in use, whatever became of
-// its first bytes.
+// Returns whether a tag's device begins with no open gate, and is longer than its making leaves it. Then it was in use,
+// whatever happened to its first bytes.
 pub(crate) fn is_past_making(name: &str, bytes: &[u8]) -> bool {
     name.ends_with(".tag") && bytes.len() > TAG_MAKING && bytes[0] != OPEN
 }
 
-// Whether bytes are those of a device in use whose first byte is no longer its open gate. A device of one byte at most is new, and
-// so is one that begins with 00 unless a gate behind it was opened.
+// Returns whether a device was in use, and its first byte is no longer its open gate. A device of at most one byte is
+// new. A device that begins with 00 is new too, unless a later gate was opened.
 pub(crate) fn has_lost_gate(bytes: &[u8]) -> bool
     ensures new { length bytes.now ≤ 1 → result ≡ false }
     ensures begun { slice_index bytes.now 0 ≡ open_byte → result ≡ false }
@@ -41,10 +42,10 @@ pub(crate) fn has_lost_gate(bytes: &[u8]) -> bool
     bytes[0] != 0 || has_open_gate(bytes)
 }
 
-// Whether a gate behind the first byte of a tag's device or of a log was opened. Where the layout of a tag or a log is made, these
-// gates are written closed before the first one is opened, and that one is never closed again: so what a making leaves that a
-// crash cut short shows none. A group's device whose definition has changed is begun anew by closing its first gate, with the
-// gates of its old blocks open behind: so nothing is concluded there.
+// Returns whether a gate after the first byte of a tag's device or of a log was opened. The making of such a layout
+// writes these gates closed before it opens the first one, and never closes the first one again. So if a crash cuts a
+// making short, none of them is open. A group's device is different. If its definition has changed, it is begun anew by
+// closing its first gate, and the gates of its old blocks stay open. So this function finds no open gate in it.
 fn has_open_gate(bytes: &[u8]) -> bool {
     let gates = match letters(bytes) {
         b"PHT1" => tag_gates(bytes),
@@ -71,7 +72,7 @@ fn log_gate(bytes: &[u8]) -> &[u8] {
     part(bytes, gate, gate + 1)
 }
 
-// The number of four bytes at a place, or 0 where the bytes end before it does.
+// The number of four bytes at a place, or 0 if the bytes end before its end.
 fn number_at(bytes: &[u8], at: usize) -> usize
     ensures { result < 2 ^ 32 }
 {

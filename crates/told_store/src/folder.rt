@@ -1,4 +1,4 @@
-// The files of the folder of devices. No clause says what a call of the system does, so these lines are to be read.
+// The files of the folder of devices. No clause says what a call of the system does, so these lines have to be read.
 use std::fs::{self, File, Metadata, OpenOptions};
 use std::io::{self, ErrorKind, Write};
 use std::os::unix::fs::{FileExt, MetadataExt, fchown};
@@ -7,18 +7,18 @@ use std::rt::Files;
 /// The folder of the devices, in the working folder.
 pub(crate) const FOLDER: &str = "historian.d";
 
-// What stands behind the name of a file that is written anew, and of the mark of a file.
+// What follows the name of a file: of one that is written anew, and of a mark.
 const NEW: &str = ".new";
 
 const MARK: &str = ".fault";
 
-// No longer file is read.
+// A file of more bytes is not read.
 const MOST_BYTES: u64 = 1 << 30;
 
-// How often a call is made at most that a signal interrupts.
+// How many times at most a call is made that signals interrupt.
 const MOST_TRIES: u32 = 1 << 20;
 
-// Makes a call, and makes it again where a signal interrupts it.
+// Makes a call, and makes it again if a signal interrupts it.
 fn again<T: Drop, Call: Fn() -> io::Result<T>>(call: Call) -> io::Result<T>
     requires { Call.IsAlwaysCallable call }
 {
@@ -31,7 +31,7 @@ fn again<T: Drop, Call: Fn() -> io::Result<T>>(call: Call) -> io::Result<T>
     Err(ErrorKind::Interrupted.into())
 }
 
-/// The folder of the devices. While it is locked no other process has it.
+/// The folder of the devices. While it is locked, no other process has it.
 #[derive(Drop)]
 pub(crate) struct Folder<R> {
     pub(crate) rt: R,
@@ -44,7 +44,7 @@ impl<R: Files<File = File> + AllocGlobal> Folder<R> {
         Folder { rt, locked: None }
     }
 
-    /// Locks the folder, where there is one, and says whether there is. It fails where another process has it.
+    /// Locks the folder if there is one, and returns whether there is. It fails if another process has the folder.
     pub(crate) fn lock_if_there(&mut self) -> io::Result<bool> {
         let is_there = again(|| fs::exists(&self.rt, FOLDER))?;
         if is_there {
@@ -55,7 +55,7 @@ impl<R: Files<File = File> + AllocGlobal> Folder<R> {
         Ok(is_there)
     }
 
-    /// Locks the folder where it is not locked yet, and makes it where it is missing.
+    /// Locks the folder unless it is locked, and makes it if it is missing.
     pub(crate) fn lock(&mut self) -> io::Result<()> {
         if self.locked.is_none() && !self.lock_if_there()? {
             again(|| fs::create_dir(&self.rt, FOLDER))?;
@@ -81,7 +81,7 @@ impl<R: Files<File = File> + AllocGlobal> Folder<R> {
         Ok(bytes)
     }
 
-    /// Opens the file of a device that has so many bytes. One that has none may be missing, and is made then.
+    /// Opens the file of a device that has `len` bytes. If it has none, the file may be missing; then this makes it.
     pub(crate) fn open(&self, name: &str, len: usize) -> io::Result<File> {
         if len > 0 {
             return self.reopen(name, len);
@@ -97,9 +97,10 @@ impl<R: Files<File = File> + AllocGlobal> Folder<R> {
         Ok(file)
     }
 
-    /// Writes the file of a device anew after a call on it has failed. Where that fails too, and a sync was among the failed calls, the
-    /// file gets a mark, since what the system shows of it may not be on the disk: the next run that can write it anew does so before
-    /// it believes what it reads. No call has changed a file that may not be written.
+    /// Writes the file of a device anew after a call on it has failed. If that fails too, and a sync was among the
+    /// failed calls, the file gets a mark: what the system shows of it may not be on the disk. The next run that can
+    /// write the file anew does so before it relies on what it reads. A file that may not be written gets no mark,
+    /// because no call has changed it.
     pub(crate) fn settle(&self, name: &str, bytes: &[u8], is_unsynced: bool) {
         let Err(error) = self.renew(name, bytes) else {
             return;
@@ -109,7 +110,8 @@ impl<R: Files<File = File> + AllocGlobal> Folder<R> {
         }
     }
 
-    // Writes a file anew: a new one, with the rights and the owner of the old one, takes its name, and its mark goes.
+    // Writes a file anew. A new file with the rights and the owner of the old one takes its name. Then the mark is
+    // removed.
     fn renew(&self, name: &str, bytes: &[u8]) -> io::Result<()> {
         let old = self.open_plain(name, OpenOptions::new().read(true).write(true))?;
         if let Err(error) = self.write_new(name, bytes, &again(|| old.metadata())?) {
@@ -123,7 +125,7 @@ impl<R: Files<File = File> + AllocGlobal> Folder<R> {
         self.sync_names()
     }
 
-    // Writes the new file, and brings it to the disk. Where this user may not give it to the old one's owner, it keeps its own.
+    // Writes the new file, and syncs it. If this user may not give it to the old one's owner, it keeps its own.
     fn write_new(&self, name: &str, bytes: &[u8], old: &Metadata) -> io::Result<()> {
         self.remove(name, NEW)?;
         let mut file = File::create_new(&self.rt, self.path(name, NEW)?.as_str())?;
@@ -133,14 +135,14 @@ impl<R: Files<File = File> + AllocGlobal> Folder<R> {
         file.sync_all()
     }
 
-    // Marks the file of a device.
+    // Makes the file that marks the device, and syncs it and its name.
     fn mark(&self, name: &str) -> io::Result<()> {
         self.remove(name, MARK)?;
         File::create_new(&self.rt, self.path(name, MARK)?.as_str())?.sync_all()?;
         self.sync_names()
     }
 
-    // Removes a file behind the name of a device, if it is there.
+    // Removes the file whose name is a device's name and `behind`, if it is there.
     fn remove(&self, name: &str, behind: &str) -> io::Result<()> {
         match fs::remove_file(&self.rt, self.path(name, behind)?.as_str()) {
             Err(error) if error.kind() != ErrorKind::NotFound => Err(error),
@@ -148,7 +150,7 @@ impl<R: Files<File = File> + AllocGlobal> Folder<R> {
         }
     }
 
-    // Opens a file that was read and has this length, for reads alone where it may not be written.
+    // Opens a file that was read and has this length. If it may not be written, it is opened for reading only.
     fn reopen(&self, name: &str, len: usize) -> io::Result<File> {
         let file = match self.open_plain(name, OpenOptions::new().read(true).write(true)) {
             Err(error) if is_denied(error.kind()) => {
@@ -162,7 +164,7 @@ impl<R: Files<File = File> + AllocGlobal> Folder<R> {
         Ok(file)
     }
 
-    // Opens a plain file that has one name. A link is not followed, and refused, as is what is no file.
+    // Opens a plain file that has one name. It refuses a link and what is no file, and follows no link.
     fn open_plain(&self, name: &str, how: &OpenOptions) -> io::Result<File> {
         let path = self.path(name, "")?;
         let named = again(|| fs::symlink_metadata(&self.rt, path.as_str()))?;
@@ -178,7 +180,7 @@ impl<R: Files<File = File> + AllocGlobal> Folder<R> {
         Ok(file)
     }
 
-    // Brings the names in the folder to the disk.
+    // Syncs the folder, which brings the names in it to the disk.
     fn sync_names(&self) -> io::Result<()> {
         match &self.locked {
             Some(folder) => folder.sync_all(),
@@ -186,13 +188,13 @@ impl<R: Files<File = File> + AllocGlobal> Folder<R> {
         }
     }
 
-    // The path of a device, with what stands behind its name.
+    // The path of a device's file, with `behind` after the name.
     fn path(&self, name: &str, behind: &str) -> io::Result<String> {
         Ok(format!(in self.rt.alloc(); "{FOLDER}/{name}{behind}")?)
     }
 }
 
-// Whether a file may not be written, by this user or by anybody.
+// Returns whether a file may not be written, by this user or by anybody.
 fn is_denied(kind: ErrorKind) -> bool {
     kind == ErrorKind::PermissionDenied || kind == ErrorKind::ReadOnlyFilesystem
 }

@@ -1,4 +1,5 @@
-// A real file. Each method makes the one call that it notes, so these lines are to be read: no clause says that they do.
+// A real file. Each method makes the one call that it notes. No clause says that it does, so these lines have to be
+// read.
 ghost use Rattle.std.specs.Prelude.{◌≡◌, is_ok, if◌then◌else◌};
 ghost use Rattle.told_store.specs.Notes.{read_as, told_by};
 
@@ -29,7 +30,7 @@ pub struct Host<F> {
     pub(crate) log: Record,
 }
 
-/// The record of a file of which these bytes were just read, and nothing but these.
+/// The record of a file of which these bytes were just read, and no other call.
 pub(crate) fn record_of(bytes: &[u8]) -> Record
     ensures { told_by result.notes ≡ read_as bytes.now }
 {
@@ -38,7 +39,7 @@ pub(crate) fn record_of(bytes: &[u8]) -> Record
     log
 }
 
-// The kind of a call that was made, or that failed.
+// The number by which a call is noted: `made` if it answered Ok, else `failed`.
 fn kind(answer: &io::Result<()>, made: u64, failed: u64) -> u64
     ensures { result ≡ (if is_ok answer.now then made else failed) }
 {

@@ -13,8 +13,8 @@ use std::fs::OpenFile;
 use std::io;
 use std::os::unix::fs::FileExt;
 
-// What is kept of a device between two times that it is out: the record of its calls, its bytes, its clock, whether it is not to be
-// handed out again, and whether a sync of its file has failed.
+// What is kept of a device while it is not out: the record of its calls, its bytes and its clock. Two flags say whether
+// it must not be handed out again, and whether a sync of its file has failed.
 #[derive(Drop)]
 pub(crate) struct Kept {
     pub(crate) log: Record,
@@ -41,7 +41,7 @@ impl Kept {
         }
     }
 
-    // A device that is not handed out. It is told as empty.
+    // A device that is not handed out. Its trace is empty.
     pub(crate) fn stopped(alloc: Global) -> Kept
         ensures told { told_by result.log.notes ≡ empty_trace }
         ensures stopped { result.is_stopped ≡ true }
@@ -51,7 +51,8 @@ impl Kept {
         kept
     }
 
-    // A device whose file was read, or is refused: it could not be read, or its first byte was damaged.
+    // A device whose file was read. If the file could not be read, or its first byte was damaged, the device is
+    // refused.
     pub(crate) fn of_file(alloc: Global, name: &str, read: io::Result<Vec<u8>>) -> Kept
         ensures { IsFresh (told_by result.log.notes) }
     {
@@ -64,7 +65,7 @@ impl Kept {
         Kept::read(bytes)
     }
 
-    // A device that is given back. Its file is closed, and its faults are forgotten.
+    // A device that is given back. This closes its file and forgets its faults.
     pub(crate) fn of<F: OpenFile + FileExt + Drop>(dev: DirDisk<Host<F>>) -> Kept
         ensures log { result.log ≡ dev.calls.log }
         ensures stopped { result.is_stopped ≡ dev.counts.is_stopped }
@@ -85,7 +86,7 @@ impl Kept {
         }
     }
 
-    // The device over its file, which was opened again.
+    // Returns the device over its file, which was opened again.
     pub(crate) fn over<F: OpenFile + FileExt>(self, file: F) -> DirDisk<Host<F>>
         ensures log { result.calls.log ≡ self.log }
         ensures faultless { result.counts.faults ≡ 0 }

@@ -1,29 +1,41 @@
-//! The devices of a plant as files, each of which tells what was read of it and the calls on it since.
+//! The devices of a plant as files. Each device records what was read of its file and the calls on it since.
 //!
-//! [`DirStore::read`] locks the folder `historian.d`, and syncs and reads each wanted device once, whole. From then on a device is read
-//! from memory, and each write, cut or sync is a call on its file that is noted with its answer. So no answer of the disk
-//! is believed twice, and what the devices tell needs no premise on the disk's answers.
+//! [`DirStore::read`] locks the folder `historian.d`. It syncs each wanted device once and reads it whole. From then on
+//! the store reads a device from memory. Each write, cut or sync is a call on the device's file, and is noted with its
+//! answer. So the store relies on each answer of the disk only once, and the noted calls need no premise on the disk's
+//! answers.
 //!
-//! **Proved**: a store that was read tells the device of every name as the bytes that were read of it, with no call since, and as
-//! empty where there is none (`IsFresh`). A [`DirDisk`] is a [`disk_model::Disk`] and a [`DirStore`] a [`disk_model::Store`] with
-//! all that these promise of a trace, of the clock and of the faults: a read gives what the calls so far make of the bytes that
-//! were read. Once a write, a cut or a sync has failed each later call on that device fails, in this run; and a device that is
-//! out, that has failed, or whose file was refused is not handed out.
+//! **Proved**: after [`DirStore::read`] the trace of each device is the bytes that were read of it, with no call since
+//! (`IsFresh`). A name without a device has an empty trace. A [`DirDisk`] is a [`disk_model::Disk`] and a [`DirStore`]
+//! a [`disk_model::Store`]. They keep all promises of these traits on the trace, the clock and the faults: a read
+//! returns what the calls so far make of the bytes that were read. Once a write, a cut or a sync has failed, each later
+//! call on that device fails, in this run. The store does not hand out a device that is out, that has failed, or whose
+//! file was refused.
 //!
-//! **Only trusted, and to be read**: `host.rt`, where each method makes the one call that it notes, since no clause knows what the
-//! system does; and `folder.rt`, which locks the folder, reads and opens the file that a device's name says, and refuses a link, a
-//! file with two names, one of more than 1 GB, and one that is no longer as long as it was read. A device that is refused counts a
-//! fault, and its file stays untouched; where another process has the folder, or it cannot be read, each device is refused so. A
-//! file that may not be written is opened for reading, and a write of it is then a fault. A device on which a call has failed is
-//! written anew, whole, when it is given back, since the system may show bytes that never came to the disk: the new file is synced
-//! and takes the old one's name. Where that fails, a file `NAME.fault` marks the device, and the next run that can do it writes the
-//! device anew before it believes what it reads.
+//! **Only trusted, and to be read**, because no clause knows what the system does:
 //!
-//! **Premises**, which no program can prove: a crash leaves of a file one of the images that the model allows for these calls;
-//! only this process, which holds the lock, writes to the folder; the next run reads what the crash has left.
+//! - `host.rt`: each method makes the one call that it notes.
+//! - `folder.rt`: it locks the folder, and reads and opens the file of a device's name. It refuses a link, a file with
+//!   two names, a file of more than 1 GB, and a file whose length has changed since it was read.
 //!
-//! A device that begins neither with an open gate nor with 00, and one that begins with 00 behind which a gate was opened,
-//! is a device in use whose first byte was damaged: it is refused (`first_byte.rt`), since it would be made anew.
+//! A refused device counts a fault, and its file stays untouched. If another process has the folder, or the folder
+//! cannot be read, every device is refused so. A file that may not be written is opened for reading, and a write of it
+//! is then a fault.
+//!
+//! If a write, a cut or a sync of a device has failed, the store writes the device anew, whole, when it is given back.
+//! The reason is that the system may show bytes that never came to the disk. The new file is synced and takes the old
+//! one's name. If that fails too, and a sync had failed, a file `NAME.fault` marks the device. A file that may not be
+//! written gets no mark. The next run that can do it writes the device anew before it relies on what it reads.
+//!
+//! **Premises**, which no program can prove: a crash leaves of a file one of the images that the model allows for these
+//! calls; only this process, which holds the lock, writes to the folder; the next run reads what the crash has left.
+//!
+//! If the first byte of a device in use is damaged, the store refuses the device (`first_byte.rt`), because it would be
+//! made anew. The store takes three kinds of devices for such a one:
+//!
+//! - a device of two bytes or more whose first byte is neither an open gate nor 00;
+//! - a device of a tag or a log that begins with 00, although a later gate was opened;
+//! - a device of a tag that begins with no open gate, and is longer than its making leaves it.
 #![tactic(auto)]
 
 mod calls;

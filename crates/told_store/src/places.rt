@@ -41,7 +41,7 @@ pub(crate) fn make_place(
     insert(alloc, places, name, Kept::read(Vec::new(alloc)))
 }
 
-// Puts a device in the place of that of a name, which it returns; where there is no place, nothing is put.
+// Puts a device in the place of the device of a name, and returns that one. If there is no place, it puts nothing.
 pub(crate) fn exchange(places: &mut BTreeMap<String, Kept>, name: &str, kept: Kept) -> Option<Kept>
     ensures old { result ≡ get_by_text places.old name.now }
     ensures put { OnSome result (get_by_text places.new name.now ≡ Some kept) }
@@ -52,7 +52,7 @@ pub(crate) fn exchange(places: &mut BTreeMap<String, Kept>, name: &str, kept: Ke
     Some(mem::replace(place, kept))
 }
 
-// Whether the device of a name is not to be handed out.
+// Returns whether the device of a name must not be handed out.
 pub(crate) fn is_stopped(places: &BTreeMap<String, Kept>, name: &str) -> bool
     ensures { result ≡ is_stopped_in places.now name.now }
 {
@@ -62,7 +62,7 @@ pub(crate) fn is_stopped(places: &BTreeMap<String, Kept>, name: &str) -> bool
     }
 }
 
-// How many bytes the device of a name has; one that is not there has none.
+// How many bytes the device of a name has, or 0 if there is none.
 pub(crate) fn len_of(places: &BTreeMap<String, Kept>, name: &str) -> usize {
     match places.get(name) {
         Some(kept) => kept.mirror.len(),

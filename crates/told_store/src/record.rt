@@ -5,8 +5,8 @@ ghost use Rattle.told_store.specs.Notes.{Note, note_of};
 
 use std::marker::{Model, PhantomData};
 
-/// The calls that were made on a file, the newest first. It takes no memory. Nothing but the code that notes says what it holds, so
-/// that code has to be read.
+/// The calls that were made on a file, the newest first. It takes no memory. Only the code that notes decides what it
+/// holds, so that code has to be read.
 #[derive(Drop)]
 pub struct Record {
     marker: PhantomData<u8>,
@@ -18,7 +18,7 @@ impl Model for Record {
 }
 
 impl Record {
-    /// Of no call.
+    /// A record of no call.
     pub(crate) fn new() -> Record
         ensures { result.notes ≡ [] }
     {
@@ -27,7 +27,7 @@ impl Record {
         }
     }
 
-    /// Notes a call: which one it was and its number, and its bytes.
+    /// Notes a call: its kind, its place or length, and its bytes.
     pub(crate) fn note(&mut self, _numbers: &[u64], _bytes: &[u8])
         ensures { self.new.notes ≡ note_of _numbers.now _bytes.now ∷ self.old.notes }
     {}

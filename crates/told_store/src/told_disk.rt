@@ -1,4 +1,4 @@
-// A file as a device, which is read from memory.
+// A file as a device, which the program reads from memory.
 ghost use Rattle.std.specs.Prelude.{◌≡◌, ◌+◌, ◌-◌, ◌^◌, ◌<◌, ◌≤◌, ◌↔◌, length, vec_len, vec_capacity, IsTrue, IsFalse, IsErr, IfOk, OnOk, OnErr, Some};
 ghost use Rattle.disk_model.specs.Traces.{Wrote, WroteInPart, Resized, ResizedInPart, Synced, Idle, seen, written};
 ghost use Rattle.disk_model.specs.Calls.{next_count, Rose, HasCause, HasLength, IsNoted, IsTimed, Reaches, Reads};
@@ -6,8 +6,8 @@ ghost use Rattle.disk_model.specs.Calls.{next_count, Rose, HasCause, HasLength, 
 use crate::calls::Calls;
 use disk_model::{Disk, Failed};
 
-// How many writes, cuts and syncs there were, how many calls have failed, whether a write, a cut or a sync was among these, and
-// whether a sync of the file was. A count stays at the end of its type.
+// How many writes, cuts and syncs there were, and how many calls have failed. Two flags say whether a write, a cut or a
+// sync has failed, and whether a sync of the file has. A count stays at the end of its type.
 #[derive(Drop)]
 pub(crate) struct Counts {
     pub(crate) ticks: u64,
@@ -17,7 +17,7 @@ pub(crate) struct Counts {
 }
 
 impl Counts {
-    // Lets the clock go on, and says whether it did.
+    // Adds one to the clock, and returns whether it could.
     fn tick(&mut self) -> bool
         ensures told { IsTrue result ↔ (self.old.ticks < 2 ^ 64 - 1) }
         ensures timed { self.new ≡ record self.old { ticks = next_count self.old.ticks } }
@@ -30,7 +30,7 @@ impl Counts {
         true
     }
 
-    // Counts a fault, and tells it.
+    // Counts a fault, and returns it.
     fn fault(&mut self) -> Failed
         ensures counted { self.new ≡ record self.old { faults = next_count self.old.faults } }
         ensures later { self.old.faults ≤ self.new.faults }
@@ -40,7 +40,7 @@ impl Counts {
         Failed
     }
 
-    // Counts a fault after which no call is made, and tells it.
+    // Counts a fault after which no call is made, and returns it.
     fn stop(&mut self) -> Failed
         ensures ticks { self.new.ticks ≡ self.old.ticks }
         ensures later { self.old.faults ≤ self.new.faults }
@@ -52,9 +52,10 @@ impl Counts {
     }
 }
 
-/// A file as a device. Its bytes were read once, and stand in memory since: `len` and `read` make no call on the file, so no answer
-/// of the file is believed twice. Once a write, a cut or a sync has failed each later call fails: what the file holds then is not
-/// known, and a sync that fails may be told once and never again.
+/// A file as a device. Its bytes were read once and are in memory since. `len` and `read` make no call on the file, so
+/// the program relies on each answer of the file only once. Once a write, a cut or a sync has failed, each later call
+/// fails. The reason is that what the file holds then is not known, and the system may report a failed sync once and
+/// never again.
 #[derive(Drop)]
 pub struct DirDisk<C: Calls> {
     pub(crate) calls: C,
@@ -64,7 +65,7 @@ pub struct DirDisk<C: Calls> {
     ghost counted: { length (C.told calls).calls ≡ counts.ticks },
 }
 
-// How many of so many bytes from `at` on lie past the end.
+// How many of the `count` bytes from `at` on lie past the end.
 fn beyond(held: &[u8], at: u64, count: usize) -> usize
     requires { at ≤ length held.now }
     ensures { result ≡ at + count - length held.now }
@@ -127,7 +128,7 @@ impl<C: Calls> Disk for DirDisk<C> {
         Ok(())
     }
 
-    /// It fails also where there is no memory for the bytes; then no call was made.
+    /// It fails also if there is no memory for the bytes; then no call was made.
     fn write_at(&mut self, at: u64, bytes: &[u8]) -> Result<(), Failed>
         requires { Reaches (Some (C.told self.old.calls)) at }
         ensures noted { IsNoted (Wrote at bytes.now) (WroteInPart at bytes.now) result
@@ -152,7 +153,7 @@ impl<C: Calls> Disk for DirDisk<C> {
         Ok(())
     }
 
-    /// It fails also where there is no memory for the zeros; then no call was made.
+    /// It fails also if there is no memory for the zeros; then no call was made.
     fn cut(&mut self, len: u64) -> Result<(), Failed>
         ensures noted { IsNoted (Resized len) (ResizedInPart len) result
             (Some (C.told self.old.calls)) (Some (C.told self.new.calls)) }

@@ -7,7 +7,7 @@ ghost use Rattle.toml_tables.specs.Tables.{is_key_among, has_key, all_keys, has_
 use crate::values::value_at;
 use toml::Table;
 
-// Whether a key is one of these.
+// Returns whether a key is one of these.
 fn is_among(keys: &[&str], key: &str) -> bool
     ensures { result ≡ is_key_among (map (λ k. k.now) keys.now) key.now }
 {
@@ -19,7 +19,7 @@ fn is_among(keys: &[&str], key: &str) -> bool
     false
 }
 
-/// Whether a table has each of the needed keys, and no key but these and the others.
+/// Returns whether a table has each of the needed keys, and besides them only keys among the others.
 pub fn has_keys(table: &Table, needed: &[&str], others: &[&str]) -> bool
     ensures { result ≡ has_keys (map (λ k. k.now) needed.now) (map (λ k. k.now) others.now)
         (table_view table.now) }
@@ -27,7 +27,7 @@ pub fn has_keys(table: &Table, needed: &[&str], others: &[&str]) -> bool
     has_each(table, needed) && has_only(table, needed, others)
 }
 
-// Whether a table has each of these keys.
+// Returns whether a table has each of these keys.
 fn has_each(table: &Table, keys: &[&str]) -> bool
     ensures { result ≡ list_all (has_key (table_view table.now)) (map (λ k. k.now) keys.now) }
 {
@@ -39,7 +39,7 @@ fn has_each(table: &Table, keys: &[&str]) -> bool
     true
 }
 
-// Whether each key of a table is one of these.
+// Returns whether each key of a table is a needed one or one of the others.
 fn has_only(table: &Table, needed: &[&str], others: &[&str]) -> bool
     ensures { result ≡ all_keys
         (λ key. is_key_among (map (λ k. k.now) needed.now) key || is_key_among (map (λ k. k.now) others.now) key)

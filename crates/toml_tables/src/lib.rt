@@ -1,9 +1,8 @@
 //! Tables of TOML documents.
 //!
-//! The texts of a plant are TOML, and each kind of them asks the same of a table: which keys it has, and
-//! which texts and arrays stand at them. The model is the data that `toml` reads: `specs/Tables` says what
-//! each question comes to over the members of a table, and each function answers that. Bytes that are no
-//! document are told as none.
+//! The texts of a plant are TOML. Each kind of them asks the same of a table: which keys it has, and which texts and
+//! arrays it has at them. The model is the data that `toml` reads. `specs/Tables` defines the answer to each question
+//! over the members of a table, and each function returns that answer. For bytes that are no document there is none.
 #![tactic(auto)]
 
 mod keys;

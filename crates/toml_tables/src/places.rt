@@ -1,4 +1,4 @@
-// What the texts of an array name.
+// The places that the texts of an array name.
 ghost use Rattle.std.specs.Prelude.{◌≡◌, ◌≤◌, [], ℕ, All, IfOk, IfSome, List, Option, length, option_map, vec_len};
 ghost use Rattle.toml.specs.View.{items_view, table_view};
 ghost use Rattle.toml_tables.specs.Tables.{places_after, places_at};
@@ -8,7 +8,7 @@ use std::alloc::Global;
 use toml::{Table, Value};
 use trend_num::WantOfMemory;
 
-/// What a name stands for, as that of a tag for its place.
+/// A meaning of names: for example, the name of a tag stands for the tag's place.
 pub trait Places {
     type Place: Copy + Drop;
 
@@ -16,13 +16,14 @@ pub trait Places {
 
     ghost is_place: { Self → Self.Place → Type 0 };
 
-    /// The place that a name stands for after some earlier ones, if any.
+    /// Returns the place that a name stands for, after these earlier ones. It returns `None` if the name stands for
+    /// none.
     fn place_of(&self, earlier: &[Self::Place], name: &str) -> Option<Self::Place>
         ensures place { result ≡ place_of self.now earlier.now name.now }
         ensures is_place { IfSome result (is_place self.now) };
 }
 
-// The places that items name, each a text.
+// The places that items name. Each item has to be a text.
 fn places_of<P: Places>(
     alloc: Global,
     places: &P,
@@ -46,7 +47,7 @@ fn places_of<P: Places>(
     Ok(Some(found))
 }
 
-/// The places that the array at a key of a table names: one or more, and no more than so many.
+/// Returns the places that the array at a key of a table names: at least one, and at most `most`.
 pub fn places_at<P: Places>(
     alloc: Global,
     places: &P,

@@ -8,13 +8,13 @@ use std::alloc::Global;
 use toml::Table;
 use trend_num::WantOfMemory;
 
-/// The document that bytes are, where they are one: UTF-8, and TOML as `toml` reads it, with its limit on
+/// Returns the document that bytes spell, if they spell one: UTF-8, and TOML as `toml` reads it, with its limit on
 /// nesting.
 #[tactic(auto, using(crate::proofs::Documents::no_document, crate::proofs::Documents::document_of))]
 pub fn document(alloc: Global, bytes: &[u8]) -> Result<Option<Table>, WantOfMemory>
     ensures value { IfOk result (λ found. option_map table_view found ≡ document bytes.now) }
 
-    // Bytes that are no text are no document, whatever memory there is.
+    // Bytes that are no text spell no document, however little memory there is.
     ensures no_text { is_utf8 bytes.now ≡ false → result ≡ Ok None }
 {
     let Ok(text) = str::from_utf8(bytes) else {

@@ -1,4 +1,4 @@
-// What stands at a key of a table.
+// The values at the keys of a table.
 ghost use Rattle.std.specs.Prelude.{◌≡◌, ◌↔◌, ◌≤◌, IsTrue, length, option_map};
 ghost use Rattle.toml.specs.Data.{get_member};
 ghost use Rattle.toml.specs.View.{view, table_view, items_view};
@@ -6,14 +6,14 @@ ghost use Rattle.toml_tables.specs.Tables.{string_at, array_at, is_count};
 
 use toml::{Table, Value};
 
-/// The value at a key.
+/// Returns the value at a key, if there is one.
 pub fn value_at<'t>(table: &'t Table, key: &str) -> Option<&'t Value>
     ensures { option_map (λ v. view v.now) result ≡ get_member key.now (table_view table.now) }
 {
     table.get(key)
 }
 
-/// The text at a key, where it is one.
+/// Returns the text at a key, if the value there is a text.
 pub fn string_at<'t>(table: &'t Table, key: &str) -> Option<&'t str>
     ensures { option_map (λ s. s.now) result ≡ string_at key.now (table_view table.now) }
 {
@@ -23,7 +23,7 @@ pub fn string_at<'t>(table: &'t Table, key: &str) -> Option<&'t str>
     }
 }
 
-/// The items of the array at a key, where it is one.
+/// Returns the items of the array at a key, if the value there is an array.
 pub fn items_at<'t>(table: &'t Table, key: &str) -> Option<&'t [Value]>
     ensures { option_map (λ items. items_view items.now) result ≡ array_at key.now (table_view table.now) }
 {
@@ -36,7 +36,7 @@ pub fn items_at<'t>(table: &'t Table, key: &str) -> Option<&'t [Value]>
     }
 }
 
-/// Whether there is an item, and no more than so many.
+/// Returns whether there is at least one item, and at most `most`.
 #[tactic(auto, using(crate::proofs::Items::count_of_items))]
 pub fn has_count(items: &[Value], most: usize) -> bool
     ensures told { result ≡ is_count most (items_view items.now) }
