@@ -6,10 +6,10 @@ use trend_num::Name;
 /// Why the first name that stands for nothing is refused: the leftmost such name of the first calculation that has one.
 #[derive(Clone, Copy, Debug, PartialEq, Eq)]
 pub enum CheckNo {
-    /// The name stands for nothing that this calculation may use: it is no input where it is measured, and no earlier
-    /// calculation after `calc`. It is not the name of this or a later calculation either.
+    /// A name in the calculation at place `calc` stands for nothing. A measured name has to be that of an input, and a
+    /// name in `calc('..')` that of an earlier calculation. It is not the name of this or a later calculation either.
     UnknownName { calc: u32, name: Name },
-    /// The name in this calculation is that of this or a later calculation.
+    /// A name in the calculation at place `calc` stands for nothing, and is that of this or a later calculation.
     Forward { calc: u32, name: Name },
     /// There was not enough memory.
     WantOfMemory,

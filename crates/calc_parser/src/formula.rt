@@ -16,7 +16,7 @@ use std::alloc::Global;
 const MAX_BYTES: usize = 1024;
 
 /// Returns the tree of a formula, or why the text has none. A place in an error is the first byte of the refused token,
-/// counted from the text's start.
+/// counted from 0. If the text ends too soon, it is the text's length.
 pub fn parse(alloc: Global, text: &str) -> Result<Expr, ParseNo>
     // A returned tree is that of the text, which is short and shallow enough.
     ensures tree { IfOk result (λ e. IsFormula text.now (tree_of e)) }

@@ -21,7 +21,7 @@ pub enum SyntaxKind {
     End,
 }
 
-/// Why a text has no tree. `at` is a byte, counted from the text's start.
+/// Why a text has no tree. `at` is the first byte of the refused token, counted from 0, or the text's length at `End`.
 #[derive(Clone, Copy, Debug, PartialEq, Eq)]
 pub enum ParseNo {
     /// The text has more than 1,024 bytes. `len` is how many it has.

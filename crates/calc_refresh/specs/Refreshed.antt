@@ -26,7 +26,7 @@ most_copies = 2097152
 abbrev pub fresh : Group → Grid → List (List Rec) → List (List CalcValue) → SheetState
 fresh g w copies rows = record { group = g; grid = w; copies = copies; rows = rows; evals = 0 }
 
--- the fault of saved rows: the first row that has not one value for each of so many windows
+-- the fault of saved rows: that of the first row that does not have exactly so many values
 abbrev pub shape_fault : ℕ → List (List CalcValue) → Option SheetNo
 shape_fault windows rows = option_map (Shape windows) (find (λ n. not (n == windows)) (map length rows))
 

@@ -5,8 +5,8 @@ ghost use Rattle.calc_refresh.specs.Sheet.{grid_of};
 use calc_eval::Checked;
 use sheet_law::Grid;
 
-/// The parts of a group's definition: 1 to 64 inputs, 1 to 64 calculations that were checked with as many inputs, and a
-/// grid of windows.
+/// The parts of a group's definition: 1 to 64 inputs, 1 to 64 calculations, and a grid of windows. The calculations
+/// were checked with the names of that many inputs.
 #[derive(Drop)]
 pub struct GroupDefParts {
     /// How many inputs there are.

@@ -16,7 +16,7 @@ use sheet_law::Grid;
 use std::sync::ledger::Ledger;
 use trend_num::Steps;
 
-// Lengthens the rows to places for so many windows.
+// Makes each row `windows` values long. The values that it adds are 0.
 pub(crate) fn lengthen(rows: &mut [Vec<CalcValue>], windows: usize)
     requires { All (λ row. windows ≤ vec_capacity row) rows.old }
     ensures windows { All (λ row. vec_len row ≡ windows) rows.new }

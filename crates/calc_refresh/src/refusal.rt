@@ -7,8 +7,8 @@ use std::alloc::AllocError;
 /// Why a sheet is not made, or not changed.
 #[derive(Clone, Copy, Debug, PartialEq, Eq)]
 pub enum SheetNo {
-    /// A saved row has not one value for each complete window. `windows` is how many windows are complete, and `rows`
-    /// is how many values the first such row has.
+    /// A saved row does not have exactly one value for each complete window. `windows` is how many windows are
+    /// complete, and `rows` is how many values the first such row has.
     Shape { windows: u64, rows: u64 },
     /// The sheet would have this many cells (complete windows times calculations), more than it may have.
     CellLimit { cells: u64 },

@@ -19,9 +19,9 @@ use sheet_law::Grid;
 use std::alloc::{AllocError, Global};
 use trend_num::Rec;
 
-/// Makes the sheet of a group with copies and rows as they were saved. Returns `Shape` with the first row that has not
-/// one value for each complete window of the copies. Otherwise returns `WantOfMemory` if no memory is found. The values
-/// themselves are taken as they are.
+/// Makes the sheet of a group with copies and rows as they were saved. Returns `Shape` if a row does not have exactly
+/// one value for each complete window of the copies; it gives the length of the first such row. Otherwise returns
+/// `WantOfMemory` if no memory is found. The values themselves are taken as they are.
 pub fn from_saved(
     alloc: Global,
     def: &GroupDefParts,

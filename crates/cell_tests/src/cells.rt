@@ -28,7 +28,7 @@ pub(crate) fn tag(step: bool, comp_dev: u64) -> Option<TagDef> {
     })
 }
 
-// Returns a cell on this device, or the device if it is refused.
+// Opens a cell on this device. Returns `None` if it is refused, or if the tuning or `slots` is out of range.
 fn opened(
     rt: &impl Wait,
     alloc: Global,

@@ -332,7 +332,7 @@ fn a_shut_pass_halts_the_first_worker(rt: HostRuntime) -> Result<(), Fail> {
     Ok(())
 }
 
-// Returns how often a letter occurs at the beginning of a text. Only so many letters count, and commits do not.
+// Returns how often a letter occurs among the first `among` letters of a text, without those of commits.
 fn count_of(letter: char, text: &str, among: usize) -> usize {
     text.chars()
         .filter(|c| *c != 'c')

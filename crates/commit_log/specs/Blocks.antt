@@ -36,7 +36,7 @@ pub record IsLogRow (tags : ℕ) (r : LogRow) : Type 0 where
   pub tag : r.tag < tags
   pub point : InRange r.point
 
--- the rows of a block: 1 to 4096 of them, each of such a tag
+-- the rows of a block: 1 to 4,096, each with one of so many tags and a point in range
 pub record AreBlockRows (tags : ℕ) (rows : List LogRow) : Type 0 where
   pub some : 1 ≤ length rows
   pub few : length rows ≤ most_in_block

@@ -22,7 +22,7 @@ pub(crate) const ROW_LEN: usize = 32;
 // How many rows a block has at most.
 pub(crate) const MOST_IN_BLOCK: u32 = 4_096;
 
-/// The bytes of a block after its gate, with the next gate, which is closed; and over how many turns its rows reached.
+/// The bytes of a block after its gate, with the next gate, which is closed; and how many turns were read for its rows.
 #[derive(Drop)]
 pub struct BlockBytes {
     pub bytes: Vec<u8>,
@@ -47,7 +47,7 @@ pub(crate) fn block_bytes(
     Ok(BlockBytes { bytes, turns })
 }
 
-// Appends the first `count` rows of these turns, and returns over how many turns they reached.
+// Appends the first `count` rows of these turns, and returns how many turns were read for them.
 fn put_rows(bytes: &mut Vec<u8>, count: u32, rest: &[LogTurn]) -> Result<usize, AllocError>
     requires there { count ≤ length (puts rest.now) }
     ensures { IfOk result (WritesRows count rest.now bytes.old.items bytes.new.items) }

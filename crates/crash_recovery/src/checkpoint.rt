@@ -30,8 +30,8 @@ const MOST_TAKEN: u64 = 1_000_000_000_000_000_000;
 
 impl Seat {
     // Makes a checkpoint of a core that continues from what the device recovers. If the summary counts all of the
-    // core's events and each lane slot is free, it makes no call. A core that has taken no more events than the summary
-    // counts, or too many, does not continue so. It is refused as want of memory.
+    // core's events and each lane slot is free, it makes no call. Otherwise it refuses two cores as want of memory,
+    // before any call: one that has taken no more events than the summary counts, and one that has taken 10^18 or more.
     pub(crate) fn checkpoint<D: Disk>(
         &mut self,
         alloc: Global,
@@ -106,7 +106,7 @@ impl Seat {
             && self.free_slots() == self.lane.slots
     }
 
-    // Writes the records that the summary does not count after the log, closes the gate of the summary slot that does
+    // Writes after the log the records that the summary does not count, closes the gate of the summary slot that does
     // not count, and syncs.
     fn log_records<D: Disk>(&self, alloc: Global, dev: &mut D, recs: &[Rec]) -> Result<(), PutNo>
         requires within { self.now.lane.used ≤ self.now.lane.slots }
@@ -129,7 +129,7 @@ impl Seat {
         }
     }
 
-    // Writes the records that the summary does not count after the log. It does not sync.
+    // Writes after the log the records that the summary does not count. It does not sync.
     fn put_new_records<D: Disk>(
         &self,
         alloc: Global,

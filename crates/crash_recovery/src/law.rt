@@ -8,8 +8,8 @@ ghost use Rattle.crash_recovery.specs.Opening.{IsOpenedAs, RecoversSame};
 ghost use Rattle.crash_recovery.specs.TagImages.{ImageStands, StandsOpened};
 
 /// Let a tag's device stand for a history. If the wanted tuning is in force after it, the opened tag stands for that
-/// history. Else it stands for that history and a retuning. So does each image that recovers what the device recovers,
-/// or that state as it is opened.
+/// history. Else it stands for that history and a retuning. Each image that recovers what the device recovers, or that
+/// state as it is opened, stands for that history, or for that history and a retuning.
 pub fn an_opened_tag_stands()
     ensures opened { (def : TagDef) (o : Origin) (h : List Event) (c : List ℕ) (s r : State) → ImageStands def o h c
         → Recovers def c s → IsOpenedAs def s r → StandsOpened def o h r }

@@ -82,7 +82,7 @@ pub fn open_tag<D: Disk>(
     ensures room { IfOk result (λ o. 2 * room ≤ o.core.spare) }
     ensures countable { IfOk result (λ o. o.core.state.summary.taken < 2 ^ 63) }
 
-    // A refusal names its cause. One fault is counted if a call of the device has failed, and none else.
+    // A refusal names its cause. One fault is counted if a call of the device has failed, and otherwise none.
     ensures cause { IfErr result (λ e. IsCause def.now (D.trace dev) e.why) }
     ensures faultless { IfOk result (λ o. D.fault_count o.journal.dev ≡ D.fault_count dev) }
     ensures counts { IfErr result (λ e. CountsRefusal e.why (D.fault_count dev) (D.fault_count e.dev)) }

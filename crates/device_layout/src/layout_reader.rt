@@ -52,8 +52,9 @@ const NO_SUMMARY: Summary = Summary {
 /// Where the lane begins, with its gates.
 pub const LANE: u64 = 400;
 
-/// Reads the header of a device whose layout was finished. It fails if a field of the header is broken, if the device
-/// is another tag's, or if it ends before the end of its layout.
+/// Reads the header of a device whose layout was finished. It fails with `Damaged` if a field of the header is broken,
+/// or if the device ends before its layout does. It fails with `OtherTag` if the device is another tag's, and with
+/// `DeviceFault` if a call of the device fails.
 pub fn read_layout<D: Disk>(dev: &mut D, def: &TagDef) -> Result<Header, OpenNo>
     requires { Shows (D.trace dev.old) IsBegun }
     ensures layout { IfOk result (λ h. Shows (D.trace dev.old) (HasLayout def.now h.slots h.def.tuning)) }

@@ -154,7 +154,7 @@ fn is_zero(b: &[u8; SUMMARY_LEN], at: usize, len: usize) -> bool
     b[at..at + len].iter().all(|x| *x == 0)
 }
 
-// Returns whether the part with this flag is there. If it is not, `len` bytes from a place on have to be zeros.
+// Returns whether the part with this flag is there, or the `len` bytes from a place on are zeros.
 fn is_there_or_zero(b: &[u8; SUMMARY_LEN], bit: u8, at: usize, len: usize) -> bool
     requires flag { 0 < bit }
     requires within { at + len ≤ 128 }

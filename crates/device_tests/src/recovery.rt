@@ -66,7 +66,7 @@ const DAMAGED: &str = "\
 473=0 => Damaged { at: 472, byte: Some(0) }
 471=7 => Damaged { at: 464, byte: Some(0) }";
 
-// The tag T1 with the tuning of this name, if there is one.
+/// Returns the tag T1 with the tuning of this name, or `None` if there is no such tuning.
 pub fn tag(name: &str) -> Option<TagDef> {
     let (exc_dev, comp_dev) = match name {
         "plain" => (0, 0),
@@ -88,7 +88,7 @@ pub fn tag(name: &str) -> Option<TagDef> {
     })
 }
 
-// Opens a device.
+/// Opens the device of a tag. Returns `WantOfMemory` too if the tuning is out of range, or `slots` is not 1 to 64.
 pub fn opened(
     alloc: Global,
     dev: MemDisk,

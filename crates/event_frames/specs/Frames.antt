@@ -23,7 +23,7 @@ pub record IsListOf (P : Frame → Type 0) (fs : List Frame) : Type 0 where
 abbrev pub AreFrames : List Bool → ℕ → List Frame → Type 0
 AreFrames truths least fs = IsListOf (IsFrame truths least) fs
 
--- whether, in each window of a row, the calculation is true, and how many windows a frame has at least
+-- for each window of a row, whether the calculation is true in it; and how many windows a frame has at least
 pub record FramesState : Type 0 where
   pub truths : List Bool
   pub least : ℕ

@@ -27,7 +27,7 @@ put_at xs k x = if nat_lt k (length xs) then slice_set xs k x else xs ++ x ∷ [
 abbrev pub row_with : List CalcValue → List Change → List CalcValue
 row_with row cs = fold (λ values c. put_at values c.k c.value) row cs
 
--- the windows in which the calculation is true after these changes
+-- for each window, whether the calculation is true in it after these changes
 abbrev pub truths_with : List Bool → List Change → List Bool
 truths_with truths cs = fold (λ ts c. put_at ts c.k (is_true c.value)) truths cs
 

@@ -8,13 +8,13 @@ use crate::gap::{BLOCK, first_gap, is_whole, last_gap};
 use std::alloc::{AllocError, Global};
 use std::marker::Model;
 
-// Whether a calculation is true in each window of its row.
+// For each window of a row, whether the calculation is true in it.
 #[derive(Drop)]
 pub(crate) struct Levels {
     truths: Vec<bool>,
-    // Whether, for each block of 128 windows, the calculation is true in all windows of it that there are.
+    // For each block of 128 windows, whether the calculation is true in all windows of it that there are.
     blocks: Vec<bool>,
-    // Whether, for each group of 128 blocks, this is so in all of its blocks.
+    // For each group of 128 blocks, whether this is so in all of its blocks.
     groups: Vec<bool>,
     // For how many windows there is memory.
     room: usize,

@@ -12,7 +12,8 @@ pub record IsCountBroken (slots : ℕ) (bytes : List ℕ) (k o : ℕ) : Type 0 w
   pub field : o ≡ 8
   pub broken : IsCounted (batch_at slots bytes k) → ⊥
 
--- the count is, but the number of the first raw value, at the slot's beginning, does not fit the slots before
+-- the count of slot k is from 1 to 64, but the number of its first raw value, at the slot's beginning, does not fit the
+-- slots before
 pub record IsFirstBroken (slots : ℕ) (bytes : List ℕ) (taken k o : ℕ) : Type 0 where
   pub field : o ≡ 0
   pub counted : IsCounted (batch_at slots bytes k)

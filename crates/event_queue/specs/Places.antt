@@ -1,4 +1,4 @@
--- A lane's places: the room that it needs on a device, and what a lane in use holds.
+-- A position in a lane: what it needs of a device, and what a lane in use holds.
 use Rattle.std.specs.Prelude.{◌≡◌, ◌≢◌, ℕ, ◌+◌, ◌<◌, ◌≤◌, List, length, slice_index}
 use Rattle.trend_num.specs.declared.point.Point.{Point}
 use Rattle.disk_model.specs.Gates.{open_byte, IsOpen}

@@ -41,7 +41,7 @@ pub record SavesAhead (text : List ℕ) (def : GroupDefParts) (recovered : List 
   pub stands : StandsForGroup text def versions rows c
   pub ahead : IsAhead versions recovered input version records
 
--- these bytes stand for rows that have not one value for each complete window
+-- these bytes stand for rows, one of which does not have as many values as there are complete windows
 pub record SavesShape (text : List ℕ) (def : GroupDefParts) (recovered : List (List Rec)) (windows size : ℕ) (c : List ℕ)
     : Type 0 where
   pub versions : List ℕ
@@ -71,7 +71,7 @@ IsAheadOrMemory versions recovered (Ahead input version records) = IsAhead versi
 IsAheadOrMemory versions recovered (Shape windows size) = ⊥
 IsAheadOrMemory versions recovered WantOfMemory = Unit {0}
 
--- the same, or a row has not one value for each complete window
+-- the same, or a row does not have as many values as there are complete windows
 abbrev pub IsRefused : GroupDefParts → List (List Rec) → List ℕ → List (List CalcValue) → LoadNo → Type 0
 IsRefused def recovered versions rows DeviceFault = ⊥
 IsRefused def recovered versions rows (Damaged a byte) = ⊥

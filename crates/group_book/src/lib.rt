@@ -1,8 +1,8 @@
 //! A group of a running plant, as it lies under its lock.
 //!
 //! A [`Book`] holds a sheet and a tape. The sheet is the group's calculated rows and the records that they are made of.
-//! Each call that succeeds adds one turn to the tape. A turn records the versions that a refresh reached, the answer to
-//! a question, or the number and moment of a save.
+//! Each refresh, each answer and each save on a device adds one turn to the tape. A turn records the versions that the
+//! refresh reached, the answer, or the number and moment of the save.
 //!
 //! Whoever takes a lock knows of its content only what the type guarantees. So the type keeps all that a session knows
 //! once its workers have ended:

@@ -42,8 +42,8 @@ impl From<WantOfMemory> for LoadNo {
 /// version says. `tags` and `recovered` have one element for each input.
 ///
 /// An error returns the device and the reason. `DeviceFault`: a call of the device failed. `Damaged`: its layout is
-/// damaged. `Ahead`: a version is above the number of recovered records. `Shape`: a saved row has not one value for
-/// each complete window. `WantOfMemory`: no memory was found.
+/// damaged. `Ahead`: a version is above the number of recovered records. `Shape`: a saved row does not have exactly one
+/// value for each complete window. `WantOfMemory`: no memory was found.
 pub fn load<D: Disk>(
     alloc: Global,
     dev: D,

@@ -50,8 +50,8 @@ pub enum LoadNo {
         version: u32,
         records: u32,
     },
-    /// A saved row has not one value for each complete window. `windows` is how many windows are complete, and `rows`
-    /// is how many values the first such row has.
+    /// A saved row does not have exactly one value for each complete window. `windows` is how many windows are
+    /// complete, and `rows` is how many values the first such row has.
     Shape {
         windows: u64,
         rows: u64,

@@ -36,8 +36,8 @@ impl<D: Disk> Book<D> {
     /// tape. An equal value is no change. A book without a device does nothing and returns `Ok`.
     ///
     /// Returns `Broken` if an earlier save returned `DeviceFault`. Returns `DeviceFault` if a call of the device fails
-    /// now. Returns `WantOfMemory` before any call of the device; the book is then unchanged. This error also comes if
-    /// the number of the save would pass 2^64 - 1, or the device 2^64 bytes.
+    /// now. Returns `WantOfMemory` if no memory is found, the number of the save would pass 2^64 - 1, or the device
+    /// 2^64 bytes. This error comes before any call of the device, and the book is then unchanged.
     pub fn save(&mut self) -> Result<(), SaveNo>
         ensures none { self.old.dev ≡ None → IsOk result × (self.new ≡ self.old) }
         ensures broken { IsErrOf result Broken ↔ (self.old.failed ≡ true) }

@@ -108,7 +108,7 @@ pub record AreBlocks (c : List ℕ) (calcs inputs at : ℕ) (bs : List BlockPart
 
 -- ---- the fields of a block, and where they first break a rule
 
--- the fields of the versions; each version must be no less than the one before of its input
+-- the fields of the versions. The version of an input must be no less than its version in the block before
 abbrev pub version_fields : List ℕ → List ℕ → ℕ → List Field
 version_fields c [] at = []
 version_fields c (v ∷ versions) at =

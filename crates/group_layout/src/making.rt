@@ -23,7 +23,8 @@ pub(crate) const LETTERS: [u8; 4] = *b"PHG1";
 /// Begins a device anew for this definition text. The device must have no finished layout, or that of another text. The
 /// function closes the gate of the layout, writes the text and a closed gate after it, and then opens the layout's
 /// gate. A crash at any moment leaves a device that has nothing saved for this text. Returns `DeviceFault` if a call of
-/// the device fails. Returns `WantOfMemory` before any call, also for a text of 2^32 bytes or more.
+/// the device fails. Returns `WantOfMemory` if no memory is found, or if the text has 2^32 bytes or more. This error
+/// comes before any call of the device.
 pub fn make_group<D: Disk>(alloc: Global, dev: &mut D, text: &[u8]) -> Result<(), PutNo>
     requires unsaved { Shows (D.trace dev.old) (IsUnsaved text.now) }
     requires settled { IsSettled (D.trace dev.old) }
@@ -40,8 +41,8 @@ pub fn make_group<D: Disk>(alloc: Global, dev: &mut D, text: &[u8]) -> Result<()
 
 /// Adds a block after the gate at `at`, which must be closed in whatever a crash leaves. The function writes the block
 /// and the next gate, which is closed, and then opens the block's gate. It returns where the next block goes. Returns
-/// `DeviceFault` if a call of the device fails. Returns `WantOfMemory` before any call, also if the block would end
-/// beyond 2^64 bytes.
+/// `DeviceFault` if a call of the device fails. Returns `WantOfMemory` if no memory is found, or if the block would end
+/// beyond 2^64 bytes. This error comes before any call of the device.
 pub fn put_block<D: Disk>(alloc: Global, dev: &mut D, at: u64, b: &Block) -> Result<u64, PutNo>
     requires { Now (D.trace dev.old) (IsShut at) }
     ensures any_moment { During (D.trace dev.old) (D.trace dev.new)

@@ -19,7 +19,8 @@ use std::alloc::Global;
 /// Opens the device of a group with this definition text and with so many inputs and calculations. The function syncs
 /// the device and reads it. If the device has no finished layout, or that of another text, the function begins it anew.
 /// A crash at any moment leaves what it might have left before, or what stands for the same versions and rows. If the
-/// device breaks the layout, the function returns `Damaged` with the first byte of the first field that does.
+/// device breaks the layout, the function returns `Damaged` with the first byte of the first field that does. Returns
+/// `DeviceFault` if a call of the device fails, and `WantOfMemory` if no memory is found.
 pub fn open_group<D: Disk>(
     alloc: Global,
     dev: &mut D,

@@ -127,7 +127,7 @@ fn is_next(before: u64, number: u64) -> bool
     number > 0 && number - 1 == before
 }
 
-// Reads the versions that begin at a place. Each must be no less than the one before of its input.
+// Reads the versions that begin at a place. The version of an input must be no less than its version in `before`.
 fn read_versions(alloc: Global, c: &[u8], at: usize, before: &[u32]) -> Result<Vec<u32>, ScanNo>
     requires there { at ≤ length c.now }
     requires small { length c.now < 2 ^ 63 }

@@ -116,7 +116,7 @@ fn check_row(
     )
 }
 
-// Whether a row's calculation is one of so many, and may come after that of the last row.
+// Whether a row's calculation is one of so many, and is not before that of the last row.
 fn is_calc_ok(calcs: u32, last: Option<BlockRow>, row: BlockRow) -> bool
     ensures { result ≡ (nat_lt row.calc calcs && is_calc_in_order last row) }
 {

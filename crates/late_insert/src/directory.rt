@@ -28,8 +28,8 @@ struct Leaf {
 }
 
 // The list of a content's pages. A page stays where it was first put; a list of page numbers gives the order of time.
-// The places are another list. So putting a page among the others moves eight bytes for each page after it, and putting
-// a record in changes four.
+// The places are another list. So putting a page among the others moves eight bytes for each page after it. Putting a
+// record in changes four bytes for each page after its own.
 #[derive(Drop)]
 pub(crate) struct Directory {
     leaves: Vec<Leaf>,

@@ -23,10 +23,10 @@ const MAX_FILE_BYTES: u64 = 67_108_864;
 // How many bytes are read at once at most.
 const PIECE: usize = 262_144;
 
-// The most bytes of a begun line, which is kept before the next piece.
+// The most bytes of a line that has begun and not ended. Such a line is kept before the next piece.
 const BEGUN: usize = 64;
 
-// Reads the input to its end, and takes the values of its rows. If the input is not read, it returns the status of why.
+// Reads the input to its end, and takes the values of its rows. If it does not come to the end, the status says why.
 pub(crate) fn read_input<L: Ledger, I: Source>(
     alloc: Global,
     tuning: Tuning,

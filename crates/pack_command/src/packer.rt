@@ -14,8 +14,8 @@ use std::marker::Brand;
 use std::sync::ledger::Blank;
 use trend_num::Tuning;
 
-/// Reads standard input to its end, and returns the text that `pack` prints for it. If `pack` refuses the input, it
-/// returns the status of the refusal.
+/// Reads standard input to its end, or until it has more bytes than may be read, and returns the text that `pack`
+/// prints for it. If `pack` refuses the input, it returns the status of the refusal.
 pub fn pack<I: Source>(alloc: Global, tuning: Tuning, input: &mut I) -> Result<ArchiveText, Status>
     requires { TuningInRange tuning }
     ensures printed { IfOk result (λ text.

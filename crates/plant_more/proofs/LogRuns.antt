@@ -52,7 +52,7 @@ rows_known {D} trace ticks faults files e known tags before now ended same = by_
     by_answer (Err why) is = tt
     by_answer (Ok x) is = rows (ended.as_known (λ of. subst (λ (r : Result Unit Status). IsOfOpening r) is of))
 
--- if a device has counted a fault, the status reports it
+-- a device fault that the status reports is one that the log's device has counted
 fault_of_unit : {D : Type 0} (faults : D → ℕ) (files : List (List RawRow)) (notes : List LogNote) (known : KnownLog) (l : ToldLog D) (unit : Device)
     → IsSettlingRefusal faults files notes known l (DeviceFault unit) → 0 < faults l.dev
 fault_of_unit faults files notes known l unit (OfOpening is) = absurd is.first
@@ -81,7 +81,7 @@ module _ (base : Base) (h : LogHistory) where
   opening_told (Err why) told is of = subst (λ (r : Result (String Global) Status). IsOfOpening r) (sym is.refused) of
 
   module _ {D : Type 0} (rows : List (List RawRow)) (log : ToldLog D) where
-    -- for a log that is done there is a text
+    -- if there is a text, the log is done
     done_told : (came : Result Unit Status) (told : Result (String Global) Status) → IsLogReported base h came told → IsHistoryOfLog log h
         → OnOk came (ArePutsMade rows log) → IfOk told (λ text. IsDone base rows h (string_bytes text))
     done_told (Ok x) (Ok text) is history made = record {

@@ -57,7 +57,7 @@ counts_so IsRefusal before now (Err why) status old new counts refusal rose prin
     of_refusal (OtherPlant at) is counts = same (OtherPlant at) (λ i e. cc) counts
     of_refusal (BadName word) is counts = same (BadName word) (λ i e. cc) counts
 
--- a refusal of `shifts` is not Done, and no fault of the output; it reports a device fault if one was counted
+-- a refusal of `shifts` is not Done, and no fault of the output; if it reports a device fault, one was counted
 module _ (name calendar : List ℕ) (told : ToldFiles) (old new : DeviceTraces) (before now : ℕ) where
   pub shifts_not_done : IsShiftsRefusal name calendar told old new before now Done → ⊥
   shifts_not_done (OfBase refused same) = refused

@@ -39,9 +39,9 @@ abbrev pub CountsFor : Status → ℕ → ℕ → Type 0
 CountsFor (DeviceFault unit) before now = Rose before now
 CountsFor status before now = now ≡ before
 
--- A command over the stored archives of a base ends in this status. The number of failed reads of files is the one that
--- the status reports. So is the number of failed calls of the store, while it can be counted. If the command is done,
--- what it leaves on the devices is durable.
+-- A command over the stored archives of a base ends in this status. The count of failed reads rises if the status is a
+-- read fault, and otherwise stays. The store's count of faults, while it can be counted, rises if the status is a
+-- device fault, and otherwise stays. If the command is done, what it leaves on the devices is durable.
 pub record EndsOver (base : List ℕ) (before now : Scene) (status : Status) : Type 0 where
   pub durable : WhereDone status (IsDurable base before.files before.devices now.devices)
   pub file_faults : now.file_faults ≡ faults_told status before.file_faults

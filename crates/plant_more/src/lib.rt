@@ -28,8 +28,8 @@
 //!
 //! The command reports its first refusal, in the order base, calendar, tags. No device has changed before a refusal of
 //! a tag. `EndsOfShifts` states what was read and printed in each status. `KeepsForShifts` states which images a crash
-//! at any moment leaves of each device. A crash might have left the image before; or it recovers the same state, or
-//! that state as it is opened. `KeepsForShifts` covers devices with a known trace of calls, and fewer than 10^18
+//! at any moment leaves of each device: one that a crash might have left before, or one that recovers the same state,
+//! or that state as it is opened. `KeepsForShifts` covers devices with a known trace of calls, and fewer than 10^18
 //! events.
 #![tactic(auto)]
 

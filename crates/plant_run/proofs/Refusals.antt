@@ -84,7 +84,7 @@ module _ (name plan_name : List ℕ) (told : ToldFiles) (old new : DeviceTraces)
   trend_no_fault (OfGroup base plan lists cores opened planned asked refused) = rows_no_output base.groups.items _ _ _ _ refused
   trend_no_fault (OfMemory same) = cc
 
-  -- a device fault is reported if one was counted
+  -- a device fault that is reported was counted
   pub check_rose : before < 2 ^ 64 → (unit : Unit) → IsCheckRefusal name told old new before now (DeviceFault unit) → Rose before now
   check_rose few unit (inl base) = absurd base.0
   check_rose few (Tag i) (inr (inl tags)) = tags.2.cause few

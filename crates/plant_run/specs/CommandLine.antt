@@ -28,8 +28,9 @@ tuning_of exc_dev exc_max comp_dev comp_min comp_max = do
 -- - `Check`: to check the tags of a base.
 -- - `Trend`: to answer the readers of a plan over a base.
 -- - `Run`: to run a plan over a base.
--- - `Log`: to log a plan over a base. None if the words name no two files.
--- - `Shifts`: to print the figures of shifts. None if the words do not say of which.
+-- - `Log`: to log a plan over a base. None if the words after the verb are not BASE PLAN.
+-- - `Shifts`: to print the figures of shifts. None if the words after the verb are not BASE CALENDAR DAY DAYS,
+--   with DAYS from 1 to 366.
 -- - `Frames`: to print the frames of a group's calculation that have at least so many windows.
 -- - `Drill`: to run the drill with this number, with so many tags and so many events for each.
 -- - `Unknown`: no known command.

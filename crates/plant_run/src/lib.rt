@@ -2,7 +2,7 @@
 //!
 //! **Layer.** Only the program uses this crate. It hands over the real arguments, input, files, output and devices.
 //! This crate reads the words once (`Form`) and calls the command that they ask for. It prints the command's answer,
-//! and returns a status. A command that prints its own answer is the exception.
+//! unless the command prints it itself, and returns a status.
 //!
 //! **Model.** `form_of` reads the words as one of nine forms. A [`World`](specs/Run.antt) is what a command finds
 //! outside: what the input still has, what the output got, what is known of files and devices, and how many calls on

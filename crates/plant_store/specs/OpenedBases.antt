@@ -37,8 +37,8 @@ pub record IsDurable (name : List ℕ) (told : ToldFiles) (old new : DeviceTrace
   pub left : AreLeft base.tags.items old new cores
 
 -- Either no device has changed; or only those of the base's tags have. In that case a crash at any moment since leaves
--- of each device one of these images. A crash might have left it before; or it recovers the same state, or that state
--- as it is opened.
+-- of each device an image that a crash might have left before, or one that recovers the same state, or that state as it
+-- is opened.
 abbrev pub AreKept : List ℕ → ToldFiles → DeviceTraces → DeviceTraces → Type 0
 AreKept name told old new = AreUntouched old new
     ⊎ ((base : Base) × IsBaseFile (told name) base × AllStaySame base.tags.items old new × AreOtherTagsSame base.tags.items old new)

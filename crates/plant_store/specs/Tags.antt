@@ -53,8 +53,8 @@ AreTagsOpened tags traces cores = AllZip (λ def core. IsOpened def (tag_trace_o
 abbrev pub AreOtherTagsSame : List TagDef → (List ℕ → Option Trace) → (List ℕ → Option Trace) → Type 0
 AreOtherTagsSame tags old new = (n : List ℕ) → All (λ def. n ≢ device_name def.name) tags → new n ≡ old n
 
--- A crash at any moment since leaves of the device of each tag one of these images. A crash might have left it before;
--- or it recovers the same state, or that state as it is opened.
+-- A crash at any moment since leaves of the device of each tag an image that a crash might have left before, or one
+-- that recovers the same state, or that state as it is opened.
 abbrev pub AllStaySame : List TagDef → (List ℕ → Option Trace) → (List ℕ → Option Trace) → Type 0
 AllStaySame tags old new = All (λ def. StaysSame def (tag_trace_of old def) (tag_trace_of new def)) tags
 

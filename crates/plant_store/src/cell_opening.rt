@@ -52,7 +52,7 @@ pub fn open_cells<S: Store, R: Wait>(
     ensures places { OnOk result (HasPlaces (S.has_place store.new) (texts names.now)) }
 
     // A refusal states the first cause. A crash at any moment has then left of each device what a crash might have left
-    // before, or what recovers the same.
+    // before, or what recovers the same state, or that state as it is opened.
     ensures refused { IfErr result (IsRefusal tags.now (S.device_at store.old) (S.device_at store.new)
         (S.fault_count store.old) (S.fault_count store.new)) }
     ensures any_moment { OnErr result (AllStaySame tags.now (S.device_at store.old) (S.device_at store.new)) }

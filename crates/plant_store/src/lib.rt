@@ -18,9 +18,9 @@
 //! - Each opened tag is what its device recovers. Each book has what its group's device stands for.
 //! - An opening stops at the first tag or group that is refused, or at the tag with which the tags together have too
 //!   many records. It returns that refusal, and no device is out then.
-//! - A crash at any moment leaves of each device one of these images. A crash might have left it before; or it recovers or
-//!   stands for the same state, or for that state as it is opened. This covers devices with a known trace of calls, and
-//!   fewer than 10^18 events.
+//! - A crash at any moment leaves of each device an image that a crash might have left before, or one that recovers or
+//!   stands for the same, or, of a tag, one that recovers that state as it is opened. This covers devices with a known
+//!   trace of calls, and fewer than 10^18 events.
 //! - Once the tags are open, a crash leaves what recovers them.
 //! - A device that was given back is as its cell or book left it, and its faults are added to the store's.
 //! - No device is both a tag's and a group's.

@@ -71,7 +71,7 @@ pub fn open_plant<S: Store, R: Wait>(
     ensures places { OnOk result (HasPlacesOf shelf.now (S.has_place store.new)) }
 
     // A refusal states the first cause. A crash at any moment has then left of each device what a crash might have left
-    // before, or what recovers or stands for the same.
+    // before, or what recovers or stands for the same, or, of a tag, what recovers that state as it is opened.
     ensures refused { IfErr result (IsPlantRefusal base.now (S.device_at store.old) (S.device_at store.new)
         (S.fault_count store.old) (S.fault_count store.new)) }
     ensures same_tags { OnErr result (AllStaySame base.now.tags.items (S.device_at store.old) (S.device_at store.new)) }

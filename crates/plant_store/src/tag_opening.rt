@@ -35,7 +35,8 @@ pub fn open_tags<S: Store>(
     ensures as_many { IfOk result (λ cores. length cores.items ≡ length tags.now) }
     ensures few_records { IfOk result (λ cores. tag_records_in cores.items ≤ most_stored) }
 
-    // A crash at any moment leaves of each device what a crash might have left before, or what recovers the same.
+    // A crash at any moment leaves of each device what a crash might have left before, or what recovers the same state,
+    // or that state as it is opened.
     ensures any_moment { AreDistinct tags.now
         → AllStaySame tags.now (S.device_at store.old) (S.device_at store.new) }
     ensures refused { AreDistinct tags.now

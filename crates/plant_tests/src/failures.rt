@@ -15,7 +15,7 @@ plan.toml: [[collector]]|file = \"1.csv\"|[[reader]]|file = \"2.csv\"|
 1.csv: T1,0,0|T1,3000,0|T1,4000,9|T1,1500,60|
 2.csv: row,g,m,3|";
 
-// What the session prints when the first read fails, when the second read fails, and so on until none fails.
+// The exit code and what is printed when the first read fails, when the second read fails, and so on until none fails.
 const READS: &str = "\
 5 fault: read base|5 fault: read plan|5 fault: read collector 1|5 fault: read reader 1|\
 0 tag T1 taken=4 records=3 kept=2 late=1 held=4000,9|reply 1 1 none|group g windows=3 refreshes=1 evals=3|calc g m 2 20|";
@@ -27,7 +27,8 @@ const WRITES: &str = "\
 // More calls than a session makes.
 const MOST: u64 = 64;
 
-// Runs a session over new devices in which the read and the write with these numbers fail, and returns what it prints.
+// Runs a session over new devices. The read of a file and the write of the output with these numbers fail. Returns the
+// exit code and what is printed.
 fn ended<R: Threads + Wait + Sync>(
     rt: &R,
     alloc: Global,

@@ -27,6 +27,7 @@ pub struct AtSync<'a> {
     pub stops: u64,
 }
 
+/// The pass of the collector, which is not held, or of the reader.
 pub struct AtSyncPass<'a> {
     signs: &'a Signs,
     reads: bool,

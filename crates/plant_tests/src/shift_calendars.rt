@@ -1,4 +1,4 @@
-// A calendar that breaks no rule. The rows below break each rule, first alone and then together with another one.
+// Calendars in which each rule is broken, first alone and then together with another one.
 use shift_calendar::{CalNo, Name, read_calendar};
 use std::alloc::{AllocError, Global};
 use std::fmt::Write;

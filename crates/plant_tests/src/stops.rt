@@ -80,7 +80,7 @@ fn crashed(alloc: Global, store: &mut MemStore, pick: Pick) -> Result<MemStore, 
     Ok(MemStore::new(devices))
 }
 
-// Returns whether the text of one of these rows is printed that has at least `least` values.
+// Returns whether one of these rows has at least `least` values and its text is printed.
 fn is_told(rows: &str, least: u64, printed: &str, alloc: Global) -> Result<bool, Fail> {
     for row in rows.lines() {
         let (count, told) = row.split_once(' ').ok_or("row")?;
@@ -120,9 +120,9 @@ fn acknowledged(ended: &Outcome) -> (u64, u64) {
 // Runs the second session on devices that stop after so many calls. Returns whether it is done, which means that no
 // call was stopped.
 //
-// It opens again whatever the crash leaves. Each tag must have the first of its values, with all acknowledged ones
-// among them. The group's rows must be those computed from scratch. The group's version must be the one saved last, or
-// the one being saved.
+// It opens again whatever the crash leaves. Each tag must have a first part of its values, and all acknowledged ones
+// must be in it. The group's rows must be those computed from scratch. The group's version must be the one saved last,
+// or the one being saved.
 fn stopped_at<R: Threads + Wait + Sync>(rt: &R, alloc: Global, most: u64) -> Result<bool, Fail> {
     let mut store = MemStore::new(Vec::new(alloc));
     ended(rt, alloc, "run base.toml first.toml", &mut store)?;

@@ -92,7 +92,7 @@ fn time(text: &[u8], front: &mut Front) -> Option<(u64, usize)>
     Some((t, end))
 }
 
-// The time of thirteen digits that a text begins with. All times from 2001 to 2286 have thirteen.
+// The time of thirteen digits that a text begins with. All times from 2002 to 2285 have thirteen.
 #[inline(always)]
 fn usual_time(text: &[u8], front: &mut Front) -> Option<u64>
     requires { PLAIN_DIGITS < length text.now }

@@ -120,10 +120,10 @@ pub record AreNew (base : Base) (s : Session) : Type 0 where
   pub groups : (i : ℕ) (d : GroupDef) (g : GroupHistory) → i < length s.groups.items
       → IsGroupNew i (slice_index_or base.groups.items i d) (slice_index_or s.groups.items i g)
 
--- Whatever the answer is, each tag and each group is sound, by the calls of its device. Each was new, unless the answer
--- reports that an opening has changed. If there is a text, the session is done and the text is its report: each tag has
--- taken all events of its collector, numbered from 1 in each phase, and all are acknowledged; the group is up to date,
--- was refreshed twice, and was saved after that.
+-- Whatever the answer is, each tag and each group is sound, and so is what a crash leaves of its device. Each was new,
+-- unless the answer reports that an opening has changed. If there is a text, the session is done and the text is its
+-- report: each tag has taken all events of its collector, numbered from 1 in each phase, and all are acknowledged; the
+-- group is up to date, was refreshed twice, and was saved after that.
 pub record IsDrilled (number tags events : ℕ) (answer : Result (String Global) Status) (s : Session) : Type 0 where
   pub base : Base
   pub devices : DeviceTraces

@@ -6,7 +6,7 @@ use Rattle.plant_status.specs.declared.status.Status.TheVariants as status
 use Rattle.collector_pool.specs.declared.note.Ending.TheVariants.{Halted, WantOfMemory}
 use Rattle.collector_pool.specs.declared.note.WorkerNote.{WorkerNote}
 
--- either the first worker that its pass stopped is reported, or that a worker found no memory
+-- the status names the first worker that its pass stopped, or reports that a worker found no memory
 abbrev pub IsStop : List WorkerNote → Status → Type 0
 IsStop notes (status.Halted worker) = (place : ℕ) × (place < length notes)
     × HoldsAt (λ n. (n.worker ≡ worker) × (n.ending ≡ Halted)) notes place × AllWithin (λ n. n.ending ≢ Halted) notes 0 place

@@ -45,7 +45,8 @@ pub data IsMakingRefusal {D : Type 0} (g : Given) (cells : List (Cell D)) (books
   OfRefresh : IsRefreshRefusal (durable_lists cells) (lists_of g.inputs.items) books s → IsMakingRefusal g cells books s
   OfMemory : s ≡ WantOfMemory → IsMakingRefusal g cells books s
 
--- one of these two, or a worker was stopped, or what a group has is not what it pulled of its inputs' tags
+-- one of these two, or a worker was stopped or found no memory, or what a group has is not what it pulled of its
+-- inputs' tags
 pub data IsRefused {D : Type 0} (g : Given) (notes : List WorkerNote) (cells : List (Cell D)) (books : List (Book D)) (s : Status)
     : Type 0 where
   OfFinding : IsFindingRefusal g cells books s → IsRefused g notes cells books s

@@ -45,8 +45,9 @@ AreDevicesUntouched old new = (n : List ℕ) → new n ≡ old n
 
 -- ---- no session
 
--- no device but those of a base's tags and groups has changed; an image that a crash at any moment since leaves of one
--- of these could have been left before, or recovers or stands for the same
+-- No device but those of a base's tags and groups has changed. A crash at any moment since leaves of each of these an
+-- image that a crash might have left before, or one that recovers or stands for the same, or, of a tag, one that
+-- recovers that state as it is opened.
 pub record AreDevicesKept (base : Base) (old new : DeviceTraces) : Type 0 where
   pub tags : AllStaySame base.tags.items old new
   pub groups : AllGroupsStaySame base.groups.items old new

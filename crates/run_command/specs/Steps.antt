@@ -39,7 +39,7 @@ pub record AreReady {D : Type 0} (g : Given) (cells : List (Cell D)) (books : Li
   pub given : AreGivenFor (length cells) (length books) g
   pub inputs : AreInputs (length cells) (lists_of g.inputs.items) books
 
--- there is the progress of workers over their rows: of collectors, of readers at tags, and of readers at groups
+-- the progress of the workers is over their rows: of collectors, of readers at tags, and of readers at groups
 pub record AreOverAll (tags groups : ℕ) (g : Given) (takes asks row_asks : List Reached) : Type 0 where
   pub collectors : AreOver (phase_item g.work.earlier) tags (lists_of g.work.collectors.items) takes
   pub readers : AreOver ask_item tags (lists_of g.work.readers.items) asks

@@ -54,7 +54,7 @@ pub(crate) fn hold_both<D: Disk + Send, P: Passes, R: Threads + Wait + Sync>(
     ensures same_cells { (IsOfOpening result.answer → ⊥) → AllZip IsContinued cells.items result.cells.items }
     ensures same_books { (IsOfOpening result.answer → ⊥) → AllZip IsContinuedGroup books.items result.books.items }
 
-    // Otherwise, why it is not done.
+    // If not all is done, why.
     ensures undone { IfErr result.answer (IsUndoneOfBoth first.now second.now cells.items books.items result.cells.items
         result.books.items result.notes.items) }
 {

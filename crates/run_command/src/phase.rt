@@ -62,7 +62,7 @@ pub(crate) fn hold_phase<D: Disk + Send, P: Passes, R: Threads + Wait + Sync>(
     ensures same_cells { (IsOfOpening result.answer → ⊥) → AllZip IsContinued cells.items result.cells.items }
     ensures same_books { (IsOfOpening result.answer → ⊥) → AllZip IsContinuedGroup books.items result.books.items }
 
-    // Otherwise, why it is not done.
+    // If not all is done, why.
     ensures undone { IfErr result.answer (IsUndone given.now cells.items books.items result.cells.items result.books.items
         result.notes.items) }
 {

@@ -27,8 +27,9 @@ pub(crate) struct Given {
 
 // Returns the work of a phase over a base: the collectors' rows, the readers' queries and the refreshers' turns.
 // `phases` phases came before, in which each collector took the first `earlier` of its rows. Answers want of memory
-// also in these cases: the work names other tags or groups, a collector has fewer than `earlier` rows, there are more
-// than 2^32 - 1 workers, or a group has more than 2^32 - 2 turns.
+// also in these cases: the work names other tags or groups, a point or a time is out of range, a collector has fewer
+// than `earlier` rows, there are more than 2^32 - 1 workers, a tag has more than 2^32 - 1 rows, or a group has more
+// than 2^32 - 2 turns.
 pub(crate) fn given_of(
     alloc: Global,
     base: &Base,

@@ -1,4 +1,4 @@
--- The first entry on the tapes of all cells and books that is not its worker's next row.
+-- Entries on the tapes of all cells and books that are not the next rows of their workers.
 use Rattle.std.specs.Prelude.{◌≡◌, ℕ, List, length, slice_get, slice_index_or, Option, Some}
 use Rattle.plant_status.specs.declared.mismatch.Place.TheVariants.{Take, Ask, RowAsk}
 use Rattle.plant_status.specs.declared.mismatch.Seen.{Seen}
@@ -26,17 +26,17 @@ pub record IsMismatchAt {C E : Type 0} (tape_of : C → List E) (work : E → Op
   pub there : slice_get units unit ≡ Some one
   pub differs : IsDifference work unit (tape_of one) works place kept told
 
--- the first such entry is a take
+-- the status reports such an entry, which is a take
 abbrev pub IsTakeMismatch : {D : Type 0} → List (Cell D) → List Reached → Status → Type 0
 IsTakeMismatch cells works (Mismatch (Take tag place) kept told) = IsMismatchAt cell_tape take_of cells works tag place kept told
 IsTakeMismatch cells works other = ⊥
 
--- the first such entry is a question about a tag
+-- the status reports such an entry, which is a question about a tag
 abbrev pub IsAskMismatch : {D : Type 0} → List (Cell D) → List Reached → Status → Type 0
 IsAskMismatch cells works (Mismatch (Ask tag place) kept told) = IsMismatchAt cell_tape ask_of cells works tag place kept told
 IsAskMismatch cells works other = ⊥
 
--- the first such entry is a question on a group's tape
+-- the status reports such an entry, which is a question on a group's tape
 abbrev pub IsRowAskMismatch : {D : Type 0} → List (Book D) → List Reached → Status → Type 0
 IsRowAskMismatch books works (Mismatch (RowAsk group place) kept told) =
     IsMismatchAt book_tape row_ask_of books works group place kept told

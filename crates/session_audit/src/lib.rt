@@ -6,9 +6,9 @@
 //! guarantee, not on what a worker noted.
 //!
 //! **Model.** The rows of a worker are an agenda. Each row is due at one tag or group, and leaves one entry on the tape
-//! there. [`Progress`] records, for each tag or group, which rows of one worker were found on its tape, and which row
-//! is due next. It has two tables, which are made before the search: one by unit, and one by row. Four traits state
-//! what tags and groups have in common:
+//! there; only a question for a snapshot is due nowhere. [`Progress`] records, for each tag or group, which rows of one
+//! worker were found on its tape, and which row is due next. It has two tables, which are made before the search: one
+//! by unit, and one by row. Four traits state what tags and groups have in common:
 //!
 //! - [`Opened`]: its opening can be compared with a copy.
 //! - [`Taped`]: it has a tape.

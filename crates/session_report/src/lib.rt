@@ -8,8 +8,9 @@
 //! the end. Then come the readers in plan order, each with the reply to each of its queries. Last come the lines of
 //! each group.
 //!
-//! * The reply about a value of a tag or a group is that of the first entry of its tape that answers this row of this
-//!   reader. If no entry answers the query, the report prints `none`. A session that is done has no such query.
+//! * The reply to a query of a tag's archive or of a group's rows is that of the first entry of the unit's tape that
+//!   answers this row of this reader. If no entry answers the query, the report prints `none`. A session that is done
+//!   has no such query.
 //! * The reply about a snapshot is the one in the reader's note, if the tag had it: at its opening, or after a take.
 //!   Otherwise it is the snapshot of the tag's end.
 //!

@@ -39,7 +39,8 @@ abbrev pub touches : List Rec → Rec → ℕ → ℕ → Bool
 touches rs r from to =
     if is_late_record r.kind then meets (listed rs) r.point.t from to else not (is_newest r rs)
 
--- whether one of the records that come after these touches a window. Each comes after the ones before it
+-- whether one of the records that come after these touches a window. Each is tested against these and the new ones
+-- before it
 abbrev pub is_touched : List Rec → List Rec → ℕ → ℕ → Bool
 is_touched rs [] from to = false
 is_touched rs (r ∷ more) from to = touches rs r from to || is_touched (rs ++ r ∷ []) more from to

@@ -13,7 +13,7 @@ abbrev pub given : {A B : Type 0} → Option A → CalNo → (A → Result B Cal
 given None why answer = Err why
 given (Some a) why answer = answer a
 
--- the returned value, as `see` shows it, is the due one, or the refusal is. Want of memory may come at any time
+-- a returned value, as `see` shows it, is the due one, and so is a refusal. But want of memory may come at any time
 abbrev pub AnswersShift : {A B : Type 0} → (A → B) → Result A CalNo → Result B CalNo → Type 0
 AnswersShift see (Ok a) due = due ≡ Ok (see a)
 AnswersShift see (Err why) due = why ≢ WantOfMemory → due ≡ Err why

@@ -132,8 +132,8 @@ calendar_form_of c =
 abbrev pub calendar_keys : List (List ℕ)
 calendar_keys = codes "zone" ∷ codes "starts" ∷ codes "tags" ∷ codes "measure" ∷ []
 
--- the calendar that bytes spell, with the names of tags. The rules in their order: 1 a document, 2 its keys, 3 its
--- zone, 4 its starts, 5 its tags, 6 its measure
+-- the calendar that bytes spell, where `names` are those of the base's tags, or the first rule that they break. The
+-- rules in their order: 1 a document, 2 its keys, 3 its zone, 4 its starts, 5 its tags, 6 its measure
 abbrev pub calendar : List (List ℕ) → List ℕ → Result Form CalNo
 calendar names bytes =
     given (document bytes) (BadText 1) (λ ms.

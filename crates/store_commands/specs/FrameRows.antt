@@ -22,8 +22,9 @@ use Rattle.plant_status.specs.declared.unit.Unit.TheVariants.{Group}
 use Rattle.plant_store.specs.Groups.{group_parts_of, group_definition_text}
 
 -- Both rows of calculation k of a group: the saved one, of these saved versions and rows, and the one after a refresh.
--- The refresh is from all these records of its tags. The versions say how many first records the saved rows are of.
--- If the saved rows are those from scratch on these, the rows after the refresh are those from scratch on all records.
+-- The refresh is from all these records of its tags. The versions say how many records of each input, from its first
+-- on, the saved rows take into account. If the saved rows are those from scratch on these records, the rows after the
+-- refresh are those from scratch on all records.
 -- There is a value for each complete window. There are no fewer complete windows than before.
 pub record AreRefreshed (g : GroupDef) (k : ℕ) (versions : List ℕ) (rows : List (List CalcValue)) (recovered : List (List Rec))
     (saved refreshed : List CalcValue) : Type 0 where
@@ -52,8 +53,8 @@ cells_of g recovered = complete_windows (grid_of g.start g.period) recovered * l
 -- - `OfFault`: a call of its device has failed.
 -- - `OfDamage`: the bytes of its device break its layout.
 -- - `OfVersion`: a saved version is above the records of a tag. The status has the number of records, then the version.
--- - `OfWindows`: a saved row has not one value for each complete window. The status has the number of windows, then
---   that of the values.
+-- - `OfWindows`: a saved row does not have one value for each complete window. The status has the number of windows,
+--   then that of the values.
 -- - `OfCells`, `OfCopies`: there would be too many cells, or too many records of its tags.
 -- - `OfMemory`: there was not enough memory.
 pub data IsFrameRowsRefusal (i : ℕ) (g : GroupDef) (recovered : List (List Rec)) (o : Option Trace) (before now : ℕ) (why : Status)

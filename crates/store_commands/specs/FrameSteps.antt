@@ -51,8 +51,8 @@ scan_status i scan.DeviceFault = DeviceFault (Group i)
 scan_status i (scan.Damaged at byte) = Damaged (Group i) at byte
 scan_status i scan.WantOfMemory = WantOfMemory
 
--- Why what the group at place i saved makes no sheet: a version is too high, a row has not one value for each complete
--- window, or there was not enough memory.
+-- Why what the group at place i saved makes no sheet: a version is too high, a row does not have one value for each
+-- complete window, or there was not enough memory.
 pub data IsSheetRefusal (i : ℕ) (g : GroupDef) (versions : List ℕ) (rows : List (List CalcValue)) (recovered : List (List Rec))
     (why : Status) : Type 0 where
   OfAhead : IsAheadRefusal i versions recovered why → IsSheetRefusal i g versions rows recovered why

@@ -107,7 +107,7 @@ fn bring_up(
 }
 
 // Makes the sheet of the group at this place: its saved rows, over the first records of its inputs. Refuses a version
-// above the records of its input, and a row that has not one value for each complete window.
+// above the records of its input, and a row that does not have one value for each complete window.
 fn sheet_of(
     alloc: Global,
     place: u32,

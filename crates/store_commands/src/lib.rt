@@ -1,5 +1,5 @@
-//! The commands over stored archives: `check`, `trend` and `frames`. They open the devices and return a text. They save
-//! nothing.
+//! The commands over stored archives: `check`, `trend` and `frames`. They open the devices and return a text. They store
+//! no value and save no row; but opening makes a missing device, and retunes a tag.
 //!
 //! **Layer.** The crate uses the files of a plant (`plant_files`), its devices (`plant_store`), reads, frames and the
 //! lines of a report. The top call uses the crate, and prints. The commands start no worker, and wait for nothing.

@@ -165,13 +165,14 @@ pub record IsFirstRefused (place : ℕ) (texts : List CalcForm) (why : TextNo) :
   pub cause : HasFormulaCause text.formula reason
   pub told : why ≡ told_of place reason
 
--- the texts are formulas, but a name in one of them is neither an input nor an earlier calculation
+-- the texts are formulas, but a name in one of them stands for nothing: it is not the input, or not the earlier
+-- calculation, that it has to be
 pub record IsFaulty (inputs : List (List ℕ)) (texts : List CalcForm) : Type 0 where
   pub calcs : List Calculation
   pub defined : Define texts calcs
   pub fault : fault_of (record { inputs = inputs; calcs = calcs }) ≢ None
 
--- the calculations of texts, in which each name is an input or an earlier calculation
+-- the calculations of texts, in which each name is the input or the earlier calculation that it has to be
 pub record AreCalcs (inputs : List (List ℕ)) (texts : List CalcForm) (g : Group) : Type 0 where
   pub inputs_are : g.inputs ≡ inputs
   pub defined : Define texts g.calcs

@@ -36,7 +36,7 @@ impl From<PutNo> for CommitNo {
     }
 }
 
-// The values that have waited longest, and the number of entries that they take up.
+// The values that have waited longest, and how many entries, takes or others, were gone over to find them.
 #[derive(Drop)]
 pub(crate) struct Batch {
     pub points: [Point; MOST_IN_BATCH],

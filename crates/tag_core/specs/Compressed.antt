@@ -11,7 +11,7 @@ use Rattle.trend_model.specs.History.{Sent}
 use Rattle.trend_model.specs.State.{Archive, archived}
 use Rattle.door_slopes.specs.Hung.{Hung}
 
--- what compression keeps of a tag of this tuning and this kind; `places` is for how many records there is memory
+-- what compression keeps of a tag of this tuning and this kind; `places` says how many records there is memory for
 pub record Compressed : Type 0 where
   pub tuning : Tuning
   pub step : Bool

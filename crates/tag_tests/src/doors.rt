@@ -20,7 +20,7 @@ const HINGE: Point = Point { t: 0, v: 0 };
 // - (40,5) has 3/20 and 1/10, so the upper door stays.
 // - (60,6) has 7/60 and 1/12, so the lower door stays.
 // - (120,12) has 13/120 and 11/120, so the lower door stays.
-// - (110,12) has 13/110 and 1/10. The first is steeper than 13/120, so both doors stay.
+// - (110,12) has 13/110, which is steeper than 13/120, and 1/10, which the lower door has too. So both doors stay.
 const SWINGS: &str = "\
 20,2 => true 20,2 20,2
 40,5 => true 20,2 40,5

@@ -54,8 +54,8 @@ formula = "low('T3')"
 "#;
 
 // Texts of the base that are replaced at their first occurrence. A bar is a line feed, a number sign a byte order mark.
-// After `=>` come how many tags and groups there are. For a refused text it is the broken rule, the place of its table,
-// and the byte of the formula.
+// After `=>` come the numbers of tags and groups. For a refused text it is the broken rule, the place of its table, and
+// the byte of the formula.
 const BASES: &str = r#""T1" -> "T1 => 1 0 0
 exc_dev = 11 -> exc_dev = 9223372036854775808 => 1 0 0
  => ok 3 2
@@ -292,8 +292,8 @@ group = "g"
 turns = 0
 "#;
 
-// Texts of the plan that are replaced, as in a base. After `=>` come how many collectors, readers and refreshers there
-// are.
+// Texts of the plan that are replaced, as in a base. After `=>` come the numbers of collectors, readers and refreshers,
+// or why the text is refused, as in a base.
 const PLANS: &str = r#""c1.csv" -> "c1.csv => 1 0 0
 [[collector]] -> x = 1|[[collector]] => 2 0 0
  => ok 2 2 2

@@ -43,7 +43,7 @@ pub(crate) fn has_lost_gate(bytes: &[u8]) -> bool
 }
 
 // Returns whether a gate after the first byte of a tag's device or of a log was opened. The making of such a layout
-// writes these gates closed before it opens the first one, and never closes the first one again. So if a crash cuts a
+// writes these gates closed before it opens the first one, and nothing closes the first one again. So if a crash cuts a
 // making short, none of them is open. A group's device is different. If its definition has changed, it is begun anew by
 // closing its first gate, and the gates of its old blocks stay open. So this function finds no open gate in it.
 fn has_open_gate(bytes: &[u8]) -> bool {

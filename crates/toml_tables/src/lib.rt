@@ -2,7 +2,8 @@
 //!
 //! The texts of a plant are TOML. Each kind of them asks the same of a table: which keys it has, and which texts and
 //! arrays it has at them. The model is the data that `toml` reads. `specs/Tables` defines the answer to each question
-//! over the members of a table, and each function returns that answer. For bytes that are no document there is none.
+//! over the members of a table, and each function returns that answer. For bytes that spell no document [`document`]
+//! returns `None`.
 #![tactic(auto)]
 
 mod keys;

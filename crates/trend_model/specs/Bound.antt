@@ -1,4 +1,4 @@
--- How near the archive's line is to the values, or a step tag's stair.
+-- How near the archive's line, or a step tag's stair, is to the values.
 use Rattle.std.specs.Prelude.{◌≡◌, ℕ, ◌+◌, ◌*◌, ◌<◌, ◌≤◌, ◌-ℤ◌, ℤ, Bool, true, false, List, Option, Some, unsigned_abs}
 use Rattle.trend_num.specs.declared.point.Point.{Point}
 use Rattle.trend_num.specs.declared.archive.Rec.{Rec}

@@ -23,8 +23,8 @@ is_not_steeper a x raise y lift = int_le (climb a x raise y) (climb a y lift x)
 abbrev pub AreAfter : Point → List Point → Type 0
 AreAfter a values = (x : Point) → IsAmong x values → a.t < x.t
 
--- u and l are doors of these values. No value has a lesser slope from the hinge than u, each raised by d. No value has
--- a greater slope than l, each lowered by d
+-- u and l are doors of these values: both are among them. No value has a lesser slope from the hinge than u, each
+-- raised by d. No value has a greater slope than l, each lowered by d
 pub record AreDoors (a : Point) (d : ℕ) (values : List Point) (u l : Point) : Type 0 where
   pub upper_there : IsAmong u values
   pub lower_there : IsAmong l values

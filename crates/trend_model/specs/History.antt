@@ -72,7 +72,7 @@ is_pushed_out o h None = false
 is_pushed_out o h (Some (Tune u)) = true
 is_pushed_out o h (Some (Raw y)) = is_late y h || is_far_from (in_force o h) (prior o h) y
 
--- whether p is sent, which is in order after the events of h and before the next one
+-- whether p is sent; p is in order, and comes after the events of h and before the next one
 abbrev pub is_sent : Origin → Point → List Event → Option Event → Bool
 is_sent o p h next = is_far_from (in_force o h) (prior o h) p || is_pushed_out o (Raw p ∷ h) next
 

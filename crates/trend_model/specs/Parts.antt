@@ -104,8 +104,7 @@ pub record IsRuled (P : Point → Type 0) (u : Tuning) (step : Bool) (rs : List 
   pub lower_is : IfThere P s.lower
 
 -- records and a summary that can be those of a tag of this tuning and this kind. They keep the rules, their points are
--- in range, and there are not too many records or events. A summary that was written without its tuning may be any such
--- summary
+-- in range, and there are not too many records or events. If the summary has a tuning, it is u
 pub record ArePartsOk (u : Tuning) (step : Bool) (rs : List Rec) (s : Summary) : Type 0 where
   pub ruled : IsRuled InRange u step rs s
   pub few : length rs ≤ most_records

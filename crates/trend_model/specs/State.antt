@@ -14,8 +14,8 @@ use Rattle.trend_model.specs.Doors.{AreDoors, is_admitted, upper_after, lower_af
 
 -- ---- the exception test
 
--- the two places of an exception test after one more value, and what it sends: first a pending value, in order, and
--- second the value itself
+-- the two places of an exception test after one more value, and what it sends: `first` is the pending value, if it is
+-- now sent in order, and `second` the value itself, if it is sent
 pub record Offer : Type 0 where
   pub last : Option Point
   pub pending : Option Point

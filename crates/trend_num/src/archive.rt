@@ -43,8 +43,8 @@ pub struct Summary {
     /// The lower door. Of a tag of lines: the value since the hinge whose slope, lowered by CompDev, is greatest. Of a
     /// step tag: the held point. `None` if there is no value since the hinge.
     pub lower: Option<Point>,
-    /// The tuning in force. Only a summary of the older form has `None`. It means the tuning with which the tag was
-    /// made.
+    /// The tuning in force. It is `None` in a summary of the older form, and in the empty summary before the first
+    /// checkpoint. The tuning with which the tag was made is then in force.
     pub tuning: Option<Tuning>,
 }
 

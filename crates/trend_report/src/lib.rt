@@ -2,8 +2,9 @@
 //!
 //! `tag_text`, `group_text` and `reply_text` return the text of a tag, a group and a reply. `group_text` has a line for
 //! the group and one for each calculation. `check_text` returns the lines of all tags of a plant. The bytes of each
-//! text are those of the definition of the same name. A fraction on a line between two points is rounded to the nearest
-//! whole number. Of two that are equally near the upper one is taken. The only error is want of memory.
+//! text are those of the definition of the same name (`group_line_text` for a group). A fraction on a line between two
+//! points is rounded to the nearest whole number. Of two that are equally near the upper one is taken. The only error
+//! is want of memory.
 //!
 //! `drill_rows` returns the points that a drill generates for a tag, which are those of `drill_points`. However many
 //! there are, they are in range.
