@@ -17,6 +17,7 @@ EPOCH = datetime.datetime(1970, 1, 1, tzinfo=datetime.timezone.utc)
 MILLISECOND = datetime.timedelta(milliseconds=1)
 NUMBER = re.compile(r"([+-]?)(\d*)(?:\.(\d*))?(?:[eE]([+-]?\d{1,2}))?")
 TIME_WORDS = ("time", "timestamp")
+csv.field_size_limit(1 << 30)  # a line without separators in a file that is no CSV file
 REFUSED_HEADER = ["tag", "time", "value", "row", "reason"]
 
 
@@ -124,7 +125,8 @@ def cells(data, separator=","):
         if names:
             yield from wide_cells(number, line, names, fields)
         elif len(fields) != width:
-            yield number, None, line, "%d fields, not %d" % (len(fields), width)
+            hint = "" if width > 3 or number > 1 else ": is `separator` in feed.toml right? A wide file's header begins with `time`"
+            yield number, None, line, "%d fields, not %d%s" % (len(fields), width, hint)
         else:
             yield (number, *(fields[column] for column in columns))
 
@@ -171,7 +173,7 @@ def read_values(data, scales, settings, latest, values):
             continue
         try:
             if tag not in scales:
-                raise BadField("the base has no tag %r" % tag)
+                raise BadField("the base has no tag %r" % tag[:64])
             t = milliseconds(time, settings.zone)
             if t > latest:
                 raise BadField("later than the clock by more than %d ms: %r" % (settings.future_ms, time))
