@@ -6,7 +6,7 @@ lets `historian run` store them, and moves the files to done/. After a stop of t
 start finds the turn: `historian check` prints how many of its rows each tag has stored, which are the first ones, and the others are
 stored then. A row that cannot be read goes to refused/ with its number and the reason; all others go on.
 
-Exit status: 0 all is stored; 2 to 16 the program's own (docs/TOUR.md); 20 another process works on the plant; 21 the devices are not
+Exit status: 0 all is stored; 2 to 16 the program's own (docs/TOUR.md); 20 another process works on the plant, or a turn is unfinished; 21 the devices are not
 as the last turn left them; 22 a text or a file cannot be read or written; 127 no program; above that, the program was killed."""
 import argparse
 import csv
@@ -16,7 +16,7 @@ import time
 import seals
 from devices import retuned
 from inbox import note_fed, put_file, read_inbox, whole_files
-from plant import CHANGED, UNREADABLE, Plant, Refusal, ended, step_of, sync_folder, write_whole
+from plant import BUSY, CHANGED, UNREADABLE, Plant, Refusal, ended, step_of, sync_folder, write_whole
 from rows import decimal_text, iso_text
 from turns import Turn, end, put_refused, unfinished, write_down, write_plan, write_refused
 
@@ -261,7 +261,7 @@ def at_rest(plant, do, wait):
     """Does something with the devices while nothing runs and no turn is unfinished."""
     with plant.locked("feed.py", wait):
         if unfinished(plant) or os.path.exists(plant.path(NEW_BASE)):
-            raise Refusal(CHANGED, "a turn is unfinished: run feed.py first")
+            raise Refusal(BUSY, "a turn is unfinished, and nothing was done: run feed.py first")
         say(do(plant))
     return 0
 

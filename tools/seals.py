@@ -16,8 +16,7 @@ import time
 from devices import events_on, log_end, sha256_of_first
 from plant import CHANGED, Refusal, copied, sha256_of, sync_folder, write_whole
 
-
-
+LINE = re.compile(r"([0-9a-f]{64}|# \d+ events|# [0-9a-f]{64} of the first \d+ bytes)  (historian\.d/.+)\n")
 LOG = "historian.d/plant.log"
 UNFINISHED = re.compile(r"\d{4}-\d\d-\d\dT\d{6}Z\.part")
 
@@ -48,10 +47,13 @@ def put_seals(plant, lines):
 def seal_lines(plant):
     """The lines of the seals, each as what stands there of a device and the device's name; None if there are no seals yet."""
     try:
-        with open(plant.path("feed.d", "seals")) as text:
-            return [line.rstrip("\n").split("  ", 1) for line in text]
+        with open(plant.path("feed.d", "seals"), errors="replace") as text:
+            found = [LINE.fullmatch(line) for line in text]
     except FileNotFoundError:
         return None
+    if None in found:
+        raise Refusal(CHANGED, "feed.d/seals is damaged, and nothing was done. Compare the devices with a backup, then call feed.py --seal.")
+    return [match.groups() for match in found]
 
 
 def sealed(plant):
@@ -119,9 +121,13 @@ def verified(plant):
 def sealed_anew(plant):
     """Seals the devices as they stand. Says what is not as it was sealed, and how many values were stored meanwhile."""
     os.makedirs(plant.path("feed.d"), exist_ok=True)
-    found, before = differences(plant), sealed_events(plant)
+    lines = []
+    try:
+        found, before = differences(plant), sealed_events(plant)
+    except Refusal:  # the seals are damaged themselves
+        found, before = {}, {}
     seal(plant)
-    after, lines = sealed_events(plant), []
+    after = sealed_events(plant)
     for name, what in found.items():
         lines.append("%s %s" % (name, what))
         if name in after:

@@ -1,6 +1,8 @@
 """daily.py: tests of what comes into a plant every day: times and decimals, refused rows, half-written files, wrong clocks, the same
 file twice, and what the tools print in words."""
+import contextlib
 import csv
+import io
 import os
 import re
 import shutil
@@ -8,7 +10,9 @@ import subprocess
 import time
 import zoneinfo
 
+import inbox
 import rows
+from plant import Plant
 from trial import GROUP, Trial, base_text, check_same, two_blocks
 
 
@@ -118,15 +122,49 @@ def wrong_clock(folder, program, settings):
 
 
 def same_file_twice(folder, program, settings):
-    """The bytes of a file are fed once, whatever its name is the second time."""
+    """The bytes of a file are fed once, whatever its name is the second time. That is said, also when the turn was stopped."""
     trial, wanted = two_blocks(folder, program)
     trial.fed()
     shutil.copy(trial.path("done/000001/00-a.csv"), trial.path("inbox/00-a.csv"))
     shutil.copy(trial.path("done/000002/01-b.csv"), trial.path("inbox/again.csv"))
+    assert trial.feed(how="before")[0] == 137
     text = trial.fed()
-    assert "again.csv has the bytes of 01-b.csv, which was fed in turn 2" in text and "2 files, 0 values" in text, text
+    assert "again.csv has the bytes of 01-b.csv, which was fed in turn 2: none of its rows is stored again" in text, text
+    assert "2 files, 0 values" in text and "it goes to refused/000003" in text, text
     check_same(trial.answers(), wanted, "after the same files came again")
     assert sorted(os.listdir(trial.path("refused/000003"))) == ["00-a.csv", "again.csv"]
+
+
+def said_each_time(folder, program, settings):
+    """Each call says that a file stays in the inbox, and a feeder with --every says it again after a while; UTF-16 is named."""
+    trial = Trial(os.path.join(folder, "a"), program)
+    trial.write("inbox/x.csv", "LIC4.PV,1000,5")
+    with open(trial.path("inbox/y.csv"), "wb") as out:
+        out.write("LIC4.PV,1000,5\n".encode("utf-16"))
+    for _ in range(2):
+        text = trial.fed()
+        assert "x.csv stays in the inbox: its last line has no end" in text and "y.csv stays in the inbox: it is UTF-16" in text, text
+    plant, said = Plant(trial.folder, program), {}
+    with contextlib.redirect_stdout(io.StringIO()) as first:
+        inbox.whole_files(plant, said)
+        inbox.whole_files(plant, said)
+    with contextlib.redirect_stdout(io.StringIO()) as later:
+        said["x.csv"] -= inbox.AGAIN + 1
+        inbox.whole_files(plant, said)
+    assert first.getvalue().count("stays") == 2 and later.getvalue().count("stays") == 1, (first.getvalue(), later.getvalue())
+
+
+def no_csv_at_all(folder, program, settings):
+    """A file of bytes, one with other separators and one with another header are refused row by row, and a hint says why."""
+    trial = Trial(os.path.join(folder, "a"), program)
+    with open(trial.path("inbox/a.csv"), "wb") as out:
+        out.write(b"\0\xff" + b"x" * 300_000 + b'\n"' + b"y" * 300_000 + b'"\nLIC4.PV,1000,5\n')
+    trial.write("inbox/b.csv", "tag;time;value\nLIC4.PV;2000;5\n")
+    trial.write("inbox/c.csv", "DateTime,LIC4.PV\n2024-03-29T00:00:00Z,5\n")
+    text = trial.fed()
+    assert "1 values of 1 tags stored, 6 refused" in text, text
+    assert "1 fields, not 3: is `separator` in feed.toml right?" in text and "A wide file's header begins with `time`" in text, text
+    assert max(map(len, text.splitlines())) < 400, text
 
 
 def faults_in_words(folder, program, settings):
@@ -182,4 +220,4 @@ def goes_on_every_second(folder, program, settings):
 
 
 CASES = [times_and_decimals, refused_rows, no_scale_no_decimals, half_written_file, written_to_while_fed, wrong_clock, same_file_twice,
-         faults_in_words, begins_with_init, goes_on_every_second]
+         said_each_time, no_csv_at_all, faults_in_words, begins_with_init, goes_on_every_second]

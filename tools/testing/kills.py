@@ -2,9 +2,12 @@
 of its own calls that change files. After each the archive has to be that of a plant that was never stopped."""
 import os
 import random
+import re
 import shutil
 import time
 
+from plant import Plant
+from seals import sealed_events
 from trial import (LINES, STEPS, Trial, base_text, block_files, check_put_away, check_same, expected, feed_and_kill, two_blocks,
                    wait_for_orphans)
 
@@ -23,7 +26,9 @@ def undisturbed(folder, program, settings):
     """Three days through the feeder make the archive that the program makes of the same rows by hand, in order of time."""
     trial = three_days(os.path.join(folder, "fed"), program, 4_000_000)
     trial.fed()
-    check_same(trial.answers(), expected(os.path.join(folder, "hand"), program, trial.rows), "fed without a stop")
+    answers, events = trial.answers(), sealed_events(Plant(trial.folder, program))
+    check_same(answers, expected(os.path.join(folder, "hand"), program, trial.rows), "fed without a stop")
+    assert events == {"historian.d/%s.tag" % m[1]: int(m[2]) for m in re.finditer(r"tag (\S+) taken=(\d+)", answers)}, events
     check_put_away(trial, 2 * BLOCKS)
 
 
