@@ -14,6 +14,7 @@ import os
 import time
 
 import seals
+import turns
 from devices import retuned
 from inbox import note_fed, put_file, read_inbox, whole_files
 from plant import BUSY, CHANGED, UNREADABLE, Plant, Refusal, ended, step_of, sync_folder, write_whole
@@ -141,7 +142,7 @@ def next_part(plant, turn, state):
     part = {}
     for name, wanted in turn.tags.items():
         first = turn.stored(name, state)
-        count = min(wanted["rows"] - first, (RECORDS - state[name].records) // 2, room)
+        count = min(wanted["rows"] - first, (RECORDS - state[name].records) // 2, room, turns.TAG_BYTES // turns.row_bytes(name))
         if count > 0:
             part[name] = first, count
             room -= count

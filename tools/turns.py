@@ -13,6 +13,7 @@ from rows import REFUSED_HEADER, Values
 
 WORK = "feed.d/turn"
 COLLECTORS = 16  # of a plan, at most
+TAG_BYTES = 33_000_000  # of a tag's rows in a run: so each collector's file is shorter than the 67,108,864 bytes that the program takes
 
 
 class Turn:
@@ -88,13 +89,19 @@ def read_rows(path):
     return values
 
 
+def row_bytes(name):
+    """How long a row of a tag may be: its name, a time before the year 10000, a value within 10^15, two commas and the line's end."""
+    return len(name.encode()) + 15 + 17 + 3
+
+
 def write_plan(plant, turn, part):
     """The collectors' files and the plan of a run; the part has of each tag the first row and how many. All rows of a tag go to one
     collector, one tag behind the other: a collector syncs each tag that it took twice for 64 rows, so rows in order of time would
     cost some thirty times as many syncs."""
     shares = [[] for _ in range(min(COLLECTORS, len(part)))]
-    for name in sorted(part, key=lambda name: -part[name][1]):
-        min(shares, key=lambda share: sum(part[tag][1] for tag in share)).append(name)
+    size = {name: row_bytes(name) * count for name, (_, count) in part.items()}
+    for name in sorted(part, key=lambda name: -size[name]):
+        min(shares, key=lambda share: sum(size[tag] for tag in share)).append(name)
     for number, share in enumerate(shares):
         with open(plant.path(WORK, "%d.csv" % number), "w") as out:
             for name in share:

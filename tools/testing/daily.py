@@ -1,8 +1,6 @@
 """daily.py: tests of what comes into a plant every day: times and decimals, refused rows, half-written files, wrong clocks, the same
 file twice, and what the tools print in words."""
-import contextlib
 import csv
-import io
 import os
 import re
 import shutil
@@ -13,7 +11,7 @@ import zoneinfo
 import inbox
 import rows
 from plant import Plant
-from trial import GROUP, Trial, base_text, check_same, two_blocks
+from trial import GROUP, Trial, base_text, check_same, printed, two_blocks
 
 
 NOW = 1000 * int(time.time())
@@ -145,10 +143,10 @@ def said_each_time(folder, program, settings):
         text = trial.fed()
         assert "x.csv stays in the inbox: its last line has no end" in text and "y.csv stays in the inbox: it is UTF-16" in text, text
     plant, said = Plant(trial.folder, program), {}
-    with contextlib.redirect_stdout(io.StringIO()) as first:
+    with printed() as first:
         inbox.whole_files(plant, said)
         inbox.whole_files(plant, said)
-    with contextlib.redirect_stdout(io.StringIO()) as later:
+    with printed() as later:
         said["x.csv"] -= inbox.AGAIN + 1
         inbox.whole_files(plant, said)
     assert first.getvalue().count("stays") == 2 and later.getvalue().count("stays") == 1, (first.getvalue(), later.getvalue())

@@ -1,18 +1,18 @@
 """keeping.py: tests of what stands in the archive and is read from it: seals and backups, an archive and a group that are full,
 questions and pictures."""
-import contextlib
 import csv
-import io
 import os
 import re
 import shutil
+import unittest.mock
 import xml.etree.ElementTree
 
 import feed
 import rows
 import seals
+import turns
 from plant import Plant
-from trial import GROUP, HOUR, START, Trial, base_text, check_same, expected, two_blocks
+from trial import GROUP, HOUR, START, Trial, base_text, check_same, expected, printed, two_blocks
 
 SPREAD = 3_000_000
 
@@ -146,12 +146,8 @@ def archive_is_full(folder, program, settings):
     trial = Trial(os.path.join(folder, "a"), program)
     lines = ["FIC1.PV,%d,%d\nLIC4.PV,%d,5\n" % (1000 * n, n % 2 * 100, 1000 * n) for n in range(100)]
     trial.write("inbox/no-room.csv", "".join(lines) + "LIC4.PV,soon,5\n")
-    feed.RECORDS, kept = 40, feed.RECORDS
-    try:
-        with contextlib.redirect_stdout(io.StringIO()) as said:
-            feed.feed(Plant(trial.folder, program), None, 5)
-    finally:
-        feed.RECORDS = kept
+    with printed() as said, unittest.mock.patch.object(feed, "RECORDS", 40):
+        feed.feed(Plant(trial.folder, program), None, 5)
     tags = {m[1]: (int(m[2]), int(m[3])) for m in re.finditer(r"tag (\S+) taken=(\d+) records=(\d+)", trial.by_hand("check", "base.toml"))}
     with open(trial.path("refused/000001/again-no-room.csv")) as text:
         rest = list(csv.reader(text))[1:]
@@ -159,6 +155,27 @@ def archive_is_full(folder, program, settings):
     assert "no-room.csv row 201: LIC4.PV: no ISO time" in said.getvalue(), said.getvalue()
     assert tags["LIC4.PV"][0] == 100 and tags["FIC1.PV"][1] <= 40 and tags["FIC1.PV"][0] + len(rest) == 100 and len(rest) > 40, tags
     assert rest[0][1:3] == ["1970-01-01T00:00:%02d.000Z" % tags["FIC1.PV"][0], "%d.00" % (tags["FIC1.PV"][0] % 2)], rest[0]
+
+
+def files_are_not_too_long(folder, program, settings):
+    """A tag with more rows than a collector's file may have bytes for gets them in several runs. (The limit is lowered for this.)"""
+    trial = Trial(os.path.join(folder, "a"), program)
+    trial.deliver(0, hours=3)
+    wanted = expected(os.path.join(folder, "hand"), program, trial.rows)
+    plant, runs, sizes = Plant(trial.folder, program), [], []
+
+    def call(*words):
+        if words[0] == "run":
+            runs.append(words)
+            sizes.extend(os.path.getsize(trial.path("feed.d/turn", name)) for name in os.listdir(trial.path("feed.d/turn"))
+                         if name[:-4].isdigit())
+        return Plant.call(plant, *words)
+    plant.call = call
+    with printed(), unittest.mock.patch.object(turns, "TAG_BYTES", 1_000):
+        feed.feed(plant, None, 5)
+    check_same(trial.answers(), wanted, "in several runs")
+    assert len(runs) > 2 and max(sizes) <= 1_000, (len(runs), sizes)
+    assert turns.TAG_BYTES + 4_000_000 * turns.row_bytes("N" * 64) // turns.COLLECTORS < 67_108_864
 
 
 def group_is_too_large(folder, program, settings):
@@ -227,4 +244,4 @@ def pictures(folder, program, settings):
     assert trial.tool("draw.py", "NOBODY", *times, "z.svg")[0] == 22 and not os.path.exists(trial.path("z.svg"))
 
 
-CASES = [found_by_seals, which_copy, log_is_sealed, run_by_hand, put_back_from_backup, archive_is_full, group_is_too_large, questions, pictures]
+CASES = [found_by_seals, which_copy, log_is_sealed, run_by_hand, put_back_from_backup, archive_is_full, files_are_not_too_long, group_is_too_large, questions, pictures]

@@ -1,14 +1,17 @@
 """trial.py: a plant that is generated for the tests: eight tags over three days, in files as loggers write them; and ways to stop a feed.
 
 What must come out is found without the tools: the same rows as whole numbers in one collector's file, through the program alone."""
+import contextlib
 import datetime
 import fcntl
+import io
 import os
 import random
 import shutil
 import signal
 import subprocess
 import sys
+import threading
 import time
 
 HERE = os.path.dirname(os.path.abspath(__file__))
@@ -158,6 +161,16 @@ class Trial:
         self.write("questions.csv", "\n".join(asks) + "\n")
         self.write("questions.toml", '[[reader]]\nfile = "questions.csv"\n')
         return self.by_hand("check", base) + self.by_hand("trend", base, "questions.toml")
+
+
+INSIDE = threading.Lock()  # held by a case that calls the tools' functions itself
+
+
+@contextlib.contextmanager
+def printed():
+    """What the tools print that a case calls itself; one case at a time, because there is one standard output."""
+    with INSIDE, contextlib.redirect_stdout(io.StringIO()) as said:
+        yield said
 
 
 KNOWN = {}  # the answers for rows that were asked for already
