@@ -6,8 +6,9 @@ lets `historian run` store them, and moves the files to done/. After a stop of t
 start finds the turn: `historian check` prints how many of its rows each tag has stored, which are the first ones, and the others are
 stored then. A row that cannot be read goes to refused/ with its number and the reason; all others go on.
 
-Exit status: 0 all is stored; 2 to 16 the program's own (docs/TOUR.md); 20 another process works on the plant, or a turn is unfinished; 21 the devices are not
-as the last turn left them; 22 a text or a file cannot be read or written; 127 no program; above that, the program was killed."""
+Exit status: 0 all is stored; 2 wrong words; 3 to 16 the program's own (docs/TOUR.md); 20 another process works on the plant, or a turn
+is unfinished; 21 the devices are not as the last turn left them; 22 a text or a file cannot be read or written; 127 no program; above
+that, the program was killed."""
 import argparse
 import csv
 import os
@@ -243,6 +244,7 @@ def init(plant):
         raise Refusal(UNREADABLE, "feed.toml is there already: nothing was written")
     text = ['inbox = "inbox"           # CSV files are taken from here; write them elsewhere, then move them here\n',
             'future_ms = 60_000        # a value that is later than the clock by more is refused\n',
+            'not_before = 2000-01-01T00:00:00Z  # an earlier one is refused: a clock that was reset, seconds for milliseconds\n',
             '# zone = "Europe/Berlin"  # for times without an offset\n# separator = ";"         # between the fields of a line\n'
             '# decimal = ","           # in place of the point\n# rows_a_run = 1_000_000  # each takes the program 190 bytes of memory\n'
             '# settle_seconds = 2      # how long a file has to be unchanged before it is taken\n',

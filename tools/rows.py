@@ -165,7 +165,7 @@ def read_values(data, scales, settings, latest, values):
     """Adds what a file's bytes hold to the values, and answers its refusals: tag, time, value, line number, reason.
 
     `scales` has the tags of the base, each with its scale or None. A value later than `latest` is refused, so that one wrong clock
-    never makes a tag late for ever."""
+    never makes a tag late for ever; nor is one before `not_before` taken, which could never be removed."""
     refused = []
     for number, tag, time, value in cells(data, settings.separator):
         if tag is None:
@@ -177,6 +177,8 @@ def read_values(data, scales, settings, latest, values):
             t = milliseconds(time, settings.zone)
             if t > latest:
                 raise BadField("later than the clock by more than %d ms: %r" % (settings.future_ms, time))
+            if t < settings.not_before:
+                raise BadField("earlier than not_before in feed.toml: %r (a whole number is milliseconds)" % time)
             values.add(tag, t, whole_value(value, scales[tag], settings.decimal))
         except BadField as why:
             refused.append((tag, time, value, number, str(why)))

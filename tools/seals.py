@@ -145,8 +145,11 @@ def require_good(plant):
     looked at."""
     tags = []
     if os.path.exists(plant.path("feed.d", "turn.json")):
-        with open(plant.path("feed.d", "turn.json")) as text:
-            tags = list(json.load(text)["tags"])
+        try:
+            with open(plant.path("feed.d", "turn.json")) as text:
+                tags = list(json.load(text)["tags"])
+        except (ValueError, KeyError):
+            raise Refusal(CHANGED, "feed.d/turn.json is damaged, so nobody can say what is stored, and nothing was done: run feed.py")
     groups = [name for name in devices(plant) if name.endswith(".grp")] if tags else []
     require_sealed(plant, ["historian.d/%s.tag" % name for name in tags] + groups)
     require_begun(plant, tags)

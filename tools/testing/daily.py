@@ -109,7 +109,8 @@ def written_to_while_fed(folder, program, settings):
 
 
 def wrong_clock(folder, program, settings):
-    """A value from the future is refused, so the ones that come after it are not late."""
+    """A value from the future is refused, so the ones that come after it are not late; so is one from before `not_before`, such as one
+    whose time is in seconds."""
     trial = Trial(os.path.join(folder, "a"), program)
     stamps = [NOW - 120_000, NOW + 20_000, NOW + 600_000, 253_402_300_799_999, NOW + 21_000]
     trial.write("inbox/x.csv", "".join("LIC4.PV,%d,%d\n" % (t, 10 * n) for n, t in enumerate(stamps)))
@@ -117,6 +118,13 @@ def wrong_clock(folder, program, settings):
     assert "3 values of 1 tags stored, 2 refused" in text and "later than the clock by more than 60000 ms" in text, text
     assert "taken=3 " in trial.by_hand("check", "base.toml").split("LIC4.PV")[1]
     assert "late=0 held=%d,40" % stamps[-1] in trial.by_hand("check", "base.toml")
+    for given in ("2000-01-01T00:00:00Z", '"2000-01-01T00:00:00Z"', "946_684_800_000"):
+        trial.write("feed.toml", "not_before = %s\nsettle_seconds = 0\n" % given)
+        trial.write("inbox/y.csv", "LIC4.PV,946684799999,%s\nLIC4.PV,%d,60\nLIC4.PV,946684800000,70\n" % (given[1], NOW // 1000))
+        text = trial.fed()
+        assert "1 values of 1 tags stored, 2 refused" in text and "earlier than not_before in feed.toml: '946684799999'" in text, text
+    trial.write("feed.toml", "not_before = 2000-01-01\n")
+    assert trial.feed()[0] == 22 and "not_before: a time without an offset" in trial.feed()[1]
 
 
 def same_file_twice(folder, program, settings):

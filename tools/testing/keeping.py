@@ -53,6 +53,8 @@ def which_copy(folder, program, settings):
         out.seek(401)
         out.write(b"Q")
     assert "an older copy of one file does not fit the others: put the whole plant back from %s (" % first in trial.feed()[1]
+    shutil.copy(trial.path(first, "historian.d/LIC4.PV.tag"), device)  # put back wrongly
+    assert "historian.d/LIC4.PV.tag is not as the last turn left it" in trial.feed()[1]
     shutil.rmtree(trial.path("backup"))
     text = trial.feed()[1]
     assert "No backup has this device. If done/ has all files that were fed, move historian.d and feed.d away" in text, text
