@@ -149,7 +149,7 @@ def require_good(plant):
             with open(plant.path("feed.d", "turn.json")) as text:
                 tags = list(json.load(text)["tags"])
         except (ValueError, KeyError):
-            raise Refusal(CHANGED, "feed.d/turn.json is damaged, so nobody can say what is stored, and nothing was done: run feed.py")
+            raise Refusal(CHANGED, "feed.d/turn.json is damaged, so nobody can say what is stored, and nothing was done: run feed.py") from None
     groups = [name for name in devices(plant) if name.endswith(".grp")] if tags else []
     require_sealed(plant, ["historian.d/%s.tag" % name for name in tags] + groups)
     require_begun(plant, tags)
