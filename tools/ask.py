@@ -19,6 +19,7 @@ import tempfile
 import seals
 from plant import UNREADABLE, Plant, Refusal, ended
 from rows import BadField, decimal_text, iso_text, milliseconds
+from turns import require_scales
 
 READERS, QUERIES = 16, 4_096   # of a plan; of a reader's file
 PARTS = 16                     # into which a stretch with more points is divided
@@ -34,6 +35,7 @@ class Archive:
         self.base = plant.fed_base()
         seals.require_good(plant)
         self.tags, self.groups = plant.base(self.base)
+        require_scales(plant, self.tags)
 
     def replies(self, queries):
         """The text of each reply. As many questions as fit go to the program at once."""

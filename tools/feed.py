@@ -20,7 +20,7 @@ from devices import retuned
 from inbox import note_fed, put_file, read_inbox, whole_files
 from plant import BUSY, CHANGED, UNREADABLE, Plant, Refusal, ended, step_of, sync_folder, write_whole
 from rows import decimal_text, iso_text
-from turns import Turn, end, put_refused, unfinished, write_down, write_plan, write_refused
+from turns import Turn, end, note_scales, put_refused, require_scales, unfinished, write_down, write_plan, write_refused
 
 RECORDS, ALL_RECORDS = 1_048_560, 8_380_000  # of a tag, of all tags: a little below the limits, so that a retuning still has room
 BASE, NEW_BASE = "feed.d/base.toml", "feed.d/base.new.toml"
@@ -40,9 +40,10 @@ def begin(plant, names):
     sync_folder(plant.path())
     state = open_devices(plant)
     tags = plant.base(BASE)[0]
+    require_scales(plant, tags)
     number, values, files, refused = read_inbox(plant, names, tags)
-    wanted = {name: {"taken": state[name].taken, "held": state[name].held, "rows": len(values.of(name)[0])}
-              for name in tags if name in values.tags}
+    wanted = {name: {"taken": state[name].taken, "held": state[name].held, "rows": len(values.of(name)[0]),
+                     "scale": plant.scale(name, tags[name]) or 1} for name in tags if name in values.tags}
     turn = Turn(number, files, wanted, values)
     write_down(plant, turn, refused)
     return turn, state
@@ -154,6 +155,7 @@ def put_away(plant, turn, state):
     """Seals the devices, notes the files as fed, moves them, and ends the turn. After a stop in between all of it is repeated."""
     without_room = refuse_rest(plant, turn, state)
     seals.seal(plant)
+    note_scales(plant, turn)
     note_fed(plant, turn)
     put_refused(plant, turn)
     for file in turn.files:
@@ -168,7 +170,7 @@ def refuse_rest(plant, turn, state):
     for name in turn.tags:
         times, values = turn.values.of(name)
         for place in range(turn.stored(name, state), len(times)):
-            value = decimal_text(values[place], plant.scale(name, tags[name]) or 1)
+            value = decimal_text(values[place], turn.tags[name].get("scale", plant.scale(name, tags[name]) or 1))
             rows.append((name, iso_text(times[place], None), value, "", "the archive has no room for more records of this tag"))
     name = NO_ROOM
     while name in [file["name"] for file in turn.files]:

@@ -54,7 +54,8 @@ def within_time(t, text):
 
 
 def whole_value(text, scale, decimal="."):
-    """A decimal times the scale, rounded half away from zero. Without a scale (None) only whole numbers are taken."""
+    """A decimal times the scale, rounded half away from zero. Without a scale (None) only whole numbers are taken, and not 7.00: where such
+    a value comes there will be others, and a scale cannot be given any more once there are values."""
     plain = text if decimal == "." else text.replace(".", "?").replace(decimal, ".")
     match = NUMBER.fullmatch(plain) if len(plain) <= 64 else None
     sign, whole, fraction, exponent = match.groups() if match else ("", "", "", "")
@@ -62,7 +63,7 @@ def whole_value(text, scale, decimal="."):
     if not whole and not fraction:
         raise BadField("no number: %r" % text[:64])
     over, under = int(whole + fraction) * (scale or 1) * 10 ** max(power, 0), 10 ** (len(fraction) + max(-power, 0))
-    if scale is None and over % under:
+    if scale is None and (fraction or over % under):
         raise BadField("a decimal, and no scale for this tag in feed.toml: %r" % text)
     value = (2 * over + under) // (2 * under)
     if value > MOST_VALUE:

@@ -52,7 +52,8 @@ def seal_lines(plant):
     except FileNotFoundError:
         return None
     if None in found:
-        raise Refusal(CHANGED, "feed.d/seals is damaged, and nothing was done. Compare the devices with a backup, then call feed.py --seal.")
+        raise Refusal(CHANGED, "feed.d/seals is damaged, and nothing was done. Compare the devices with a backup, then call"
+                      " feed.py --seal.")
     return [match.groups() for match in found]
 
 
@@ -149,7 +150,8 @@ def require_good(plant):
             with open(plant.path("feed.d", "turn.json")) as text:
                 tags = list(json.load(text)["tags"])
         except (ValueError, KeyError):
-            raise Refusal(CHANGED, "feed.d/turn.json is damaged, so nobody can say what is stored, and nothing was done: run feed.py") from None
+            raise Refusal(CHANGED, "feed.d/turn.json is damaged, so nobody can say what is stored, and nothing was done: run"
+                          " feed.py") from None
     groups = [name for name in devices(plant) if name.endswith(".grp")] if tags else []
     require_sealed(plant, ["historian.d/%s.tag" % name for name in tags] + groups)
     require_begun(plant, tags)
@@ -212,7 +214,7 @@ def back_up(plant):
     remove_unfinished(plant)
     name = time.strftime("%Y-%m-%dT%H%M%SZ", time.gmtime())
     part = plant.path("backup", name + ".part")
-    texts = ["base.toml", "feed.toml", "feed.d/base.toml", "feed.d/seals", "feed.d/fed"]
+    texts = ["base.toml", "feed.toml", "feed.d/base.toml", "feed.d/seals", "feed.d/fed", "feed.d/scales"]
     kept, log = sealed(plant), sealed_log(plant)
     for file in texts + list(kept) + [LOG]:
         if os.path.isfile(plant.path(file)):

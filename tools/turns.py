@@ -8,7 +8,7 @@ import json
 import os
 import shutil
 
-from plant import CHANGED, Refusal, copied, sync_folder, write_whole
+from plant import CHANGED, UNREADABLE, Refusal, copied, sync_folder, write_whole
 from rows import REFUSED_HEADER, Values
 
 WORK = "feed.d/turn"
@@ -109,6 +109,33 @@ def write_plan(plant, turn, part):
     with open(plant.path(WORK, "plan.toml"), "w") as out:
         out.writelines('[[collector]]\nfile = "%s/%d.csv"\n' % (WORK, number) for number in range(len(shares)))
     return WORK + "/plan.toml"
+
+
+def stored_scales(plant):
+    """With what scale the values of each tag are stored."""
+    try:
+        with open(plant.path("feed.d", "scales")) as text:
+            return {str(name): int(scale) for name, scale in json.load(text).items()}
+    except FileNotFoundError:
+        return {}
+    except (ValueError, AttributeError, TypeError):
+        raise Refusal(CHANGED, "feed.d/scales is damaged, and nothing was done. Put it back from the newest backup.") from None
+
+
+def require_scales(plant, tags):
+    """Ends with a refusal if a tag has another scale now than that of its values: all of them would be read wrongly."""
+    for name, scale in stored_scales(plant).items():
+        now = plant.scale(name, tags[name]) or 1 if name in tags else scale
+        if now != scale:
+            raise Refusal(UNREADABLE, "the values of %s are stored with scale %d, and feed.toml (or `engunits` in base.toml) has %d now, so"
+                          " all of them would be read wrongly. Nothing was done. Put the old scale back; or, to have another one, begin the"
+                          " plant anew: move historian.d and feed.d away, and feed the files of done/ again." % (name, scale, now))
+
+
+def note_scales(plant, turn):
+    """Notes with what scale the values of a turn were stored."""
+    scales = stored_scales(plant) | {name: wanted["scale"] for name, wanted in turn.tags.items() if "scale" in wanted}
+    write_whole(plant.path("feed.d", "scales"), json.dumps(scales, indent=1).encode())
 
 
 def put_refused(plant, turn):

@@ -39,9 +39,11 @@ def times_and_decimals(folder, program, settings):
             ("1969-12-31T23:59:59Z", None, "before 1970"), ("9" * 30, None, "after 9999"), ("", None, "no ISO time")]:
         assert zone and zone not in zones or why in refused(rows.milliseconds, text, zone), text
     for text, scale, wanted in [("48.703", 100, 4870), ("48.705", 100, 4871), ("-48.705", 100, -4871), ("0.004", 100, 0), (".5", 10, 5),
-                                ("7", None, 7), ("7.00", None, 7), ("1.25E2", 1, 125), ("5e-1", 1, 1), ("-0.5", 1, -1), ("+3.", 1, 3)]:
+                                ("7", None, 7), ("7.", None, 7), ("7.00", 1, 7), ("1.25E2", 1, 125), ("5e-1", 1, 1),
+                                ("-0.5", 1, -1), ("+3.", 1, 3)]:
         assert rows.whole_value(text, scale) == wanted, (text, rows.whole_value(text, scale))
-    for text, scale, why in [("7.5", None, "no scale"), ("Bad", 1, "no number"), ("", 1, "no number"), ("1,5", 1, "no number"),
+    for text, scale, why in [("7.5", None, "no scale"), ("7.00", None, "no scale"), ("Bad", 1, "no number"), ("", 1, "no number"),
+                             ("1,5", 1, "no number"),
                              ("nan", 1, "no number"), ("1e16", 1, "too large"), ("9" * 400, 1, "no number")]:
         assert why in refused(rows.whole_value, text, scale), (text, refused(rows.whole_value, text, scale))
     assert rows.whole_value("48,7", 10, ",") == 487 and "no number" in refused(rows.whole_value, "1.048", 10, ",")
@@ -81,6 +83,24 @@ def no_scale_no_decimals(folder, program, settings):
     trial.write("inbox/x.csv", "FIC1.PV,5,1.239\nLIC4.PV,5,1.2\nLIC4.PV,6,3\n")
     assert "2 values of 2 tags stored, 1 refused" in trial.fed()
     assert "held=5,124\n" in trial.by_hand("check", "base.toml") and "held=6,3\n" in trial.by_hand("check", "base.toml")
+
+
+def scale_stays(folder, program, settings):
+    """Another scale of a tag that has values is refused by each tool, and nothing is stored; a turn that was stopped keeps its own."""
+    trial = Trial(os.path.join(folder, "a"), program)
+    trial.write("feed.toml", "settle_seconds = 0\n")
+    trial.write("inbox/x.csv", "LIC4.PV,5,12\nLIC4.PV,6,50.04\nFIC1.PV,6,7\n")
+    assert "2 values of 2 tags stored, 1 refused" in trial.fed()
+    before = trial.by_hand("check", "base.toml")
+    shutil.move(trial.path("refused/000001/x.csv"), trial.path("inbox/y.csv"))
+    trial.write("feed.toml", 'settle_seconds = 0\n[tag."LIC4.PV"]\nscale = 100\n')
+    for status, text in (trial.feed(), trial.tool("ask.py", "snap,FIC1.PV"), trial.tool("draw.py", "FIC1.PV", "0", "9", "x.svg")):
+        assert status == 22 and "the values of LIC4.PV are stored with scale 1" in text and "has 100 now" in text, (status, text)
+    assert trial.by_hand("check", "base.toml") == before and os.listdir(trial.path("inbox")) == ["y.csv"]
+    trial.write("feed.toml", 'settle_seconds = 0\n[tag."LIC4.PV"]\nscale = 1\n')
+    assert trial.feed(how="half")[0] == 137
+    trial.write("feed.toml", 'settle_seconds = 0\n[tag."XV7.ZSO"]\nscale = 10\n')
+    assert "turn 2: 1 files, 1 values of 1 tags stored" in trial.fed() and "held=6,50\n" in trial.by_hand("check", "base.toml")
 
 
 def half_written_file(folder, program, settings):
@@ -225,5 +245,6 @@ def goes_on_every_second(folder, program, settings):
         child.communicate()
 
 
-CASES = [times_and_decimals, refused_rows, no_scale_no_decimals, half_written_file, written_to_while_fed, wrong_clock, same_file_twice,
+CASES = [times_and_decimals, refused_rows, no_scale_no_decimals, scale_stays, half_written_file, written_to_while_fed, wrong_clock,
+         same_file_twice,
          said_each_time, no_csv_at_all, faults_in_words, begins_with_init, goes_on_every_second]

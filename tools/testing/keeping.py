@@ -246,4 +246,5 @@ def pictures(folder, program, settings):
     assert trial.tool("draw.py", "NOBODY", *times, "z.svg")[0] == 22 and not os.path.exists(trial.path("z.svg"))
 
 
-CASES = [found_by_seals, which_copy, log_is_sealed, run_by_hand, put_back_from_backup, archive_is_full, files_are_not_too_long, group_is_too_large, questions, pictures]
+CASES = [found_by_seals, which_copy, log_is_sealed, run_by_hand, put_back_from_backup, archive_is_full, files_are_not_too_long,
+         group_is_too_large, questions, pictures]

@@ -255,4 +255,4 @@ def check_put_away(trial, count):
     done = [name for turn in os.listdir(trial.path("done")) for name in os.listdir(trial.path("done", turn))]
     assert len(done) == len(set(done)) == count, sorted(done)
     assert not os.path.exists(trial.path("refused")), os.listdir(trial.path("refused"))
-    assert sorted(os.listdir(trial.path("feed.d"))) == ["base.toml", "fed", "seals"], os.listdir(trial.path("feed.d"))
+    assert sorted(os.listdir(trial.path("feed.d"))) == ["base.toml", "fed", "scales", "seals"], os.listdir(trial.path("feed.d"))
