@@ -228,10 +228,16 @@ def one_turn(plant, said, wait):
 
 
 def feed(plant, every, wait):
-    """Turns until the inbox is empty; then it looks again each so many seconds, if it is asked to."""
+    """Turns until the inbox is empty; with `every` it then looks again and again, and outlasts another process that has the plant."""
     said, patience = {}, 3
     while True:
-        made, waiting = one_turn(plant, said, wait)
+        try:
+            made, waiting = one_turn(plant, said, wait)
+        except Refusal as refusal:
+            if every is None or refusal.status != BUSY:
+                raise
+            say(refusal.text)
+            made, waiting = False, False
         if made:
             continue
         if every is None and not (waiting and patience):

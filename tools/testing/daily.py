@@ -1,6 +1,7 @@
 """daily.py: tests of what comes into a plant every day: times and decimals, refused rows, half-written files, wrong clocks, the same
 file twice, and what the tools print in words."""
 import csv
+import fcntl
 import os
 import re
 import shutil
@@ -232,19 +233,24 @@ def begins_with_init(folder, program, settings):
 
 
 def goes_on_every_second(folder, program, settings):
-    """With --every it feeds what comes while it runs."""
+    """With --every it feeds what comes while it runs, also behind a process that has the plant for long."""
     trial = Trial(os.path.join(folder, "a"), program)
     child = subprocess.Popen(trial.words("--every", "0.2"), stdout=subprocess.PIPE, text=True)
     try:
-        for number in (1, 2):
+        for number in (1, 2, 3):
+            if number == 3:
+                with open(trial.path("historian.d", "feed.lock"), "a") as lock:
+                    fcntl.flock(lock, fcntl.LOCK_EX)
+                    assert "another process works on this plant" in child.stdout.readline()
             trial.write("x%d.part" % number, "LIC4.PV,%d,5\n" % (1000 * number))
             os.rename(trial.path("x%d.part" % number), trial.path("inbox/x%d.csv" % number))
-            assert child.stdout.readline().startswith("turn %d: 1 files, 1 values" % number)
+            while "another process" in (line := child.stdout.readline()):
+                pass
+            assert line.startswith("turn %d: 1 files, 1 values" % number), line
     finally:
         child.kill()
         child.communicate()
 
 
 CASES = [times_and_decimals, refused_rows, no_scale_no_decimals, scale_stays, half_written_file, written_to_while_fed, wrong_clock,
-         same_file_twice,
-         said_each_time, no_csv_at_all, faults_in_words, begins_with_init, goes_on_every_second]
+         same_file_twice, said_each_time, no_csv_at_all, faults_in_words, begins_with_init, goes_on_every_second]
