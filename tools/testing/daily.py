@@ -6,13 +6,14 @@ import os
 import re
 import shutil
 import subprocess
+import tempfile
 import time
 import zoneinfo
 
 import inbox
 import rows
 from plant import Plant
-from trial import GROUP, Trial, base_text, check_same, printed, two_blocks
+from trial import GROUP, Trial, base_text, check_same, feed_text, printed, two_blocks
 
 
 NOW = 1000 * int(time.time())
@@ -127,6 +128,25 @@ def written_to_while_fed(folder, program, settings):
     status, text = trial.feed(how="append")
     assert status == 0 and "x.csv was written to while it was fed: the first 2 values are stored" in text, text
     assert len(trial.read("refused/000001/x.csv.changed").splitlines()) == 3 and not os.listdir(trial.path("inbox"))
+
+
+def inbox_on_another_disk(folder, program, settings):
+    """Files of an inbox on another disk are copied to done/ and then removed, also where the feeder is killed before it removes them."""
+    if not os.path.isdir("/dev/shm") or os.stat("/dev/shm").st_dev == os.stat(folder).st_dev:
+        return "there is one disk here: not tried"
+    trial = Trial(os.path.join(folder, "a"), program)
+    with tempfile.TemporaryDirectory(dir="/dev/shm", prefix="tools-") as inbox:
+        trial.write("feed.toml", 'inbox = "%s"\n%s' % (inbox, feed_text()))
+        os.rmdir(trial.path("inbox"))
+        os.symlink(inbox, trial.path("inbox"))
+        trial.write("inbox/x.csv", "LIC4.PV,1000,5\nLIC4.PV,2000,60\n")
+        if shutil.which("strace"):
+            status, text = trial.feed(under=["strace", "-qq", "-o", "/dev/null", "-P", os.path.join(inbox, "x.csv"),
+                                             "-e", "inject=unlink:signal=KILL:when=1", "-e", "trace=unlink"])
+            assert status in (137, -9) and os.listdir(trial.path("done/000001")) == ["x.csv"], (status, text)
+        assert "2 values of 1 tags stored" in trial.fed() and os.listdir(inbox) == [], os.listdir(inbox)
+        assert trial.read("done/000001/x.csv").startswith("LIC4.PV,1000,5\n")
+        assert "taken=2 " in trial.by_hand("check", "base.toml").split("LIC4.PV")[1]
 
 
 def wrong_clock(folder, program, settings):
@@ -252,5 +272,6 @@ def goes_on_every_second(folder, program, settings):
         child.communicate()
 
 
-CASES = [times_and_decimals, refused_rows, no_scale_no_decimals, scale_stays, half_written_file, written_to_while_fed, wrong_clock,
-         same_file_twice, said_each_time, no_csv_at_all, faults_in_words, begins_with_init, goes_on_every_second]
+CASES = [times_and_decimals, refused_rows, no_scale_no_decimals, scale_stays, half_written_file, written_to_while_fed,
+         inbox_on_another_disk, wrong_clock, same_file_twice, said_each_time, no_csv_at_all, faults_in_words, begins_with_init,
+         goes_on_every_second]
