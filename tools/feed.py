@@ -219,7 +219,7 @@ def one_turn(plant, said, wait):
             names = [name for name in seals.sealed(plant) or () if name.endswith(".tag")]
             seals.require_begun(plant, [os.path.basename(name)[:-len(".tag")] for name in names])
         else:
-            seals.require_sealed(plant)
+            seals.require_known(plant)
         names, waiting = whole_files(plant, said)
         edited = os.path.exists(plant.path(BASE)) and is_base_new(plant)  # then a turn without files takes it over
         if names or edited:

@@ -18,6 +18,7 @@ from plant import CHANGED, Refusal, copied, sha256_of, sync_folder, write_whole
 
 LINE = re.compile(r"([0-9a-f]{64}|# \d+ events|# [0-9a-f]{64} of the first \d+ bytes)  (historian\.d/.+)\n")
 LOG = "historian.d/plant.log"
+SHOWN = 20  # devices that a line tells of
 UNFINISHED = re.compile(r"\d{4}-\d\d-\d\dT\d{6}Z\.part")
 
 
@@ -109,6 +110,20 @@ def require_sealed(plant, but=()):
         lines = ["%s %s.\n    %s" % (name, what, copy_of(plant, name, kept.get(name))) for name, what in found.items()]
         lines.append("If you know the change and want it (you ran the program by hand), accept it with feed.py --seal.")
         raise Refusal(CHANGED, "nothing was done:\n  " + "\n  ".join(lines))
+
+
+def require_known(plant):
+    """Ends with a refusal if a device is not as it was sealed, or if there are no seals, but values. Somebody stored those by hand, and
+    may be about to feed the same rows again, which would all come late."""
+    require_sealed(plant)
+    names = [name for name in devices(plant) if name.endswith(".tag")] if sealed(plant) is None else []
+    events = [(name, events_on(plant.path(name))) for name in names]
+    lines = ["%s has %d events" % (name, count) for name, count in events if count]
+    if lines:
+        lines[SHOWN:] = ["and %d more" % (len(lines) - SHOWN)] if len(lines) > SHOWN else []
+        lines.append("A row that is stored must not be fed again: of each tag remove so many of the first rows from your files (an event is"
+                     " a row or a retuning). Then accept the devices with feed.py --seal.")
+        raise Refusal(CHANGED, "no turn stored what is in historian.d, and nothing was done:\n  " + "\n  ".join(lines))
 
 
 def verified(plant):
@@ -206,10 +221,10 @@ def remove_unfinished(plant):
 
 def back_up(plant):
     """Copies texts, devices, seals and the list of fed files, compares the devices with the seals, and answers the copy's name."""
+    require_known(plant)
     if sealed(plant) is None:
         os.makedirs(plant.path("feed.d"), exist_ok=True)
         seal(plant)
-    require_sealed(plant)
     put_seals(plant, ["%s  %s\n" % (what, name) for what, name in seal_lines(plant) if name != LOG])
     remove_unfinished(plant)
     name = time.strftime("%Y-%m-%dT%H%M%SZ", time.gmtime())

@@ -12,7 +12,7 @@ import rows
 import seals
 import turns
 from plant import Plant
-from trial import GROUP, HOUR, START, Trial, base_text, check_same, expected, printed, two_blocks
+from trial import GROUP, HOUR, LINES, START, STEPS, Trial, base_text, check_same, expected, printed, two_blocks
 
 SPREAD = 3_000_000
 
@@ -115,6 +115,29 @@ def run_by_hand(folder, program, settings):
     assert "historian.d/LIC4.PV.tag is not as the last turn left it" in text and "it has 61 events now, and had 60" in text, text
     os.remove(trial.path("historian.d/unit.grp"))
     assert "turn 2" in trial.fed() and "9 devices, each as" in trial.fed("--verify")
+
+
+def killed_by_hand(folder, program, settings):
+    """The program was run by hand and killed before the feeder was ever used: the feeder says how many rows of each tag are stored, and
+    feeds none of them again; ask.py answers."""
+    trial = Trial(os.path.join(folder, "a"), program)
+    trial.deliver(0, hours=3)
+    wanted = expected(os.path.join(folder, "hand"), program, trial.rows)
+    half = trial.rows[:150]
+    trial.store_by_hand(half)
+    for asked in (("--backup",), ()):
+        status, text = trial.feed(*asked)
+        assert status == 21 and "no turn stored what is in historian.d" in text and "feed.py --seal" in text, (status, text)
+    stored = dict(re.findall(r"historian.d/(\S+).tag has (\d+) events", text))
+    assert stored == {name: str(sum(row[1] == name for row in half)) for _, name, _ in half}, stored
+    assert trial.tool("ask.py", "snap,FIC1.PV")[0] == 0 and len(os.listdir(trial.path("inbox"))) == 2
+    trial.fed("--seal")
+    for name in os.listdir(trial.path("inbox")):
+        os.remove(trial.path("inbox", name))
+    trial.write("inbox/rest.csv", "".join("%s,%d,%s\n" % (name, t, rows.decimal_text(v, (LINES | STEPS)[name]))
+                                          for t, name, v in trial.rows[150:]))
+    trial.fed()
+    check_same(trial.answers(), wanted, "after the rest was fed")
 
 
 def put_back_from_backup(folder, program, settings):
@@ -246,5 +269,5 @@ def pictures(folder, program, settings):
     assert trial.tool("draw.py", "NOBODY", *times, "z.svg")[0] == 22 and not os.path.exists(trial.path("z.svg"))
 
 
-CASES = [found_by_seals, which_copy, log_is_sealed, run_by_hand, put_back_from_backup, archive_is_full, files_are_not_too_long,
-         group_is_too_large, questions, pictures]
+CASES = [found_by_seals, which_copy, log_is_sealed, run_by_hand, killed_by_hand, put_back_from_backup, archive_is_full,
+         files_are_not_too_long, group_is_too_large, questions, pictures]
