@@ -41,19 +41,20 @@ def turn_seconds(folder, program):
 
 def killed_at_random(folder, program, settings):
     """Feeder, program or both are killed at random moments, until the kills are used up; then the feed ends by itself."""
-    draw, kills, plants = random.Random(settings.seed), 0, 0
+    draw, kills, met, plants = random.Random(settings.seed), 0, 0, 0
     longest = turn_seconds(os.path.join(folder, "timed"), program)
     while kills < settings.kills:
         trial, plants = three_days(os.path.join(folder, "fed%d" % plants), program), plants + 1
         wanted = expected(os.path.join(folder, "hand"), program, trial.rows)
         while kills < settings.kills and os.listdir(trial.path("inbox")):
-            kills += feed_and_kill(trial, draw.uniform(0.05, longest), draw.choice(("feeder", "program", "both")))
+            was_killed, has_met = feed_and_kill(trial, draw.uniform(0.05, longest), draw.choice(("feeder", "program", "both")))
+            kills, met = kills + was_killed, met + has_met
         wait_for_orphans(trial)
         trial.fed()
         check_same(trial.answers(), wanted, "after %d kills (seed %d)" % (kills, settings.seed))
         check_put_away(trial, 2 * BLOCKS)
         shutil.rmtree(trial.folder)
-    return "%d kills over %d plants" % (kills, plants)
+    return "%d kills over %d plants, %d while the program ran" % (kills, plants, met)
 
 
 def strace(call, number, device=None):

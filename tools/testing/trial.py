@@ -208,7 +208,8 @@ def kill(process):
 
 
 def feed_and_kill(trial, delay, whom):
-    """Starts a feed and kills it after a delay: the feeder, its program, or both. Answers whether something was killed."""
+    """Starts a feed and kills it after a delay: the feeder, its program, or both. Answers whether something was killed, and whether the
+    program ran."""
     child = subprocess.Popen(trial.words(), stdout=subprocess.DEVNULL, stderr=subprocess.DEVNULL)
     time.sleep(delay)
     running = child.poll() is None
@@ -219,7 +220,7 @@ def feed_and_kill(trial, delay, whom):
         for process in program:
             kill(process)
     child.wait()
-    return running
+    return running, running and bool(program)
 
 
 def wait_for_orphans(trial):
