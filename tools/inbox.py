@@ -80,6 +80,7 @@ def note_fed(plant, turn):
         out.write(("\n" * torn + "".join(lines)).encode("utf-8", "surrogateescape"))
         out.flush()
         os.fsync(out.fileno())
+    sync_folder(plant.path("feed.d"))
 
 
 def read_inbox(plant, names, tags):

@@ -242,5 +242,6 @@ def back_up(plant):
         if os.path.isdir(os.path.join(part, folder)):
             sync_folder(os.path.join(part, folder))
     os.replace(part, plant.path("backup", name))
-    sync_folder(plant.path("backup"))
+    for folder in ("backup", ""):
+        sync_folder(plant.path(folder))
     return "backup/" + name
