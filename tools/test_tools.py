@@ -3,8 +3,9 @@
 
 The short form (two minutes at most) kills twenty times at random moments and at some of the program's and the feeder's calls, and cuts
 the power 18 times; --long kills 300 times at random moments, and at each n-th write and sync of the program and each n-th sync, rename
-and removal of the feeder, and cuts the power 300 times, if strace is there. Each time the lines of `check` and the replies of `trend` have to be those of a plant that was never stopped,
-which the program makes by hand of the same rows. It prints a line for each case, and last `N passed, N failed`."""
+and removal of the feeder, and cuts the power 300 times, if strace is there. Each time the lines of `check` and the replies of `trend`
+have to be those of a plant that was never stopped, which the program makes by hand of the same rows. It prints a line for each case,
+and last `N passed, N failed`."""
 import argparse
 import concurrent.futures
 import os
