@@ -32,29 +32,36 @@ def undisturbed(folder, program, settings):
     check_put_away(trial, 2 * BLOCKS)
 
 
-def turn_seconds(folder, program):
-    """How long a feed of three days takes, a turn of it in the mean."""
+def durations(folder, program):
+    """How long a feed takes that has nothing to do, and how long a turn of three days takes in the mean."""
     trial, begin = three_days(folder, program), time.monotonic()
     trial.fed()
-    return (time.monotonic() - begin) / len(os.listdir(trial.path("done")))
+    between = time.monotonic()
+    trial.fed()
+    idle = time.monotonic() - between
+    return idle, max(0.02, (between - begin - idle) / len(os.listdir(trial.path("done"))))
 
 
 def killed_at_random(folder, program, settings):
-    """Feeder, program or both are killed at random moments, until the kills are used up; then the feed ends by itself."""
+    """Feeder, program or both are killed at random moments, until the kills are used up; then the feed ends by itself. Half of the moments
+    are counted from where the program begins to store rows, because a fast one does so for a small part of a turn."""
     draw, kills, met, plants = random.Random(settings.seed), 0, 0, 0
-    longest = turn_seconds(os.path.join(folder, "timed"), program)
+    idle, turn = durations(os.path.join(folder, "timed"), program)
     while kills < settings.kills:
         trial, plants = three_days(os.path.join(folder, "fed%d" % plants), program), plants + 1
         wanted = expected(os.path.join(folder, "hand"), program, trial.rows)
         while kills < settings.kills and os.listdir(trial.path("inbox")):
-            was_killed, has_met = feed_and_kill(trial, draw.uniform(0.05, longest), draw.choice(("feeder", "program", "both")))
+            waits, whom = draw.random() < 0.5, draw.choice(("feeder", "program", "both"))
+            delay = turn * draw.random() ** 2 if waits else draw.uniform(0.05, idle + 1.5 * turn)
+            was_killed, has_met = feed_and_kill(trial, delay, whom, waits)
             kills, met = kills + was_killed, met + has_met
         wait_for_orphans(trial)
         trial.fed()
         check_same(trial.answers(), wanted, "after %d kills (seed %d)" % (kills, settings.seed))
         check_put_away(trial, 2 * BLOCKS)
         shutil.rmtree(trial.folder)
-    return "%d kills over %d plants, %d while the program ran" % (kills, plants, met)
+    assert met >= kills // 10, "only %d of %d kills met the program" % (met, kills)
+    return "%d kills over %d plants, %d while the program stored rows" % (kills, plants, met)
 
 
 def strace(call, number, device=None):

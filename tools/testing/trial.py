@@ -207,20 +207,33 @@ def kill(process):
         pass
 
 
-def feed_and_kill(trial, delay, whom):
-    """Starts a feed and kills it after a delay: the feeder, its program, or both. Answers whether something was killed, and whether the
-    program ran."""
+def storing(process):
+    """The processes of `run` that a feeder started."""
+    found = []
+    for child in children(process):
+        try:
+            with open("/proc/%d/cmdline" % child, "rb") as text:
+                found += [child] if b"\0run\0" in text.read() else []
+        except OSError:
+            pass
+    return found
+
+
+def feed_and_kill(trial, delay, whom, waits):
+    """Starts a feed, if asked to waits until the program stores rows, and kills after a delay: the feeder, its program, or both. Answers
+    whether something was killed, and whether the program stored rows just then."""
     child = subprocess.Popen(trial.words(), stdout=subprocess.DEVNULL, stderr=subprocess.DEVNULL)
+    while waits and child.poll() is None and not storing(child.pid):
+        time.sleep(0.001)
     time.sleep(delay)
-    running = child.poll() is None
-    program = children(child.pid)
+    running, program, stores = child.poll() is None, children(child.pid), bool(storing(child.pid))
     if whom != "program" or not program:
         kill(child.pid)
     if whom != "feeder":
         for process in program:
             kill(process)
     child.wait()
-    return running, running and bool(program)
+    return running, running and stores
 
 
 def wait_for_orphans(trial):
