@@ -19,11 +19,12 @@ import tempfile
 import seals
 from plant import UNREADABLE, Plant, Refusal, ended
 from rows import BadField, decimal_text, iso_text, milliseconds
+from turns import require_scales
 
 READERS, QUERIES = 16, 4_096   # of a plan; of a reader's file
 PARTS = 16                     # into which a stretch with more points is divided
 MEASURES = ("area", "avg", "total", "low", "high", "count", "first", "last")
-WAIT = 60                      # seconds for the feeder's turn to end
+WAIT = 60                      # seconds for the feeder's turn to end, if --wait does not say otherwise
 
 
 class Archive:
@@ -34,6 +35,7 @@ class Archive:
         self.base = plant.fed_base()
         seals.require_good(plant)
         self.tags, self.groups = plant.base(self.base)
+        require_scales(plant, self.tags)
 
     def replies(self, queries):
         """The text of each reply. As many questions as fit go to the program at once."""
@@ -186,12 +188,13 @@ def main():
     parser.add_argument("--every", type=int, metavar="MILLISECONDS", help="with --csv: values at equal steps in place of points")
     parser.add_argument("--plant", default=".", metavar="FOLDER", help="the plant's folder (default: this one)")
     parser.add_argument("--program", default="historian", metavar="PATH", help="the historian (default: on the path)")
+    parser.add_argument("--wait", type=float, default=WAIT, metavar="SECONDS", help="for another process on this plant to end (60)")
     given = parser.parse_args()
     if given.csv and len(given.query) != 3 or given.every is not None and (not given.csv or given.every < 1):
         parser.error("--csv takes TAG FROM TO, and --every takes at least 1 and goes with --csv")
     plant, out = Plant(given.plant, given.program), csv.writer(sys.stdout, lineterminator="\n")
     require_devices(plant)
-    with plant.locked("ask.py", WAIT):
+    with plant.locked("ask.py", given.wait):
         archive = Archive(plant)
         if given.csv:
             tag, first, last = given.query

@@ -93,7 +93,7 @@ def draw(plant, given):
     first, last = time_of(plant, given.first), time_of(plant, given.last)
     if first >= last:
         raise Refusal(UNREADABLE, "FROM must be before TO")
-    with plant.locked("draw.py", WAIT):
+    with plant.locked("draw.py", given.wait):
         archive = Archive(plant)
         archive.scale(given.tag)
         trend = Trend(archive, given.tag, first, last, given.raw)
@@ -127,6 +127,7 @@ def main():
     parser.add_argument("--shifts", metavar="CALENDAR", help="show the shifts of a calendar, and the tag's figures")
     parser.add_argument("--plant", default=".", metavar="FOLDER", help="the plant's folder (default: this one)")
     parser.add_argument("--program", default="historian", metavar="PATH", help="the historian (default: on the path)")
+    parser.add_argument("--wait", type=float, default=WAIT, metavar="SECONDS", help="for another process on this plant to end (60)")
     given = parser.parse_args()
     plant = Plant(given.plant, given.program)
     require_devices(plant)

@@ -6,22 +6,25 @@ lets `historian run` store them, and moves the files to done/. After a stop of t
 start finds the turn: `historian check` prints how many of its rows each tag has stored, which are the first ones, and the others are
 stored then. A row that cannot be read goes to refused/ with its number and the reason; all others go on.
 
-Exit status: 0 all is stored; 2 to 16 the program's own (docs/TOUR.md); 20 another process works on the plant; 21 the devices are not
-as the last turn left them; 22 a text or a file cannot be read or written; 127 no program; above that, the program was killed."""
+Exit status: 0 all is stored; 2 wrong words; 3 to 16 the program's own (docs/TOUR.md); 20 another process works on the plant, or a turn
+is unfinished; 21 the devices are not as the last turn left them; 22 a text or a file cannot be read or written; 127 no program; above
+that, the program was killed."""
 import argparse
 import csv
 import os
 import time
 
 import seals
+import turns
+from devices import retuned
 from inbox import note_fed, put_file, read_inbox, whole_files
-from plant import CHANGED, UNREADABLE, Plant, Refusal, ended, step_of, sync_folder, write_whole
+from plant import BUSY, CHANGED, UNREADABLE, Plant, Refusal, ended, step_of, sync_folder, write_whole
 from rows import decimal_text, iso_text
-from turns import Turn, end, put_refused, unfinished, write_down, write_plan, write_refused
+from turns import Turn, end, note_scales, put_refused, require_scales, unfinished, write_down, write_plan, write_refused
 
 RECORDS, ALL_RECORDS = 1_048_560, 8_380_000  # of a tag, of all tags: a little below the limits, so that a retuning still has room
 BASE, NEW_BASE = "feed.d/base.toml", "feed.d/base.new.toml"
-NO_ROOM = "no-room.csv"
+NO_ROOM = "no-room.csv"  # the file of the rows for which there is no room, if no file of the turn has that name
 SHOWN = 5  # refused rows of a file that are printed
 
 
@@ -37,9 +40,10 @@ def begin(plant, names):
     sync_folder(plant.path())
     state = open_devices(plant)
     tags = plant.base(BASE)[0]
+    require_scales(plant, tags)
     number, values, files, refused = read_inbox(plant, names, tags)
-    wanted = {name: {"taken": state[name].taken, "held": state[name].held, "rows": len(values.of(name)[0])}
-              for name in tags if name in values.tags}
+    wanted = {name: {"taken": state[name].taken, "held": state[name].held, "rows": len(values.of(name)[0]),
+                     "scale": plant.scale(name, tags[name]) or 1} for name in tags if name in values.tags}
     turn = Turn(number, files, wanted, values)
     write_down(plant, turn, refused)
     return turn, state
@@ -82,7 +86,7 @@ def stored_by_now(plant, turn):
     seals.require_good(plant)
     tags = plant.base(BASE)[0]
     for name in turn.tags:
-        if seals.retuned(plant, name, tags[name], turn.tags[name]["taken"]):
+        if retuned(plant.path("historian.d", name + ".tag"), tags[name], turn.tags[name]["taken"]):
             raise foreign(turn, name, "was retuned, because somebody ran the program with another base")
     state = plant.tags_of(plant.call("check", BASE))
     for name, before in turn.tags.items():
@@ -140,7 +144,7 @@ def next_part(plant, turn, state):
     part = {}
     for name, wanted in turn.tags.items():
         first = turn.stored(name, state)
-        count = min(wanted["rows"] - first, (RECORDS - state[name].records) // 2, room)
+        count = min(wanted["rows"] - first, (RECORDS - state[name].records) // 2, room, turns.TAG_BYTES // turns.row_bytes(name))
         if count > 0:
             part[name] = first, count
             room -= count
@@ -151,6 +155,7 @@ def put_away(plant, turn, state):
     """Seals the devices, notes the files as fed, moves them, and ends the turn. After a stop in between all of it is repeated."""
     without_room = refuse_rest(plant, turn, state)
     seals.seal(plant)
+    note_scales(plant, turn)
     note_fed(plant, turn)
     put_refused(plant, turn)
     for file in turn.files:
@@ -160,28 +165,36 @@ def put_away(plant, turn, state):
 
 
 def refuse_rest(plant, turn, state):
-    """Rows for which the archive has no room go to refused/; answers how many."""
+    """Rows for which the archive has no room go to refused/; answers their file and how many they are."""
     tags, rows = plant.base(BASE)[0], []
     for name in turn.tags:
         times, values = turn.values.of(name)
         for place in range(turn.stored(name, state), len(times)):
-            value = decimal_text(values[place], plant.scale(name, tags[name]) or 1)
+            value = decimal_text(values[place], turn.tags[name].get("scale", plant.scale(name, tags[name]) or 1))
             rows.append((name, iso_text(times[place], None), value, "", "the archive has no room for more records of this tag"))
+    name = NO_ROOM
+    while name in [file["name"] for file in turn.files]:
+        name = "again-" + name
     if rows:
-        write_refused(plant, NO_ROOM, rows)
-    return len(rows)
+        write_refused(plant, name, rows)
+    return name, len(rows)
 
 
 def tell(plant, turn, without_room):
-    """One line for the turn, and the first refused rows of each file."""
+    """One line for the turn, a line for each file that was fed before, and the first refused rows of each file."""
     refused = {file["name"]: file["refused"] for file in turn.files if file["refused"]}
-    if without_room:
-        refused[NO_ROOM] = without_room
+    name, count = without_room
+    if count:
+        refused[name] = count
     if not turn.files:
         say("the edited base.toml is taken over")
         return
     say("turn %d: %d files, %d values of %d tags stored, %d refused" % (
-        turn.number, len(turn.files), turn.values.count - without_room, len(turn.tags), sum(refused.values())))
+        turn.number, len(turn.files), turn.values.count - count, len(turn.tags), sum(refused.values())))
+    for file in turn.files:
+        if file.get("twice"):
+            say("  %s has the bytes of %s: none of its rows is stored again, and it goes to %s" % (
+                file["name"], file["twice"], turn.folder("refused")))
     for name, count in refused.items():
         place = os.path.join(turn.folder("refused"), name)
         with open(plant.path(place), newline="", errors="replace") as text:
@@ -206,7 +219,7 @@ def one_turn(plant, said, wait):
             names = [name for name in seals.sealed(plant) or () if name.endswith(".tag")]
             seals.require_begun(plant, [os.path.basename(name)[:-len(".tag")] for name in names])
         else:
-            seals.require_sealed(plant)
+            seals.require_known(plant)
         names, waiting = whole_files(plant, said)
         edited = os.path.exists(plant.path(BASE)) and is_base_new(plant)  # then a turn without files takes it over
         if names or edited:
@@ -215,10 +228,16 @@ def one_turn(plant, said, wait):
 
 
 def feed(plant, every, wait):
-    """Turns until the inbox is empty; then it looks again each so many seconds, if it is asked to."""
-    said, patience = set(), 3
+    """Turns until the inbox is empty; with `every` it then looks again and again, and outlasts another process that has the plant."""
+    said, patience = {}, 3
     while True:
-        made, waiting = one_turn(plant, said, wait)
+        try:
+            made, waiting = one_turn(plant, said, wait)
+        except Refusal as refusal:
+            if every is None or refusal.status != BUSY:
+                raise
+            say(refusal.text)
+            made, waiting = False, False
         if made:
             continue
         if every is None and not (waiting and patience):
@@ -233,6 +252,7 @@ def init(plant):
         raise Refusal(UNREADABLE, "feed.toml is there already: nothing was written")
     text = ['inbox = "inbox"           # CSV files are taken from here; write them elsewhere, then move them here\n',
             'future_ms = 60_000        # a value that is later than the clock by more is refused\n',
+            'not_before = 2000-01-01T00:00:00Z  # an earlier one is refused: a clock that was reset, seconds for milliseconds\n',
             '# zone = "Europe/Berlin"  # for times without an offset\n# separator = ";"         # between the fields of a line\n'
             '# decimal = ","           # in place of the point\n# rows_a_run = 1_000_000  # each takes the program 190 bytes of memory\n'
             '# settle_seconds = 2      # how long a file has to be unchanged before it is taken\n',
@@ -252,35 +272,25 @@ def at_rest(plant, do, wait):
     """Does something with the devices while nothing runs and no turn is unfinished."""
     with plant.locked("feed.py", wait):
         if unfinished(plant) or os.path.exists(plant.path(NEW_BASE)):
-            raise Refusal(CHANGED, "a turn is unfinished: run feed.py first")
+            raise Refusal(BUSY, "a turn is unfinished, and nothing was done: run feed.py first")
         say(do(plant))
     return 0
-
-
-def verified(plant):
-    seals.require_sealed(plant)
-    return "%d devices, each as the last turn left it" % len(seals.sealed(plant) or ())
-
-
-def sealed_anew(plant):
-    os.makedirs(plant.path("feed.d"), exist_ok=True)
-    seals.seal(plant)
-    return "%d devices are sealed as they stand" % len(seals.sealed(plant))
 
 
 def main():
     parser = argparse.ArgumentParser(description=__doc__, formatter_class=argparse.RawDescriptionHelpFormatter)
     parser.add_argument("plant", nargs="?", default=".", help="the plant's folder, with base.toml and feed.toml (default: this one)")
     parser.add_argument("--program", default="historian", metavar="PATH", help="the historian (default: on the path)")
-    parser.add_argument("--every", type=float, metavar="SECONDS", help="look into the inbox again each so many seconds")
     parser.add_argument("--wait", type=float, default=10, metavar="SECONDS", help="for another process on this plant to end (10)")
-    parser.add_argument("--init", action="store_true", help="write a feed.toml for the plant's base, and make the inbox")
-    parser.add_argument("--verify", action="store_true", help="compare the devices with the seals of the last turn")
-    parser.add_argument("--backup", action="store_true", help="copy texts, devices and seals to backup/")
-    parser.add_argument("--seal", action="store_true", help="accept the devices as they stand, after a change that you know")
+    one = parser.add_mutually_exclusive_group()
+    one.add_argument("--every", type=float, metavar="SECONDS", help="feed, and look into the inbox again each so many seconds")
+    one.add_argument("--init", action="store_true", help="feed nothing: write a feed.toml for the plant's base, and make the inbox")
+    one.add_argument("--verify", action="store_true", help="feed nothing: compare the devices with the seals of the last turn")
+    one.add_argument("--backup", action="store_true", help="feed nothing: copy texts, devices and seals to backup/")
+    one.add_argument("--seal", action="store_true", help="feed nothing: accept the devices as they stand, after a change that you know")
     given = parser.parse_args()
     plant = Plant(given.plant, given.program)
-    for asked, do in ((given.verify, verified), (given.backup, seals.back_up), (given.seal, sealed_anew)):
+    for asked, do in ((given.verify, seals.verified), (given.backup, seals.back_up), (given.seal, seals.sealed_anew)):
         if asked:
             return at_rest(plant, do, given.wait)
     return init(plant) if given.init else feed(plant, given.every, given.wait)

@@ -2,19 +2,23 @@
 
 A file is never changed: it moves from the inbox to done/NUMBER/, the number being that of its turn, or to refused/NUMBER/ if its
 bytes were fed before or it was written to meanwhile. Files on another disk are copied, synced and only then removed."""
+import codecs
 import errno
 import hashlib
 import os
 import time
 
-from plant import UNREADABLE, Refusal, copied, sha256_of
+from plant import UNREADABLE, Refusal, copied, sha256_of, sync_folder
 from rows import Values, read_values
+
+AGAIN = 3_600  # seconds after which a file that stays in the inbox is told of again
 
 
 def whole_files(plant, said):
     """The files of the inbox that are whole, in order of name, and whether another one was changed just now.
 
-    A file whose last line has no end is still being written, or was cut off: it stays where it is, and this is said once."""
+    A file whose last line has no end is still being written, or was cut off: it stays where it is. Each call of feed.py says so, and
+    with --every it is said again each hour; `said` has when it was said last."""
     folder, names, waiting = plant.path(plant.settings.inbox), [], False
     if not os.path.isdir(folder):
         raise Refusal(UNREADABLE, "there is no folder %s: make it, or look at `inbox` in feed.toml" % folder)
@@ -28,8 +32,8 @@ def whole_files(plant, said):
         why = why_not_whole(path)
         if why is None:
             names.append(name)
-        elif name not in said:
-            said.add(name)
+        elif name not in said or time.monotonic() > said[name] + AGAIN:
+            said[name] = time.monotonic()
             print("%s/%s stays in the inbox: %s" % (plant.settings.inbox, name, why), flush=True)
     return names, waiting
 
@@ -38,9 +42,12 @@ def why_not_whole(path):
     """Why a file is not taken yet, or None."""
     try:
         with open(path, "rb") as data:
+            if data.read(2) in (codecs.BOM_UTF16_LE, codecs.BOM_UTF16_BE):
+                return "it is UTF-16: save it as UTF-8"
             data.seek(max(0, data.seek(0, os.SEEK_END) - 1))
             if data.read(1) != b"\n":
-                return "its last line has no end, so it is still being written, or was cut off"
+                return ("its last line has no end, so it is still being written, or was cut off. If nothing writes to it any more, complete"
+                        " or remove that line, and end the file with a line end")
     except OSError as why:
         return "it cannot be read (%s)" % why.strerror
     return None
@@ -73,6 +80,7 @@ def note_fed(plant, turn):
         out.write(("\n" * torn + "".join(lines)).encode("utf-8", "surrogateescape"))
         out.flush()
         os.fsync(out.fileno())
+    sync_folder(plant.path("feed.d"))
 
 
 def read_inbox(plant, names, tags):
@@ -90,15 +98,12 @@ def read_inbox(plant, names, tags):
             data = file.read()
         sha, count = hashlib.sha256(data).hexdigest(), values.count
         twice = sha in before
-        if twice:
-            print("%s/%s has the bytes of %s, which was fed in turn %d: nothing of it is fed again" % (
-                plant.settings.inbox, name, before[sha][1], before[sha][0]), flush=True)
-        else:
+        if not twice:
             refused[name] = read_values(data, scales, plant.settings, latest, values)
             if values.count > count:
                 before[sha] = last + 1, name
         files.append({"name": name, "sha256": sha, "rows": values.count - count, "refused": len(refused.get(name, ())),
-                      "goes": "refused" if twice else "done"})
+                      "goes": "refused" if twice else "done", "twice": "%s, which was fed in turn %d" % before[sha][::-1] if twice else ""})
     return last + 1, values, files, refused
 
 
@@ -121,4 +126,6 @@ def put_file(plant, turn, file):
         if why.errno != errno.EXDEV:
             raise
         copied(source, plant.path(folder, name))
+        for made in (folder, os.path.dirname(folder), ""):
+            sync_folder(plant.path(made))
         os.remove(source)

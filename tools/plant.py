@@ -16,10 +16,12 @@ import time
 import tomllib
 import zoneinfo
 
+import rows
+
 BUSY, CHANGED, UNREADABLE = 20, 21, 22  # exit statuses of the tools; the program's own are 2 to 16
 TAG_LINE = re.compile(r"tag (\S+) taken=(\d+) records=(\d+) kept=(\d+) late=(\d+) held=(\S+)")
-SETTINGS = {"inbox": "inbox", "future_ms": 60_000, "zone": None, "separator": ",", "decimal": ".", "rows_a_run": 4_000_000,
-            "settle_seconds": 2, "tag": {}}
+SETTINGS = {"inbox": "inbox", "future_ms": 60_000, "not_before": None, "zone": None, "separator": ",", "decimal": ".",
+            "rows_a_run": 4_000_000, "settle_seconds": 2, "tag": {}}
 ADVICE = {
     2: "The tool and the program are of different versions.",
     3: "Correct the text: docs/FORMATS.md lists the rules of a base by their numbers. Nothing was stored.",
@@ -88,6 +90,10 @@ class Settings:
                 zoneinfo.ZoneInfo(self.zone)
             except (ValueError, OSError, KeyError, TypeError):
                 raise Refusal(UNREADABLE, "%s: this machine knows no zone %r" % (path, self.zone)) from None
+        try:
+            self.not_before = 0 if self.not_before is None else rows.milliseconds(str(self.not_before), self.zone)
+        except rows.BadField as why:
+            raise Refusal(UNREADABLE, "%s: not_before: %s" % (path, why)) from None
 
 
 class Plant:

@@ -17,6 +17,7 @@ EPOCH = datetime.datetime(1970, 1, 1, tzinfo=datetime.timezone.utc)
 MILLISECOND = datetime.timedelta(milliseconds=1)
 NUMBER = re.compile(r"([+-]?)(\d*)(?:\.(\d*))?(?:[eE]([+-]?\d{1,2}))?")
 TIME_WORDS = ("time", "timestamp")
+csv.field_size_limit(1 << 30)  # a line without separators in a file that is no CSV file
 REFUSED_HEADER = ["tag", "time", "value", "row", "reason"]
 
 
@@ -53,7 +54,8 @@ def within_time(t, text):
 
 
 def whole_value(text, scale, decimal="."):
-    """A decimal times the scale, rounded half away from zero. Without a scale (None) only whole numbers are taken."""
+    """A decimal times the scale, rounded half away from zero. Without a scale (None) only whole numbers are taken, and not 7.00: where such
+    a value comes there will be others, and a scale cannot be given any more once there are values."""
     plain = text if decimal == "." else text.replace(".", "?").replace(decimal, ".")
     match = NUMBER.fullmatch(plain) if len(plain) <= 64 else None
     sign, whole, fraction, exponent = match.groups() if match else ("", "", "", "")
@@ -61,7 +63,7 @@ def whole_value(text, scale, decimal="."):
     if not whole and not fraction:
         raise BadField("no number: %r" % text[:64])
     over, under = int(whole + fraction) * (scale or 1) * 10 ** max(power, 0), 10 ** (len(fraction) + max(-power, 0))
-    if scale is None and over % under:
+    if scale is None and (fraction or over % under):
         raise BadField("a decimal, and no scale for this tag in feed.toml: %r" % text)
     value = (2 * over + under) // (2 * under)
     if value > MOST_VALUE:
@@ -124,7 +126,8 @@ def cells(data, separator=","):
         if names:
             yield from wide_cells(number, line, names, fields)
         elif len(fields) != width:
-            yield number, None, line, "%d fields, not %d" % (len(fields), width)
+            hint = "" if width > 3 or number > 1 else ": is `separator` in feed.toml right? A wide file's header begins with `time`"
+            yield number, None, line, "%d fields, not %d%s" % (len(fields), width, hint)
         else:
             yield (number, *(fields[column] for column in columns))
 
@@ -163,7 +166,7 @@ def read_values(data, scales, settings, latest, values):
     """Adds what a file's bytes hold to the values, and answers its refusals: tag, time, value, line number, reason.
 
     `scales` has the tags of the base, each with its scale or None. A value later than `latest` is refused, so that one wrong clock
-    never makes a tag late for ever."""
+    never makes a tag late for ever; nor is one before `not_before` taken, which could never be removed."""
     refused = []
     for number, tag, time, value in cells(data, settings.separator):
         if tag is None:
@@ -171,10 +174,12 @@ def read_values(data, scales, settings, latest, values):
             continue
         try:
             if tag not in scales:
-                raise BadField("the base has no tag %r" % tag)
+                raise BadField("the base has no tag %r" % tag[:64])
             t = milliseconds(time, settings.zone)
             if t > latest:
                 raise BadField("later than the clock by more than %d ms: %r" % (settings.future_ms, time))
+            if t < settings.not_before:
+                raise BadField("earlier than not_before in feed.toml: %r (a whole number is milliseconds)" % time)
             values.add(tag, t, whole_value(value, scales[tag], settings.decimal))
         except BadField as why:
             refused.append((tag, time, value, number, str(why)))

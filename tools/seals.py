@@ -3,15 +3,23 @@
 The program's files have no checksums. So a flipped bit, another program that wrote, or a file that was put back wrongly would go
 unseen. The program refuses a device in use whose first byte was damaged. But it begins a device anew if its file is missing or is
 cut to one byte at most, and most devices that begin with a sector of zeros: what it held is gone then. The feeder compares these seals
-before it lets the program open anything. `sha256sum -c feed.d/seals` in the plant's folder compares them too."""
+before it lets the program open anything. `sha256sum -c feed.d/seals` in the plant's folder compares them too.
+
+The plant's log only grows, and the feeder never opens it. So of it the part that stood at the last seal is sealed, and a `log` that was
+run by hand since changes none of that. Its line, and a line for each tag of how many events it had, begin with # in feed.d/seals."""
 import json
 import os
-import struct
+import re
+import shutil
 import time
 
+from devices import events_on, log_end, sha256_of_first
 from plant import CHANGED, Refusal, copied, sha256_of, sync_folder, write_whole
 
-TUNING = ("exc_dev", "exc_max", "comp_dev", "comp_min", "comp_max")
+LINE = re.compile(r"([0-9a-f]{64}|# \d+ events|# [0-9a-f]{64} of the first \d+ bytes)  (historian\.d/.+)\n")
+LOG = "historian.d/plant.log"
+SHOWN = 20  # devices that a line tells of
+UNFINISHED = re.compile(r"\d{4}-\d\d-\d\dT\d{6}Z\.part")
 
 
 def devices(plant):
@@ -23,24 +31,58 @@ def devices(plant):
 
 def seal(plant):
     """Writes the seals of the devices as they stand now."""
-    text = "".join("%s  %s\n" % (sha256_of(plant.path(name)), name) for name in devices(plant))
-    write_whole(plant.path("feed.d", "seals"), text.encode())
+    names = devices(plant)
+    lines = ["%s  %s\n" % (sha256_of(plant.path(name)), name) for name in names]
+    lines += ["# %d events  %s\n" % (events_on(plant.path(name)), name) for name in names if name.endswith(".tag")]
+    put_seals(plant, lines)
+
+
+def put_seals(plant, lines):
+    """Writes lines as the seals, and behind them that of the log as it stands now."""
+    if os.path.isfile(plant.path(LOG)):
+        size = log_end(plant.path(LOG))
+        lines = lines + ["# %s of the first %d bytes  %s\n" % (sha256_of_first(plant.path(LOG), size), size, LOG)]
+    write_whole(plant.path("feed.d", "seals"), "".join(lines).encode())
+
+
+def seal_lines(plant):
+    """The lines of the seals, each as what stands there of a device and the device's name; None if there are no seals yet."""
+    try:
+        with open(plant.path("feed.d", "seals"), errors="replace") as text:
+            found = [LINE.fullmatch(line) for line in text]
+    except FileNotFoundError:
+        return None
+    if None in found:
+        raise Refusal(CHANGED, "feed.d/seals is damaged, and nothing was done. Compare the devices with a backup, then call"
+                      " feed.py --seal.")
+    return [match.groups() for match in found]
 
 
 def sealed(plant):
-    """The sha256 of each device, by name; None if there are no seals yet."""
-    try:
-        with open(plant.path("feed.d", "seals")) as text:
-            return {name: sha for sha, name in (line.rstrip("\n").split("  ", 1) for line in text)}
-    except FileNotFoundError:
-        return None
+    """The sha256 of each device of a tag or a group, by name; None if there are no seals yet."""
+    lines = seal_lines(plant)
+    return None if lines is None else {name: sha for sha, name in lines if not sha.startswith("#")}
+
+
+def sealed_log(plant):
+    """The sha256 of the sealed part of the plant's log, and how many bytes it has; None if there was no log."""
+    for what, name in seal_lines(plant) or ():
+        if name == LOG:
+            words = what.split()
+            return words[1], int(words[5])
+    return None
+
+
+def sealed_events(plant):
+    """How many events each tag's device had when it was sealed, by the device's name."""
+    return {name: int(what.split()[1]) for what, name in seal_lines(plant) or () if what.startswith("#") and name != LOG}
 
 
 def differences(plant, but=()):
     """What each device is that is not as it was sealed, by name; the names in `but` are passed over.
 
     A group's file that is missing is none: its rows are made anew from the tags."""
-    kept = sealed(plant)
+    kept, log = sealed(plant), sealed_log(plant)
     found = {}
     for name, sha in (kept or {}).items():
         if name in but:
@@ -50,6 +92,10 @@ def differences(plant, but=()):
                 found[name] = "is missing"
         elif sha256_of(plant.path(name)) != sha:
             found[name] = "is not as the last turn left it: a bit flipped, another program wrote to it, or a wrong file was put there"
+    if log and not os.path.isfile(plant.path(LOG)):
+        found[LOG] = "is missing"
+    elif log and sha256_of_first(plant.path(LOG), log[1]) != log[0]:
+        found[LOG] = "no longer begins with the rows that it had: a bit flipped, or a wrong file was put there"
     for name in devices(plant) if kept is not None else ():
         if name.endswith(".tag") and name not in kept and name not in but:
             found[name] = "was made by no turn: another program ran here"
@@ -66,27 +112,84 @@ def require_sealed(plant, but=()):
         raise Refusal(CHANGED, "nothing was done:\n  " + "\n  ".join(lines))
 
 
+def require_known(plant):
+    """Ends with a refusal if a device is not as it was sealed, or if there are no seals, but values. Somebody stored those by hand, and
+    may be about to feed the same rows again, which would all come late."""
+    require_sealed(plant)
+    names = [name for name in devices(plant) if name.endswith(".tag")] if sealed(plant) is None else []
+    events = [(name, events_on(plant.path(name))) for name in names]
+    lines = ["%s has %d events" % (name, count) for name, count in events if count]
+    if lines:
+        lines[SHOWN:] = ["and %d more" % (len(lines) - SHOWN)] if len(lines) > SHOWN else []
+        lines.append("A row that is stored must not be fed again: of each tag remove so many of the first rows from your files (an event is"
+                     " a row or a retuning). Then accept the devices with feed.py --seal.")
+        raise Refusal(CHANGED, "no turn stored what is in historian.d, and nothing was done:\n  " + "\n  ".join(lines))
+
+
+def verified(plant):
+    """Looks at all devices; what is said if they are good."""
+    if sealed(plant) is None:
+        raise Refusal(CHANGED, "there are no seals yet: the first turn writes them, or feed.py --seal")
+    require_sealed(plant)
+    return "%s, each as the last turn left it" % counted(plant)
+
+
+def sealed_anew(plant):
+    """Seals the devices as they stand. Says what is not as it was sealed, and how many values were stored meanwhile."""
+    os.makedirs(plant.path("feed.d"), exist_ok=True)
+    lines = []
+    try:
+        found, before = differences(plant), sealed_events(plant)
+    except Refusal:  # the seals are damaged themselves
+        found, before = {}, {}
+    seal(plant)
+    after = sealed_events(plant)
+    for name, what in found.items():
+        lines.append("%s %s" % (name, what))
+        if name in after:
+            lines.append("  it has %d events now, and had %d" % (after[name], before.get(name, 0)))
+    return "\n".join(lines + ["%s are sealed as they stand" % counted(plant)])
+
+
+def counted(plant):
+    """How many devices are sealed, in words."""
+    return "%d devices" % len(sealed(plant)) + (" and the first %d bytes of the log" % sealed_log(plant)[1] if sealed_log(plant) else "")
+
+
 def require_good(plant):
     """Ends with a refusal if a device is not as it was sealed. Of those that an unfinished turn may have changed only the first bytes are
     looked at."""
     tags = []
     if os.path.exists(plant.path("feed.d", "turn.json")):
-        with open(plant.path("feed.d", "turn.json")) as text:
-            tags = list(json.load(text)["tags"])
+        try:
+            with open(plant.path("feed.d", "turn.json")) as text:
+                tags = list(json.load(text)["tags"])
+        except (ValueError, KeyError):
+            raise Refusal(CHANGED, "feed.d/turn.json is damaged, so nobody can say what is stored, and nothing was done: run"
+                          " feed.py") from None
     groups = [name for name in devices(plant) if name.endswith(".grp")] if tags else []
     require_sealed(plant, ["historian.d/%s.tag" % name for name in tags] + groups)
     require_begun(plant, tags)
 
 
 def copy_of(plant, name, sha):
-    """Where a good copy of a device stands."""
-    for backup in backups(plant):
-        path = os.path.join("backup", backup, name)
-        if sha and os.path.isfile(plant.path(path)) and sha256_of(plant.path(path)) == sha:
-            return "The bytes of the last turn stand in %s: copy that file back." % path
-    newest = ["backup/%s" % backup for backup in backups(plant) if os.path.isfile(plant.path("backup", backup, name))][:1]
-    return "No backup has the bytes of the last turn" + (
-        "; an older state of the whole plant stands in %s (docs/RUNNING.md, Backup)." % newest[0] if newest else ".")
+    """Where a good copy of a device stands, and whether that one file or the whole plant has to be put back."""
+    log = sealed_log(plant) if name == LOG else None
+    copies = [path for path in (os.path.join("backup", backup, name) for backup in backups(plant)) if os.path.isfile(plant.path(path))]
+    for path in copies:
+        if sha and sha256_of(plant.path(path)) == sha or log and sha256_of_first(plant.path(path), log[1]) == log[0]:
+            return "The bytes of the last turn stand in %s: copy that file back, and no other." % path
+    if log:
+        return "No backup has them all. Nothing else reads the log: put an older one back or move it away, then call feed.py --seal."
+    if name.endswith(".grp"):
+        return "No backup has the bytes of the last turn. Move the file away: its rows are made anew by the next feed."
+    if not sha:
+        return "If nobody is to have made it, move it away."
+    if copies:
+        return ("No backup has the bytes of the last turn, and an older copy of one file does not fit the others: put the whole plant"
+                " back from %s (docs/RUNNING.md, Backup)." % os.path.dirname(os.path.dirname(copies[0])))
+    return ("No backup has this device. If done/ has all files that were fed, move historian.d and feed.d away and feed those files"
+            " again (docs/RUNNING.md, Backup).")
 
 
 def require_begun(plant, names):
@@ -102,49 +205,43 @@ def require_begun(plant, names):
                           " changed. Put the plant back from a backup (docs/RUNNING.md, Backup)." % name)
 
 
-def retuned(plant, name, definition, taken):
-    """Whether a summary on a tag's device, of more than `taken` events, has another tuning than the base: then somebody ran the
-    program with another base since."""
-    wanted = tuple(definition[key] for key in TUNING)
-    with open(plant.path("historian.d", name + ".tag"), "rb") as device:
-        start = device.read(400)
-    for slot in (0, 1):
-        summary = start[128 + 128 * slot:256 + 128 * slot]
-        if len(start) == 400 and start[384 + slot] == 0xA5 and struct.unpack(">Q", summary[:8])[0] > taken and summary[12] & 0x10:
-            parts, at = [], 96
-            for size in (7, 6, 7, 6, 6):
-                parts.append(int.from_bytes(summary[at:at + size], "big"))
-                at += size
-            if tuple(parts) != wanted:
-                return True
-    return False
-
-
 def backups(plant):
     """The names of the whole copies, the newest first."""
     folder = plant.path("backup")
     return sorted((n for n in os.listdir(folder) if not n.endswith(".part")), reverse=True) if os.path.isdir(folder) else []
 
 
+def remove_unfinished(plant):
+    """Removes the copies of this tool that a stop left unfinished. Nobody else makes one now, because the lock is held."""
+    folder = plant.path("backup")
+    for name in os.listdir(folder) if os.path.isdir(folder) else ():
+        if UNFINISHED.fullmatch(name):
+            shutil.rmtree(os.path.join(folder, name))
+
+
 def back_up(plant):
     """Copies texts, devices, seals and the list of fed files, compares the devices with the seals, and answers the copy's name."""
+    require_known(plant)
     if sealed(plant) is None:
         os.makedirs(plant.path("feed.d"), exist_ok=True)
         seal(plant)
-    require_sealed(plant)
+    put_seals(plant, ["%s  %s\n" % (what, name) for what, name in seal_lines(plant) if name != LOG])
+    remove_unfinished(plant)
     name = time.strftime("%Y-%m-%dT%H%M%SZ", time.gmtime())
     part = plant.path("backup", name + ".part")
-    texts = ["base.toml", "feed.toml", "feed.d/base.toml", "feed.d/seals", "feed.d/fed"]
-    kept = sealed(plant)
-    for file in texts + list(kept):
+    texts = ["base.toml", "feed.toml", "feed.d/base.toml", "feed.d/seals", "feed.d/fed", "feed.d/scales"]
+    kept, log = sealed(plant), sealed_log(plant)
+    for file in texts + list(kept) + [LOG]:
         if os.path.isfile(plant.path(file)):
             os.makedirs(os.path.dirname(os.path.join(part, file)), exist_ok=True)
             copied(plant.path(file), os.path.join(part, file))
-            if file in kept and sha256_of(os.path.join(part, file)) != kept[file]:
+            if file in kept and sha256_of(os.path.join(part, file)) != kept[file] or (
+                    file == LOG and sha256_of_first(os.path.join(part, file), log[1]) != log[0]):
                 raise Refusal(CHANGED, "the copy of %s differs from it: is the disk good? The unfinished copy is %s" % (file, part))
     for folder in ("historian.d", "feed.d", ""):
         if os.path.isdir(os.path.join(part, folder)):
             sync_folder(os.path.join(part, folder))
     os.replace(part, plant.path("backup", name))
-    sync_folder(plant.path("backup"))
+    for folder in ("backup", ""):
+        sync_folder(plant.path(folder))
     return "backup/" + name

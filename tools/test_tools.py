@@ -1,10 +1,11 @@
 #!/usr/bin/env python3
 """test_tools.py --program PATH [--long] [--only NAME ..]: tests of the tools with a built historian, mainly by killing.
 
-The short form (two minutes at most) kills twenty times at random moments and at some of the program's and the feeder's calls; --long
-kills 300 times at random moments, and at each n-th write and sync of the program and each n-th sync, rename and removal of the feeder
-if strace is there. Each time the lines of `check` and the replies of `trend` have to be those of a plant that was never stopped,
-which the program makes by hand of the same rows. It prints a line for each case, and last `N passed, N failed`."""
+The short form (two minutes at most) kills twenty times at random moments and at some of the program's and the feeder's calls, and cuts
+the power 18 times; --long kills 300 times at random moments, and at each n-th write and sync of the program and each n-th sync, rename
+and removal of the feeder, and cuts the power 300 times, if strace is there. Each time the lines of `check` and the replies of `trend`
+have to be those of a plant that was never stopped, which the program makes by hand of the same rows. It prints a line for each case,
+and last `N passed, N failed`."""
 import argparse
 import concurrent.futures
 import os
@@ -18,6 +19,7 @@ import traceback
 sys.dont_write_bytecode = True
 HERE = os.path.dirname(os.path.abspath(__file__))
 sys.path[:0] = [HERE, os.path.join(HERE, "testing")]
+import cuts  # noqa: E402
 import daily  # noqa: E402
 import keeping  # noqa: E402
 import kills  # noqa: E402
@@ -52,7 +54,7 @@ def main():
     parser.add_argument("--only", nargs="+", default=[], metavar="NAME", help="the cases whose names begin so")
     settings = parser.parse_args()
     settings.kills = settings.kills or (300 if settings.long else 20)
-    return run_cases(kills.CASES + stops.CASES + daily.CASES + keeping.CASES, settings)
+    return run_cases(kills.CASES + cuts.CASES + stops.CASES + daily.CASES + keeping.CASES, settings)
 
 
 def run_cases(cases, settings):

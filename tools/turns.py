@@ -8,11 +8,12 @@ import json
 import os
 import shutil
 
-from plant import CHANGED, Refusal, copied, sync_folder, write_whole
+from plant import CHANGED, UNREADABLE, Refusal, copied, sync_folder, write_whole
 from rows import REFUSED_HEADER, Values
 
 WORK = "feed.d/turn"
 COLLECTORS = 16  # of a plan, at most
+TAG_BYTES = 33_000_000  # of a tag's rows in a run: so each collector's file is shorter than the 67,108,864 bytes that the program takes
 
 
 class Turn:
@@ -88,13 +89,19 @@ def read_rows(path):
     return values
 
 
+def row_bytes(name):
+    """How long a row of a tag may be: its name, a time before the year 10000, a value within 10^15, two commas and the line's end."""
+    return len(name.encode()) + 15 + 17 + 3
+
+
 def write_plan(plant, turn, part):
     """The collectors' files and the plan of a run; the part has of each tag the first row and how many. All rows of a tag go to one
     collector, one tag behind the other: a collector syncs each tag that it took twice for 64 rows, so rows in order of time would
     cost some thirty times as many syncs."""
     shares = [[] for _ in range(min(COLLECTORS, len(part)))]
-    for name in sorted(part, key=lambda name: -part[name][1]):
-        min(shares, key=lambda share: sum(part[tag][1] for tag in share)).append(name)
+    size = {name: row_bytes(name) * count for name, (_, count) in part.items()}
+    for name in sorted(part, key=lambda name: -size[name]):
+        min(shares, key=lambda share: sum(size[tag] for tag in share)).append(name)
     for number, share in enumerate(shares):
         with open(plant.path(WORK, "%d.csv" % number), "w") as out:
             for name in share:
@@ -102,6 +109,33 @@ def write_plan(plant, turn, part):
     with open(plant.path(WORK, "plan.toml"), "w") as out:
         out.writelines('[[collector]]\nfile = "%s/%d.csv"\n' % (WORK, number) for number in range(len(shares)))
     return WORK + "/plan.toml"
+
+
+def stored_scales(plant):
+    """With what scale the values of each tag are stored."""
+    try:
+        with open(plant.path("feed.d", "scales")) as text:
+            return {str(name): int(scale) for name, scale in json.load(text).items()}
+    except FileNotFoundError:
+        return {}
+    except (ValueError, AttributeError, TypeError):
+        raise Refusal(CHANGED, "feed.d/scales is damaged, and nothing was done. Put it back from the newest backup.") from None
+
+
+def require_scales(plant, tags):
+    """Ends with a refusal if a tag has another scale now than that of its values: all of them would be read wrongly."""
+    for name, scale in stored_scales(plant).items():
+        now = plant.scale(name, tags[name]) or 1 if name in tags else scale
+        if now != scale:
+            raise Refusal(UNREADABLE, "the values of %s are stored with scale %d, and feed.toml (or `engunits` in base.toml) has %d now, so"
+                          " all of them would be read wrongly. Nothing was done. Put the old scale back; or, to have another one, begin the"
+                          " plant anew: move historian.d and feed.d away, and feed the files of done/ again." % (name, scale, now))
+
+
+def note_scales(plant, turn):
+    """Notes with what scale the values of a turn were stored."""
+    scales = stored_scales(plant) | {name: wanted["scale"] for name, wanted in turn.tags.items() if "scale" in wanted}
+    write_whole(plant.path("feed.d", "scales"), json.dumps(scales, indent=1).encode())
 
 
 def put_refused(plant, turn):

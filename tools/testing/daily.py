@@ -1,15 +1,19 @@
 """daily.py: tests of what comes into a plant every day: times and decimals, refused rows, half-written files, wrong clocks, the same
 file twice, and what the tools print in words."""
 import csv
+import fcntl
 import os
 import re
 import shutil
 import subprocess
+import tempfile
 import time
 import zoneinfo
 
+import inbox
 import rows
-from trial import GROUP, Trial, base_text, check_same, two_blocks
+from plant import Plant
+from trial import GROUP, Trial, base_text, check_same, feed_text, printed, two_blocks
 
 
 NOW = 1000 * int(time.time())
@@ -37,9 +41,11 @@ def times_and_decimals(folder, program, settings):
             ("1969-12-31T23:59:59Z", None, "before 1970"), ("9" * 30, None, "after 9999"), ("", None, "no ISO time")]:
         assert zone and zone not in zones or why in refused(rows.milliseconds, text, zone), text
     for text, scale, wanted in [("48.703", 100, 4870), ("48.705", 100, 4871), ("-48.705", 100, -4871), ("0.004", 100, 0), (".5", 10, 5),
-                                ("7", None, 7), ("7.00", None, 7), ("1.25E2", 1, 125), ("5e-1", 1, 1), ("-0.5", 1, -1), ("+3.", 1, 3)]:
+                                ("7", None, 7), ("7.", None, 7), ("7.00", 1, 7), ("1.25E2", 1, 125), ("5e-1", 1, 1),
+                                ("-0.5", 1, -1), ("+3.", 1, 3)]:
         assert rows.whole_value(text, scale) == wanted, (text, rows.whole_value(text, scale))
-    for text, scale, why in [("7.5", None, "no scale"), ("Bad", 1, "no number"), ("", 1, "no number"), ("1,5", 1, "no number"),
+    for text, scale, why in [("7.5", None, "no scale"), ("7.00", None, "no scale"), ("Bad", 1, "no number"), ("", 1, "no number"),
+                             ("1,5", 1, "no number"),
                              ("nan", 1, "no number"), ("1e16", 1, "too large"), ("9" * 400, 1, "no number")]:
         assert why in refused(rows.whole_value, text, scale), (text, refused(rows.whole_value, text, scale))
     assert rows.whole_value("48,7", 10, ",") == 487 and "no number" in refused(rows.whole_value, "1.048", 10, ",")
@@ -81,6 +87,24 @@ def no_scale_no_decimals(folder, program, settings):
     assert "held=5,124\n" in trial.by_hand("check", "base.toml") and "held=6,3\n" in trial.by_hand("check", "base.toml")
 
 
+def scale_stays(folder, program, settings):
+    """Another scale of a tag that has values is refused by each tool, and nothing is stored; a turn that was stopped keeps its own."""
+    trial = Trial(os.path.join(folder, "a"), program)
+    trial.write("feed.toml", "settle_seconds = 0\n")
+    trial.write("inbox/x.csv", "LIC4.PV,5,12\nLIC4.PV,6,50.04\nFIC1.PV,6,7\n")
+    assert "2 values of 2 tags stored, 1 refused" in trial.fed()
+    before = trial.by_hand("check", "base.toml")
+    shutil.move(trial.path("refused/000001/x.csv"), trial.path("inbox/y.csv"))
+    trial.write("feed.toml", 'settle_seconds = 0\n[tag."LIC4.PV"]\nscale = 100\n')
+    for status, text in (trial.feed(), trial.tool("ask.py", "snap,FIC1.PV"), trial.tool("draw.py", "FIC1.PV", "0", "9", "x.svg")):
+        assert status == 22 and "the values of LIC4.PV are stored with scale 1" in text and "has 100 now" in text, (status, text)
+    assert trial.by_hand("check", "base.toml") == before and os.listdir(trial.path("inbox")) == ["y.csv"]
+    trial.write("feed.toml", 'settle_seconds = 0\n[tag."LIC4.PV"]\nscale = 1\n')
+    assert trial.feed(how="half")[0] == 137
+    trial.write("feed.toml", 'settle_seconds = 0\n[tag."XV7.ZSO"]\nscale = 10\n')
+    assert "turn 2: 1 files, 1 values of 1 tags stored" in trial.fed() and "held=6,50\n" in trial.by_hand("check", "base.toml")
+
+
 def half_written_file(folder, program, settings):
     """A file without a line end at its end, a file that changes just now and one of another name stay; whole, they are fed."""
     trial = Trial(os.path.join(folder, "a"), program)
@@ -106,8 +130,28 @@ def written_to_while_fed(folder, program, settings):
     assert len(trial.read("refused/000001/x.csv.changed").splitlines()) == 3 and not os.listdir(trial.path("inbox"))
 
 
+def inbox_on_another_disk(folder, program, settings):
+    """Files of an inbox on another disk are copied to done/ and then removed, also where the feeder is killed before it removes them."""
+    if not os.path.isdir("/dev/shm") or os.stat("/dev/shm").st_dev == os.stat(folder).st_dev:
+        return "there is one disk here: not tried"
+    trial = Trial(os.path.join(folder, "a"), program)
+    with tempfile.TemporaryDirectory(dir="/dev/shm", prefix="tools-") as inbox:
+        trial.write("feed.toml", 'inbox = "%s"\n%s' % (inbox, feed_text()))
+        os.rmdir(trial.path("inbox"))
+        os.symlink(inbox, trial.path("inbox"))
+        trial.write("inbox/x.csv", "LIC4.PV,1000,5\nLIC4.PV,2000,60\n")
+        if shutil.which("strace"):
+            status, text = trial.feed(under=["strace", "-qq", "-o", "/dev/null", "-P", os.path.join(inbox, "x.csv"),
+                                             "-e", "inject=unlink:signal=KILL:when=1", "-e", "trace=unlink"])
+            assert status in (137, -9) and os.listdir(trial.path("done/000001")) == ["x.csv"], (status, text)
+        assert "2 values of 1 tags stored" in trial.fed() and os.listdir(inbox) == [], os.listdir(inbox)
+        assert trial.read("done/000001/x.csv").startswith("LIC4.PV,1000,5\n")
+        assert "taken=2 " in trial.by_hand("check", "base.toml").split("LIC4.PV")[1]
+
+
 def wrong_clock(folder, program, settings):
-    """A value from the future is refused, so the ones that come after it are not late."""
+    """A value from the future is refused, so the ones that come after it are not late; so is one from before `not_before`, such as one
+    whose time is in seconds."""
     trial = Trial(os.path.join(folder, "a"), program)
     stamps = [NOW - 120_000, NOW + 20_000, NOW + 600_000, 253_402_300_799_999, NOW + 21_000]
     trial.write("inbox/x.csv", "".join("LIC4.PV,%d,%d\n" % (t, 10 * n) for n, t in enumerate(stamps)))
@@ -115,18 +159,59 @@ def wrong_clock(folder, program, settings):
     assert "3 values of 1 tags stored, 2 refused" in text and "later than the clock by more than 60000 ms" in text, text
     assert "taken=3 " in trial.by_hand("check", "base.toml").split("LIC4.PV")[1]
     assert "late=0 held=%d,40" % stamps[-1] in trial.by_hand("check", "base.toml")
+    for given in ("2000-01-01T00:00:00Z", '"2000-01-01T00:00:00Z"', "946_684_800_000"):
+        trial.write("feed.toml", "not_before = %s\nsettle_seconds = 0\n" % given)
+        trial.write("inbox/y.csv", "LIC4.PV,946684799999,%s\nLIC4.PV,%d,60\nLIC4.PV,946684800000,70\n" % (given[1], NOW // 1000))
+        text = trial.fed()
+        assert "1 values of 1 tags stored, 2 refused" in text and "earlier than not_before in feed.toml: '946684799999'" in text, text
+    trial.write("feed.toml", "not_before = 2000-01-01\n")
+    assert trial.feed()[0] == 22 and "not_before: a time without an offset" in trial.feed()[1]
 
 
 def same_file_twice(folder, program, settings):
-    """The bytes of a file are fed once, whatever its name is the second time."""
+    """The bytes of a file are fed once, whatever its name is the second time. That is said, also when the turn was stopped."""
     trial, wanted = two_blocks(folder, program)
     trial.fed()
     shutil.copy(trial.path("done/000001/00-a.csv"), trial.path("inbox/00-a.csv"))
     shutil.copy(trial.path("done/000002/01-b.csv"), trial.path("inbox/again.csv"))
+    assert trial.feed(how="before")[0] == 137
     text = trial.fed()
-    assert "again.csv has the bytes of 01-b.csv, which was fed in turn 2" in text and "2 files, 0 values" in text, text
+    assert "again.csv has the bytes of 01-b.csv, which was fed in turn 2: none of its rows is stored again" in text, text
+    assert "2 files, 0 values" in text and "it goes to refused/000003" in text, text
     check_same(trial.answers(), wanted, "after the same files came again")
     assert sorted(os.listdir(trial.path("refused/000003"))) == ["00-a.csv", "again.csv"]
+
+
+def said_each_time(folder, program, settings):
+    """Each call says that a file stays in the inbox, and a feeder with --every says it again after a while; UTF-16 is named."""
+    trial = Trial(os.path.join(folder, "a"), program)
+    trial.write("inbox/x.csv", "LIC4.PV,1000,5")
+    with open(trial.path("inbox/y.csv"), "wb") as out:
+        out.write("LIC4.PV,1000,5\n".encode("utf-16"))
+    for _ in range(2):
+        text = trial.fed()
+        assert "x.csv stays in the inbox: its last line has no end" in text and "y.csv stays in the inbox: it is UTF-16" in text, text
+    plant, said = Plant(trial.folder, program), {}
+    with printed() as first:
+        inbox.whole_files(plant, said)
+        inbox.whole_files(plant, said)
+    with printed() as later:
+        said["x.csv"] -= inbox.AGAIN + 1
+        inbox.whole_files(plant, said)
+    assert first.getvalue().count("stays") == 2 and later.getvalue().count("stays") == 1, (first.getvalue(), later.getvalue())
+
+
+def no_csv_at_all(folder, program, settings):
+    """A file of bytes, one with other separators and one with another header are refused row by row, and a hint says why."""
+    trial = Trial(os.path.join(folder, "a"), program)
+    with open(trial.path("inbox/a.csv"), "wb") as out:
+        out.write(b"\0\xff" + b"x" * 300_000 + b'\n"' + b"y" * 300_000 + b'"\nLIC4.PV,1000,5\n')
+    trial.write("inbox/b.csv", "tag;time;value\nLIC4.PV;2000;5\n")
+    trial.write("inbox/c.csv", "DateTime,LIC4.PV\n2024-03-29T00:00:00Z,5\n")
+    text = trial.fed()
+    assert "1 values of 1 tags stored, 6 refused" in text, text
+    assert "1 fields, not 3: is `separator` in feed.toml right?" in text and "A wide file's header begins with `time`" in text, text
+    assert max(map(len, text.splitlines())) < 400, text
 
 
 def faults_in_words(folder, program, settings):
@@ -168,18 +253,25 @@ def begins_with_init(folder, program, settings):
 
 
 def goes_on_every_second(folder, program, settings):
-    """With --every it feeds what comes while it runs."""
+    """With --every it feeds what comes while it runs, also behind a process that has the plant for long."""
     trial = Trial(os.path.join(folder, "a"), program)
     child = subprocess.Popen(trial.words("--every", "0.2"), stdout=subprocess.PIPE, text=True)
     try:
-        for number in (1, 2):
+        for number in (1, 2, 3):
+            if number == 3:
+                with open(trial.path("historian.d", "feed.lock"), "a") as lock:
+                    fcntl.flock(lock, fcntl.LOCK_EX)
+                    assert "another process works on this plant" in child.stdout.readline()
             trial.write("x%d.part" % number, "LIC4.PV,%d,5\n" % (1000 * number))
             os.rename(trial.path("x%d.part" % number), trial.path("inbox/x%d.csv" % number))
-            assert child.stdout.readline().startswith("turn %d: 1 files, 1 values" % number)
+            while "another process" in (line := child.stdout.readline()):
+                pass
+            assert line.startswith("turn %d: 1 files, 1 values" % number), line
     finally:
         child.kill()
         child.communicate()
 
 
-CASES = [times_and_decimals, refused_rows, no_scale_no_decimals, half_written_file, written_to_while_fed, wrong_clock, same_file_twice,
-         faults_in_words, begins_with_init, goes_on_every_second]
+CASES = [times_and_decimals, refused_rows, no_scale_no_decimals, scale_stays, half_written_file, written_to_while_fed,
+         inbox_on_another_disk, wrong_clock, same_file_twice, said_each_time, no_csv_at_all, faults_in_words, begins_with_init,
+         goes_on_every_second]

@@ -1,17 +1,18 @@
 """keeping.py: tests of what stands in the archive and is read from it: seals and backups, an archive and a group that are full,
 questions and pictures."""
-import contextlib
 import csv
-import io
 import os
 import re
 import shutil
+import unittest.mock
 import xml.etree.ElementTree
 
 import feed
 import rows
+import seals
+import turns
 from plant import Plant
-from trial import GROUP, HOUR, START, Trial, base_text, check_same, expected, two_blocks
+from trial import GROUP, HOUR, LINES, START, STEPS, Trial, base_text, check_same, expected, printed, two_blocks
 
 SPREAD = 3_000_000
 
@@ -30,7 +31,7 @@ def found_by_seals(folder, program, settings):
         for asked in ((), ("--verify",), ("--backup",)):
             status, text = trial.feed(*asked)
             assert status == 21 and "historian.d/LIC4.PV.tag is not as the last turn left it" in text, (place, text)
-            assert "stand in %s/historian.d/LIC4.PV.tag: copy that file back" % copy in text, text
+            assert "stand in %s/historian.d/LIC4.PV.tag: copy that file back, and no other" % copy in text, text
         for tool, asked in (("ask.py", ["snap,FIC1.PV"]), ("draw.py", ["FIC1.PV", "1711670400000", "1711680000000", "x.svg"])):
             status, text = trial.tool(tool, *asked)
             assert status == 21 and "LIC4.PV.tag is not as the last turn left it" in text, (place, text)
@@ -42,15 +43,101 @@ def found_by_seals(folder, program, settings):
     check_same(trial.answers(), wanted, "after a device was put back")
 
 
+def which_copy(folder, program, settings):
+    """What is to be done is said: one file copied back, the whole plant, a group's file moved away, or all files fed again. Without seals,
+    or with damaged ones, --verify says so."""
+    trial, _ = two_blocks(folder, program)
+    device, first = trial.path("historian.d/LIC4.PV.tag"), trial.fed("--backup").strip()
+    trial.fed()
+    with open(device, "r+b") as out:
+        out.seek(401)
+        out.write(b"Q")
+    assert "an older copy of one file does not fit the others: put the whole plant back from %s (" % first in trial.feed()[1]
+    shutil.copy(trial.path(first, "historian.d/LIC4.PV.tag"), device)  # put back wrongly
+    assert "historian.d/LIC4.PV.tag is not as the last turn left it" in trial.feed()[1]
+    shutil.rmtree(trial.path("backup"))
+    text = trial.feed()[1]
+    assert "No backup has this device. If done/ has all files that were fed, move historian.d and feed.d away" in text, text
+    trial.fed("--seal")
+    with open(trial.path("historian.d/unit.grp"), "ab") as out:
+        out.write(b"Q")
+    assert "Move the file away: its rows are made anew by the next feed" in trial.feed()[1]
+    good = trial.read("feed.d/seals")
+    trial.write("feed.d/seals", good.replace("  historian.d/FIC2", " !historian.d/FIC2", 1))
+    for asked in ((), ("--verify",), ("--backup",)):
+        status, text = trial.feed(*asked)
+        assert status == 21 and "feed.d/seals is damaged" in text, (status, text)
+    assert "9 devices are sealed" in trial.fed("--seal")
+    os.remove(trial.path("feed.d/seals"))
+    assert trial.feed("--verify")[0] == 21 and "there are no seals yet" in trial.feed("--verify")[1]
+    assert trial.feed("--verify", "--backup")[0] == 2 and trial.feed("--every", "1", "--backup")[0] == 2
+
+
+def log_is_sealed(folder, program, settings):
+    """The plant's log is sealed and copied too. Rows that are put into it by hand are no damage; a flipped bit among those that were sealed
+    is, and so is a missing log."""
+    trial, _ = two_blocks(folder, program)
+    log, rows = trial.path("historian.d/plant.log"), trial.rows
+    trial.write("mine.toml", '[[collector]]\nfile = "mine.csv"\n')
+    for block, part in ((1, rows[:100]), (2, rows[100:200])):
+        trial.write("mine.csv", "".join("%s,%d,%d\n" % (name, t, v) for t, name, v in part))
+        trial.by_hand("log", "base.toml", "mine.toml")
+        trial.deliver(block, hours=1)
+        trial.fed()
+    size = seals.sealed_log(Plant(trial.folder, program))[1]
+    assert size == os.path.getsize(log) - 1 and size > 200 * 32, (size, os.path.getsize(log))
+    assert "9 devices and the first %d bytes of the log, each as" % size in trial.fed("--verify")
+    trial.by_hand("log", "base.toml", "mine.toml")
+    copy = trial.fed("--backup").strip()
+    good = open(trial.path(copy, "historian.d/plant.log"), "rb").read()
+    assert open(log, "rb").read() == good
+    for place in (0, 30, size + 40, len(good) - 2):
+        with open(log, "wb") as out:
+            out.write(good[:place] + bytes([good[place] ^ 1]) + good[place + 1:])
+        for asked in ((), ("--verify",), ("--backup",)):
+            status, text = trial.feed(*asked)
+            assert status == 21 and "historian.d/plant.log no longer begins with the rows that it had" in text, (place, text)
+            assert "stand in %s/historian.d/plant.log: copy that file back, and no other" % copy in text, text
+    os.remove(log)
+    assert "plant.log is missing" in trial.feed()[1]
+    shutil.copy(trial.path(copy, "historian.d/plant.log"), log)
+    trial.fed()
+
+
 def run_by_hand(folder, program, settings):
     """Rows that were stored by hand between two turns are reported; --seal accepts them, and a group's file may be taken away."""
     trial, _ = two_blocks(folder, program)
     trial.store_by_hand([(1711800000000, "LIC4.PV", 5)])
     status, text = trial.feed()
     assert status == 21 and "LIC4.PV.tag" in text and "--seal" in text, text
-    assert "9 devices are sealed" in trial.fed("--seal")
+    text = trial.fed("--seal")
+    assert "9 devices are sealed" in text and text.count("it has") == 1, text
+    assert "historian.d/LIC4.PV.tag is not as the last turn left it" in text and "it has 61 events now, and had 60" in text, text
     os.remove(trial.path("historian.d/unit.grp"))
     assert "turn 2" in trial.fed() and "9 devices, each as" in trial.fed("--verify")
+
+
+def killed_by_hand(folder, program, settings):
+    """The program was run by hand and killed before the feeder was ever used: the feeder says how many rows of each tag are stored, and
+    feeds none of them again; ask.py answers."""
+    trial = Trial(os.path.join(folder, "a"), program)
+    trial.deliver(0, hours=3)
+    wanted = expected(os.path.join(folder, "hand"), program, trial.rows)
+    half = trial.rows[:150]
+    trial.store_by_hand(half)
+    for asked in (("--backup",), ()):
+        status, text = trial.feed(*asked)
+        assert status == 21 and "no turn stored what is in historian.d" in text and "feed.py --seal" in text, (status, text)
+    stored = dict(re.findall(r"historian.d/(\S+).tag has (\d+) events", text))
+    assert stored == {name: str(sum(row[1] == name for row in half)) for _, name, _ in half}, stored
+    assert trial.tool("ask.py", "snap,FIC1.PV")[0] == 0 and len(os.listdir(trial.path("inbox"))) == 2
+    trial.fed("--seal")
+    for name in os.listdir(trial.path("inbox")):
+        os.remove(trial.path("inbox", name))
+    trial.write("inbox/rest.csv", "".join("%s,%d,%s\n" % (name, t, rows.decimal_text(v, (LINES | STEPS)[name]))
+                                          for t, name, v in trial.rows[150:]))
+    trial.fed()
+    check_same(trial.answers(), wanted, "after the rest was fed")
 
 
 def put_back_from_backup(folder, program, settings):
@@ -59,34 +146,61 @@ def put_back_from_backup(folder, program, settings):
     trial.deliver(0, hours=3)
     trial.fed()
     copy = trial.fed("--backup").strip()
-    trial.deliver(1, hours=3)
-    trial.fed()
+    os.makedirs(trial.path("backup/2020-01-01T000000Z.part"))  # that a stop left
+    for block in (1, 2):
+        trial.deliver(block, hours=3)
+        for file in "ab":  # files of the same names in each turn
+            os.rename(trial.path("inbox/%02d-%s.csv" % (block, file)), trial.path("inbox/%s.csv" % file))
+        trial.fed()
     shutil.rmtree(trial.path("historian.d"))
     shutil.rmtree(trial.path("feed.d"))
     shutil.copytree(trial.path(copy), trial.folder, dirs_exist_ok=True)
-    for name in os.listdir(trial.path("done/000002")):
-        os.rename(trial.path("done/000002", name), trial.path("inbox", name))
-    trial.fed()
+    for turn in ("000002", "000003"):  # turn by turn, as docs/RUNNING.md has it
+        for name in os.listdir(trial.path("done", turn)):
+            os.rename(trial.path("done", turn, name), trial.path("inbox", name))
+        trial.fed()
     check_same(trial.answers(), expected(os.path.join(folder, "hand"), program, trial.rows), "put back from a backup")
-    assert sorted(os.listdir(trial.path("done/000003"))) == ["01-a.csv", "01-b.csv"] and os.listdir(trial.path("done/000002")) == []
+    assert sorted(os.listdir(trial.path("done/000005"))) == ["a.csv", "b.csv"] and os.listdir(trial.path("done/000003")) == []
+    trial.fed("--backup")
+    assert not any(name.endswith(".part") for name in os.listdir(trial.path("backup")))
 
 
 def archive_is_full(folder, program, settings):
-    """Rows for which a tag has no room go to refused/, and the other tags go on. (The limit is lowered for this.)"""
+    """Rows for which a tag has no room go to refused/, in a file of their own, and the other tags go on. (The limit is lowered for
+    this.)"""
     trial = Trial(os.path.join(folder, "a"), program)
-    trial.write("inbox/x.csv", "".join("FIC1.PV,%d,%d\nLIC4.PV,%d,5\n" % (1000 * n, n % 2 * 100, 1000 * n) for n in range(100)))
-    feed.RECORDS, kept = 40, feed.RECORDS
-    try:
-        with contextlib.redirect_stdout(io.StringIO()) as said:
-            feed.feed(Plant(trial.folder, program), None, 5)
-    finally:
-        feed.RECORDS = kept
+    lines = ["FIC1.PV,%d,%d\nLIC4.PV,%d,5\n" % (1000 * n, n % 2 * 100, 1000 * n) for n in range(100)]
+    trial.write("inbox/no-room.csv", "".join(lines) + "LIC4.PV,soon,5\n")
+    with printed() as said, unittest.mock.patch.object(feed, "RECORDS", 40):
+        feed.feed(Plant(trial.folder, program), None, 5)
     tags = {m[1]: (int(m[2]), int(m[3])) for m in re.finditer(r"tag (\S+) taken=(\d+) records=(\d+)", trial.by_hand("check", "base.toml"))}
-    with open(trial.path("refused/000001/no-room.csv")) as text:
+    with open(trial.path("refused/000001/again-no-room.csv")) as text:
         rest = list(csv.reader(text))[1:]
-    assert "all %d are in refused/000001/no-room.csv" % len(rest) in said.getvalue(), said.getvalue()
+    assert "all %d are in refused/000001/again-no-room.csv" % len(rest) in said.getvalue(), said.getvalue()
+    assert "no-room.csv row 201: LIC4.PV: no ISO time" in said.getvalue(), said.getvalue()
     assert tags["LIC4.PV"][0] == 100 and tags["FIC1.PV"][1] <= 40 and tags["FIC1.PV"][0] + len(rest) == 100 and len(rest) > 40, tags
     assert rest[0][1:3] == ["1970-01-01T00:00:%02d.000Z" % tags["FIC1.PV"][0], "%d.00" % (tags["FIC1.PV"][0] % 2)], rest[0]
+
+
+def files_are_not_too_long(folder, program, settings):
+    """A tag with more rows than a collector's file may have bytes for gets them in several runs. (The limit is lowered for this.)"""
+    trial = Trial(os.path.join(folder, "a"), program)
+    trial.deliver(0, hours=3)
+    wanted = expected(os.path.join(folder, "hand"), program, trial.rows)
+    plant, runs, sizes = Plant(trial.folder, program), [], []
+
+    def call(*words):
+        if words[0] == "run":
+            runs.append(words)
+            sizes.extend(os.path.getsize(trial.path("feed.d/turn", name)) for name in os.listdir(trial.path("feed.d/turn"))
+                         if name[:-4].isdigit())
+        return Plant.call(plant, *words)
+    plant.call = call
+    with printed(), unittest.mock.patch.object(turns, "TAG_BYTES", 1_000):
+        feed.feed(plant, None, 5)
+    check_same(trial.answers(), wanted, "in several runs")
+    assert len(runs) > 2 and max(sizes) <= 1_000, (len(runs), sizes)
+    assert turns.TAG_BYTES + 4_000_000 * turns.row_bytes("N" * 64) // turns.COLLECTORS < 67_108_864
 
 
 def group_is_too_large(folder, program, settings):
@@ -155,4 +269,5 @@ def pictures(folder, program, settings):
     assert trial.tool("draw.py", "NOBODY", *times, "z.svg")[0] == 22 and not os.path.exists(trial.path("z.svg"))
 
 
-CASES = [found_by_seals, run_by_hand, put_back_from_backup, archive_is_full, group_is_too_large, questions, pictures]
+CASES = [found_by_seals, which_copy, log_is_sealed, run_by_hand, killed_by_hand, put_back_from_backup, archive_is_full,
+         files_are_not_too_long, group_is_too_large, questions, pictures]

@@ -2,9 +2,12 @@
 of its own calls that change files. After each the archive has to be that of a plant that was never stopped."""
 import os
 import random
+import re
 import shutil
 import time
 
+from plant import Plant
+from seals import sealed_events
 from trial import (LINES, STEPS, Trial, base_text, block_files, check_put_away, check_same, expected, feed_and_kill, two_blocks,
                    wait_for_orphans)
 
@@ -23,32 +26,42 @@ def undisturbed(folder, program, settings):
     """Three days through the feeder make the archive that the program makes of the same rows by hand, in order of time."""
     trial = three_days(os.path.join(folder, "fed"), program, 4_000_000)
     trial.fed()
-    check_same(trial.answers(), expected(os.path.join(folder, "hand"), program, trial.rows), "fed without a stop")
+    answers, events = trial.answers(), sealed_events(Plant(trial.folder, program))
+    check_same(answers, expected(os.path.join(folder, "hand"), program, trial.rows), "fed without a stop")
+    assert events == {"historian.d/%s.tag" % m[1]: int(m[2]) for m in re.finditer(r"tag (\S+) taken=(\d+)", answers)}, events
     check_put_away(trial, 2 * BLOCKS)
 
 
-def turn_seconds(folder, program):
-    """How long a feed of three days takes, a turn of it in the mean."""
+def durations(folder, program):
+    """How long a feed takes that has nothing to do, and how long a turn of three days takes in the mean."""
     trial, begin = three_days(folder, program), time.monotonic()
     trial.fed()
-    return (time.monotonic() - begin) / len(os.listdir(trial.path("done")))
+    between = time.monotonic()
+    trial.fed()
+    idle = time.monotonic() - between
+    return idle, max(0.02, (between - begin - idle) / len(os.listdir(trial.path("done"))))
 
 
 def killed_at_random(folder, program, settings):
-    """Feeder, program or both are killed at random moments, until the kills are used up; then the feed ends by itself."""
-    draw, kills, plants = random.Random(settings.seed), 0, 0
-    longest = turn_seconds(os.path.join(folder, "timed"), program)
+    """Feeder, program or both are killed at random moments, until the kills are used up; then the feed ends by itself. Half of the moments
+    are counted from where the program begins to store rows, because a fast one does so for a small part of a turn."""
+    draw, kills, met, plants = random.Random(settings.seed), 0, 0, 0
+    idle, turn = durations(os.path.join(folder, "timed"), program)
     while kills < settings.kills:
         trial, plants = three_days(os.path.join(folder, "fed%d" % plants), program), plants + 1
         wanted = expected(os.path.join(folder, "hand"), program, trial.rows)
         while kills < settings.kills and os.listdir(trial.path("inbox")):
-            kills += feed_and_kill(trial, draw.uniform(0.05, longest), draw.choice(("feeder", "program", "both")))
+            waits, whom = draw.random() < 0.5, draw.choice(("feeder", "program", "both"))
+            delay = turn * draw.random() ** 2 if waits else draw.uniform(0.05, idle + 1.5 * turn)
+            was_killed, has_met = feed_and_kill(trial, delay, whom, waits)
+            kills, met = kills + was_killed, met + has_met
         wait_for_orphans(trial)
         trial.fed()
         check_same(trial.answers(), wanted, "after %d kills (seed %d)" % (kills, settings.seed))
         check_put_away(trial, 2 * BLOCKS)
         shutil.rmtree(trial.folder)
-    return "%d kills over %d plants" % (kills, plants)
+    assert met >= kills // 10, "only %d of %d kills met the program" % (met, kills)
+    return "%d kills over %d plants, %d while the program stored rows" % (kills, plants, met)
 
 
 def strace(call, number, device=None):

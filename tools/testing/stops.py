@@ -35,6 +35,9 @@ def program_outlives_its_feeder(folder, program, settings):
     assert status == 20, (status, text)
     trial.write("go", "")
     wait_for_orphans(trial)
+    for asked in ("--verify", "--backup", "--seal"):
+        status, text = trial.feed(asked)
+        assert status == 20 and "a turn is unfinished" in text, (status, text)
     assert "turn 2 was stopped" in trial.fed()
     check_same(trial.answers(), wanted, "after the program outlived its feeder")
     check_put_away(trial, 4)
@@ -217,6 +220,8 @@ def turn_is_damaged(folder, program, settings):
         trial.write("feed.d/" + name, text)
         status, said = trial.feed()
         assert status == 21 and "feed.d of an unfinished turn is damaged" in said, (status, said)
+    status, said = trial.tool("ask.py", "snap,LIC4.PV")
+    assert status == 21 and "turn.json is damaged" in said, (status, said)
     check_same(trial.by_hand("check", "base.toml"), before, "a damaged turn")
 
 

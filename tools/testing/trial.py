@@ -1,14 +1,17 @@
 """trial.py: a plant that is generated for the tests: eight tags over three days, in files as loggers write them; and ways to stop a feed.
 
 What must come out is found without the tools: the same rows as whole numbers in one collector's file, through the program alone."""
+import contextlib
 import datetime
 import fcntl
+import io
 import os
 import random
 import shutil
 import signal
 import subprocess
 import sys
+import threading
 import time
 
 HERE = os.path.dirname(os.path.abspath(__file__))
@@ -160,6 +163,16 @@ class Trial:
         return self.by_hand("check", base) + self.by_hand("trend", base, "questions.toml")
 
 
+INSIDE = threading.Lock()  # held by a case that calls the tools' functions itself
+
+
+@contextlib.contextmanager
+def printed():
+    """What the tools print that a case calls itself; one case at a time, because there is one standard output."""
+    with INSIDE, contextlib.redirect_stdout(io.StringIO()) as said:
+        yield said
+
+
 KNOWN = {}  # the answers for rows that were asked for already
 
 
@@ -194,19 +207,33 @@ def kill(process):
         pass
 
 
-def feed_and_kill(trial, delay, whom):
-    """Starts a feed and kills it after a delay: the feeder, its program, or both. Answers whether something was killed."""
+def storing(process):
+    """The processes of `run` that a feeder started."""
+    found = []
+    for child in children(process):
+        try:
+            with open("/proc/%d/cmdline" % child, "rb") as text:
+                found += [child] if b"\0run\0" in text.read() else []
+        except OSError:
+            pass
+    return found
+
+
+def feed_and_kill(trial, delay, whom, waits):
+    """Starts a feed, if asked to waits until the program stores rows, and kills after a delay: the feeder, its program, or both. Answers
+    whether something was killed, and whether the program stored rows just then."""
     child = subprocess.Popen(trial.words(), stdout=subprocess.DEVNULL, stderr=subprocess.DEVNULL)
+    while waits and child.poll() is None and not storing(child.pid):
+        time.sleep(0.001)
     time.sleep(delay)
-    running = child.poll() is None
-    program = children(child.pid)
+    running, program, stores = child.poll() is None, children(child.pid), bool(storing(child.pid))
     if whom != "program" or not program:
         kill(child.pid)
     if whom != "feeder":
         for process in program:
             kill(process)
     child.wait()
-    return running
+    return running, running and stores
 
 
 def wait_for_orphans(trial):
@@ -242,4 +269,4 @@ def check_put_away(trial, count):
     done = [name for turn in os.listdir(trial.path("done")) for name in os.listdir(trial.path("done", turn))]
     assert len(done) == len(set(done)) == count, sorted(done)
     assert not os.path.exists(trial.path("refused")), os.listdir(trial.path("refused"))
-    assert sorted(os.listdir(trial.path("feed.d"))) == ["base.toml", "fed", "seals"], os.listdir(trial.path("feed.d"))
+    assert sorted(os.listdir(trial.path("feed.d"))) == ["base.toml", "fed", "scales", "seals"], os.listdir(trial.path("feed.d"))

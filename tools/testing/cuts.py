@@ -1,0 +1,201 @@
+"""cuts.py: power cuts while a turn is fed. The calls of a feed, the feeder's own and the program's, are recorded by strace with the moments
+of each; then plants are built as a cut at a random moment may leave them, and fed to the end.
+
+Of a file there is all that was synced by then. What was written later is there or not, whole, in part, or as zeros. Names are made,
+moved and removed in the order of the calls: all those before the last sync of their folder, and some of the later ones."""
+import os
+import random
+import re
+import shutil
+
+from kills import edited_blocks
+from trial import Trial, check_put_away, check_same, expected, two_blocks, wait_for_orphans
+
+NAMES = ("rename", "unlink", "unlinkat", "rmdir", "mkdir")
+TRACED = "openat,write,pwrite64,sendfile,ftruncate,fsync,fdatasync," + ",".join(NAMES)
+LINE = re.compile(r"(\d+\.\d+) (\w+)\((.*)\) += (\d+)(?:<(.*?)>)? <([\d.]+)>$")
+HEXES = re.compile(r'[<"]((?:\\x..)*)[>"]')
+PARTS = {False: ("none", "all", "first", "zeros"), True: ("none", "all")}  # of a write, if it is a single byte
+
+
+class File:
+    """The bytes of a file: those that were there at first, and what was written to it when, and when it was synced."""
+
+    def __init__(self, data=b""):
+        self.first, self.writes, self.syncs = data, [], []
+
+    def known(self, moment):
+        """The bytes that were synced by a moment, and the writes since that had begun."""
+        sync = max((begin for begin, end in self.syncs if end <= moment), default=0)
+        data = self.first
+        for _, end, at, text in self.writes:
+            if end <= sync:
+                data = written(data, at, text)
+        return data, [(at, text) for begin, end, at, text in self.writes if end > sync and begin <= moment]
+
+    def image(self, moment, draw):
+        """The bytes that a cut at a moment may leave."""
+        data, later = self.known(moment)
+        whole = draw.random() < 0.3
+        for at, text in later:
+            part = "all" if whole else draw.choice(PARTS[text is not None and len(text) == 1])
+            if part != "none":
+                data = written(data, at, torn(text, part, draw))
+        return data
+
+
+def torn(text, part, draw):
+    """A write in part. None is a cut of the whole file to nothing."""
+    if text is None or part == "all":
+        return text
+    return bytes(len(text)) if part == "zeros" else text[:draw.randrange(len(text) + 1)]
+
+
+def written(data, at, text):
+    """The bytes once a write is made; `at` is None behind the end."""
+    if text is None:
+        return b""
+    at = len(data) if at is None else at
+    return data[:at].ljust(at, b"\0") + text + data[at + len(text):]
+
+
+class Disk:
+    """A plant's folder as it stood, and all that a feed did to it."""
+
+    def __init__(self, folder):
+        self.folder, self.now, self.first, self.moves, self.syncs, self.calls = folder, {}, {}, [], [], 0
+        for place, _, names in os.walk(folder):
+            self.first[self.short(place)] = None
+            for name in names:
+                with open(os.path.join(place, name), "rb") as data:
+                    self.first[self.short(os.path.join(place, name))] = File(data.read())
+        self.now = dict(self.first)
+
+    def short(self, path):
+        return os.path.relpath(path, self.folder)
+
+    def take(self, begin, end, kind, given, answer, opened):
+        """A call: what it does to files and names."""
+        paths = [bytes.fromhex(text.replace("\\x", "")).decode("utf-8", "replace") for text in HEXES.findall(given)]
+        if kind == "openat":
+            paths = [bytes.fromhex(opened.replace("\\x", "")).decode()]
+        elif kind == "unlinkat":
+            paths = [os.path.join(*paths[:2])]
+        if not paths or not os.path.abspath(paths[0]).startswith(self.folder):
+            return
+        names, self.calls = [self.short(path) for path in paths], self.calls + 1
+        file = self.now.get(names[0])
+        if kind == "openat" and "O_CREAT" in given and names[0] not in self.now:
+            self.move(begin, "make", names[0], File())
+        elif kind == "openat" and "O_TRUNC" in given:
+            file.writes.append((begin, end, 0, None))
+        elif kind in NAMES:
+            self.move(begin, kind, names[0], names[1] if kind == "rename" else None)
+        elif kind in ("fsync", "fdatasync"):
+            (self.syncs if file is None else file.syncs).append((begin, end) if file else (names[0], begin, end))
+        elif kind in ("write", "pwrite64"):
+            data = bytes.fromhex(given.split('"')[1].replace("\\x", ""))[:answer]
+            file.writes.append((begin, end, int(given.rsplit(", ", 1)[1]) if kind == "pwrite64" else None, data))
+        elif kind == "sendfile" and answer:
+            source, more = self.now[names[1]].known(end)
+            for at, text in more:
+                source = written(source, at, text)
+            file.writes.append((begin, end, None, source))
+
+    def move(self, begin, kind, name, what):
+        """Notes a change of names, and makes it."""
+        self.moves.append((begin, kind, name, what))
+        change(self.now, kind, name, what)
+
+    def synced_moves(self, moment):
+        """How many changes of names were synced by a moment."""
+        count = 0
+        for folder, begin, end in self.syncs:
+            if end <= moment:
+                count = max([count] + [place + 1 for place, (at, _, name, what) in enumerate(self.moves) if at < begin and folder in (
+                    os.path.dirname(name) or ".", os.path.dirname(what) or "." if isinstance(what, str) else None)])
+        return count
+
+    def build(self, folder, draw):
+        """A folder as a cut at some moment leaves it."""
+        moment = draw.choice([at for at, *_ in self.moves] + [end for *_, end in self.syncs]
+                             + [write[1] for file in self.now.values() if file for write in file.writes]) + draw.choice((-1e-6, 1e-6))
+        begun = sum(at <= moment for at, *_ in self.moves)
+        tree, least = dict(self.first), min(begun, self.synced_moves(moment))
+        for _, kind, name, what in self.moves[:draw.choice((least, begun, draw.randint(least, begun)))]:
+            change(tree, kind, name, what)
+        for name in sorted(tree):
+            if tree[name] is None:
+                os.makedirs(os.path.join(folder, name), exist_ok=True)
+            else:
+                with open(os.path.join(folder, name), "wb") as out:
+                    out.write(tree[name].image(moment, draw))
+
+
+def change(tree, kind, name, what):
+    """Makes a change of names: `what` is a new file, or where a name moves."""
+    if kind == "rename":
+        tree[what] = tree.pop(name)
+    elif kind in ("make", "mkdir"):
+        tree[name] = what
+    else:
+        del tree[name]
+
+
+def recorded(trial):
+    """What a feed does, which has to end well."""
+    disk, trace = Disk(trial.folder), trial.folder + ".trace"
+    os.makedirs(trace)
+    under = ["strace", "-ff", "-ttt", "-T", "-y", "-xx", "-s", "10000000", "-e", "trace=" + TRACED, "-o", os.path.join(trace, "of")]
+    status, text = trial.feed(under=under)
+    assert status == 0, (status, text)
+    calls = []
+    for name in os.listdir(trace):
+        with open(os.path.join(trace, name)) as lines:
+            calls += [found.groups() for found in map(LINE.match, lines) if found]
+    for begin, kind, given, answer, opened, took in sorted(calls, key=lambda call: float(call[0])):
+        disk.take(float(begin), float(begin) + float(took), kind, given, int(answer), opened)
+    shutil.rmtree(trace)
+    return disk
+
+
+def new_plant(folder, program):
+    """A plant that was never fed."""
+    trial = Trial(os.path.join(folder, "new"), program)
+    trial.deliver(0, hours=3)
+    return trial, expected(os.path.join(folder, "hand"), program, trial.rows)
+
+
+def cut(folder, program, settings, make):
+    """Builds plants as cuts leave them, and feeds each to the end: it has to be the plant of an undisturbed feed."""
+    if not shutil.which("strace"):
+        return "no strace here: not tried"
+    trial, wanted = make(folder, program)
+    disk, draw = recorded(trial), random.Random(settings.seed)
+    check_same(trial.answers(), wanted, "recorded")
+    for place in range(max(4, settings.kills // 3)):
+        shutil.rmtree(trial.folder)
+        disk.build(trial.folder, draw)
+        wait_for_orphans(trial)
+        trial.fed()
+        check_same(trial.answers(), wanted, "cut %d (seed %d)" % (place, settings.seed))
+        check_put_away(trial, 2 * len(trial.blocks))
+    return "%d cuts of a feed with %d calls" % (place + 1, disk.calls)
+
+
+def power_cut(folder, program, settings):
+    """Cuts while the second block is fed."""
+    return cut(folder, program, settings, two_blocks)
+
+
+def power_cut_on_new_plant(folder, program, settings):
+    """Cuts while a plant is fed for the first time."""
+    return cut(folder, program, settings, new_plant)
+
+
+def power_cut_while_retuning(folder, program, settings):
+    """Cuts while an edited base is taken over."""
+    return cut(folder, program, settings, edited_blocks)
+
+
+CASES = [power_cut, power_cut_on_new_plant, power_cut_while_retuning]
