@@ -8,7 +8,7 @@ This tries the mutants of the crates that are named, or of all, in a copy of the
 each mutant that is not refused or cannot be tried, then how many there were, and ends with status 1 if there was one.
 
 The copy is proved by `rt ci`, which takes over what it proved on this machine before: after a gate only the mutants take
-time, some 30 seconds of a processor each, and a check of each crate. Run it before you change a contract, and over all crates
+time, about a minute of a processor each, and a check of each crate. Run it before you change a contract, and over all crates
 at the end of a piece of work.
 """
 import re
