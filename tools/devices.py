@@ -24,14 +24,17 @@ def number(data, at, width):
 
 
 def events_on(path):
-    """How many events stand on a tag's device, by the rules of docs/FORMATS.md: those of the summary that counts, and of the batches
-    behind it."""
+    """How many events stand on a tag's device."""
     with open(path, "rb") as device:
         data = device.read(400)
-        if len(data) < 400 or data[0] != OPEN:
-            return 0
-        slots = min(number(data, 110, 4), 65_536)
-        data += device.read(1_035 * slots)
+        return events_in(data + device.read(1_035 * min(number(data, 110, 4), 65_536)))
+
+
+def events_in(data):
+    """How many events stand in the bytes of a tag's device: those of the summary that counts, and of the batches after it."""
+    if len(data) < 400 or data[0] != OPEN:
+        return 0
+    slots = min(number(data, 110, 4), 65_536)
     events = max((number(data, at, 8) for at, gate in ((128, 384), (256, 385)) if data[gate] == OPEN), default=0)
     for slot in range(slots):
         at = 400 + slots + 1_034 * slot

@@ -9,7 +9,8 @@ import re
 import shutil
 from collections import namedtuple
 
-from disk_plant import COMMANDS, HALF, NOTHING, ROWS, TAGS, Plant, events_on, rows_on_log
+from devices import events_in
+from disk_plant import COMMANDS, HALF, NOTHING, ROWS, TAGS, Plant, rows_on_log
 
 Call = namedtuple("Call", "name kind at data begin end")
 TRACED = "openat,pwrite64,ftruncate,fdatasync,fsync"
@@ -163,7 +164,7 @@ def traced(folder, program, verb, draw, is_new, has_lanes):
 
 def look_at_run(plant, session, moment, goes_on):
     """What `check` and `trend` find, and at times that the plant goes on from there."""
-    least = {name: events_on(session.known(name + ".tag", moment)[0] or b"") for name in TAGS}
+    least = {name: events_in(session.known(name + ".tag", moment)[0] or b"") for name in TAGS}
     found = plant.audit(least)
     if goes_on:
         plant.finish()

@@ -51,6 +51,16 @@ def refused(plant, name):
     return len(OPENS[name])
 
 
+def unknown_word(folder, program, settings):
+    """A word that is no command opens no device: not even a marked one is written anew."""
+    plant = full_plant(os.path.join(folder, "plant"), program)
+    plant.write("historian.d/T1.tag.fault", b"")
+    before = state(plant)
+    for words in (("chek", "base.toml"), ("--help",), ()):
+        assert plant.call(*words) == (2, "fault: words\n"), words
+    assert state(plant) == before, "an unknown word changes the folder"
+
+
 def damaged_first_bytes(folder, program, settings):
     """A tag, a group or the log whose first byte is neither 00 nor an open gate is refused, and goes on once the byte is put back."""
     draw, count = random.Random(settings.seed), 0
@@ -262,5 +272,5 @@ def read_only_mount(folder, program, settings):
     return "8 commands"
 
 
-CASES = [damaged_first_bytes, closed_first_bytes, zeroed_first_sectors, links_and_names, large_files, strangers, read_only_files,
+CASES = [unknown_word, damaged_first_bytes, closed_first_bytes, zeroed_first_sectors, links_and_names, large_files, strangers, read_only_files,
          read_only_mount]

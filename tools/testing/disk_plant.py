@@ -10,7 +10,8 @@ import shutil
 import struct
 import subprocess
 
-OPEN = 0xA5
+from devices import OPEN, events_in, number
+
 TAGS = ("T1", "T2", "T3")
 FILES = {"T1": "c1.csv", "T2": "c1.csv", "T3": "c2.csv"}
 EXC_DEV, EXC_MAX, COMP_DEV, COMP_MAX = 2, 600_000, 5, 28_800_000
@@ -70,19 +71,6 @@ def file_text(file, stored, until):
     return "".join("%s,%d,%d\n" % (name, t, v) for _, name, (t, v) in sorted(rows))
 
 
-def events_on(data):
-    """How many events stand on a tag's device: those of the summary that counts, and the batches behind it."""
-    if len(data) < 2 or data[0] != OPEN:
-        return 0
-    slots = number(data, 110, 4)
-    events = max((number(data, at, 8) for at, gate in ((128, 384), (256, 385)) if data[gate] == OPEN), default=0)
-    for slot in range(slots):
-        at = 400 + slots + 1034 * slot
-        if data[400 + slot] == OPEN and number(data, at, 8) == events:
-            events += number(data, at + 8, 2)
-    return events
-
-
 def rows_on_log(data):
     """The rows of the log: tag, collector, row of its file, time and value."""
     rows, at = [], 9 + number(data, 5, 4)
@@ -91,10 +79,6 @@ def rows_on_log(data):
         rows += struct.iter_unpack(">IIQQq", data[at + 13:at + 13 + 32 * count])
         at += 13 + 32 * count
     return rows
-
-
-def number(data, at, width):
-    return int.from_bytes(data[at:at + width], "big")
 
 
 def new_device(name, slots):
@@ -174,7 +158,7 @@ class Plant:
 
     def events(self):
         """How many events stand on each tag's device."""
-        return {name: events_on(self.read("historian.d/%s.tag" % name)) for name in TAGS}
+        return {name: events_in(self.read("historian.d/%s.tag" % name)) for name in TAGS}
 
     def lines(self, events):
         """What `check` has to print where each tag took so many first rows."""
