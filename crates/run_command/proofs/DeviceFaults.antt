@@ -63,9 +63,9 @@ module _ {D : Type 0} (trace : D → Option Trace) (ticks faults : D → ℕ) (b
 
   module _ (g : Given) where
     of_making : (unit : Device) → IsMakingRefusal g cells books (DeviceFault unit) → HasRisen before now
-    of_making (Tag tag) (OfTaking so unlike) = of_cell tag so
-    of_making (Group group) (OfTaking so unlike) = absurd so
-    of_making Log (OfTaking so unlike) = absurd so
+    of_making (Tag tag) (OfTaking so) = of_cell tag so
+    of_making (Group group) (OfTaking so) = absurd so
+    of_making Log (OfTaking so) = absurd so
     of_making (Tag tag) (OfCommit so) = of_cell tag so
     of_making (Group group) (OfCommit so) = absurd so
     of_making Log (OfCommit so) = absurd so
@@ -78,8 +78,8 @@ module _ {D : Type 0} (trace : D → Option Trace) (ticks faults : D → ℕ) (b
     of_rest notes unit (OfFinding (OfRowAsk works over unfound so)) = absurd so
     of_rest notes unit (OfFinding (OfTurns so)) = absurd so
     of_rest notes unit (OfStop so) = absurd so
-    of_rest notes unit (OfMaking so) = of_making unit so
-    of_rest notes unit (OfPull so) = absurd so.differs.differs
+    of_rest notes unit (OfMaking ended so) = of_making unit so
+    of_rest notes unit (OfPull ended so) = absurd so.differs.differs
 
     pub of_undone : (opened : List (Cell D)) (opened_books : List (Book D)) (notes : List WorkerNote) (unit : Device)
         → IsUndone g opened opened_books cells books notes (DeviceFault unit) → HasRisen before now

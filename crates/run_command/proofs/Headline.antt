@@ -1,9 +1,11 @@
 -- The promise of a session, from its cells and books.
 use Rattle.std.proofs.Common.{◌≡◌, ◌∙◌, ◌<◌, ◌≤◌, ◌+◌, ℕ, Bool, List, [], ◌∷◌, ◌++◌, All, Option, Result, Ok, Err, IfOk, String, arith, ap, sym, subst, refl, length, map, take, get_or}
 use Rattle.std.specs.Prelude.{◌≢◌, nat_eq, string_bytes, if◌then◌else◌}
-use Rattle.std.specs.List.{AllZip, fold}
+use Rattle.std.specs.List.{AllZip, fold, sum_by}
 use Rattle.std.specs.declared.alloc.Global.{Global}
 use Rattle.std.proofs.lemmas.List.{ext_get_or, get_or-map, length-map, length_push, take_all}
+use Rattle.std.proofs.lemmas.List.Sums.{sum_by-cons}
+use Rattle.trend_num.specs.Limits.{most_stored}
 use Rattle.trend_num.specs.declared.point.Point.{Point}
 use Rattle.trend_num.specs.declared.archive.Summary.{Summary}
 use Rattle.trend_num.specs.declared.tag_def.TagDef.{TagDef}
@@ -36,7 +38,7 @@ use Rattle.session_audit.specs.declared.kind.Shown.{Shown as ShownBy}
 use Rattle.session_audit.specs.Agendas.{ask_item, phase_item, row_item, take_item}
 use Rattle.session_audit.specs.Found.{tape_shows}
 use Rattle.session_audit.specs.Tapes.{ask_of, take_of}
-use Rattle.session_audit.specs.Workers.{AreTapesWhole, file_due}
+use Rattle.session_audit.specs.Workers.{AreTapesBegun, AreTapesWhole, IsFirstPart, file_due}
 use Rattle.session_audit.specs.Durable.{durable_in}
 use Rattle.session_audit.specs.Pulls.{ArePulled}
 use Rattle.session_audit.specs.Refreshing.{EndsInSave, durable_lists, durable_numbers}
@@ -50,17 +52,17 @@ use Rattle.tag_base.specs.declared.schedule.Refresher.{Refresher}
 use Rattle.plant_store.specs.Tags.{tag_trace_of}
 use Rattle.plant_store.specs.CellClosings.{AreHistoriesAt, AreHistoriesOf, IsHistoryOfCell}
 use Rattle.plant_store.specs.CellNames.{device_names_of}
-use Rattle.plant_store.specs.CellOpenings.{AreCellsOpened}
+use Rattle.plant_store.specs.CellOpenings.{AreCellsOpened, records_opened}
 use Rattle.plant_store.specs.Groups.{AreBooksOpened, DeviceTraces, group_parts_of, group_definition_text, group_trace_at}
 use Rattle.plant_store.specs.Openings.{cell_records_in}
 use Rattle.plant_files.specs.PlanRows.{IsGoodBase}
 use Rattle.session_report.specs.declared.session.Session.{Session}
 use Rattle.session_report.specs.Report.{report}
 use Rattle.run_command.specs.declared.work.Given.{Given}
-use Rattle.run_command.specs.Headline.{AreGroupsSound, AreUnitsOpened, IsDoneSo, IsGroupOpened, IsMixed, IsPromised, IsGroupRefreshed, IsTagOpened, IsTagSound, entries, tag_records_of, turns, turns_in}
+use Rattle.run_command.specs.Headline.{AreGroupsSound, AreUnitsOpened, IsBegun, IsDoneSo, IsGroupOpened, IsMixed, IsPromised, IsGroupRefreshed, IsTagOpened, IsTagSound, entries, tag_records_of, turns, turns_in}
 use Rattle.run_command.specs.Refusals.{IsOfOpening}
 use Rattle.run_command.specs.Runs.{IsContinued, IsContinuedGroup, IsDone, IsSessionHeld, IsOver, IsSession, IsWorkIn}
-use Rattle.run_command.specs.Steps.{AreStepsMade, planned_turn, turn_of}
+use Rattle.run_command.specs.Steps.{AreBegun, AreStepsMade, planned_turn, turn_of}
 use Rattle.run_command.proofs.Zipped.{zip_at, zip_length}
 use Rattle.run_command.proofs.DeviceFaults.{faults_counted}
 use Rattle.plant_status.proofs.Elements.{element}
@@ -112,6 +114,23 @@ module _ {D : Type 0} (trace : D → Option Trace) (ticks faults : D → ℕ) (o
         opened_tags ds cs es ts was.1 same.1 is.1,
       )
 
+  -- all tags together have as many records at their openings as were opened
+  opened_records : (first last : List (Cell D)) (ts : List TagHistory) → AllZip IsContinued first last
+      → AreHistoriesOf trace ticks faults last ts
+      → ◌≡◌ {A = ℕ} (sum_by (λ (t : TagHistory). length t.opening.recs.items) ts) (records_opened first)
+  opened_records [] [] [] same is = refl
+  opened_records [] [] (t ∷ ts) same is = absurd is
+  opened_records [] (c ∷ cs) ts same is = absurd same
+  opened_records (c ∷ cs) [] ts same is = absurd same
+  opened_records (c ∷ cs) (e ∷ es) [] same is = absurd is
+  opened_records (c ∷ cs) (e ∷ es) (t ∷ ts) same is =
+      let here : length t.opening.recs.items ≡ length c.opening.recs.items =
+      ap length (ap (λ (o : TagOpening). o.recs.items) is.0.opening_is ∙ same.0.records) in
+      let rest = opened_records cs es ts same.1 is.1 in
+      let new = sum_by-cons (λ (x : TagHistory). length x.opening.recs.items) t ts in
+      let old_sum = sum_by-cons (λ (x : Cell D). length x.opening.recs.items) c cs in
+      omega (arith, here, rest, new, old_sum)
+
 -- ---- all is acknowledged
 
 -- no more is acknowledged than was taken
@@ -151,6 +170,18 @@ module _ {C T E A : Type 0} (tape_of : C → List E) (told_of : T → List E) (w
         let there : unit < length cs = omega (arith, many, below) in
         let c = element cs unit there in
         subst (λ l. tape_shows work worker l ≡ file_due item_of files worker unit) (sym (same unit c t below)) (whole.each unit worker c there);
+  }
+
+  -- so of their first rows
+  begun_tapes : (cs : List C) (ts : List T) → length ts ≡ length cs
+      → ((i : ℕ) (c : C) (t : T) → i < length ts → told_of (get_or ts i t) ≡ tape_of (get_or cs i c))
+      → AreTapesBegun tape_of work item_of files cs → AreTapesBegun told_of work item_of files ts
+  begun_tapes cs ts many same begun = record {
+    each = λ unit worker t below.
+        let there : unit < length cs = omega (arith, many, below) in
+        let c = element cs unit there in
+        subst (λ l. IsFirstPart (tape_shows work worker l) (file_due item_of files worker unit)) (sym (same unit c t below))
+        (begun.each unit worker c there);
   }
 
 -- the records of a cell whose history has all acknowledged are such as no crash takes away
@@ -236,6 +267,22 @@ module _ {D : Type 0} (trace : D → Option Trace) (ticks faults : D → ℕ) (b
         (get_or cells i c) (get_or s.tags.items i t)
     history_at i c t below = zip_at (λ (x : Cell D) h. IsHistoryOfCell (trace x.journal.dev) (ticks x.journal.dev) (faults x.journal.dev) x h)
         cells s.tags.items i c t is.tags below
+
+    -- what the workers left are first rows of their files
+    pub begun : (earlier phases : ℕ) (rows : List (List RawRow)) (queries : List (List Query)) (refreshers : List Refresher)
+        → IsWorkIn base earlier phases rows queries refreshers g → AreBegun g cells books → IsBegun (phase_item earlier) rows queries s
+    begun earlier phases rows queries refreshers given was = record {
+      takes = subst (λ n. AreTapesBegun entries take_of (phase_item n) rows s.tags.items) given.earlier_is
+          (subst (λ files. AreTapesBegun entries take_of (phase_item g.work.earlier) files s.tags.items) given.collectors
+          (begun_tapes (λ (c : Cell D). c.tape) entries take_of (phase_item g.work.earlier) (lists_of g.work.collectors.items) cells
+          s.tags.items tags_many (λ i c t below. (history_at i c t below).tape_is) was.takes));
+      asks = subst (λ files. AreTapesBegun entries ask_of ask_item files s.tags.items) given.readers
+          (begun_tapes (λ (c : Cell D). c.tape) entries ask_of ask_item (lists_of g.work.readers.items) cells s.tags.items tags_many
+          (λ i c t below. (history_at i c t below).tape_is) was.asks);
+      row_asks = subst (λ files. AreTapesBegun turns row_ask_of row_item files s.groups.items) given.readers
+          (begun_tapes (λ (b : Book D). b.tape) turns row_ask_of row_item (lists_of g.work.readers.items) books s.groups.items
+          is.groups.as_many (λ i b h below. (is.groups.each i b h (omega (arith, is.groups.as_many, below))).tape) was.row_asks);
+    }
 
     mixed : (earlier phases : ℕ) (rows : List (List RawRow)) (queries : List (List Query)) (refreshers : List Refresher)
         → IsGoodBase base → IsWorkIn base earlier phases rows queries refreshers g → AreStepsMade g cells books
@@ -355,6 +402,7 @@ module _ {D : Type 0} (trace : D → Option Trace) (ticks faults : D → ℕ) (b
         → IsDone base g cells books s text
         → IsDoneSo (phase_item earlier) (λ i. phases + turns_in i refreshers) base rows queries s text
     done earlier phases rows queries refreshers text good given was it = record {
+      ended = it.ended;
       mixed = mixed earlier phases rows queries refreshers good given it.made it.pulled;
       refreshed = refreshed earlier phases rows queries refreshers good given it.made it.pulled was;
       same = it.same ∙ (λ k. report base ((sym (length-map g.work.collectors.items _) ∙ ap length given.collectors) k) (given.readers k) s);
@@ -365,6 +413,7 @@ only_phase : (base : Base) (rows : List (List RawRow)) (queries : List (List Que
     (text : List ℕ) → IsDoneSo (phase_item 0) (λ i. 0 + turns_in i refreshers) base rows queries s text
     → IsDoneSo take_item (λ i. turns_in i refreshers) base rows queries s text
 only_phase base rows queries refreshers s text it = record {
+  ended = it.ended;
   mixed = it.mixed;
   refreshed = λ i d g below. subst (λ n. IsGroupRefreshed (get_or base.groups.items i d) n s (get_or s.groups.items i g))
       (omega arith) (it.refreshed i d g below);
@@ -388,6 +437,8 @@ held_opened trace ticks faults base g old new before now answer s is none = reco
       is.over.tags;
   groups = opened_groups trace ticks faults base old new is.opened is.cells is.opened_books is.books s is.opening.groups
       (is.same_groups none) is.over;
+  few = subst (λ n. n ≤ most_stored) (sym (opened_records trace ticks faults old is.opened is.cells s.tags.items (is.same_tags none) is.over.tags))
+      is.opening.few;
 }
 
 pub promised : {D : Type 0} (trace : D → Option Trace) (ticks faults : D → ℕ) (name plan_name : List ℕ) (told : ToldFiles)
@@ -406,6 +457,8 @@ promised trace ticks faults name plan_name told old new before now stops_before 
       tags = sound_tags new is.base.tags.items s.tags.items run.over.devices;
       groups = sound_groups trace ticks faults is.base old new run.cells run.books s run.over;
       opened_as = opened_as;
+      begun = λ none. begun trace ticks faults is.base old new is.given run.cells run.books s run.over 0 0 is.rows is.queries
+          is.plan.refreshers.items is.work (is.run.begun none);
       done = if_done answer opened_as
           (λ was text it. only_phase is.base is.rows is.queries is.plan.refreshers.items s (string_bytes text)
           (done trace ticks faults is.base old new is.given run.cells run.books s run.over 0 0 is.rows is.queries

@@ -21,3 +21,4 @@ pub mod DrillNaming
 pub mod DrillGrowing
 pub mod DrillSound
 pub mod DrillFormulas
+pub mod Foreign

@@ -1,16 +1,35 @@
 -- The notes of workers that began, or none.
-use Rattle.std.proofs.Common.{◌≡◌, ℕ, Vec, Result, Ok, Err, IfOk, OnErr, refl}
-use Rattle.std.specs.Prelude.{⊤}
+use Rattle.std.proofs.Common.{◌≡◌, ◌++◌, ℕ, List, Vec, Result, Ok, Err, IfOk, OnErr, OnOk, is_ok, refl, true}
+use Rattle.std.specs.Prelude.{◌≢◌, ⊤}
+use Rattle.std.proofs.lemmas.Bool.{false≢true}
+use Rattle.std.proofs.lemmas.List.Elements.{All-append}
+use Rattle.plant_status.specs.declared.status.Status.{Status}
+use Rattle.collector_pool.specs.declared.note.Ending.TheVariants.{Halted, WantOfMemory as NoMemory}
 use Rattle.std.specs.declared.alloc.Global.{Global}
 use Rattle.trend_num.specs.declared.refusal.WantOfMemory.{WantOfMemory}
 use Rattle.collector_pool.specs.declared.note.WorkerNote.{WorkerNote}
 use Rattle.collector_pool.specs.declared.work.Work.{Work}
 use Rattle.collector_pool.specs.Notes.{AreNotesOf, stops_with}
 use Rattle.run_command.specs.Refusals.{notes_of}
-use Rattle.run_command.specs.Sessions.{AreNotes, OfAll, OfNone}
+use Rattle.run_command.specs.Endings.{HaveAllEnded}
+use Rattle.run_command.specs.Sessions.{AreNotes, AreNotesOfAll, OfAll, OfNone}
 
 pub notes_are : (D : Type 0) (w : Work) (before now : ℕ) (r : Result (Vec WorkerNote Global) WantOfMemory)
     → IfOk r (λ notes. AreNotesOf D (λ ask place reply. ⊤) (λ group no. ⊤) w notes.items)
     → IfOk r (λ notes. now ≡ stops_with before notes.items) → OnErr r (now ≡ before) → AreNotes D w before now (notes_of r)
 notes_are D w before now (Ok notes) are stops none = OfAll are stops
 notes_are D w before now (Err why) are stops none = OfNone refl none
+
+-- where workers ended by themselves, they had begun
+pub ran_all : (D : Type 0) (w : Work) (r : Result (Vec WorkerNote Global) WantOfMemory) (a : Result (Unit {0}) Status)
+    → IfOk r (λ notes. AreNotesOfAll D w notes.items) → OnOk a (is_ok r ≡ true) → OnOk a (AreNotesOfAll D w (notes_of r))
+ran_all D w r (Err why) are worked = tt
+ran_all D w (Ok notes) (Ok x) are worked = are
+ran_all D w (Err why) (Ok x) are worked = absurd (false≢true worked)
+
+-- the workers of two phases
+pub ended_both : (front more : List WorkerNote) → HaveAllEnded front → HaveAllEnded more → HaveAllEnded (front ++ more)
+ended_both front more first second = record {
+  none_halted = All-append (λ n. n.ending ≢ Halted) front more first.none_halted second.none_halted;
+  all_found = All-append (λ n. n.ending ≢ NoMemory) front more first.all_found second.all_found;
+}

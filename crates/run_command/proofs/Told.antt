@@ -16,7 +16,8 @@ use Rattle.plant_store.specs.Closings.{CountsClosed}
 use Rattle.session_report.specs.declared.session.Session.{Session}
 use Rattle.run_command.specs.declared.work.Given.{Given}
 use Rattle.run_command.specs.declared.phase.EndedPhase.{EndedPhase}
-use Rattle.run_command.specs.Refusals.{IsOfOpening}
+use Rattle.run_command.specs.Endings.{HaveAllEnded}
+use Rattle.run_command.specs.Refusals.{AdmitsForeign, IsOfOpening}
 use Rattle.run_command.specs.Runs.{IsContinued, IsContinuedGroup, IsDone, IsSessionHeld, AreUnitsOpen, IsOver, IsReported, IsUndone, OfNone}
 use Rattle.run_command.specs.Steps.{AreStepsMade}
 
@@ -32,15 +33,21 @@ module _ (base : Base) (g : Given) (s : Session) where
   opening_told (Ok x) told is of = absurd of
   opening_told (Err why) told is of = subst (λ (r : Result (String Global) Status). IsOfOpening r) (sym is.refused) of
 
+  -- so is a refusal after which a tape may have an entry of no file
+  pub foreign_told : (came : Result (Unit {0}) Status) (told : Result (String Global) Status) → IsReported base g s came told
+      → AdmitsForeign came → AdmitsForeign told
+  foreign_told (Ok x) told is of = absurd of
+  foreign_told (Err why) told is of = subst (λ (r : Result (String Global) Status). AdmitsForeign r) (sym is.refused) of
+
   module _ {D : Type 0} (cells : List (Cell D)) (books : List (Book D)) where
     -- a session that answers a text is done
     pub done_told : (came : Result (Unit {0}) Status) (told : Result (String Global) Status) → IsReported base g s came told
-        → OnOk came (AreStepsMade g cells books) → OnOk came (ArePulled (lists_of g.inputs.items) cells books)
-        → IfOk told (λ text. IsDone base g cells books s (string_bytes text))
-    done_told (Ok x) (Ok text) is made pulled = record { made = made; pulled = pulled; same = is.text }
-    done_told (Ok x) (Err why) is made pulled = tt
-    done_told (Err why) (Ok text) is made pulled = absurd (cc (is.refused))
-    done_told (Err why) (Err e) is made pulled = tt
+        → OnOk came (HaveAllEnded s.workers.items) → OnOk came (AreStepsMade g cells books)
+        → OnOk came (ArePulled (lists_of g.inputs.items) cells books) → IfOk told (λ text. IsDone base g cells books s (string_bytes text))
+    done_told (Ok x) (Ok text) is ended made pulled = record { ended = ended; made = made; pulled = pulled; same = is.text }
+    done_told (Ok x) (Err why) is ended made pulled = tt
+    done_told (Err why) (Ok text) is ended made pulled = absurd (cc (is.refused))
+    done_told (Err why) (Err e) is ended made pulled = tt
 
     module _ (opened : List (Cell D)) (opened_books : List (Book D)) (notes : List WorkerNote) where
       -- and a cause of one that is not
@@ -53,6 +60,14 @@ module _ (base : Base) (g : Given) (s : Session) where
       undone_told (Err why) (Err e) is undone =
           let same : e ≡ why = cc (is.refused) in
           subst (IsUndone g opened opened_books cells books notes) (sym same) undone
+
+-- what holds of a phase that is done holds of a session that answers a text
+pub ran_told : {P : Type 0} (base : Base) (g : Given) (s : Session) (came : Result (Unit {0}) Status) (told : Result (String Global) Status)
+    → IsReported base g s came told → OnOk came P → OnOk told P
+ran_told base g s (Ok x) (Ok text) is p = p
+ran_told base g s (Ok x) (Err why) is p = tt
+ran_told base g s (Err why) (Ok text) is p = absurd (cc (is.refused))
+ran_told base g s (Err why) (Err e) is p = tt
 
 -- where an opening counted no fault, those counted since are all that were counted since before it
 pub counted_since : {D : Type 0} (faults : D → ℕ) (cells : List (Cell D)) (books : List (Book D)) (before opened now : ℕ)
@@ -69,10 +84,10 @@ abbrev pub held_told : {D : Type 0} (trace : D → Option Trace) (ticks faults :
     → (opening < 2 ^ 64 → CountsClosed faults e.cells.items e.books.items opening now)
     → ((IsOfOpening e.answer → ⊥) → AllZip IsContinued opened e.cells.items)
     → ((IsOfOpening e.answer → ⊥) → AllZip IsContinuedGroup opened_books e.books.items)
-    → OnOk e.answer (AreStepsMade g e.cells.items e.books.items)
+    → OnOk e.answer (HaveAllEnded s.workers.items) → OnOk e.answer (AreStepsMade g e.cells.items e.books.items)
     → OnOk e.answer (ArePulled (lists_of g.inputs.items) e.cells.items e.books.items) → IsReported base g s e.answer told
     → IsSessionHeld trace ticks faults base g old new before now told s
-held_told trace ticks faults base g old new before opening now opened opened_books e told s was over same counts tags groups made pulled is =
+held_told trace ticks faults base g old new before opening now opened opened_books e told s was over same counts tags groups ended made pulled is =
     record {
       opened = opened;
       opened_books = opened_books;
@@ -83,5 +98,5 @@ held_told trace ticks faults base g old new before opening now opened opened_boo
       counts = counted_since faults e.cells.items e.books.items before opening now same counts;
       same_tags = λ none. tags (λ of. none (opening_told base g s e.answer told is of));
       same_groups = λ none. groups (λ of. none (opening_told base g s e.answer told is of));
-      done = done_told base g s e.cells.items e.books.items e.answer told is made pulled;
+      done = done_told base g s e.cells.items e.books.items e.answer told is ended made pulled;
     }

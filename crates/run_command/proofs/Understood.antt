@@ -74,11 +74,11 @@ module _ {D : Type 0} where
     of_rest notes (OfFinding (OfRowAsk works over unfound is)) = is
     of_rest notes (OfFinding (OfTurns is)) = is
     of_rest notes (OfStop is) = is
-    of_rest notes (OfMaking (OfTaking is unlike)) = is
-    of_rest notes (OfMaking (OfCommit is)) = is
-    of_rest notes (OfMaking (OfRefreshing is)) = of_book _ _ is.group is.book is.refused
-    of_rest notes (OfMaking (OfWanting same)) = cc same
-    of_rest notes (OfPull is) = is.differs.differs
+    of_rest notes (OfMaking ended (OfTaking is)) = is
+    of_rest notes (OfMaking ended (OfCommit is)) = is
+    of_rest notes (OfMaking ended (OfRefreshing is)) = of_book _ _ is.group is.book is.refused
+    of_rest notes (OfMaking ended (OfWanting same)) = cc same
+    of_rest notes (OfPull ended is) = is.differs.differs
 
     pub of_undone : (opened : List (Cell D)) (opened_books : List (Book D)) (notes : List WorkerNote)
         → runs.IsUndone g opened opened_books cells books notes BadWords → ⊥

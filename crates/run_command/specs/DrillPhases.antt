@@ -1,12 +1,13 @@
 -- What two phases of a session come to.
 use Rattle.std.specs.Prelude.{◌≡◌, ℕ, List, ◌++◌}
+use Rattle.std.specs.List.{AllZip}
 use Rattle.plant_status.specs.declared.status.Status.{Status}
 use Rattle.collector_pool.specs.declared.note.WorkerNote.{WorkerNote}
 use Rattle.collector_pool.specs.declared.work.Work.{Work}
 use Rattle.group_book.specs.Told.{ToldBook as Book}
 use Rattle.tag_cell.specs.Told.{ToldCell as Cell}
 use Rattle.run_command.specs.declared.work.Given.{Given}
-use Rattle.run_command.specs.Runs.{IsUndone}
+use Rattle.run_command.specs.Runs.{IsContinued, IsContinuedGroup, IsUndone}
 use Rattle.run_command.specs.Sessions.{AreNotes}
 use Rattle.run_command.specs.Steps.{AreStepsMade}
 
@@ -31,12 +32,13 @@ pub record IsUndoneBehind {D : Type 0} (g : Given) (cells : List (Cell D)) (book
   pub behind : notes ≡ front ++ more
   pub undone : IsUndone g cells books last last_books more why
 
--- why two phases are not done: the first is not; or the first is, with these cells, books and notes, and the second is
--- not
+-- why two phases are not done: the first is not; or the first is, with these cells, books and notes, which continue
+-- those that were opened, and the second is not
 pub data IsUndoneOfBoth {D : Type 0} (first second : Given) (opened : List (Cell D)) (opened_books : List (Book D))
     (cells : List (Cell D)) (books : List (Book D)) (notes : List WorkerNote) (why : Status) : Type 0 where
   OfFirst : IsUndone first opened opened_books cells books notes why
       → IsUndoneOfBoth first second opened opened_books cells books notes why
   OfSecond : (between : List (Cell D)) (between_books : List (Book D)) (front : List WorkerNote)
+      → AllZip IsContinued opened between → AllZip IsContinuedGroup opened_books between_books
       → AreStepsMade first between between_books → IsUndoneBehind second between between_books front cells books notes why
       → IsUndoneOfBoth first second opened opened_books cells books notes why

@@ -1,5 +1,5 @@
 -- How a session is refused if not all of its workers ended by themselves.
-use Rattle.std.specs.Prelude.{◌≡◌, ◌≢◌, ℕ, ◌<◌, List, Any, length}
+use Rattle.std.specs.Prelude.{◌≡◌, ◌≢◌, ℕ, ◌<◌, List, All, Any, length}
 use Rattle.std.specs.List.{AllWithin, HoldsAt}
 use Rattle.plant_status.specs.declared.status.Status.{Status}
 use Rattle.plant_status.specs.declared.status.Status.TheVariants as status
@@ -12,3 +12,8 @@ IsStop notes (status.Halted worker) = (place : ℕ) × (place < length notes)
     × HoldsAt (λ n. (n.worker ≡ worker) × (n.ending ≡ Halted)) notes place × AllWithin (λ n. n.ending ≢ Halted) notes 0 place
 IsStop notes status.WantOfMemory = Any (λ n. n.ending ≡ WantOfMemory) notes
 IsStop notes other = ⊥
+
+-- no pass stopped a worker, and each found memory
+pub record HaveAllEnded (notes : List WorkerNote) : Type 0 where
+  pub none_halted : All (λ n. n.ending ≢ Halted) notes
+  pub all_found : All (λ n. n.ending ≢ WantOfMemory) notes

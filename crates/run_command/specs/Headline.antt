@@ -2,6 +2,7 @@
 use Rattle.std.specs.Prelude.{◌≡◌, ◌≢◌, ℕ, ◌+◌, ◌^◌, ◌<◌, ◌≤◌, List, [], All, length, map, nat_eq, slice_index, slice_index_or, Option, Result, IfErr, IfOk, String, string_bytes, if◌then◌else◌}
 use Rattle.std.specs.List.{AllZip, sum_by}
 use Rattle.std.specs.declared.alloc.Global.{Global}
+use Rattle.trend_num.specs.Limits.{most_stored}
 use Rattle.trend_num.specs.declared.archive.Rec.{Rec}
 use Rattle.trend_num.specs.declared.tag_def.TagDef.{TagDef}
 use Rattle.trend_model.specs.Bound.{IsBounded}
@@ -40,14 +41,15 @@ use Rattle.plant_files.specs.RowFiles.{ToldFiles}
 use Rattle.session_audit.specs.declared.agenda.Item.{Item}
 use Rattle.session_audit.specs.Agendas.{ask_item, row_item, take_item}
 use Rattle.session_audit.specs.Tapes.{ask_of, take_of}
-use Rattle.session_audit.specs.Workers.{AreTapesWhole}
+use Rattle.session_audit.specs.Workers.{AreTapesBegun, AreTapesWhole}
 use Rattle.session_audit.specs.Refreshing.{EndsInSave}
 use Rattle.session_audit.specs.Durable.{ArePullsDurable}
 use Rattle.session_audit.specs.GroupTapes.{pulled, reached, refreshes, row_ask_of}
 use Rattle.plant_files.specs.PlanRows.{IsPlanned}
 use Rattle.session_report.specs.declared.session.Session.{Session}
 use Rattle.session_report.specs.Report.{report}
-use Rattle.run_command.specs.Refusals.{IsOfOpening}
+use Rattle.run_command.specs.Endings.{HaveAllEnded}
+use Rattle.run_command.specs.Refusals.{AdmitsForeign, IsOfOpening}
 
 -- ---- a tag
 
@@ -103,20 +105,31 @@ pub record IsGroupOpened (i : ℕ) (d : GroupDef) (before : Option Trace) (g : G
 
 -- ---- what was opened
 
--- each tag and each group was opened like that
+-- each tag and each group was opened like that, and all tags together had not too many records then
 pub record AreUnitsOpened (base : Base) (before : DeviceTraces) (s : Session) : Type 0 where
   pub tags : AllZip (λ def t. IsTagOpened def (tag_trace_of before def) t) base.tags.items s.tags.items
   pub groups : (i : ℕ) (d : GroupDef) (g : GroupHistory) → i < length s.groups.items
       → IsGroupOpened i (slice_index_or base.groups.items i d) (group_trace_at before (slice_index_or base.groups.items i d))
       (slice_index_or s.groups.items i g)
+  pub few : sum_by (λ t. length t.opening.recs.items) s.tags.items ≤ most_stored
 
--- ---- a session that is done
+-- ---- a session that may not be done
 
 abbrev pub entries : TagHistory → List Entry
 entries t = t.tape.items
 
 abbrev pub turns : GroupHistory → List Turn
 turns g = g.tape.items
+
+-- Each tag has taken from each collector the first of the rows of its file that are its own, in their order, and nothing
+-- else. An item states what a row leaves. The same holds for the readers' questions, at tags and at groups.
+pub record IsBegun (item_of : ℕ → ℕ → RawRow → Option Item) (rows : List (List RawRow)) (queries : List (List Query)) (s : Session)
+    : Type 0 where
+  pub takes : AreTapesBegun entries take_of item_of rows s.tags.items
+  pub asks : AreTapesBegun entries ask_of ask_item queries s.tags.items
+  pub row_asks : AreTapesBegun turns row_ask_of row_item queries s.groups.items
+
+-- ---- a session that is done
 
 -- Each tag has taken from each collector exactly the rows of its file that are its own, in their order, each once. An
 -- item states what a row leaves. The same holds for the readers' questions, at tags and at groups. Each pull of a group
@@ -147,10 +160,11 @@ pub record IsGroupRefreshed (d : GroupDef) (turns : ℕ) (s : Session) (g : Grou
   pub copies : lists_of g.copies.items ≡ map (tag_records_of s) d.inputs.items
   pub saved : EndsInSave g.tape.items
 
--- a session that is done, whose groups have so many turns: each row and question had its turn, each group is up to
--- date, and the text is its report
+-- a session that is done, whose groups have so many turns: no worker was stopped, each row and question had its turn,
+-- each group is up to date, and the text is its report
 pub record IsDoneSo (item_of : ℕ → ℕ → RawRow → Option Item) (turns_of : ℕ → ℕ) (base : Base) (rows : List (List RawRow))
     (queries : List (List Query)) (s : Session) (text : List ℕ) : Type 0 where
+  pub ended : HaveAllEnded s.workers.items
   pub mixed : IsMixed item_of base rows queries s
   pub refreshed : (i : ℕ) (d : GroupDef) (g : GroupHistory) → i < length s.groups.items
       → IsGroupRefreshed (slice_index_or base.groups.items i d) (turns_of i) s (slice_index_or s.groups.items i g)
@@ -165,7 +179,8 @@ IsFaultCounted before now why = (unit : Device) → why ≡ DeviceFault unit →
 -- The session of the plan in a file over the base in another, and its answer. The devices recorded such calls before,
 -- and record such calls now; the store counted so many faults before, and so many now. Whatever the answer is, each tag
 -- and each group is sound. Each was opened as what its device stood for, unless the answer reports that an opening has
--- changed. If there is a text, the session is done.
+-- changed. Unless the answer admits an entry of no file, no tag and no group has any. If there is a text, the session is
+-- done.
 pub record IsPromised (name plan_name : List ℕ) (told : ToldFiles) (before now : DeviceTraces) (faults_before faults_now : ℕ)
     (answer : Result (String Global) Status) (s : Session) : Type 0 where
   pub base : Base
@@ -176,6 +191,7 @@ pub record IsPromised (name plan_name : List ℕ) (told : ToldFiles) (before now
   pub tags : AllZip (λ (def : TagDef) t. IsTagSound t (tag_trace_of now def)) base.tags.items s.tags.items
   pub groups : AreGroupsSound base.groups.items now s.groups.items
   pub opened_as : (IsOfOpening answer → ⊥) → AreUnitsOpened base before s
+  pub begun : (AdmitsForeign answer → ⊥) → IsBegun take_item rows queries s
   pub done : IfOk answer (λ text. IsDoneSo take_item (λ i. turns_in i plan.refreshers.items) base rows queries s
       (string_bytes text))
   pub counted : faults_before < 2 ^ 64 → (faults_before ≤ faults_now) × IfErr answer (IsFaultCounted faults_before faults_now)

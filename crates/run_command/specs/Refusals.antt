@@ -3,7 +3,7 @@ use Rattle.std.specs.Prelude.{◌≡◌, List, [], length, Vec, Result, Ok, Err,
 use Rattle.std.specs.declared.alloc.Global.{Global}
 use Rattle.trend_num.specs.declared.refusal.WantOfMemory.{WantOfMemory as NoMemory}
 use Rattle.plant_status.specs.declared.status.Status.{Status}
-use Rattle.plant_status.specs.declared.mismatch.Place.TheVariants.{Opening}
+use Rattle.plant_status.specs.declared.mismatch.Place.TheVariants.{Ask, Opening, RowAsk, Take, Turns}
 use Rattle.plant_status.specs.declared.status.Status.TheVariants.{Mismatch, WantOfMemory}
 use Rattle.session_audit.specs.Agendas.{ask_item, phase_item, row_item}
 use Rattle.session_audit.specs.Found.{Reached}
@@ -12,7 +12,7 @@ use Rattle.tag_cell.specs.Told.{ToldCell as Cell}
 use Rattle.collector_pool.specs.declared.note.WorkerNote.{WorkerNote}
 use Rattle.session_audit.specs.declared.cell_opening.Kept.{Kept}
 use Rattle.session_audit.specs.Finding.{IsAskMismatch, IsRowAskMismatch, IsTakeMismatch}
-use Rattle.session_audit.specs.CellRefusals.{AreUnlike, IsCellRefusal, IsTakeRefusal}
+use Rattle.session_audit.specs.CellRefusals.{IsCellRefusal, IsTakeRefusal}
 use Rattle.session_audit.specs.Starting.{AreUnfound}
 use Rattle.session_audit.specs.Workers.{AreOver}
 use Rattle.group_book.specs.Told.{ToldBook as Book}
@@ -23,7 +23,7 @@ use Rattle.session_audit.specs.Refreshing.{durable_lists}
 use Rattle.session_audit.specs.BookRefusals.{IsRefreshRefusal}
 use Rattle.session_audit.specs.GroupTurns.{IsTurnsMismatch}
 use Rattle.run_command.specs.declared.work.Given.{Given}
-use Rattle.run_command.specs.Endings.{IsStop}
+use Rattle.run_command.specs.Endings.{HaveAllEnded, IsStop}
 use Rattle.session_audit.specs.CellOpenings.{IsCellAsKept, IsTagMismatch}
 use Rattle.session_audit.specs.Openings.{AreAsKept}
 
@@ -40,7 +40,8 @@ pub data IsFindingRefusal {D : Type 0} (g : Given) (cells : List (Cell D)) (book
 
 -- what the tapes lack cannot be done: a row is not taken, a commit or a refresh is refused, or no memory is found
 pub data IsMakingRefusal {D : Type 0} (g : Given) (cells : List (Cell D)) (books : List (Book D)) (s : Status) : Type 0 where
-  OfTaking : IsTakeRefusal g.rooms.items cells s → AreUnlike s → IsMakingRefusal g cells books s
+  OfTaking : IsTakeRefusal (phase_item g.work.earlier) (lists_of g.work.collectors.items) g.rooms.items cells s
+      → IsMakingRefusal g cells books s
   OfCommit : IsCellRefusal cells s → IsMakingRefusal g cells books s
   OfRefresh : IsRefreshRefusal (durable_lists cells) (lists_of g.inputs.items) books s → IsMakingRefusal g cells books s
   OfMemory : s ≡ WantOfMemory → IsMakingRefusal g cells books s
@@ -51,8 +52,8 @@ pub data IsRefused {D : Type 0} (g : Given) (notes : List WorkerNote) (cells : L
     : Type 0 where
   OfFinding : IsFindingRefusal g cells books s → IsRefused g notes cells books s
   OfStop : IsStop notes s → IsRefused g notes cells books s
-  OfMaking : IsMakingRefusal g cells books s → IsRefused g notes cells books s
-  OfPull : IsPullMismatch (lists_of g.inputs.items) cells books s → IsRefused g notes cells books s
+  OfMaking : HaveAllEnded notes → IsMakingRefusal g cells books s → IsRefused g notes cells books s
+  OfPull : HaveAllEnded notes → IsPullMismatch (lists_of g.inputs.items) cells books s → IsRefused g notes cells books s
 
 -- ---- comparison with the openings
 
@@ -64,6 +65,22 @@ IsOpening other = ⊥
 abbrev pub IsOfOpening : {T : Type 0} → Result T Status → Type 0
 IsOfOpening (Ok x) = ⊥
 IsOfOpening (Err why) = IsOpening why
+
+-- The refusals after which a tape may have an entry of no file: one that reports such an entry, a group that was
+-- refreshed too often, or an opening that has changed; and want of memory, which may come before the tapes are compared
+-- with the files.
+abbrev pub MayBeForeign : Status → Type 0
+MayBeForeign (Mismatch (Opening unit) kept told) = ⊤
+MayBeForeign (Mismatch (Take tag place) kept told) = ⊤
+MayBeForeign (Mismatch (Ask tag place) kept told) = ⊤
+MayBeForeign (Mismatch (RowAsk group place) kept told) = ⊤
+MayBeForeign (Mismatch (Turns group) kept told) = ⊤
+MayBeForeign WantOfMemory = ⊤
+MayBeForeign other = ⊥
+
+abbrev pub AdmitsForeign : {T : Type 0} → Result T Status → Type 0
+AdmitsForeign (Ok x) = ⊥
+AdmitsForeign (Err why) = MayBeForeign why
 
 -- the notes of workers that began
 abbrev pub notes_of : Result (Vec WorkerNote Global) NoMemory → List WorkerNote

@@ -1,7 +1,8 @@
 -- What a run of a plan comes to: its session, or why there is none.
-use Rattle.std.specs.Prelude.{◌≡◌, ◌≢◌, ℕ, ◌^◌, ◌<◌, List, [], length, map, Option, None, Result, Err, OnOk, IfErr, IfOk, String, string_bytes, slice_index_or}
+use Rattle.std.specs.Prelude.{◌≡◌, ◌≢◌, ℕ, ◌^◌, ◌<◌, ◌≤◌, List, [], length, map, Option, None, Result, Err, OnOk, IfErr, IfOk, String, string_bytes, slice_index_or}
 use Rattle.std.specs.List.{AllZip}
 use Rattle.std.specs.declared.alloc.Global.{Global}
+use Rattle.trend_num.specs.Limits.{most_stored}
 use Rattle.disk_model.specs.Traces.{Trace}
 use Rattle.tag_base.specs.declared.definition.Base.{Base}
 use Rattle.tag_base.specs.declared.definition.GroupDef.{GroupDef}
@@ -22,7 +23,7 @@ use Rattle.collector_pool.specs.declared.note.WorkerNote.{WorkerNote}
 use Rattle.session_audit.specs.declared.cell_opening.Kept.{Kept}
 use Rattle.session_audit.specs.declared.book_opening.KeptGroup.{KeptGroup}
 use Rattle.session_audit.specs.Pulls.{ArePulled}
-use Rattle.plant_store.specs.CellOpenings.{AreCellsOpened}
+use Rattle.plant_store.specs.CellOpenings.{AreCellsOpened, records_opened}
 use Rattle.plant_store.specs.CellClosings.{AreHistoriesAt, AreHistoriesOf}
 use Rattle.plant_store.specs.CellNames.{device_names_of}
 use Rattle.plant_store.specs.Tags.{AllStaySame}
@@ -35,9 +36,10 @@ use Rattle.session_report.specs.Report.{report}
 use Rattle.run_command.specs.declared.work.Given.{Given}
 use Rattle.session_audit.specs.CellOpenings.{IsCellCopied}
 use Rattle.session_audit.specs.BookOpenings.{IsBookCopied}
-use Rattle.run_command.specs.Refusals.{IsOfOpening, IsSettlingRefusal}
-use Rattle.run_command.specs.Sessions.{AreNotes}
-use Rattle.run_command.specs.Steps.{AreGivenFor, AreStepsMade, planned_turn, turn_of}
+use Rattle.run_command.specs.Endings.{HaveAllEnded}
+use Rattle.run_command.specs.Refusals.{AdmitsForeign, IsOfOpening, IsSettlingRefusal}
+use Rattle.run_command.specs.Sessions.{AreNotes, AreNotesOfAll}
+use Rattle.run_command.specs.Steps.{AreBegun, AreGivenFor, AreStepsMade, planned_turn, turn_of}
 
 -- no device has changed
 abbrev pub AreDevicesUntouched : DeviceTraces → DeviceTraces → Type 0
@@ -89,13 +91,15 @@ pub record IsWorkIn (base : Base) (earlier phases : ℕ) (rows : List (List RawR
 abbrev pub IsGivenOf : Base → Plan → List (List RawRow) → List (List Query) → Given → Type 0
 IsGivenOf base plan rows queries g = IsWorkIn base 0 0 rows queries plan.refreshers.items g
 
--- the devices of a base's tags and groups were opened as these cells and books
+-- the devices of a base's tags and groups were opened as these cells and books; all tags together had not too many
+-- records
 pub record AreUnitsOpen {D : Type 0} (trace : D → Option Trace) (ticks faults : D → ℕ) (base : Base) (old : DeviceTraces)
     (cells : List (Cell D)) (books : List (Book D)) : Type 0 where
   pub tags : AreCellsOpened trace ticks faults base.tags.items old cells
   pub groups : AreBooksOpened trace ticks faults base.groups.items (cell_records_in cells) old books
   pub as_many_tags : length cells ≡ length base.tags.items
   pub as_many_groups : length books ≡ length base.groups.items
+  pub few : records_opened cells ≤ most_stored
 
 -- each book has the definition of the group in its place
 abbrev pub AreDefined : {D : Type 0} → List GroupDef → List (Book D) → Type 0
@@ -142,10 +146,11 @@ pub record IsContinuedGroup {D : Type 0} (first last : Book D) : Type 0 where
   pub moment : last.opening.moment ≡ first.opening.moment
   pub faults : last.opening.faults ≡ first.opening.faults
 
--- A session that is done: each tape has exactly what its collectors, readers and refreshers had to do, each group has
--- what it pulled of its tags, and the text is its report.
+-- A session that is done: no worker was stopped, each tape has exactly what its collectors, readers and refreshers had
+-- to do, each group has what it pulled of its tags, and the text is its report.
 pub record IsDone {D : Type 0} (base : Base) (g : Given) (cells : List (Cell D)) (books : List (Book D)) (s : Session)
     (text : List ℕ) : Type 0 where
+  pub ended : HaveAllEnded s.workers.items
   pub made : AreStepsMade g cells books
   pub pulled : ArePulled (lists_of g.inputs.items) cells books
   pub same : text ≡ report base (length g.work.collectors.items) (lists_of g.work.readers.items) s
@@ -184,11 +189,14 @@ pub record IsSessionHeld {D : Type 0} (trace : D → Option Trace) (ticks faults
   pub done : IfOk answer (λ text. IsDone base g cells books s (string_bytes text))
 
 -- A session of this work over a base, and what came of it. It ran. The passes counted as many stops as workers were
--- stopped. The session is done, or the answer has a cause.
+-- stopped; if there is a text, all workers ran. Unless the answer admits an entry of no file, each tape shows only first
+-- rows of the files. The session is done, or the answer has a cause.
 pub record IsRun {D : Type 0} (trace : D → Option Trace) (ticks faults : D → ℕ) (base : Base) (g : Given) (old new : DeviceTraces)
     (before now : ℕ) (stops_before stops_now : ℕ) (answer : Result (String Global) Status) (s : Session) : Type 0 where
   pub held : IsSessionHeld trace ticks faults base g old new before now answer s
   pub notes : AreNotes D g.work stops_before stops_now s.workers.items
+  pub ran : OnOk answer (AreNotesOfAll D g.work s.workers.items)
+  pub begun : (AdmitsForeign answer → ⊥) → AreBegun g held.cells held.books
   pub undone : IfErr answer (IsUndone g held.opened held.opened_books held.cells held.books s.workers.items)
 
 -- a session of the plan in a file over the base in another, and what came of it

@@ -4,9 +4,9 @@ use Rattle.session_audit.specs.Agendas.{ask_item, phase_item, row_item}
 use Rattle.session_audit.specs.Found.{Reached}
 use Rattle.session_audit.specs.Tapes.{ask_of, take_of}
 use Rattle.tag_cell.specs.Told.{ToldCell as Cell, takes_waiting}
-use Rattle.session_audit.specs.Cells.{AreAllFound, AreAllShown}
+use Rattle.session_audit.specs.Cells.{AreAllBegun, AreAllFound, AreAllShown}
 use Rattle.session_audit.specs.CellRefusals.{tag_rows}
-use Rattle.session_audit.specs.Workers.{AreOver, AreTapesFound, AreTapesWhole}
+use Rattle.session_audit.specs.Workers.{AreOver, AreTapesBegun, AreTapesFound, AreTapesWhole}
 use Rattle.group_book.specs.Told.{ToldBook as Book}
 use Rattle.session_audit.specs.declared.book_opening.KeptGroup.{KeptGroup}
 use Rattle.session_audit.specs.Books.{book_tape}
@@ -52,6 +52,12 @@ pub record AreFoundAll {D : Type 0} (g : Given) (cells : List (Cell D)) (books :
   pub readers : AreAllFound ask_of cells asks
   pub row_readers : AreTapesFound book_tape row_ask_of books row_asks
   pub turns : IsWithinTurns g.turns.items books
+
+-- each tape shows, of each worker, the first of its rows that are due there, and nothing of any other worker
+pub record AreBegun {D : Type 0} (g : Given) (cells : List (Cell D)) (books : List (Book D)) : Type 0 where
+  pub takes : AreAllBegun take_of (phase_item g.work.earlier) (lists_of g.work.collectors.items) cells
+  pub asks : AreAllBegun ask_of ask_item (lists_of g.work.readers.items) cells
+  pub row_asks : AreTapesBegun book_tape row_ask_of row_item (lists_of g.work.readers.items) books
 
 -- Each tape shows all rows of each worker that are due there, and none of any other worker. All takes are acknowledged.
 -- Each group has made its turns and one more, has as many records of its inputs as no crash takes away, and was saved

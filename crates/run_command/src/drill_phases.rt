@@ -4,6 +4,7 @@ ghost use Rattle.std.specs.List.{AllZip};
 ghost use Rattle.calc_refresh.specs.Lists.{lists_of};
 ghost use Rattle.session_audit.specs.Inputs.{AreInputs};
 ghost use Rattle.session_audit.specs.Pulls.{ArePulled};
+ghost use Rattle.run_command.specs.Endings.{HaveAllEnded};
 ghost use Rattle.run_command.specs.Refusals.{IsOfOpening};
 ghost use Rattle.run_command.specs.Runs.{IsContinued, IsContinuedGroup};
 ghost use Rattle.run_command.specs.Steps.{AreGivenFor, AreStepsMade};
@@ -47,6 +48,7 @@ pub(crate) fn hold_both<D: Disk + Send, P: Passes, R: Threads + Wait + Sync>(
     ensures notes { AreNotesOfBoth D first.now.work second.now.work (P.stops passes.old) (P.stops passes.new) result.notes.items }
 
     // If all is done.
+    ensures ended { OnOk result.answer (HaveAllEnded result.notes.items) }
     ensures made { OnOk result.answer (AreStepsMade second.now result.cells.items result.books.items) }
     ensures pulled { OnOk result.answer (ArePulled (lists_of second.now.inputs.items) result.cells.items result.books.items) }
 
@@ -102,9 +104,11 @@ fn go_on<D: Disk + Send, P: Passes, R: Threads + Wait + Sync>(
     requires inputs { AreInputs (vec_len cells) (lists_of second.now.inputs.items) books.items }
     requires board { vec_len cells ≤ length board.now }
     requires no_readers { second.now.work.readers.items ≡ [] }
+    requires ended { HaveAllEnded notes.items }
     ensures cells { vec_len result.cells ≡ vec_len cells }
     ensures books { vec_len result.books ≡ vec_len books }
     ensures notes { AreNotesBehind D second.now.work (P.stops passes.old) (P.stops passes.new) notes.items result.notes.items }
+    ensures ended { OnOk result.answer (HaveAllEnded result.notes.items) }
     ensures made { OnOk result.answer (AreStepsMade second.now result.cells.items result.books.items) }
     ensures pulled { OnOk result.answer (ArePulled (lists_of second.now.inputs.items) result.cells.items result.books.items) }
     ensures same_cells { (IsOfOpening result.answer → ⊥) → AllZip IsContinued cells.items result.cells.items }

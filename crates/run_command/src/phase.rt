@@ -2,11 +2,12 @@
 ghost use Rattle.calc_refresh.specs.Lists.{lists_of};
 ghost use Rattle.collector_pool.specs.Notes.{AreNotesOf, stops_with};
 ghost use Rattle.collector_pool.specs.Work.{IsWorkOf};
-ghost use Rattle.run_command.specs.Refusals.{IsOfOpening, IsSettlingRefusal, notes_of};
+ghost use Rattle.run_command.specs.Endings.{HaveAllEnded};
+ghost use Rattle.run_command.specs.Refusals.{AdmitsForeign, IsOfOpening, IsSettlingRefusal, notes_of};
 ghost use Rattle.run_command.specs.Rooms.{HasRoomFor};
 ghost use Rattle.run_command.specs.Runs.{IsContinued, IsContinuedGroup, IsUndone};
-ghost use Rattle.run_command.specs.Sessions.{AreNotes};
-ghost use Rattle.run_command.specs.Steps.{AreGivenFor, AreInputsFor, AreStepsMade};
+ghost use Rattle.run_command.specs.Sessions.{AreNotes, AreNotesOfAll};
+ghost use Rattle.run_command.specs.Steps.{AreBegun, AreGivenFor, AreInputsFor, AreStepsMade};
 ghost use Rattle.session_audit.specs.BookOpenings.{IsBookAsKept, IsBookCopied};
 ghost use Rattle.session_audit.specs.CellOpenings.{IsCellAsKept, IsCellCopied};
 ghost use Rattle.session_audit.specs.Inputs.{AreInputs};
@@ -14,7 +15,7 @@ ghost use Rattle.session_audit.specs.Openings.{AreAsKept};
 ghost use Rattle.session_audit.specs.Pulls.{ArePulled};
 ghost use Rattle.snapshot_table.specs.Boards.{LooksAt};
 ghost use Rattle.std.specs.List.{AllZip};
-ghost use Rattle.std.specs.Prelude.{All, Err, IfErr, IfOk, OnErr, OnOk, [], length, vec_capacity, vec_len, ⊤, ◌<◌, ◌^◌, ◌≡◌, ◌≤◌};
+ghost use Rattle.std.specs.Prelude.{All, Err, IfErr, IfOk, OnErr, OnOk, [], is_ok, length, true, vec_capacity, vec_len, ⊤, ◌<◌, ◌^◌, ◌≡◌, ◌≤◌};
 
 use crate::groups::Groups;
 use crate::settle::settle;
@@ -55,12 +56,17 @@ pub(crate) fn hold_phase<D: Disk + Send, P: Passes, R: Threads + Wait + Sync>(
     ensures notes { AreNotes D given.now.work (P.stops passes.old) (P.stops passes.new) result.notes.items }
 
     // If all is done.
+    ensures ran { OnOk result.answer (AreNotesOfAll D given.now.work result.notes.items) }
+    ensures ended { OnOk result.answer (HaveAllEnded result.notes.items) }
     ensures made { OnOk result.answer (AreStepsMade given.now result.cells.items result.books.items) }
     ensures pulled { OnOk result.answer (ArePulled (lists_of given.now.inputs.items) result.cells.items result.books.items) }
 
     // Unless the answer reports that an opening has changed.
     ensures same_cells { (IsOfOpening result.answer → ⊥) → AllZip IsContinued cells.items result.cells.items }
     ensures same_books { (IsOfOpening result.answer → ⊥) → AllZip IsContinuedGroup books.items result.books.items }
+
+    // Unless the answer admits an entry of no file.
+    ensures begun { (AdmitsForeign result.answer → ⊥) → AreBegun given.now result.cells.items result.books.items }
 
     // If not all is done, why.
     ensures undone { IfErr result.answer (IsUndone given.now cells.items books.items result.cells.items result.books.items
@@ -123,8 +129,11 @@ pub(crate) fn hold<D: Disk + Send, P: Passes, R: Threads + Wait + Sync>(
     ensures cells { vec_len result.cells ≡ vec_len cells }
     ensures books { vec_len result.books ≡ vec_len books }
     ensures notes { AreNotes D given.now.work (P.stops passes.old) (P.stops passes.new) result.notes.items }
+    ensures ran { OnOk result.answer (AreNotesOfAll D given.now.work result.notes.items) }
+    ensures ended { OnOk result.answer (HaveAllEnded result.notes.items) }
     ensures made { OnOk result.answer (AreStepsMade given.now result.cells.items result.books.items) }
     ensures pulled { OnOk result.answer (ArePulled (lists_of given.now.inputs.items) result.cells.items result.books.items) }
+    ensures begun { (AdmitsForeign result.answer → ⊥) → AreBegun given.now result.cells.items result.books.items }
     ensures known { (IsOfOpening result.answer → ⊥) → AreAsKept IsCellAsKept result.cells.items ready.tags.items }
     ensures known_groups { (IsOfOpening result.answer → ⊥) → AreAsKept IsBookAsKept result.books.items ready.groups.items }
     ensures refused { IfErr result.answer (IsSettlingRefusal given.now result.notes.items ready.tags.items ready.groups.items
@@ -178,6 +187,9 @@ fn settle_all<D: Disk, R: Wait>(
     ensures pulled { OnOk result (ArePulled (lists_of given.now.inputs.items) cells.new.items books.new.items) }
     ensures as_many_cells { vec_len cells.new ≡ vec_len cells.old }
     ensures as_many_books { vec_len books.new ≡ vec_len books.old }
+    ensures ran { OnOk result (is_ok notes.now ≡ true) }
+    ensures ended { OnOk result (HaveAllEnded (notes_of notes.now)) }
+    ensures begun { (AdmitsForeign result → ⊥) → AreBegun given.now cells.new.items books.new.items }
     ensures known { (IsOfOpening result → ⊥) → AreAsKept IsCellAsKept cells.new.items known.now }
     ensures known_groups { (IsOfOpening result → ⊥) → AreAsKept IsBookAsKept books.new.items known_groups.now }
     ensures refused { IfErr result (IsSettlingRefusal given.now (notes_of notes.now) known.now known_groups.now cells.new.items books.new.items) }

@@ -71,6 +71,7 @@ pub fn run_plan<F: Files, S: Store, P: Passes, R: Threads + Wait + Sync>(
         (S.device_at store.new) (S.fault_count store.old) (S.fault_count store.new) result.answer) }
     ensures unheld { result.session ≡ None → IfErr result.answer (IsUnheld name.now plan_name.now (F.told files.old)
         (S.device_at store.old) (S.device_at store.new) (S.fault_count store.old) (S.fault_count store.new)) }
+    ensures unstopped { result.session ≡ None → P.stops passes.new ≡ P.stops passes.old }
     ensures understood { IfErr result.answer (λ why. why ≢ Status.BadWords) }
     ensures stays { F.told files.new ≡ F.told files.old }
 
@@ -106,6 +107,7 @@ fn run_read<S: Store, P: Passes, R: Threads + Wait + Sync>(
         (map (λ list. list.items) read.rows.items) (map (λ list. list.items) read.queries.items)
         → result.session ≡ None → IfErr result.answer (IsUnheld name plan_name told
         (S.device_at store.old) (S.device_at store.new) (S.fault_count store.old) (S.fault_count store.new)) }
+    ensures unstopped { result.session ≡ None → P.stops passes.new ≡ P.stops passes.old }
     ensures other { result.session ≡ None → IfErr result.answer IsNoReadFault }
 {
     let SessionFiles {
@@ -138,6 +140,7 @@ fn run_given<S: Store, P: Passes, R: Threads + Wait + Sync>(
         (P.stops passes.new) result.answer) }
     ensures unheld { result.session ≡ None → IfErr result.answer (IsUnopened base.now (S.device_at store.old)
         (S.device_at store.new) (S.fault_count store.old) (S.fault_count store.new)) }
+    ensures unstopped { result.session ≡ None → P.stops passes.new ≡ P.stops passes.old }
     ensures other { result.session ≡ None → IfErr result.answer IsNoReadFault }
 {
     let readers = given.work.readers.len() as u32;

@@ -1,16 +1,16 @@
 // The end of a phase: after its workers have ended, what they left undone is done.
 ghost use Rattle.calc_refresh.specs.Lists.{lists_of};
-ghost use Rattle.collector_pool.specs.declared.note.Ending.TheVariants.{Halted, WantOfMemory as NoMemory};
-ghost use Rattle.run_command.specs.Endings.{IsStop};
-ghost use Rattle.run_command.specs.Refusals.{IsFindingRefusal, IsMakingRefusal, IsOfOpening, IsRefused, IsSettlingRefusal, notes_of};
-ghost use Rattle.run_command.specs.Steps.{AreFoundAll, AreGivenFor, AreInputsFor, AreOverAll, AreReady, IsBookKept, IsCellKept, AreStepsMade};
+ghost use Rattle.collector_pool.specs.declared.note.Ending.TheVariants.{WantOfMemory as NoMemory};
+ghost use Rattle.run_command.specs.Endings.{HaveAllEnded, IsStop};
+ghost use Rattle.run_command.specs.Refusals.{AdmitsForeign, IsFindingRefusal, IsMakingRefusal, IsOfOpening, IsRefused, IsSettlingRefusal, notes_of};
+ghost use Rattle.run_command.specs.Steps.{AreBegun, AreFoundAll, AreGivenFor, AreInputsFor, AreOverAll, AreReady, IsBookKept, IsCellKept, AreStepsMade};
 ghost use Rattle.session_audit.specs.BookOpenings.{IsBookAsKept};
 ghost use Rattle.session_audit.specs.CellOpenings.{IsCellAsKept};
 ghost use Rattle.session_audit.specs.Each.{AreEach};
 ghost use Rattle.session_audit.specs.Openings.{AreAsKept};
 ghost use Rattle.session_audit.specs.Pulls.{ArePulled};
 ghost use Rattle.session_audit.specs.Starting.{AreUnfound};
-ghost use Rattle.std.specs.Prelude.{All, Any, IfErr, MatchBool, OnOk, length, ◌<◌, ◌^◌, ◌≡◌, ◌≢◌};
+ghost use Rattle.std.specs.Prelude.{All, Any, IfErr, MatchBool, OnOk, is_ok, length, true, ◌<◌, ◌^◌, ◌≡◌, ◌≢◌};
 
 use crate::work::Given;
 use collector_pool::{Ending, WorkerNote};
@@ -50,6 +50,9 @@ pub(crate) fn settle<D: Disk, R: Wait>(
     ensures pulled { OnOk result (ArePulled (lists_of given.now.inputs.items) cells.new books.new) }
     ensures as_many_cells { length cells.new ≡ length cells.old }
     ensures as_many_books { length books.new ≡ length books.old }
+    ensures ran { OnOk result (is_ok notes.now ≡ true) }
+    ensures ended { OnOk result (HaveAllEnded (notes_of notes.now)) }
+    ensures begun { (AdmitsForeign result → ⊥) → AreBegun given.now cells.new books.new }
     ensures known { (IsOfOpening result → ⊥) → AreAsKept IsCellAsKept cells.new known.now }
     ensures known_groups { (IsOfOpening result → ⊥) → AreAsKept IsBookAsKept books.new known_groups.now }
     ensures refused { IfErr result (IsSettlingRefusal given.now (notes_of notes.now) known.now known_groups.now cells.new books.new) }
@@ -74,6 +77,8 @@ fn complete_all<D: Disk, R: Wait>(
     requires ready { AreReady given.now cells.old books.old }
     ensures made { OnOk result (AreStepsMade given.now cells.new books.new) }
     ensures pulled { OnOk result (ArePulled (lists_of given.now.inputs.items) cells.new books.new) }
+    ensures ended { OnOk result (HaveAllEnded notes.now) }
+    ensures begun { (AdmitsForeign result → ⊥) → AreBegun given.now cells.new books.new }
     ensures cells { AreEach IsCellKept cells.old cells.new }
     ensures books { AreEach IsBookKept books.old books.new }
     ensures refused { IfErr result (IsRefused given.now notes.now cells.new books.new) }
@@ -127,6 +132,8 @@ fn complete<L: Ledger, D: Disk, R: Wait>(
     requires no_row_asks { AreUnfound (length books.old) row_asks.old }
     ensures made { OnOk result (AreStepsMade given.now cells.new books.new) }
     ensures pulled { OnOk result (ArePulled (lists_of given.now.inputs.items) cells.new books.new) }
+    ensures ended { OnOk result (HaveAllEnded notes.now) }
+    ensures begun { (AdmitsForeign result → ⊥) → AreBegun given.now cells.new books.new }
     ensures cells { AreEach IsCellKept cells.old cells.new }
     ensures books { AreEach IsBookKept books.old books.new }
     ensures refused { IfErr result (IsRefused given.now notes.now cells.new books.new) }
@@ -156,6 +163,7 @@ fn find_all<D: Disk>(
     requires no_row_asks { AreUnfound (length books.now) row_asks.old }
     ensures over { OnOk result (AreOverAll (length cells.now) (length books.now) given.now takes.new asks.new row_asks.new) }
     ensures found { OnOk result (AreFoundAll given.now cells.now books.now takes.new asks.new row_asks.new) }
+    ensures begun { OnOk result (AreBegun given.now cells.now books.now) }
     ensures differs { IfErr result (IsFindingRefusal given.now cells.now books.now) }
 {
     find_all_takes(cells, takes)?;
@@ -180,6 +188,7 @@ fn make_up<D: Disk, R: Wait, L: Ledger>(
     requires over { AreOverAll (length cells.old) (length books.old) given.now takes.old asks.old row_asks.old }
     requires found { AreFoundAll given.now cells.old books.old takes.old asks.old row_asks.old }
     ensures made { OnOk result (AreStepsMade given.now cells.new books.new) }
+    ensures begun { AreBegun given.now cells.new books.new }
     ensures cells { AreEach IsCellKept cells.old cells.new }
     ensures books { AreEach IsBookKept books.old books.new }
     ensures refused { IfErr result (IsMakingRefusal given.now cells.new books.new) }
@@ -204,8 +213,7 @@ fn make_up<D: Disk, R: Wait, L: Ledger>(
 
 // Checks that no worker was stopped by its pass, then that none found no memory. Reports the first that was stopped.
 fn check_endings(notes: &[WorkerNote]) -> Result<(), Status>
-    ensures none_halted { OnOk result (All (λ n. n.ending ≢ Halted) notes.now) }
-    ensures all_found { OnOk result (All (λ n. n.ending ≢ NoMemory) notes.now) }
+    ensures ended { OnOk result (HaveAllEnded notes.now) }
     ensures stopped { IfErr result (IsStop notes.now) }
 {
     if let Some(place) = notes.iter().position(|note| note.ending == Ending::Halted) {

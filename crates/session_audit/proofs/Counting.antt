@@ -173,59 +173,62 @@ due_most tag n items =
 
 -- ---- a tape that lacks a row
 
--- it has fewer takes than its tag has rows
-pub takes_fewer : (earlier tags tag collector : ℕ) (files : List (List RawRow)) (works : List Reached) (tape : List Entry) (d : Reached)
-    → AreOver (phase_item earlier) tags files works → AreFound take_of tag tape works → collector < length files
-    → IsSome (next_due (get_or works collector d) tag) → length (taken tape) < tag_rows tag files
-takes_fewer earlier tags tag collector files works tape d over found_so within due_so =
-    let n = length files in
-    let shown = taken_total n tape none in
-    let so = total_same 0 n (λ w. length (tape_shows take_of w tape)) (λ w. length (found_of works w tag))
-    (λ v. ap length (found_so.each v)) in
-    let fewer = total_less 0 n collector (λ w. length (found_of works w tag)) (λ w. length (file_due (phase_item earlier) files w tag))
-    most (omega arith) (omega (arith, within)) less in
-    let rows = total_files tag files 0 (λ w. length (file_due (phase_item earlier) files w tag)) each in
-    omega (arith, shown, so, fewer, rows)
-  where
-    none : (w : ℕ) → length files ≤ w → tape_shows take_of w tape ≡ []
-    none w past = found_so.each w ∙ ap (λ o. option_map_or (λ p. found p tag) o [])
-        (slice_get_past works w (omega (arith, past, over.as_many)))
+module _ (earlier tags tag : ℕ) (files : List (List RawRow)) (works : List Reached) (d : Reached)
+    (over : AreOver (phase_item earlier) tags files works) where
+  items : (w : ℕ) → w < length files → (get_or works w d).items ≡ numbered (phase_item earlier w) 1 (get_or files w [])
+  items w below = over.items w [] d below
 
-    items : (w : ℕ) → w < length files → (get_or works w d).items ≡ numbered (phase_item earlier w) 1 (get_or files w [])
-    items w below = over.items w [] d below
+  found_is : (w : ℕ) → w < length files → found_of works w tag ≡ found (get_or works w d) tag
+  found_is w below = ap (λ o. option_map_or (λ p. found p tag) o [])
+      (slice_get-get_or works w d (omega (arith, below, over.as_many)))
 
-    found_is : (w : ℕ) → w < length files → found_of works w tag ≡ found (get_or works w d) tag
-    found_is w below = ap (λ o. option_map_or (λ p. found p tag) o [])
-        (slice_get-get_or works w d (omega (arith, below, over.as_many)))
+  due_is : (w : ℕ) → w < length files → file_due (phase_item earlier) files w tag ≡ due tag (get_or works w d).items
+  due_is w below = ap (λ o. option_map_or (λ rows. due tag (numbered (phase_item earlier w) 1 rows)) o [])
+      (slice_get-get_or files w [] below) ∙ ap (due tag) (sym (items w below))
 
-    due_is : (w : ℕ) → w < length files → file_due (phase_item earlier) files w tag ≡ due tag (get_or works w d).items
-    due_is w below = ap (λ o. option_map_or (λ rows. due tag (numbered (phase_item earlier w) 1 rows)) o [])
-        (slice_get-get_or files w [] below) ∙ ap (due tag) (sym (items w below))
+  -- where a row is due that was not found, fewer were found than are due
+  pub found_fewer : (collector : ℕ) → collector < length files → IsSome (next_due (get_or works collector d) tag)
+      → length (found_of works collector tag) < length (file_due (phase_item earlier) files collector tag)
+  found_fewer collector within due_so =
+      let p = get_or works collector d in
+      let at = place_at p tag in
+      let some = next_shown tag p.items at (λ below. due_so) in
+      let inside = is_within (due tag p.items) (length (due tag (take at p.items))) (next_due p tag) some due_so in
+      omega (arith, inside, ap length (found_is collector within), ap length (due_is collector within))
+    where
+      is_within : (l : List Seen) (i : ℕ) (o : Option Seen) → slice_get l i ≡ o → IsSome o → i < length l
+      is_within l i None is some = absurd (false≢true some)
+      is_within l i (Some s) is some = slice_get_within l i s is
 
-    most : (v : ℕ) → v < 0 + length files → length (found_of works v tag) ≤ length (file_due (phase_item earlier) files v tag)
-    most v below =
-        let within_files : v < length files = omega (arith, below) in
-        omega (
-          arith,
-          ap length (found_is v within_files),
-          ap length (due_is v within_files),
-          due_most tag (place_at (get_or works v d) tag) (get_or works v d).items,
-        )
+  -- so its tape has fewer takes than its tag has rows
+  pub takes_fewer : (collector : ℕ) (tape : List Entry) → AreFound take_of tag tape works → collector < length files
+      → IsSome (next_due (get_or works collector d) tag) → length (taken tape) < tag_rows tag files
+  takes_fewer collector tape found_so within due_so =
+      let n = length files in
+      let shown = taken_total n tape none in
+      let so = total_same 0 n (λ w. length (tape_shows take_of w tape)) (λ w. length (found_of works w tag))
+      (λ v. ap length (found_so.each v)) in
+      let fewer = total_less 0 n collector (λ w. length (found_of works w tag)) (λ w. length (file_due (phase_item earlier) files w tag))
+      most (omega arith) (omega (arith, within)) (found_fewer collector within due_so) in
+      let rows = total_files tag files 0 (λ w. length (file_due (phase_item earlier) files w tag)) each in
+      omega (arith, shown, so, fewer, rows)
+    where
+      none : (w : ℕ) → length files ≤ w → tape_shows take_of w tape ≡ []
+      none w past = found_so.each w ∙ ap (λ o. option_map_or (λ p. found p tag) o [])
+          (slice_get_past works w (omega (arith, past, over.as_many)))
 
-    less : length (found_of works collector tag) < length (file_due (phase_item earlier) files collector tag)
-    less =
-        let p = get_or works collector d in
-        let at = place_at p tag in
-        let some = next_shown tag p.items at (λ below. due_so) in
-        let inside = is_within (due tag p.items) (length (due tag (take at p.items))) (next_due p tag) some due_so in
-        omega (arith, inside, ap length (found_is collector within), ap length (due_is collector within))
-      where
-        is_within : (l : List Seen) (i : ℕ) (o : Option Seen) → slice_get l i ≡ o → IsSome o → i < length l
-        is_within l i None is some = absurd (false≢true some)
-        is_within l i (Some s) is some = slice_get_within l i s is
+      most : (v : ℕ) → v < 0 + length files → length (found_of works v tag) ≤ length (file_due (phase_item earlier) files v tag)
+      most v below =
+          let within_files : v < length files = omega (arith, below) in
+          omega (
+            arith,
+            ap length (found_is v within_files),
+            ap length (due_is v within_files),
+            due_most tag (place_at (get_or works v d) tag) (get_or works v d).items,
+          )
 
-    each : (i : ℕ) → i < length files
-        → length (file_due (phase_item earlier) files (0 + i) tag) ≡ count_by (λ r. nat_eq r.tag tag) (get_or files i [])
-    each i below =
-        ap (λ w. length (file_due (phase_item earlier) files w tag)) (omega arith)
-        ∙ (ap length (due_is i below ∙ ap (due tag) (items i below)) ∙ due_count earlier tag i 1 (get_or files i []))
+      each : (i : ℕ) → i < length files
+          → length (file_due (phase_item earlier) files (0 + i) tag) ≡ count_by (λ r. nat_eq r.tag tag) (get_or files i [])
+      each i below =
+          ap (λ w. length (file_due (phase_item earlier) files w tag)) (omega arith)
+          ∙ (ap length (due_is i below ∙ ap (due tag) (items i below)) ∙ due_count earlier tag i 1 (get_or files i []))

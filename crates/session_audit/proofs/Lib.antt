@@ -22,3 +22,5 @@ pub mod Saves
 pub mod DurableLaws
 pub mod Starts
 pub mod AddedRows
+pub mod Begun
+pub mod Takes

@@ -1,5 +1,5 @@
 -- Why a step of a session is refused.
-use Rattle.std.specs.Prelude.{◌≡◌, ℕ, ◌+◌, ◌<◌, ◌≤◌, ◌≢◌, List, [], ◌∷◌, length, slice_get, slice_index, Some, true, nat_eq, ⊤}
+use Rattle.std.specs.Prelude.{◌≡◌, ℕ, ◌+◌, ◌<◌, List, [], ◌∷◌, length, slice_get, slice_index, Option, Some, true, nat_eq, ⊤}
 use Rattle.trend_num.specs.Limits.{most_records}
 use Rattle.trend_num.specs.declared.refusal.What.TheVariants.{Records}
 use Rattle.std.specs.List.{count_by}
@@ -15,6 +15,9 @@ use Rattle.tag_cell.specs.declared.entry.TakeNo.{TakeNo}
 use Rattle.tag_cell.specs.declared.entry.TakeNo.TheVariants as take_no
 use Rattle.tag_cell.specs.Told.{ToldCell}
 use Rattle.tag_cell.specs.Tapes.{taken}
+use Rattle.session_audit.specs.declared.agenda.Item.{Item}
+use Rattle.session_audit.specs.Tapes.{take_of}
+use Rattle.session_audit.specs.Workers.{LacksRow}
 
 -- the cell of this tag has this property
 pub record IsSo {D : Type 0} (cells : List (ToldCell D)) (tag : ℕ) (P : ToldCell D → Type 0) : Type 0 where
@@ -27,26 +30,23 @@ abbrev pub tag_rows : ℕ → List (List RawRow) → ℕ
 tag_rows tag [] = 0
 tag_rows tag (rows ∷ files) = count_by (λ r. nat_eq r.tag tag) rows + tag_rows tag files
 
--- why a row is not taken: the tag's device has failed; or its tape has as many takes as it has room for, and the status
--- also has the number of the tag's rows; or the tag could have too many records
-abbrev pub IsTakeRefusal : {D : Type 0} → List ℕ → List (ToldCell D) → Status → Type 0
-IsTakeRefusal rooms cells (DeviceFault (Tag tag)) = IsSo cells tag (λ c. c.journal.failed ≡ true)
-IsTakeRefusal rooms cells (Mismatch (Takes tag) kept told) = IsSo cells tag (λ c.
-    (kept ≡ Number c.room) × (c.room ≤ length (taken c.tape)) × (told ≡ Number (slice_index rooms tag)))
-IsTakeRefusal rooms cells (Limit Records number) = (tag : ℕ) × IsSo cells tag (λ c.
-    (number ≡ length c.state.records) × (most_records < number + 2))
-IsTakeRefusal rooms cells other = ⊥
+-- Why a row is not taken: the tag's device has failed. Or the tape has fewer takes than the tag has rows, and no room;
+-- the status has both numbers. Or the tag could have too many records, and a row is due there that its tape lacks.
+abbrev pub IsTakeRefusal : {D : Type 0} → (ℕ → ℕ → RawRow → Option Item) → List (List RawRow) → List ℕ → List (ToldCell D) → Status
+    → Type 0
+IsTakeRefusal item_of files rooms cells (DeviceFault (Tag tag)) = IsSo cells tag (λ c. c.journal.failed ≡ true)
+IsTakeRefusal item_of files rooms cells (Mismatch (Takes tag) kept told) = IsSo cells tag (λ c.
+    (kept ≡ Number (length (taken c.tape))) × (told ≡ Number (slice_index rooms tag))
+    × (length (taken c.tape) < slice_index rooms tag))
+IsTakeRefusal item_of files rooms cells (Limit Records number) = (tag : ℕ) × IsSo cells tag (λ c.
+    (number ≡ length c.state.records) × (most_records < number + 2) × LacksRow take_of item_of files tag c.tape)
+IsTakeRefusal item_of files rooms cells other = ⊥
 
--- if a status reports a difference, the two values are not the same
-abbrev pub AreUnlike : Status → Type 0
-AreUnlike (Mismatch place kept told) = kept ≢ told
-AreUnlike other = ⊤
-
--- the status of a refused row of a tag that has so many rows
-abbrev pub take_status : ℕ → ℕ → TakeNo → Status
-take_status tag rows take_no.Broken = DeviceFault (Tag tag)
-take_status tag rows (take_no.RoomFull room) = Mismatch (Takes tag) (Number room) (Number rows)
-take_status tag rows (take_no.Full records) = Limit Records records
+-- the status of a refused row of a tag that has so many takes on its tape, and so many rows
+abbrev pub take_status : ℕ → ℕ → ℕ → TakeNo → Status
+take_status tag takes rows take_no.Broken = DeviceFault (Tag tag)
+take_status tag takes rows (take_no.RoomFull room) = Mismatch (Takes tag) (Number takes) (Number rows)
+take_status tag takes rows (take_no.Full records) = Limit Records records
 
 -- why a commit is refused: the tag's device has failed, or memory is wanting
 abbrev pub IsCellRefusal : {D : Type 0} → List (ToldCell D) → Status → Type 0

@@ -10,7 +10,7 @@ use Rattle.session_audit.specs.declared.agenda.Item.{Item}
 use Rattle.session_audit.specs.declared.kind.Shown.{Shown}
 use Rattle.session_audit.specs.Found.{Reached}
 use Rattle.session_audit.specs.Each.{AreEach}
-use Rattle.session_audit.specs.Workers.{AreTapesFound, AreTapesWhole}
+use Rattle.session_audit.specs.Workers.{AreTapesBegun, AreTapesFound, AreTapesWhole}
 
 -- ---- entries by their kind
 
@@ -53,6 +53,11 @@ AreAllFound work cells works = AreTapesFound cell_tape work cells works
 abbrev pub AreAllShown : {D A : Type 0} → (Entry → Option Shown) → (ℕ → ℕ → A → Option Item) → List (List A) → List (ToldCell D)
     → Type 0
 AreAllShown work item_of files cells = AreTapesWhole cell_tape work item_of files cells
+
+-- each tape shows, of each worker, the first of its rows that are due there
+abbrev pub AreAllBegun : {D A : Type 0} → (Entry → Option Shown) → (ℕ → ℕ → A → Option Item) → List (List A) → List (ToldCell D)
+    → Type 0
+AreAllBegun work item_of files cells = AreTapesBegun cell_tape work item_of files cells
 
 -- a question about a tag is about one of so many tags, with times in range; any other question passes
 abbrev pub IsKnownAsk : ℕ → Query → Type 0

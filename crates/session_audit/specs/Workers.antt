@@ -1,5 +1,5 @@
 -- What the tapes of all units (tags or groups) show of workers, and how many rows of these were found.
-use Rattle.std.specs.Prelude.{◌≡◌, ◌≢◌, ℕ, ◌^◌, ◌<◌, List, [], length, slice_get, slice_index_or, Option}
+use Rattle.std.specs.Prelude.{◌≡◌, ◌≢◌, ℕ, ◌^◌, ◌<◌, List, [], ◌++◌, length, slice_get, slice_index_or, Option}
 use Rattle.std.specs.Option.{option_map_or}
 use Rattle.plant_status.specs.declared.mismatch.Seen.{Seen}
 use Rattle.session_audit.specs.declared.agenda.Item.{Item}
@@ -24,6 +24,24 @@ pub record AreTapesWhole {C E A : Type 0} (tape_of : C → List E) (work : E →
     (item_of : ℕ → ℕ → A → Option Item) (files : List (List A)) (units : List C) : Type 0 where
   pub each : (unit worker : ℕ) (d : C) → unit < length units
       → tape_shows work worker (tape_of (slice_index_or units unit d)) ≡ file_due item_of files worker unit
+
+-- a list begins with another one
+pub record IsFirstPart {A : Type 0} (part whole : List A) : Type 0 where
+  pub rest : List A
+  pub is : whole ≡ part ++ rest
+
+-- each tape shows, of each worker, the first of its rows that are due there, in their order, and nothing else; of any
+-- other worker it shows nothing
+pub record AreTapesBegun {C E A : Type 0} (tape_of : C → List E) (work : E → Option Shown)
+    (item_of : ℕ → ℕ → A → Option Item) (files : List (List A)) (units : List C) : Type 0 where
+  pub each : (unit worker : ℕ) (d : C) → unit < length units
+      → IsFirstPart (tape_shows work worker (tape_of (slice_index_or units unit d))) (file_due item_of files worker unit)
+
+-- a row of some worker that is due at a unit is not on the unit's tape
+pub record LacksRow {E A : Type 0} (work : E → Option Shown) (item_of : ℕ → ℕ → A → Option Item) (files : List (List A))
+    (unit : ℕ) (tape : List E) : Type 0 where
+  pub worker : ℕ
+  pub fewer : length (tape_shows work worker tape) < length (file_due item_of files worker unit)
 
 -- ---- the rows of workers
 

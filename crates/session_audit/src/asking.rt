@@ -4,12 +4,12 @@ ghost use Rattle.value_rows.specs.declared.raw.RawRow.{RawRow};
 ghost use Rattle.calc_refresh.specs.Lists.{lists_of};
 ghost use Rattle.session_audit.specs.Agendas.{ask_item, phase_item, row_item};
 ghost use Rattle.session_audit.specs.Books.{IsAskedMore, IsKnownRowAsk, book_tape};
-ghost use Rattle.session_audit.specs.Cells.{AreAllFound, AreAllShown, AreLonger, IsAskEntry, IsKnownAsk};
+ghost use Rattle.session_audit.specs.Cells.{AreAllBegun, AreAllFound, AreAllShown, AreLonger, IsAskEntry, IsKnownAsk};
 ghost use Rattle.session_audit.specs.Each.{AreEach};
 ghost use Rattle.session_audit.specs.GroupTapes.{row_ask_of};
 ghost use Rattle.session_audit.specs.GroupTurns.{IsWithinTurns};
 ghost use Rattle.session_audit.specs.Tapes.{ask_of, take_of};
-ghost use Rattle.session_audit.specs.Workers.{AreOver, AreTapesFound, AreTapesWhole};
+ghost use Rattle.session_audit.specs.Workers.{AreOver, AreTapesBegun, AreTapesFound, AreTapesWhole};
 
 use crate::adding::{Adding, add_missing};
 use crate::progress::Progress;
@@ -31,6 +31,7 @@ pub fn ask_missing<D: Disk>(
     requires queries { All (λ queries. All (IsKnownAsk (length cells.old)) queries.items) files.now }
     requires found { AreAllFound ask_of cells.old works.old }
     ensures shown { OnOk result (AreAllShown ask_of ask_item (lists_of files.now) cells.new) }
+    ensures begun { AreAllBegun ask_of ask_item (lists_of files.now) cells.new }
     ensures takes { (earlier : ℕ) (taken : List (List RawRow)) → AreAllShown take_of (phase_item earlier) taken cells.old
         → AreAllShown take_of (phase_item earlier) taken cells.new }
     ensures longer { AreLonger IsAskEntry cells.old cells.new }
@@ -53,6 +54,7 @@ pub fn ask_rows_missing<D: Disk>(
     requires queries { All (λ queries. All (IsKnownRowAsk (length books.old)) queries.items) files.now }
     requires found { AreTapesFound book_tape row_ask_of books.old works.old }
     ensures shown { OnOk result (AreTapesWhole book_tape row_ask_of row_item (lists_of files.now) books.new) }
+    ensures begun { AreTapesBegun book_tape row_ask_of row_item (lists_of files.now) books.new }
     ensures asked { AreEach IsAskedMore books.old books.new }
     ensures turns { (turns : List ℕ) → IsWithinTurns turns books.old → IsWithinTurns turns books.new }
 {

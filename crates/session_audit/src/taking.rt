@@ -1,13 +1,14 @@
 // Takes the rows of collectors that tapes lack.
-ghost use Rattle.std.specs.Prelude.{◌≡◌, ℕ, ◌<◌, List, All, IfErr, OnOk, length, slice_index};
+ghost use Rattle.std.specs.Prelude.{◌≡◌, ℕ, ◌<◌, ◌≤◌, List, All, IfErr, OnOk, length, slice_index};
 ghost use Rattle.calc_refresh.specs.Lists.{lists_of};
 ghost use Rattle.session_audit.specs.Agendas.{phase_item};
 ghost use Rattle.session_audit.specs.Found.{Reached};
 ghost use Rattle.session_audit.specs.Tapes.{ask_of, take_of};
 ghost use Rattle.collector_pool.specs.Work.{IsRowOf};
-ghost use Rattle.session_audit.specs.Cells.{AreAllFound, AreAllShown, AreLonger, IsTakeEntry};
+ghost use Rattle.session_audit.specs.Cells.{AreAllBegun, AreAllFound, AreAllShown, AreLonger, IsTakeEntry};
 ghost use Rattle.session_audit.specs.Workers.{AreOver};
-ghost use Rattle.session_audit.specs.CellRefusals.{AreUnlike, IsTakeRefusal, tag_rows, take_status};
+ghost use Rattle.session_audit.specs.CellRefusals.{IsTakeRefusal, tag_rows, take_status};
+ghost use Rattle.tag_cell.specs.Tapes.{taken};
 
 use crate::adding::{Adding, add_missing};
 use crate::agenda::number_in;
@@ -16,12 +17,12 @@ use disk_model::Disk;
 use plant_status::{Place, Seen, Status, Unit, What};
 use std::marker::PhantomData;
 use std::sync::Wait;
-use tag_cell::{Cell, TakeNo};
+use tag_cell::{Cell, Entry, TakeNo};
 use value_rows::RawRow;
 
 /// Takes each row of the collectors that the tape of its tag lacks, in the order of the files. The first `earlier` rows
-/// of each collector are those of an earlier phase. It stops at the first row that is refused. `rooms` has the number
-/// of the files' rows for each tag. If a tape has no room for a take, it has fewer takes than that.
+/// of each collector are those of an earlier phase. It stops at the first row that is refused. Even then each tape has
+/// of each collector the first of its rows, and no other take. `rooms` has the number of the files' rows for each tag.
 pub fn take_missing<D: Disk, R: Wait>(
     rt: &R,
     cells: &mut [Cell<D>],
@@ -36,10 +37,10 @@ pub fn take_missing<D: Disk, R: Wait>(
     requires found { AreAllFound take_of cells.old works.old }
     requires counted { (tag : ℕ) → tag < length rooms.now → slice_index rooms.now tag ≡ tag_rows tag (lists_of files.now) }
     ensures shown { OnOk result (AreAllShown take_of (phase_item earlier) (lists_of files.now) cells.new) }
+    ensures begun { AreAllBegun take_of (phase_item earlier) (lists_of files.now) cells.new }
     ensures asks { (asked : List Reached) → AreAllFound ask_of cells.old asked → AreAllFound ask_of cells.new asked }
     ensures longer { AreLonger IsTakeEntry cells.old cells.new }
-    ensures refused { IfErr result (IsTakeRefusal rooms.now cells.new) }
-    ensures unlike { IfErr result AreUnlike }
+    ensures refused { IfErr result (IsTakeRefusal (phase_item earlier) (lists_of files.now) rooms.now cells.new) }
 {
     let how = Takings {
         rt,
@@ -48,7 +49,10 @@ pub fn take_missing<D: Disk, R: Wait>(
     };
     match add_missing::<Takings<'_, D, R>>(&how, cells, files, works) {
         Ok(()) => Ok(()),
-        Err((tag, no)) => Err(take_status(tag, rooms[tag as usize], no)),
+        Err((tag, no)) => {
+            let takes = count_takes(cells[tag as usize].tape());
+            Err(take_status(tag, takes, rooms[tag as usize], no))
+        }
     }
 }
 
@@ -103,17 +107,31 @@ impl<'a, D: Disk, R: Wait> Adding for Takings<'a, D, R> {
     ghost gains_twice = { longer_trans IsTakeEntry };
 }
 
-// Returns the status of a refused row.
-fn take_status(tag: u32, rows: u32, no: TakeNo) -> Status
-    ensures { result ≡ take_status tag rows no }
+// Returns how many takes a tape has.
+fn count_takes(tape: &[Entry]) -> usize
+    ensures count { result ≡ length (taken tape.now) }
+    ensures within { result ≤ length tape.now }
+{
+    let mut count = 0;
+    for entry in tape {
+        if let Entry::Take { .. } = entry {
+            count += 1;
+        }
+    }
+    count
+}
+
+// Returns the status of a refused row of a tag, whose tape has so many takes, and whose files have so many rows.
+fn take_status(tag: u32, takes: usize, rows: u32, no: TakeNo) -> Status
+    ensures { result ≡ take_status tag takes rows no }
 {
     match no {
         TakeNo::Broken => Status::DeviceFault {
             unit: Unit::Tag(tag),
         },
-        TakeNo::RoomFull { room } => Status::Mismatch {
+        TakeNo::RoomFull { .. } => Status::Mismatch {
             place: Place::Takes { tag },
-            kept: Seen::Number(u64::from(room)),
+            kept: Seen::Number(takes as u64),
             told: Seen::Number(u64::from(rows)),
         },
         TakeNo::Full { records } => Status::Limit {

@@ -1,9 +1,10 @@
 use Rattle.std.proofs.Common.{Vec, arith, length, subst, sym}
-use Rattle.std.specs.Prelude.{IfErr}
+use Rattle.std.specs.Prelude.{IfErr, OnOk}
 use Rattle.std.specs.declared.alloc.Global.{Global}
 use Rattle.collector_pool.specs.declared.note.WorkerNote.{WorkerNote}
 use Rattle.run_command.proofs.Continued.{inputs_of_base}
 use Rattle.run_command.proofs.Told.{held_told}
+use Rattle.run_command.specs.Endings.{HaveAllEnded}
 use Rattle.run_command.specs.DrillPhases.{AreNotesOfBoth, IsUndoneOfBoth}
 use Rattle.run_command.proofs.DrillUndone.{both_told, phases_told}
 use Rattle.run_command.proofs.drill_command.hold_drill.Goals as goal
@@ -25,7 +26,8 @@ returns g c old before was rest same =
     let s = c.close-answer.result.1 in
     rw c.drill_answer.ensures (phases_told g.S.Dev.Disk.trace g.S.Dev.Disk.ticks g.S.Dev.Disk.fault_count base first second old _ before _ _ _
     _ s (held_told g.S.Dev.Disk.trace g.S.Dev.Disk.ticks g.S.Dev.Disk.fault_count base second old _ before _ _ _ _ ended _ s was
-    (closed.over old rest) same closed.counts end.same_cells end.same_books end.made end.pulled closed.told)
+    (closed.over old rest) same closed.counts end.same_cells end.same_books
+    (subst (λ (v : Vec WorkerNote Global). OnOk ended.answer (HaveAllEnded v.items)) (sym closed.notes) end.ended) end.made end.pulled closed.told)
     (subst (λ (v : Vec WorkerNote Global). AreNotesOfBoth g.row.S-Dev.Denot first.work second.work (g.P.Passes.stops c.args.passes.now)
     (g.P.Passes.stops c.hold_both-ended.new.passes) v.items) (sym closed.notes) end.notes)
     (both_told base first second s _ _ ended.cells.items ended.books.items s.workers.items ended.answer _ closed.told

@@ -2,6 +2,7 @@ use Rattle.std.proofs.Common.{[], Result, OnOk, refl, subst, sym}
 use Rattle.std.specs.Prelude.{IfErr}
 use Rattle.std.proofs.lemmas.List.{append-nil}
 use Rattle.plant_status.specs.declared.status.Status.{Status}
+use Rattle.run_command.specs.Endings.{HaveAllEnded}
 use Rattle.run_command.specs.Refusals.{IsOfOpening}
 use Rattle.run_command.specs.Runs.{IsUndone}
 use Rattle.run_command.specs.Sessions.{OfNone}
@@ -33,6 +34,8 @@ pub returns-in-Ok-clause-undone : goal.returns-in-Ok-clause-undone
 returns-in-Ok-clause-undone g c = err_weaker c.go_on.result.answer
     (λ why is. OfSecond c.hold_phase-cells.result.cells.items c.hold_phase-cells.result.books.items
     c.hold_phase-cells.result.notes.items
+    (c.hold_phase-cells.ensures.same_cells (λ of. subst (λ (r : Result (Unit {0}) Status). IsOfOpening r) c.in-Ok.is of))
+    (c.hold_phase-cells.ensures.same_books (λ of. subst (λ (r : Result (Unit {0}) Status). IsOfOpening r) c.in-Ok.is of))
     (subst (λ (r : Result (Unit {0}) Status). OnOk r (AreStepsMade c.args.first.now c.hold_phase-cells.result.cells.items
     c.hold_phase-cells.result.books.items)) c.in-Ok.is c.hold_phase-cells.ensures.made)
     is)
@@ -63,3 +66,7 @@ returns-in-Err-clause-undone g c =
     OfFirst (subst (λ (r : Result (Unit {0}) Status). IfErr r (IsUndone c.args.first.now c.args.cells.items c.args.books.items
     c.hold_phase-cells.result.cells.items c.hold_phase-cells.result.books.items c.hold_phase-cells.result.notes.items)) c.in-Err.is
     c.hold_phase-cells.ensures.undone)
+
+pub go_on-requires-clause-ended : goal.go_on-requires-clause-ended
+go_on-requires-clause-ended g c κs within =
+    subst (λ (r : Result (Unit {0}) Status). OnOk r (HaveAllEnded c.hold_phase-cells.result.notes.items)) c.in-Ok.is c.hold_phase-cells.ensures.ended

@@ -10,6 +10,7 @@ returns-in-Ok-open_plant-clause-opened g c =
       groups = plant.ensures.groups;
       as_many_tags = omega (arith, plant.ensures.as_many_cells, plant.plant.cells.ok);
       as_many_groups = omega (arith, plant.ensures.as_many_books, plant.plant.books.ok);
+      few = plant.ensures.few_records;
     }
 
 pub returns-in-Ok-open_plant-clause-defined : goal.returns-in-Ok-open_plant-clause-defined

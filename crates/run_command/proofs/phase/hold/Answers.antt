@@ -5,9 +5,11 @@ use Rattle.session_audit.specs.declared.book_opening.KeptGroup.{KeptGroup}
 use Rattle.session_audit.specs.Openings.{AreAsKept}
 use Rattle.session_audit.specs.BookOpenings.{IsBookAsKept}
 use Rattle.run_command.specs.Refusals.{IsSettlingRefusal, notes_of}
-use Rattle.run_command.specs.Sessions.{AreNotes}
+use Rattle.std.specs.Prelude.{OnOk}
+use Rattle.run_command.specs.Endings.{HaveAllEnded}
+use Rattle.run_command.specs.Sessions.{AreNotes, AreNotesOfAll}
 use Rattle.session_audit.specs.CellOpenings.{IsCellAsKept}
-use Rattle.run_command.proofs.Notes.{notes_are}
+use Rattle.run_command.proofs.Notes.{notes_are, ran_all}
 use Rattle.run_command.proofs.Results.{err_weaker}
 use Rattle.run_command.proofs.phase.hold.Goals as goal
 
@@ -40,3 +42,13 @@ returns-clause-refused g c =
     (subst (λ (l : List Kept). IsSettlingRefusal given notes l groups cells books why) c.deref.ensures.value
     (subst (λ (l : List KeptGroup). IsSettlingRefusal given notes c.deref.result.now l cells books why) c.deref-2.ensures.value is)))
     c.settle_all-answer.ensures.refused
+
+pub returns-clause-ran : goal.returns-clause-ran
+returns-clause-ran g c =
+    subst (λ (l : List WorkerNote). OnOk c.settle_all-answer.result (AreNotesOfAll g.row.D.Denot c.args.given.now.work l)) (sym c.notes_in.ensures)
+    (ran_all g.row.D.Denot c.args.given.now.work c.run_workers-cells.result.notes c.settle_all-answer.result c.run_workers-cells.ensures.notes
+    c.settle_all-answer.ensures.ran)
+
+pub returns-clause-ended : goal.returns-clause-ended
+returns-clause-ended g c =
+    subst (λ (l : List WorkerNote). OnOk c.settle_all-answer.result (HaveAllEnded l)) (sym c.notes_in.ensures) c.settle_all-answer.ensures.ended

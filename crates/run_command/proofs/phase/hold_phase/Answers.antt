@@ -7,6 +7,7 @@ use Rattle.group_book.specs.Told.{ToldBook as Book}
 use Rattle.plant_status.specs.declared.status.Status.{Status}
 use Rattle.session_audit.specs.CellOpenings.{IsCellCopied}
 use Rattle.session_audit.specs.BookOpenings.{IsBookCopied}
+use Rattle.run_command.specs.Refusals.{AdmitsForeign}
 use Rattle.run_command.specs.Runs.{IsContinued, IsContinuedGroup, OfSettling}
 use Rattle.run_command.specs.Sessions.{OfNone}
 use Rattle.run_command.specs.Runs as runs
@@ -60,3 +61,13 @@ returns-in-Err-clause-undone g c =
     subst (λ (r : Result (Unit {0}) Status). IfErr r (runs.IsUndone c.args.given.now c.args.cells.items c.args.books.items
     c.unready.result.cells.items c.unready.result.books.items c.unready.result.notes.items)) (sym c.unready.ensures.answer)
     (runs.OfNone refl)
+
+pub returns-in-Err-clause-begun : goal.returns-in-Err-clause-begun
+returns-in-Err-clause-begun g c = λ none.
+    absurd (none (subst (λ (r : Result (Unit {0}) Status). AdmitsForeign r) (sym c.unready.ensures.answer) tt))
+
+pub returns-in-Err-clause-ran : goal.returns-in-Err-clause-ran
+returns-in-Err-clause-ran g c = rw c.unready.ensures.answer tt
+
+pub returns-in-Err-clause-ended : goal.returns-in-Err-clause-ended
+returns-in-Err-clause-ended g c = rw c.unready.ensures.answer tt

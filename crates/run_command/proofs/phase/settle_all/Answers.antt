@@ -35,3 +35,11 @@ returns-clause-refused g c =
       whole_again c.args.books.now.len c.args.books.now.items c.settle.new.books (search rules) (search rules),
     )
     c.settle.ensures.refused
+
+pub returns-clause-begun : goal.returns-clause-begun
+returns-clause-begun g c = λ none.
+    (rw (
+      whole_again c.args.cells.now.len c.args.cells.now.items c.settle.new.cells (search rules) (search rules),
+      whole_again c.args.books.now.len c.args.books.now.items c.settle.new.books (search rules) (search rules),
+    )
+    (c.settle.ensures.begun none))

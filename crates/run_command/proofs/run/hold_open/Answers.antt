@@ -1,11 +1,12 @@
 use Rattle.std.proofs.Common.{Vec, arith, length, sym, subst}
-use Rattle.std.specs.Prelude.{IfErr}
+use Rattle.std.specs.Prelude.{IfErr, OnOk}
 use Rattle.std.specs.declared.alloc.Global.{Global}
 use Rattle.collector_pool.specs.declared.note.WorkerNote.{WorkerNote}
 use Rattle.run_command.specs.Runs.{IsUndone}
-use Rattle.run_command.specs.Sessions.{AreNotes}
+use Rattle.run_command.specs.Endings.{HaveAllEnded}
+use Rattle.run_command.specs.Sessions.{AreNotes, AreNotesOfAll}
 use Rattle.run_command.proofs.Continued.{inputs_of_base}
-use Rattle.run_command.proofs.Told.{held_told, undone_told}
+use Rattle.run_command.proofs.Told.{foreign_told, held_told, ran_told, undone_told}
 use Rattle.run_command.proofs.run.hold_open.Goals as goal
 
 pub hold_phase-ended-requires-clause-inputs : goal.hold_phase-ended-requires-clause-inputs
@@ -26,9 +27,13 @@ returns g c old before was rest same =
     let s = c.close.result.1 in
     record {
       held = held_told g.S.Dev.Disk.trace g.S.Dev.Disk.ticks g.S.Dev.Disk.fault_count c.args.base.now given old _ before _ _ _ _ ended _ s
-          was (closed.over old rest) same closed.counts end.same_cells end.same_books end.made end.pulled closed.told;
+          was (closed.over old rest) same closed.counts end.same_cells end.same_books
+          (subst (λ (v : Vec WorkerNote Global). OnOk ended.answer (HaveAllEnded v.items)) (sym closed.notes) end.ended) end.made end.pulled closed.told;
       notes = subst (λ (v : Vec WorkerNote Global). AreNotes g.row.S-Dev.Denot given.work (g.P.Passes.stops c.args.passes.now)
           (g.P.Passes.stops c.hold_phase-ended.new.passes) v.items) (sym closed.notes) end.notes;
+      ran = ran_told c.args.base.now given s ended.answer _ closed.told
+          (subst (λ (v : Vec WorkerNote Global). OnOk ended.answer (AreNotesOfAll g.row.S-Dev.Denot given.work v.items)) (sym closed.notes) end.ran);
+      begun = λ none. end.begun (λ of. none (foreign_told c.args.base.now given s ended.answer _ closed.told of));
       undone = undone_told c.args.base.now given s ended.cells.items ended.books.items _ _ s.workers.items ended.answer _ closed.told
           (subst (λ (v : Vec WorkerNote Global). IfErr ended.answer (IsUndone given c.args.opened.plant.cells.items c.args.opened.plant.books.items
           ended.cells.items ended.books.items v.items)) (sym closed.notes) end.undone);

@@ -5,7 +5,8 @@ use Rattle.calc_refresh.specs.Lists.{lists_of}
 use Rattle.session_audit.specs.Pulls.{ArePulled, IsPullMismatch}
 use Rattle.run_command.specs.Refusals.{OfFinding, OfMaking, OfPull}
 use Rattle.run_command.proofs.Making.{few_refreshes, inputs_kept}
-use Rattle.run_command.proofs.Results.{err_weaker, ok_weaker}
+use Rattle.run_command.proofs.Foreign.{finding_foreign}
+use Rattle.run_command.proofs.Results.{at_ok, err_weaker, ok_weaker}
 use Rattle.run_command.proofs.settle.complete.Goals as goal
 
 pub returns-in_err-find_all-clause-refused : goal.returns-in_err-find_all-clause-refused
@@ -16,7 +17,7 @@ returns-in_err-find_all-clause-refused g c =
 pub returns-in_err-make_up-clause-refused : goal.returns-in_err-make_up-clause-refused
 returns-in_err-make_up-clause-refused g c =
     let p = err_from_is_err_and c.from_residual-in_err-make_up.result c.from_residual-in_err-make_up.ensures.1 in
-    rw (p.1, p.2) (OfMaking c.in_err-make_up.ensures.refused)
+    rw (p.1, p.2) (OfMaking c.in_ok-check_endings.ensures.ended c.in_err-make_up.ensures.refused)
 
 pub compare_pulls-requires-clause-inputs : goal.compare_pulls-requires-clause-inputs
 compare_pulls-requires-clause-inputs g c =
@@ -30,10 +31,27 @@ compare_pulls-requires-clause-few_turns g c =
 
 pub returns-clause-refused : goal.returns-clause-refused
 returns-clause-refused g c = err_weaker c.compare_pulls.result
-    (λ why is. OfPull (subst (λ (l : List (Vec ℕ Global)). IsPullMismatch (lists_of l) c.make_up.new.cells c.make_up.new.books why)
+    (λ why is. OfPull c.in_ok-check_endings.ensures.ended (subst (λ (l : List (Vec ℕ Global)). IsPullMismatch (lists_of l) c.make_up.new.cells c.make_up.new.books why)
     c.deref.ensures.value is)) c.compare_pulls.ensures.differs
 
 pub returns-clause-pulled : goal.returns-clause-pulled
 returns-clause-pulled g c = ok_weaker c.compare_pulls.result
     (λ pulled. subst (λ (l : List (Vec ℕ Global)). ArePulled (lists_of l) c.make_up.new.cells c.make_up.new.books) c.deref.ensures.value pulled)
     c.compare_pulls.ensures.pulled
+
+pub returns-in_err-find_all-clause-begun : goal.returns-in_err-find_all-clause-begun
+returns-in_err-find_all-clause-begun g c =
+    let p = err_from_is_err_and c.from_residual.result c.from_residual.ensures.1 in
+    rw (p.1, p.2) (λ none. absurd (none (finding_foreign c.args.given.now c.args.cells.now c.args.books.now _ c.in_err-find_all.ensures.differs)))
+
+pub returns-in_err-check_endings-clause-begun : goal.returns-in_err-check_endings-clause-begun
+returns-in_err-check_endings-clause-begun g c = λ none. c.in_ok-find_all.ensures.begun
+
+pub returns-in_err-make_up-clause-begun : goal.returns-in_err-make_up-clause-begun
+returns-in_err-make_up-clause-begun g c = λ none. c.make_up.ensures.begun
+
+pub returns-clause-begun : goal.returns-clause-begun
+returns-clause-begun g c = λ none. c.make_up.ensures.begun
+
+pub returns-clause-ended : goal.returns-clause-ended
+returns-clause-ended g c = at_ok c.compare_pulls.result c.in_ok-check_endings.ensures.ended

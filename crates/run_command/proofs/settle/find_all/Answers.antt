@@ -1,6 +1,12 @@
 use Rattle.std.proofs.Common.{List, ℕ, subst}
 use Rattle.std.proofs.lemmas.Result.{err_from_is_err_and}
+use Rattle.session_audit.specs.Agendas.{ask_item, phase_item, row_item}
+use Rattle.session_audit.specs.Books.{book_tape}
+use Rattle.session_audit.specs.Cells.{cell_tape}
+use Rattle.session_audit.specs.GroupTapes.{row_ask_of}
 use Rattle.session_audit.specs.GroupTurns.{IsTurnsMismatch, IsWithinTurns}
+use Rattle.session_audit.specs.Tapes.{ask_of, take_of}
+use Rattle.session_audit.proofs.Begun.{tapes_begun}
 use Rattle.run_command.specs.Refusals.{OfAsk, OfRowAsk, OfTake, OfTurns}
 use Rattle.run_command.proofs.Results.{at_ok, err_weaker, ok_weaker}
 use Rattle.run_command.proofs.settle.find_all.Goals as goal
@@ -39,3 +45,13 @@ pub returns-clause-differs : goal.returns-clause-differs
 returns-clause-differs g c = err_weaker c.compare_turns.result
     (λ why is. OfTurns (subst (λ (l : List ℕ). IsTurnsMismatch l c.args.books.now why) c.deref.ensures.value is))
     c.compare_turns.ensures.differs
+
+pub returns-clause-begun : goal.returns-clause-begun
+returns-clause-begun g c = at_ok c.compare_turns.result (record {
+  takes = tapes_begun cell_tape take_of (phase_item c.args.given.now.work.earlier) _ _ c.args.cells.now c.find_all_takes.new.works
+      (c.find_all_takes.ensures.over _ _ _ c.requires.over.collectors) c.in_ok-find_all_takes.ensures.found;
+  asks = tapes_begun cell_tape ask_of ask_item _ _ c.args.cells.now c.find_all_asks.new.works
+      (c.find_all_asks.ensures.over _ _ c.requires.over.readers) c.in_ok-find_all_asks.ensures.found;
+  row_asks = tapes_begun book_tape row_ask_of row_item _ _ c.args.books.now c.find_all_row_asks.new.works
+      (c.find_all_row_asks.ensures.over _ _ c.requires.over.row_readers) c.in_ok-find_all_row_asks.ensures.found;
+})

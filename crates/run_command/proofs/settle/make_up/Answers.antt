@@ -1,4 +1,4 @@
-use Rattle.std.proofs.Common.{◌∙◌, ◌<◌, ℕ, List, Vec, ap, sym, subst, length, slice_index}
+use Rattle.std.proofs.Common.{◌≡◌, ◌∙◌, ◌<◌, ℕ, List, Vec, ap, sym, subst, length, slice_index}
 use Rattle.std.specs.Prelude.{All}
 use Rattle.std.specs.declared.alloc.Global.{Global}
 use Rattle.calc_refresh.specs.Lists.{lists_of}
@@ -7,14 +7,17 @@ use Rattle.value_rows.specs.declared.raw.RawRow.{RawRow}
 use Rattle.session_audit.specs.Agendas.{ask_item, row_item, phase_item}
 use Rattle.session_audit.specs.Tapes.{ask_of, take_of}
 use Rattle.collector_pool.specs.Work.{IsRowOf}
-use Rattle.session_audit.specs.Cells.{AreAllShown, IsAskEntry, IsCommitEntry, IsTakeEntry}
+use Rattle.session_audit.specs.Cells.{AreAllBegun, AreAllShown, IsAskEntry, IsCommitEntry, IsTakeEntry, cell_tape}
 use Rattle.session_audit.specs.CellRefusals.{tag_rows}
-use Rattle.session_audit.specs.Workers.{AreTapesWhole}
+use Rattle.session_audit.specs.Workers.{AreTapesBegun, AreTapesWhole}
 use Rattle.session_audit.specs.Books.{book_tape}
 use Rattle.session_audit.specs.Refreshing.{AreBooksRefreshed, durable_lists}
 use Rattle.session_audit.specs.BookRefusals.{IsRefreshRefusal}
 use Rattle.session_audit.specs.GroupTapes.{row_ask_of}
 use Rattle.session_audit.specs.GroupTurns.{IsWithinTurns}
+use Rattle.tag_cell.specs.Told.{ToldCell as Cell}
+use Rattle.group_book.specs.Told.{ToldBook as Book}
+use Rattle.session_audit.proofs.Begun.{tapes_begun, whole_begun}
 use Rattle.run_command.specs.Refusals.{OfRefresh}
 use Rattle.run_command.proofs.Kept.{books_asked, books_joined, books_refreshed, cells_joined, cells_longer, cells_pulled, none_waits}
 use Rattle.run_command.proofs.Making.{inputs_kept, known_asks, known_row_asks}
@@ -103,3 +106,58 @@ pub returns-clause-refused : goal.returns-clause-refused
 returns-clause-refused g c = err_weaker c.refresh_missing.result
     (λ why is. OfRefresh (subst (λ (l : List (Vec ℕ Global)). IsRefreshRefusal (durable_lists c.refresh_missing.new.cells) (lists_of l)
     c.refresh_missing.new.books why) c.deref-5.ensures.value is)) c.refresh_missing.ensures.refused
+
+-- what a tape shows of collectors, whatever their rows are read through
+takes_begun : {D : Type 0} (earlier : ℕ) (cells : List (Cell D)) (xs ys : List (Vec RawRow Global)) → ys ≡ xs
+    → AreAllBegun take_of (phase_item earlier) (lists_of ys) cells → AreAllBegun take_of (phase_item earlier) (lists_of xs) cells
+takes_begun earlier cells xs ys same is = subst (λ l. AreAllBegun take_of (phase_item earlier) (lists_of l) cells) same is
+
+-- so of readers
+asks_begun : {D : Type 0} (cells : List (Cell D)) (xs ys : List (Vec Query Global)) → ys ≡ xs
+    → AreAllBegun ask_of ask_item (lists_of ys) cells → AreAllBegun ask_of ask_item (lists_of xs) cells
+asks_begun cells xs ys same is = subst (λ l. AreAllBegun ask_of ask_item (lists_of l) cells) same is
+
+row_asks_begun : {D : Type 0} (books : List (Book D)) (xs ys : List (Vec Query Global)) → ys ≡ xs
+    → AreTapesBegun book_tape row_ask_of row_item (lists_of ys) books → AreTapesBegun book_tape row_ask_of row_item (lists_of xs) books
+row_asks_begun books xs ys same is = subst (λ l. AreTapesBegun book_tape row_ask_of row_item (lists_of l) books) same is
+
+pub returns-in_err-take_missing-clause-begun : goal.returns-in_err-take_missing-clause-begun
+returns-in_err-take_missing-clause-begun g c = record {
+  takes = takes_begun c.args.given.now.work.earlier c.take_missing.new.cells _ _ c.deref.ensures.value c.take_missing.ensures.begun;
+  asks = tapes_begun cell_tape ask_of ask_item _ _ c.take_missing.new.cells c.args.asks.now c.requires.over.readers
+      (c.take_missing.ensures.asks _ c.requires.found.readers);
+  row_asks = tapes_begun book_tape row_ask_of row_item _ _ c.args.books.now c.args.row_asks.now c.requires.over.row_readers
+      c.requires.found.row_readers;
+}
+
+pub returns-in_default-clause-begun : goal.returns-in_default-clause-begun
+returns-in_default-clause-begun g c = record {
+  takes = takes_begun c.args.given.now.work.earlier c.ask_missing.new.cells _ _ c.deref.ensures.value
+      (whole_begun cell_tape take_of (phase_item c.args.given.now.work.earlier) _ c.ask_missing.new.cells
+      (c.ask_missing.ensures.takes _ _ c.in_ok-take_missing.ensures.shown));
+  asks = asks_begun c.ask_missing.new.cells _ _ c.deref-3.ensures.value c.ask_missing.ensures.begun;
+  row_asks = row_asks_begun c.ask_rows_missing.new.books _ _ c.deref-4.ensures.value c.ask_rows_missing.ensures.begun;
+}
+
+pub returns-in_err-commit_cells-clause-begun : goal.returns-in_err-commit_cells-clause-begun
+returns-in_err-commit_cells-clause-begun g c = record {
+  takes = takes_begun c.args.given.now.work.earlier c.commit_cells.new.cells _ _ c.deref.ensures.value
+      (whole_begun cell_tape take_of (phase_item c.args.given.now.work.earlier) _ c.commit_cells.new.cells
+      (c.commit_cells.ensures.takes _ _ (c.ask_missing.ensures.takes _ _ c.in_ok-take_missing.ensures.shown)));
+  asks = asks_begun c.commit_cells.new.cells _ _ c.deref-3.ensures.value
+      (whole_begun cell_tape ask_of ask_item _ c.commit_cells.new.cells (c.commit_cells.ensures.asks _ c.in-Ok-Ok.ensures.shown));
+  row_asks = row_asks_begun c.ask_rows_missing.new.books _ _ c.deref-4.ensures.value c.ask_rows_missing.ensures.begun;
+}
+
+pub returns-clause-begun : goal.returns-clause-begun
+returns-clause-begun g c = record {
+  takes = takes_begun c.args.given.now.work.earlier c.refresh_missing.new.cells _ _ c.deref.ensures.value
+      (whole_begun cell_tape take_of (phase_item c.args.given.now.work.earlier) _ c.refresh_missing.new.cells
+      (c.refresh_missing.ensures.takes _ _ (c.commit_cells.ensures.takes _ _ (c.ask_missing.ensures.takes _ _ c.in_ok-take_missing.ensures.shown))));
+  asks = asks_begun c.refresh_missing.new.cells _ _ c.deref-3.ensures.value
+      (whole_begun cell_tape ask_of ask_item _ c.refresh_missing.new.cells
+      (c.refresh_missing.ensures.asks _ (c.commit_cells.ensures.asks _ c.in-Ok-Ok.ensures.shown)));
+  row_asks = row_asks_begun c.refresh_missing.new.books _ _ c.deref-4.ensures.value
+      (whole_begun book_tape row_ask_of row_item _ c.refresh_missing.new.books
+      (c.refresh_missing.ensures.questions _ c.in-Ok-Ok.ensures'.shown));
+}

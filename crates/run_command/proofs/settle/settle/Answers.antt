@@ -1,6 +1,7 @@
-use Rattle.std.proofs.Common.{◌∙◌, List, ap, sym, subst, length}
+use Rattle.std.proofs.Common.{◌∙◌, List, ap, is_ok, sym, subst, length}
 use Rattle.std.proofs.lemmas.Result.{err_from_is_err_and}
 use Rattle.collector_pool.specs.declared.note.WorkerNote.{WorkerNote}
+use Rattle.run_command.specs.Endings.{HaveAllEnded}
 use Rattle.run_command.specs.Refusals.{IsRefused, OfRest, notes_of}
 use Rattle.run_command.proofs.Kept.{books_as_kept, cells_as_kept}
 use Rattle.run_command.proofs.Making.{inputs_of_kept}
@@ -8,7 +9,8 @@ use Rattle.plant_status.specs.declared.unit.Unit.TheVariants.{Group, Tag}
 use Rattle.session_audit.specs.BookOpenings.{IsBookDifference}
 use Rattle.session_audit.specs.CellOpenings.{IsCellDifference}
 use Rattle.run_command.proofs.Mismatches.{mismatch_is_opening}
-use Rattle.run_command.proofs.Results.{err_weaker}
+use Rattle.run_command.proofs.Foreign.{opening_foreign}
+use Rattle.run_command.proofs.Results.{at_ok, err_weaker, ok_weaker}
 use Rattle.run_command.proofs.settle.settle.Goals as goal
 
 pub returns-in_err-compare_all-clause-known : goal.returns-in_err-compare_all-clause-known
@@ -46,3 +48,23 @@ pub returns-in-Ok-clause-refused : goal.returns-in-Ok-clause-refused
 returns-in-Ok-clause-refused g c = err_weaker c.complete_all.result
     (λ why is. OfRest (subst (λ (l : List WorkerNote). IsRefused c.args.given.now l c.complete_all.new.cells c.complete_all.new.books why)
     (c.deref.ensures.value ∙ sym (ap notes_of c.in-Ok.is)) is)) c.complete_all.ensures.refused
+
+pub returns-in_err-compare_all-clause-begun : goal.returns-in_err-compare_all-clause-begun
+returns-in_err-compare_all-clause-begun g c =
+    let p = err_from_is_err_and c.from_residual.result c.from_residual.ensures.1 in
+    rw (p.1, p.2) (λ none. absurd (none (opening_foreign _ (mismatch_is_opening Tag IsCellDifference _ _ c.in_err-compare_all.field-0.0 c.in_err-compare_all.ensures.differs))))
+
+pub returns-in_err-compare_all-2-clause-begun : goal.returns-in_err-compare_all-2-clause-begun
+returns-in_err-compare_all-2-clause-begun g c =
+    let p = err_from_is_err_and c.from_residual-in_err-compare_all-2.result c.from_residual-in_err-compare_all-2.ensures.1 in
+    rw (p.1, p.2) (λ none. absurd (none (opening_foreign _ (mismatch_is_opening Group IsBookDifference _ _ c.in_err-compare_all-2.field-0.0 c.in_err-compare_all-2.ensures.differs))))
+
+pub returns-in-Ok-clause-ended : goal.returns-in-Ok-clause-ended
+returns-in-Ok-clause-ended g c = ok_weaker c.complete_all.result
+    (λ ended. subst HaveAllEnded (c.deref.ensures.value ∙ sym (ap notes_of c.in-Ok.is)) ended) c.complete_all.ensures.ended
+
+pub returns-in-Ok-clause-ran : goal.returns-in-Ok-clause-ran
+returns-in-Ok-clause-ran g c = at_ok c.complete_all.result (ap is_ok c.in-Ok.is)
+
+pub returns-in-Ok-clause-begun : goal.returns-in-Ok-clause-begun
+returns-in-Ok-clause-begun g c = λ none. c.complete_all.ensures.begun none
