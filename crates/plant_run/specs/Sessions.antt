@@ -23,8 +23,8 @@ use Rattle.plant_run.specs.Run.{EndsFor, KeepsFor, World}
 
 -- The run of the plan in one file over the base in another. It prints its report, or the line of its refusal. It leaves
 -- the input alone. If the devices were opened there is a session, however it ended, and the session's promise holds.
--- Otherwise there is a cause, which is never the words. The count of failed file reads agrees with the answer, and so
--- does the name of the file that failed.
+-- Otherwise there is a cause, which is never the words, and no stop was counted. The count of failed file reads agrees
+-- with the answer, and so does the name of the file that failed.
 pub record IsRunSo {D : Type 0} (trace : D → Option Trace) (ticks faults : D → ℕ) (base plan : List ℕ) (before now : World)
     (stops_before stops_now : ℕ) (o : Outcome) : Type 0 where
   pub answer : Result (String Global) Status
@@ -37,6 +37,7 @@ pub record IsRunSo {D : Type 0} (trace : D → Option Trace) (ticks faults : D �
       before.scene.device_faults now.scene.device_faults)
   pub file_faults : o.session ≡ None → now.scene.file_faults ≡ faults_after answer before.scene.file_faults
   pub no_file_fault : IsSome o.session → now.scene.file_faults ≡ before.scene.file_faults
+  pub unstopped : o.session ≡ None → stops_now ≡ stops_before
   pub whose : o.session ≡ None → IfErr answer (IsFaultOfPlanned base plan before.scene.files now.scene.failed_name)
   pub printed : IfOk answer (λ text. IsPrintedSo (string_bytes text) before.scene.output now.scene.output o.status)
   pub refused : IfErr answer (λ why. (o.status ≡ why) × IsTold before.scene.output now.scene.output why)

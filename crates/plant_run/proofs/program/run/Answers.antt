@@ -152,6 +152,7 @@ returns-in-Run-clause-comes g c =
       unheld = rw same its.unheld;
       file_faults = rw same its.file_faults;
       no_file_fault = rw same its.no_file_fault;
+      unstopped = rw same its.unstopped;
       whose = rw same its.whose;
       printed = c.reported.ensures.text;
       refused = c.reported.ensures.refused;
