@@ -1,6 +1,6 @@
 -- What each command does: what it prints, and its session, if it holds one. And what the arguments of a process lead
 -- to, with the exit code.
-use Rattle.std.specs.Prelude.{◌≡◌, ◌≢◌, ◌⊎◌, ℕ, List, [], None, Some, Option, Result, String, IfErr, IfOk, IfSome, OnOk, string_bytes}
+use Rattle.std.specs.Prelude.{◌≡◌, ◌≢◌, ◌⊎◌, ◌^◌, ◌<◌, ℕ, List, [], None, Some, Option, Result, String, IfErr, IfOk, IfSome, OnOk, string_bytes}
 use Rattle.std.specs.Option.{IsSome}
 use Rattle.std.specs.declared.alloc.Global.{Global}
 use Rattle.disk_model.specs.Traces.{Trace}
@@ -9,6 +9,7 @@ use Rattle.plant_status.specs.declared.status.Status.{Status}
 use Rattle.plant_status.specs.declared.status.Status.TheVariants.{BadWords, WantOfMemory}
 use Rattle.plant_files.specs.Faults.{IsFaultOfPlanned}
 use Rattle.plant_files.specs.Reading.{faults_after}
+use Rattle.plant_store.specs.Openings.{CountsPlant}
 use Rattle.run_command.specs.Drills.{IsDrill, IsDrilled}
 use Rattle.run_command.specs.Headline.{IsPromised}
 use Rattle.run_command.specs.Runs.{IsSession, IsUnheld}
@@ -23,8 +24,8 @@ use Rattle.plant_run.specs.Run.{EndsFor, KeepsFor, World}
 
 -- The run of the plan in one file over the base in another. It prints its report, or the line of its refusal. It leaves
 -- the input alone. If the devices were opened there is a session, however it ended, and the session's promise holds.
--- Otherwise there is a cause, which is never the words, and no stop was counted. The count of failed file reads agrees
--- with the answer, and so does the name of the file that failed.
+-- Otherwise there is a cause, which is never the words, no stop was counted, and a fault of a device only if the answer
+-- reports one. The count of failed file reads agrees with the answer, and so does the name of the file that failed.
 pub record IsRunSo {D : Type 0} (trace : D → Option Trace) (ticks faults : D → ℕ) (base plan : List ℕ) (before now : World)
     (stops_before stops_now : ℕ) (o : Outcome) : Type 0 where
   pub answer : Result (String Global) Status
@@ -38,6 +39,8 @@ pub record IsRunSo {D : Type 0} (trace : D → Option Trace) (ticks faults : D �
   pub file_faults : o.session ≡ None → now.scene.file_faults ≡ faults_after answer before.scene.file_faults
   pub no_file_fault : IsSome o.session → now.scene.file_faults ≡ before.scene.file_faults
   pub unstopped : o.session ≡ None → stops_now ≡ stops_before
+  pub counts : o.session ≡ None → before.scene.device_faults < 2 ^ 64
+      → CountsPlant answer before.scene.device_faults now.scene.device_faults
   pub whose : o.session ≡ None → IfErr answer (IsFaultOfPlanned base plan before.scene.files now.scene.failed_name)
   pub printed : IfOk answer (λ text. IsPrintedSo (string_bytes text) before.scene.output now.scene.output o.status)
   pub refused : IfErr answer (λ why. (o.status ≡ why) × IsTold before.scene.output now.scene.output why)

@@ -1,6 +1,6 @@
 // The beginning of a session: its board is made, and the devices of its base are opened.
 ghost use Rattle.plant_files.specs.PlanRows.{IsGoodBase};
-ghost use Rattle.plant_store.specs.Openings.{AreRestSame};
+ghost use Rattle.plant_store.specs.Openings.{AreRestSame, CountsPlant};
 ghost use Rattle.plant_store.specs.Shelves.{HasPlacesOf, IsShelfFor};
 ghost use Rattle.run_command.specs.Runs.{AreDefined, AreUnitsOpen, IsUnopened};
 ghost use Rattle.snapshot_table.specs.Boards.{LooksAt, new_posters};
@@ -78,12 +78,12 @@ pub(crate) fn open_session<S: Store, R: Wait>(
     ensures lookers { IfOk result (λ o. vec_len o.lookers ≡ readers) }
     ensures looks { IfOk result (λ o. All (LooksAt (arc_value o.board)) o.lookers.items) }
 
-    // A refusal reports its first cause. No device but those of the base's tags and groups is changed. If all devices
-    // open, no fault is counted.
+    // A refusal reports its first cause. No device but those of the base's tags and groups is changed. The store counts
+    // one fault if a call has failed, and otherwise none.
     ensures refused { IfErr result (IsUnopened base.now (S.device_at store.old) (S.device_at store.new) (S.fault_count store.old)
         (S.fault_count store.new)) }
     ensures others { AreRestSame base.now (S.device_at store.old) (S.device_at store.new) }
-    ensures counts { OnOk result (S.fault_count store.old < 2 ^ 64 → S.fault_count store.new ≡ S.fault_count store.old) }
+    ensures counts { S.fault_count store.old < 2 ^ 64 → CountsPlant result (S.fault_count store.old) (S.fault_count store.new) }
 {
     let Ok(shelf) = shelf_for(alloc, base) else {
         return Err(Status::WantOfMemory);

@@ -5,7 +5,7 @@ ghost use Rattle.plant_files.specs.PlanRows.{IsGoodBase, IsPlanned};
 ghost use Rattle.plant_files.specs.Reading.{faults_after};
 ghost use Rattle.plant_files.specs.RowFiles.{ToldFiles};
 ghost use Rattle.plant_store.specs.Groups.{DeviceTraces};
-ghost use Rattle.plant_store.specs.Openings.{AreRestSame};
+ghost use Rattle.plant_store.specs.Openings.{AreRestSame, CountsPlant};
 ghost use Rattle.plant_store.specs.Shelves.{HasPlacesOf, IsShelfFor};
 ghost use Rattle.run_command.specs.Headline.{IsPromised};
 ghost use Rattle.run_command.specs.Runs.{AreDefined, IsNoReadFault, AreUnitsOpen, IsRun, IsSession, IsUnheld, IsUnopened};
@@ -72,6 +72,8 @@ pub fn run_plan<F: Files, S: Store, P: Passes, R: Threads + Wait + Sync>(
     ensures unheld { result.session ≡ None → IfErr result.answer (IsUnheld name.now plan_name.now (F.told files.old)
         (S.device_at store.old) (S.device_at store.new) (S.fault_count store.old) (S.fault_count store.new)) }
     ensures unstopped { result.session ≡ None → P.stops passes.new ≡ P.stops passes.old }
+    ensures counts { result.session ≡ None → S.fault_count store.old < 2 ^ 64
+        → CountsPlant result.answer (S.fault_count store.old) (S.fault_count store.new) }
     ensures understood { IfErr result.answer (λ why. why ≢ Status.BadWords) }
     ensures stays { F.told files.new ≡ F.told files.old }
 
@@ -108,6 +110,8 @@ fn run_read<S: Store, P: Passes, R: Threads + Wait + Sync>(
         → result.session ≡ None → IfErr result.answer (IsUnheld name plan_name told
         (S.device_at store.old) (S.device_at store.new) (S.fault_count store.old) (S.fault_count store.new)) }
     ensures unstopped { result.session ≡ None → P.stops passes.new ≡ P.stops passes.old }
+    ensures counts { result.session ≡ None → S.fault_count store.old < 2 ^ 64
+        → CountsPlant result.answer (S.fault_count store.old) (S.fault_count store.new) }
     ensures other { result.session ≡ None → IfErr result.answer IsNoReadFault }
 {
     let SessionFiles {
@@ -141,6 +145,8 @@ fn run_given<S: Store, P: Passes, R: Threads + Wait + Sync>(
     ensures unheld { result.session ≡ None → IfErr result.answer (IsUnopened base.now (S.device_at store.old)
         (S.device_at store.new) (S.fault_count store.old) (S.fault_count store.new)) }
     ensures unstopped { result.session ≡ None → P.stops passes.new ≡ P.stops passes.old }
+    ensures counts { result.session ≡ None → S.fault_count store.old < 2 ^ 64
+        → CountsPlant result.answer (S.fault_count store.old) (S.fault_count store.new) }
     ensures other { result.session ≡ None → IfErr result.answer IsNoReadFault }
 {
     let readers = given.work.readers.len() as u32;

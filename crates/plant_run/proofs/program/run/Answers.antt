@@ -153,6 +153,7 @@ returns-in-Run-clause-comes g c =
       file_faults = rw same its.file_faults;
       no_file_fault = rw same its.no_file_fault;
       unstopped = rw same its.unstopped;
+      counts = rw same its.counts;
       whose = rw same its.whose;
       printed = c.reported.ensures.text;
       refused = c.reported.ensures.refused;

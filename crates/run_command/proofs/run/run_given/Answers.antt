@@ -12,3 +12,6 @@ returns-in-Err-clause-unheld g c = λ none. rw c.refused.ensures.answer c.in-Err
 pub returns-in-Err-clause-other : goal.returns-in-Err-clause-other
 returns-in-Err-clause-other g c = λ none.
     rw c.refused.ensures.answer (unopened_is_no_fault _ _ _ _ _ c.in-Err.why c.in-Err.ensures.refused)
+
+pub returns-in-Err-clause-counts : goal.returns-in-Err-clause-counts
+returns-in-Err-clause-counts g c = λ none few. rw c.refused.ensures.answer (c.in-Err.ensures.counts few)

@@ -1,4 +1,4 @@
-use Rattle.std.proofs.Common.{◌∙◌, Result, String, ap, refl, subst, sym}
+use Rattle.std.proofs.Common.{◌∙◌, Result, String, ap, inl, refl, subst, sym}
 use Rattle.std.specs.Prelude.{◌≢◌, IfErr}
 use Rattle.std.specs.declared.alloc.Global.{Global}
 use Rattle.plant_status.specs.declared.status.Status.{Status}
@@ -76,3 +76,6 @@ pub returns-in-Err-clause-understood : goal.returns-in-Err-clause-understood
 returns-in-Err-clause-understood g c =
     subst (λ (r : Result (String Global) Status). IfErr r (λ why. why ≢ BadWords)) (sym c.refused.ensures.answer)
     (files_understood c.args.name.now c.args.plan_name.now (g.F.Files.told c.args.files.now) c.in-Err.why c.in-Err.ensures.refused)
+
+pub returns-in-Err-clause-counts : goal.returns-in-Err-clause-counts
+returns-in-Err-clause-counts g c = λ none few. rw c.refused.ensures.answer (inl refl)
