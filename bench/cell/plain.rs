@@ -1,14 +1,16 @@
-//! What a cell is measured against: plain code that nobody verified, which keeps the same of a walk of values: a core with two
-//! doors, the sorted content of its records, and a list of entries. The words are WHAT COUNT: `takes` takes so many values,
-//! `posts` takes them and after each one writes the count and the held point for readers without a lock, `nothing` makes the
-//! lists alone, and `device` writes so many values in batches of 64 to the file `historian.d/cell`, with two writes and two
-//! syncs each. Printed are the nanoseconds that it took, and how many records there are.
+//! Plain code that nobody verified, to compare a cell with. Of a random walk it keeps what a cell keeps: a core with two doors,
+//! the sorted content of its records, and a list of entries. `run.py` compiles it.
+//!
+//! The words are WHAT COUNT. `takes` takes so many values. `posts` takes them too, and after each one writes the count and the
+//! held point for readers without a lock. `nothing` takes memory for the lists and no value. `device` writes so many values to
+//! the file `historian.d/cell`: batches of 64, with two writes and two syncs each. It prints the nanoseconds of that work, and
+//! the number of records (of `nothing` 1, of `device` 0).
 use std::fs::OpenOptions;
 use std::os::unix::fs::FileExt;
 use std::sync::atomic::{AtomicU64, Ordering::SeqCst};
 use std::time::Instant;
 
-// How many slots the lane has.
+// How many slots the lane on the file has.
 const LANE: u64 = 512;
 
 #[derive(Clone, Copy)]
@@ -110,7 +112,7 @@ fn put(content: &mut Vec<Point>, p: Point) {
     }
 }
 
-/// Four words behind a version that is odd while they are written, as a cell of the board has them.
+/// Four words with a version that is odd while they are written, as the board has them for each tag.
 #[derive(Default)]
 struct Shown {
     version: AtomicU64,

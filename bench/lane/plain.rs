@@ -1,7 +1,8 @@
-//! What the durable queue is measured against: plain code that nobody verified, with the same calls and the same work.
-//! `run.py` compiles it. The words are WHAT SLOTS: `append` appends as many batches of 64 as there are slots, `scan` reads
-//! all of them in pieces of 64 slots into one list, and `read` reads the file as it is. The file is `historian.d/lane`.
-//! Printed are the nanoseconds that it took, and how many raw values or bytes there are.
+//! Plain code that nobody verified, to compare the lane with. It writes and syncs as the lane does. `run.py` compiles it.
+//!
+//! The words are WHAT SLOTS. `append` appends as many batches of 64 as there are slots. `scan` reads all slots up to the last
+//! open gate, 64 at a time, into one list. `read` reads the file as it is. The file is `historian.d/lane`. It prints the
+//! nanoseconds of that work, and how many raw values, or bytes of `read`, there are.
 use std::fs::{self, File, OpenOptions};
 use std::io::Result;
 use std::os::unix::fs::FileExt;
