@@ -1,7 +1,8 @@
-/* plain.c: reads the records of a tag's device as plainly as can be, keeps them, and tells the average of the line through them.
+/* plain.c FILE RECORDS PLACE: reads so many records of a tag's device from this place on, keeps them, and prints the average of the
+ * line through them. `run.py` compiles it.
  *
- * It goes over the log in pieces of 64 KB, stores each record in one array that is made at first, and tests nothing: no header, no
- * summary, no lane, no letter, no range, no order. So it tells what the reading and keeping of so many records costs alone. */
+ * It goes over the log in pieces of 64 KB, and stores each record in one array that it makes at first. It tests no header, summary,
+ * lane, letter, range or order. So its time is that of reading and keeping so many records alone. */
 #include <fcntl.h>
 #include <stdint.h>
 #include <stdio.h>
