@@ -1,9 +1,14 @@
 #!/usr/bin/env python3
 """test_disk.py [--program PATH] [--count N] [--only NAME ..]: tests a built historian with real files.
 
-It tests what the program does when it is killed, when the power is cut, when a call of the system fails, when two sessions meet in one
-folder, and when a file of the folder is damaged or of another kind. With `--count 200` it makes 200 kills, 200 power cuts, 200 failing
-calls and 200 double sessions, which take some minutes with four free processors; `--count 20` is the short form.
+It tests what the program does in these cases:
+- it is killed, or the power is cut.
+- a call of the system fails or is interrupted, and what becomes of that device.
+- two sessions meet in one folder.
+- a file of the folder is damaged, of another kind, or may only be read.
+
+Without --count there are 200 kills, 200 power cuts, 200 failing calls and 200 double sessions. They take some minutes with four free
+processors; `--count 20` is the short form.
 
 Power cuts, failing and interrupted calls, kills at given calls, and most cases of devices written anew need strace. Without it they are
 not tried, and count as passed. It prints a line for each case, with its seconds, and last `N passed, N failed`. The exit status is 1 if

@@ -2,9 +2,9 @@
 """test_tools.py [--program PATH] [--long] [--only NAME ..]: tests the tools with a built historian, mainly by killing.
 
 The short form takes two minutes at most. It kills twenty times at random moments, and at some calls of the program and of the feeder. It
-cuts the power 18 times. --long kills 300 times at random moments, at each write and sync of the program, and at each call by which the
-feeder syncs or cuts a file or changes a name; it cuts the power 300 times. Kills at calls and power cuts need strace. Without it they
-are not tried, and count as passed.
+cuts the power 18 times. With --long it kills 300 times at random moments, and cuts the power 300 times. It kills at each write and sync
+of the program too, and at each call by which the feeder syncs or cuts a file or changes a name. Kills at calls and power cuts need
+strace. Without it they are not tried, and count as passed.
 
 After kills and cuts the lines of `check` and the replies of `trend` have to be those of a plant that nobody stopped. The program makes
 that plant of the same rows, without the tools. The script prints a line for each case, with its seconds, and last `N passed, N failed`.

@@ -56,11 +56,13 @@ struct Core {
     doors: Option<(Point, Point)>,
 }
 
+/// Whether the slope from `a` to `x` raised by `dx` is at most that to `y` raised by `dy`.
 fn not_steeper(a: Point, x: Point, dx: i128, y: Point, dy: i128) -> bool {
     (x.v as i128 + dx - a.v as i128) * (y.t - a.t) as i128 <= (y.v as i128 + dy - a.v as i128) * (x.t - a.t) as i128
 }
 
 impl Core {
+    /// The compression of a value that was sent in order.
     fn in_order(&mut self, p: Point) {
         let held = self.held.replace(p);
         let (Some(a), Some(q)) = (self.hinge, held) else {
@@ -84,6 +86,7 @@ impl Core {
         self.doors = Some((p, p));
     }
 
+    /// The exception test, and then the compression of what it sends.
     fn take(&mut self, p: Point) {
         let Some(last) = self.held else {
             return self.in_order(p);
@@ -105,6 +108,7 @@ impl Core {
     }
 }
 
+/// Puts a point into a sorted list, in place of one at the same time.
 fn put(content: &mut Vec<Point>, p: Point) {
     match content.binary_search_by_key(&p.t, |q| q.t) {
         Ok(i) => content[i] = p,
@@ -132,6 +136,7 @@ impl Shown {
     }
 }
 
+/// Takes a random walk of `count` values, with room for `room` values in the lists. Returns the nanoseconds and the records.
 fn takes<const POSTS: bool>(count: u32, room: usize) -> (u128, usize) {
     let shown = Box::new(Shown::default());
     let mut core = Core { records: Vec::with_capacity(2 * room), ..Core::default() };
@@ -157,6 +162,7 @@ fn takes<const POSTS: bool>(count: u32, room: usize) -> (u128, usize) {
     (start.elapsed().as_nanos(), core.records.len().max(content.len()).max(usize::from(entries.is_empty())))
 }
 
+/// Writes `count` values in batches of 64 to the file. Returns the nanoseconds.
 fn device(count: u32) -> std::io::Result<u128> {
     std::fs::create_dir_all("historian.d")?;
     let file = OpenOptions::new().create(true).truncate(true).read(true).write(true).open("historian.d/cell")?;

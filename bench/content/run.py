@@ -5,8 +5,8 @@ It copies main.rattle and the crates that it depends on into a repository of the
 and keeps it; without the word it builds in a temporary folder. It runs by hand, never as a test.
 
 Each work runs in both ways in turn, three times. It prints the load of the machine, and for each work the medians: nanoseconds for one
-put or window in both ways, how many times the plain rate that is, what was aimed at, and milliseconds of taking memory beforehand. Last
-it prints the bytes of memory that a point needs, from the highest peaks of three runs."""
+put or window in both ways, the ratio of the rates, what was aimed at, and milliseconds of taking memory beforehand. Last it prints the
+bytes of memory that a point needs, from the highest peaks of three runs."""
 import os
 import shutil
 import statistics

@@ -23,6 +23,7 @@ fn batch() -> Vec<Point> {
         .collect()
 }
 
+/// Appends a batch for each slot. Returns how many values that was.
 fn append(file: &File, slots: usize) -> Result<u64> {
     let points = batch();
     let mut next = 0u64;
@@ -43,10 +44,12 @@ fn append(file: &File, slots: usize) -> Result<u64> {
     Ok(next)
 }
 
+/// The first eight bytes as a number.
 fn number(bytes: &[u8]) -> u64 {
     u64::from_be_bytes(bytes[..8].try_into().unwrap())
 }
 
+/// Reads the batches of all slots into a list. Returns how many values it has.
 fn scan(file: &File, slots: usize) -> Result<u64> {
     let mut gates = vec![0; slots];
     file.read_exact_at(&mut gates, 400)?;

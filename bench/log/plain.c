@@ -23,16 +23,19 @@ static size_t put, acked, blocks;
 static off_t end = 12;
 static int device;
 
+/* Writes a number as so many bytes, the highest first. */
 static void big(unsigned char *at, uint64_t n, int bytes)
 {
     for (int i = bytes - 1; i >= 0; i--, n >>= 8) at[i] = (unsigned char)n;
 }
 
+/* Ends the program if a call has failed. */
 static void must(int so, const char *what)
 {
     if (!so) { perror(what); exit(1); }
 }
 
+/* Writes blocks until no row waits. Its caller holds the lock. */
 static void commit(void)
 {
     static unsigned char block[13 + MOST * ROW];
@@ -57,6 +60,7 @@ static void commit(void)
     }
 }
 
+/* The thread of a file: puts its rows, and commits after each 64th and after the last. */
 static void *collect(void *given)
 {
     struct file *f = given;
@@ -69,6 +73,7 @@ static void *collect(void *given)
     return NULL;
 }
 
+/* Reads the rows of a file into memory. */
 static void read_rows(struct file *f)
 {
     int source = open(f->name, O_RDONLY);

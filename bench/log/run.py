@@ -7,9 +7,9 @@ come from 16 collectors. Three programs store the same files in turn, three time
 - plain.c, in C, puts and commits as `log` does, and makes no archive.
 - `run` gives each tag a device of its own.
 
-It prints how many blocks plain.c wrote, and medians: seconds and rows a second of each, the part of the time of `run` that `log` takes,
-and the part of the rate of plain.c that it has, of which 0.9 is aimed at. The files lie in a temporary folder in BENCH_DIR, or in
-/var/tmp. It runs by hand, never as a test, with all processors free and on the disk that devices are meant for."""
+It prints how many blocks plain.c wrote, and medians: the seconds and rows a second of each. Then it compares: the time of `log` divided
+by that of `run`, and the rate of `log` divided by that of plain.c, of which 0.9 is aimed at. The files lie in a temporary folder in
+BENCH_DIR, or in /var/tmp. It runs by hand, never as a test, with all processors free and on the disk that devices are meant for."""
 import os
 import random
 import shutil

@@ -18,12 +18,14 @@ struct record {
     int64_t value;
 };
 
+/* Eight bytes as a number, the highest first. */
 static uint64_t number(const uint8_t *bytes) {
     uint64_t n;
     memcpy(&n, bytes, sizeof n);
     return __builtin_bswap64(n);
 }
 
+/* Stores so many records of a piece. */
 static void keep(struct record *to, const uint8_t *bytes, size_t count) {
     for (size_t i = 0; i < count; i++) {
         const uint8_t *b = bytes + RECORD * i;

@@ -26,6 +26,7 @@ static size_t used, room;
 /* Two decimal digits of each number below 100. */
 static char pairs[200];
 
+/* Writes a number in decimal. Returns the place after it. */
 static char *print_number(char *to, uint64_t n) {
   char digits[24];
   char *p = digits + sizeof digits;
@@ -40,6 +41,7 @@ static char *print_number(char *to, uint64_t n) {
   return to + count;
 }
 
+/* Adds a line to the text. The kind has four letters and a comma. */
 static void print_point(const char *kind, point p) {
   if (room - used < LINE) text = realloc(text, room = room * 2 + PRINTED);
   char *to = text + used;
@@ -57,6 +59,7 @@ static inline bool flatter(int64_t rise, uint64_t run, int64_t other_rise, uint6
   return (wide)rise * other_run <= (wide)other_rise * run;
 }
 
+/* The compression of a value that was sent in order. */
 static inline void compress(point p) {
   point newest = held.at;
   held = (maybe){true, p};
@@ -86,12 +89,14 @@ static inline void compress(point p) {
   upper = lower = p;
 }
 
+/* Sends the pending value, if there is one. */
 static inline void send_waiting(void) {
   if (!waiting.some) return;
   waiting.some = false;
   compress(waiting.at);
 }
 
+/* The exception test. */
 static inline void offer(point p) {
   if (!held.some) {
     compress(p);
@@ -112,11 +117,13 @@ static inline void offer(point p) {
   compress(p);
 }
 
+/* The number that eight digits make, each in a byte of its own and the first one lowest. */
 static inline uint64_t eight_digits(uint64_t word) {
   word = word * 10 + (word >> 8);
   return ((word & 0xff000000ff) * (100 + (1000000ull << 32)) + (word >> 16 & 0xff000000ff) * (1 + (10000ull << 32))) >> 32;
 }
 
+/* Reads a number in decimal. Returns the place after it. */
 static inline const char *read_number(const char *at, uint64_t *number) {
   uint64_t word, sum = 0;
   memcpy(&word, at, 8);
@@ -130,6 +137,7 @@ static inline const char *read_number(const char *at, uint64_t *number) {
   return at;
 }
 
+/* Reads a line and offers its value. Returns the place after it. */
 static inline const char *read_line(const char *at) {
   uint64_t time, size;
   at = read_number(at, &time) + 1;

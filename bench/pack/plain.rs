@@ -30,6 +30,7 @@ fn not_steeper(a: Point, x: Point, dx: i128, y: Point, dy: i128) -> bool {
 }
 
 impl Archive {
+    /// The compression of a value that was sent in order.
     fn take_in_order(&mut self, tuning: &Tuning, p: Point) {
         let held = self.held.replace(p);
         let (Some(a), Some(q)) = (self.hinge, held) else {

@@ -3,11 +3,14 @@
 
 It builds the program (`rt run`), the plain packer (`rustc`, at its fastest) and the fast one (`cc`, at its fastest). The plain packer
 reads all of the input first, and its numerals with `str::parse`; the fast one tests nothing. The lines are three series from a fixed
-seed, each whole and cut to half, and one with CR LF, which the plain packer does not take. All have to print the same bytes.
+seed, each whole and cut to half. One series comes with CR LF too, which the plain packer does not take. All have to print the same bytes.
 
-The packers run in turn, seven times. It prints medians: the seconds of each packer, and the part of each other's time that the program
-takes. It prints the program's peak memory in KB, how much of it is left without 24 bytes a record, and how many times as long a whole
-series takes as its half. It runs by hand, never as a test."""
+The packers run in turn, seven times. It prints for each series:
+- the median of the seconds of each packer, and the part of each other's time that the program takes.
+- the program's peak memory in KB, and how much of it is left without 24 bytes a record.
+- how many times as long the whole series takes as its half.
+
+It runs by hand, never as a test."""
 import os
 import random
 import select

@@ -6,8 +6,8 @@ builds in FOLDER and keeps it; without the word it builds in a temporary folder.
 
 A sheet gets 100,000 or 1,000,000 kept records at once, and then a thousand records one at a time, kept ones or late ones. Each of the
 four runs three times. It prints the load of the machine and medians: milliseconds of the sheet made anew, microseconds of one more
-record, and which part of the former that is. Then it prints how many times as long one more record takes in the larger sheet as in the
-smaller one; at most 2 is aimed at."""
+record, and which part of the former that is. Then it divides the time of one more record in the larger sheet by that in the smaller one;
+at most 2 is aimed at."""
 import os
 import shutil
 import statistics

@@ -1,9 +1,9 @@
 #!/usr/bin/env python3
 """run.py [--values N] [--kind walk|flat|quarter] [--only NAME,..]: what a plant would pick instead, compared with the historian.
 
-It prints a row for the disk, for the historian (HISTORIAN names it, or it is crates/historian/out/historian), and for each rival. Each
-stores the same values of one tag, in a fresh folder and a process of its own. SQLite is always there. PostgreSQL (PGBIN names the folder
-of its initdb), InfluxDB and VictoriaMetrics have to be installed; the row of a missing one says `failed`. The values come from
+It prints a row for the disk, for the historian (HISTORIAN names it, or it is crates/historian/out/historian), and for each rival. These
+store the same values of one tag, each in a fresh folder and a process of its own. SQLite is always there. PostgreSQL (PGBIN names the
+folder of its initdb), InfluxDB and VictoriaMetrics have to be installed; the row of a missing one says `failed`. The values come from
 series.py, once for each kind, and stay in the folder rivals-data of the folder for temporary files.
 
 The columns are:
@@ -12,7 +12,7 @@ The columns are:
 - avg ms: milliseconds for the mean of the whole span, median of five.
 - windows ms: milliseconds for the means of a thousand windows of a thousandth each, in all.
 - at t ms: milliseconds for 1,000 values at times of raw values, in all; the column "at t by" says what finds them.
-- MiB: peak memory of the largest process.
+- MiB: the peak memory of the largest process, in units of 1,048,576 bytes.
 
 Plain Python checks every answer, and a wrong one ends the row. A rival's answer has to be the mean of the samples. The historian's means
 are over time, and its archive is approximate: its answers may differ from the mean over time by CompDev, twice ExcDev and one. --only

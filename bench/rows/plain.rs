@@ -15,6 +15,7 @@ fn number<N: std::str::FromStr>(digits: &[u8]) -> Option<N> {
     std::str::from_utf8(digits).ok()?.parse().ok()
 }
 
+/// The row in a line, or none if it has no known tag or a number is out of range.
 fn row(tags: &HashMap<Vec<u8>, u32>, line: &[u8]) -> Option<Row> {
     let line = line.strip_suffix(b"\r").unwrap_or(line);
     let first = line.iter().position(|b| *b == b',')?;

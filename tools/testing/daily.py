@@ -1,7 +1,7 @@
 """daily.py: tests of what comes into a plant each day; test_tools.py runs them.
 
-These are times and decimals, refused rows, files that are not whole, wrong clocks, a file that comes twice, and the words in which the
-tools say what is wrong."""
+These are times and decimals, refused rows, files that are not whole, wrong clocks, and files that come twice. The tests look at the words
+too in which the tools say what is wrong."""
 import csv
 import fcntl
 import os

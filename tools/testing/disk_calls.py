@@ -14,7 +14,7 @@ from disk_plant import COMMANDS, HALF, NOTHING, ROWS, UNITS, Plant, check_same
 NAMED = ("openat", "mkdir", "statx", "rename", "renameat", "renameat2", "unlink", "unlinkat")
 TRACED = "pread64,pwrite64,ftruncate,fsync,fdatasync,read,write,flock,getdents64," + ",".join(NAMED)
 CHANGES = ("pwrite64", "fdatasync", "ftruncate")
-FAILING = {"pwrite64": 10, "fdatasync": 10, "fsync": 1, "openat": 2, "pread64": 1}  # of a thread's first so many calls on a device one fails
+FAILING = {"pwrite64": 10, "fdatasync": 10, "fsync": 1, "openat": 2, "pread64": 1}  # of a thread's first so many calls, one fails
 FOLDER = {"openat": 2, "flock": 1, "fsync": 4, "getdents64": 2, "mkdir": 1}  # the same on the folder
 DEVICE = ("openat", "statx", "fsync", "fdatasync", "pread64", "pwrite64")
 INTERRUPTED = [(kind, "historian.d/T1.tag") for kind in DEVICE] + [

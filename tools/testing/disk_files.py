@@ -1,7 +1,7 @@
 """disk_files.py: tests of files that are damaged or of another kind; test_disk.py runs them.
 
-The program reads a folder that it may not write to. It refuses a link, a file with two names, something that is no file, a file of more
-than 1 GB, and a file whose first byte is damaged. It does so within seconds, and these stay as they are."""
+The program reads a folder that it may not write to. Within seconds it refuses a link, a file with two names, what is no file, a file of
+more than 1 GB, and a file whose first byte is damaged. These stay as they are."""
 import os
 import random
 import shutil

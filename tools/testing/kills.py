@@ -1,7 +1,7 @@
 """kills.py: tests that kill the feeder, the program, or both; test_tools.py runs them.
 
-They do so at random moments, at the program's writes and syncs, and at calls by which the feeder syncs or cuts a file or changes a name.
-Then the feed goes on to its end, and the archive has to be that of a plant that nobody stopped."""
+They do so at random moments, and at writes and syncs of the program. They kill the feeder at calls too by which it syncs or cuts a file,
+or changes a name. Then the feed goes on to its end, and the archive has to be that of a plant that nobody stopped."""
 import os
 import random
 import re
