@@ -152,7 +152,7 @@ class Trial:
         self.by_hand("run", "base.toml", "mine.toml")
 
     def answers(self, base="base.toml"):
-        """The lines of `check`, and the replies of `trend` to questions about each tag and each window of the group."""
+        """The lines of `check`, and the replies of `trend` to questions about each tag and each seventh window of the group."""
         last = START + 73 * HOUR
         asks = []
         for name in (*LINES, *STEPS):
