@@ -1,13 +1,16 @@
 #!/usr/bin/env python3
 """try_pages.py [--program PATH] [PAGE..]: runs the commands that the pages show, and compares what they print, byte for byte.
 
-The pages are README.md, docs/TOUR.md, docs/RUNNING.md and docs/FORMATS.md; names of pages choose some of them. A command stands in a
-block that is indented by four spaces, on a line that begins with `$ `, and its output on the lines behind it. Each page gets a scratch
-folder with a copy of examples/, tools/ and docs/. There its commands run in order, with `historian` and the tools on the path. A
-comment in the page, `<!-- in: examples/tags -->`, names the folder in which the blocks behind it run; at first that is the top.
+The pages are README.md, docs/TOUR.md, docs/RUNNING.md and docs/FORMATS.md, or those that are named. A command stands in a block that is
+indented by four spaces, on a line that begins with `$ `. Its output stands on the lines after it. A command in any other block is an
+error. The number after `evals=` may differ, because it depends on how threads take turns.
 
-The number behind `evals=` may differ, because it depends on how threads take turns. A command in any other block is an error. It
-prints a line for each page, above it what differs, and ends with status 1 if anything did. Standard library alone."""
+Each page gets a scratch folder with a copy of examples/, tools/ and docs/. There its commands run in order, with `historian` and the
+tools on the path. A comment in the page, `<!-- in: examples/tags -->`, names the folder in which the blocks after it run. Before the
+first comment that is the scratch folder itself.
+
+It prints what differs in a page, and then a line for the page with the number of its commands. The exit status is 1 if anything differs.
+It uses the standard library alone."""
 import argparse
 import concurrent.futures
 import difflib
@@ -34,7 +37,7 @@ class Shown:
 
 
 def shown_in(text):
-    """The commands of a page, and the lines with a command that stands in no indented block."""
+    """The commands of a page, and the numbers of lines with a command that is in no indented block."""
     shown, stray, folder, open_block = [], [], ".", False
     for number, line in enumerate(text.splitlines(), 1):
         folder = FOLDER.match(line).group(1) if FOLDER.match(line) else folder
@@ -52,7 +55,7 @@ def shown_in(text):
 
 
 def lay(scratch, program):
-    """Copies what the commands use, and puts the program and the tools on the path: the environment of the commands."""
+    """Copies what the commands use, and puts the program and the tools on the path: the environment for the commands."""
     for name in ("examples", "tools", "docs"):
         shutil.copytree(os.path.join(TOP, name), os.path.join(scratch, name))
     os.mkdir(os.path.join(scratch, "bin"))
@@ -65,18 +68,19 @@ def lay(scratch, program):
 
 
 def printed(shown, scratch, environment):
-    """What a command prints, on standard error too."""
+    """Runs a command: what it printed, on standard error too."""
     child = subprocess.run(["bash", "-c", shown.command], cwd=os.path.join(scratch, shown.folder), env=environment, text=True,
                            stdin=subprocess.DEVNULL, stdout=subprocess.PIPE, stderr=subprocess.STDOUT, timeout=LONGEST)
     return child.stdout
 
 
 def without_evals(text):
+    """The text without the numbers of evaluations."""
     return re.sub(r"evals=\d+", "evals=", text)
 
 
 def differences(page, shown, scratch, environment):
-    """What differs of a command, as lines; none if it prints what the page shows."""
+    """Runs a command: lines about what differs, or none if it prints what the page shows."""
     try:
         got = printed(shown, scratch, environment)
     except subprocess.TimeoutExpired:
@@ -88,7 +92,7 @@ def differences(page, shown, scratch, environment):
 
 
 def result_of(page, program):
-    """Whether a page prints what it shows, and the lines about it."""
+    """Tries a page: whether its commands print what it shows, and the text about it."""
     with open(os.path.join(TOP, page)) as file:
         shown, stray = shown_in(file.read())
     text = ["%s:%d: a command that stands in no indented block" % (page, number) for number in stray]
@@ -113,7 +117,7 @@ def program_of(text):
 def main():
     parser = argparse.ArgumentParser(description=__doc__, formatter_class=argparse.RawDescriptionHelpFormatter)
     parser.add_argument("--program", default="historian", help="the built historian (default: on the path)")
-    parser.add_argument("pages", nargs="*", metavar="PAGE", help="of these pages alone")
+    parser.add_argument("pages", nargs="*", metavar="PAGE", help="only these pages")
     settings = parser.parse_args()
     program = program_of(settings.program)
     if program is None:

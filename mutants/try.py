@@ -1,15 +1,15 @@
 #!/usr/bin/env python3
-"""Tries mutants: small edits, each of which turns the meaning of a body, and which the prover must refuse.
+"""Tries mutants: small edits that turn the meaning of a body. The prover must refuse each.
 
     python3 mutants/try.py [CRATE ..]
 
-A mutant stands in mutants/CRATE/NAME.edit, in the form of the edits in crates/CRATE/must-fail/, which the gate tries itself.
-This tries the mutants of the crates that are named, or of all, in a copy of the repository; nothing here is changed. It prints
-each mutant that is not refused or cannot be tried, then how many there were, and ends with status 1 if there was one.
+A mutant is a file mutants/CRATE/NAME.edit. It has the form of the edits in crates/CRATE/must-fail/, which the gate tries itself. The
+script tries the mutants of the crates that are named, or of all. It does so in a copy of the repository, and changes nothing here. It
+prints each mutant that was not refused or not tried, and last `N passed, N failed`. The exit status is 1 if one failed, and 2 for a
+crate without mutants.
 
-The copy is proved by `rt ci`, which takes over what it proved on this machine before: after a gate only the mutants take
-time, about a minute of a processor each, and a check of each crate. Run it before you change a contract, and over all crates
-at the end of a piece of work.
+`rt ci` proves the copy, and takes over what it proved on this machine before. So after a gate only the mutants take time: about a minute
+of a processor each, and a check of each crate. Run it before you change a contract, and over all crates at the end of a piece of work.
 """
 import re
 import shutil
@@ -38,7 +38,7 @@ def copy_repository(scratch, crates):
 
 
 def verdicts(scratch, crates):
-    """What `rt ci` says of each mutant, by crate and name. A mutant that it does not name was not tried."""
+    """What `rt ci` reports of each mutant, by crate and name. A mutant that it does not name was not tried."""
     run = subprocess.run(["rt", "ci", *crates], cwd=scratch, stdout=subprocess.PIPE, stderr=subprocess.STDOUT, text=True, errors="replace")
     told = {}
     for line in run.stdout.splitlines():
@@ -51,6 +51,7 @@ def verdicts(scratch, crates):
 
 
 def main(crates):
+    """Tries the mutants of these crates, or of all, and prints what was not refused: the exit status."""
     unknown = [crate for crate in crates if crate not in crates_with_mutants()]
     if unknown:
         print(f"no mutants of {', '.join(unknown)}: these crates have some: {' '.join(crates_with_mutants())}")

@@ -1,11 +1,14 @@
 #!/usr/bin/env python3
-"""test_tools.py --program PATH [--long] [--only NAME ..]: tests of the tools with a built historian, mainly by killing.
+"""test_tools.py [--program PATH] [--long] [--only NAME ..]: tests the tools with a built historian, mainly by killing.
 
-The short form (two minutes at most) kills twenty times at random moments and at some of the program's and the feeder's calls, and cuts
-the power 18 times; --long kills 300 times at random moments, and at each n-th write and sync of the program and each n-th sync, rename
-and removal of the feeder, and cuts the power 300 times, if strace is there. Each time the lines of `check` and the replies of `trend`
-have to be those of a plant that was never stopped, which the program makes by hand of the same rows. It prints a line for each case,
-and last `N passed, N failed`."""
+The short form takes two minutes at most. It kills twenty times at random moments, and at some calls of the program and of the feeder. It
+cuts the power 18 times. With --long it kills 300 times at random moments, and cuts the power 300 times. It kills at each write and sync
+of the program too, and at each call by which the feeder syncs or cuts a file or changes a name. Kills at calls and power cuts need
+strace. Without it they are not tried, and count as passed.
+
+After kills and cuts the lines of `check` and the replies of `trend` have to be those of a plant that nobody stopped. The program makes
+that plant of the same rows, without the tools. The script prints a line for each case, with its seconds, and last `N passed, N failed`.
+The exit status is 1 if a case fails."""
 import argparse
 import concurrent.futures
 import os
@@ -34,7 +37,7 @@ def program_of(text):
 
 
 def result_of(case, program, settings):
-    """Runs a case in a fresh folder: whether it passed, and a line for it."""
+    """Runs a case in a fresh folder: whether it passed, and the line to print."""
     start = time.monotonic()
     with tempfile.TemporaryDirectory(prefix="tools-") as folder:
         try:
@@ -47,18 +50,18 @@ def result_of(case, program, settings):
 def main():
     parser = argparse.ArgumentParser(description=__doc__, formatter_class=argparse.RawDescriptionHelpFormatter)
     parser.add_argument("--program", default="historian", help="the built historian (default: on the path)")
-    parser.add_argument("--long", action="store_true", help="300 kills, and one at each call")
-    parser.add_argument("--kills", type=int, help="another number of kills at random moments")
-    parser.add_argument("--seed", type=int, default=1, help="of the random moments")
-    parser.add_argument("--jobs", type=int, default=min(4, os.cpu_count() or 1), help="cases at the same time")
-    parser.add_argument("--only", nargs="+", default=[], metavar="NAME", help="the cases whose names begin so")
+    parser.add_argument("--long", action="store_true", help="300 kills and 300 power cuts, and a kill at each call")
+    parser.add_argument("--kills", type=int, help="another number of kills at random moments, and of power cuts")
+    parser.add_argument("--seed", type=int, default=1, help="the seed of the random moments")
+    parser.add_argument("--jobs", type=int, default=min(4, os.cpu_count() or 1), help="how many cases run at the same time")
+    parser.add_argument("--only", nargs="+", default=[], metavar="NAME", help="only the cases whose names begin so")
     settings = parser.parse_args()
     settings.kills = settings.kills or (300 if settings.long else 20)
     return run_cases(kills.CASES + cuts.CASES + stops.CASES + daily.CASES + keeping.CASES, settings)
 
 
 def run_cases(cases, settings):
-    """Runs those cases that are asked for, some beside each other, and tells of each: the exit status."""
+    """Runs the cases that are asked for, some at the same time, and prints a line for each: the exit status."""
     program = program_of(settings.program)
     if program is None:
         print("there is no program %r: build it with `rt run` in crates/historian, or give its path with --program" % settings.program)

@@ -1,14 +1,16 @@
-//! What a cell is measured against: plain code that nobody verified, which keeps the same of a walk of values: a core with two
-//! doors, the sorted content of its records, and a list of entries. The words are WHAT COUNT: `takes` takes so many values,
-//! `posts` takes them and after each one writes the count and the held point for readers without a lock, `nothing` makes the
-//! lists alone, and `device` writes so many values in batches of 64 to the file `historian.d/cell`, with two writes and two
-//! syncs each. Printed are the nanoseconds that it took, and how many records there are.
+//! Plain code that nobody verified, to compare a cell with. Of a random walk it keeps what a cell keeps: a core with two doors,
+//! the sorted content of its records, and a list of entries. `run.py` compiles it.
+//!
+//! The words are WHAT COUNT. `takes` takes so many values. `posts` takes them too, and after each one writes the count and the
+//! held point for readers without a lock. `nothing` takes memory for the lists and no value. `device` writes so many values to
+//! the file `historian.d/cell`: batches of 64, with two writes and two syncs each. It prints the nanoseconds of that work, and
+//! the number of records (of `nothing` 1, of `device` 0).
 use std::fs::OpenOptions;
 use std::os::unix::fs::FileExt;
 use std::sync::atomic::{AtomicU64, Ordering::SeqCst};
 use std::time::Instant;
 
-// How many slots the lane has.
+// How many slots the lane on the file has.
 const LANE: u64 = 512;
 
 #[derive(Clone, Copy)]
@@ -54,11 +56,13 @@ struct Core {
     doors: Option<(Point, Point)>,
 }
 
+/// Whether the slope from `a` to `x` raised by `dx` is at most that to `y` raised by `dy`.
 fn not_steeper(a: Point, x: Point, dx: i128, y: Point, dy: i128) -> bool {
     (x.v as i128 + dx - a.v as i128) * (y.t - a.t) as i128 <= (y.v as i128 + dy - a.v as i128) * (x.t - a.t) as i128
 }
 
 impl Core {
+    /// The compression of a value that was sent in order.
     fn in_order(&mut self, p: Point) {
         let held = self.held.replace(p);
         let (Some(a), Some(q)) = (self.hinge, held) else {
@@ -82,6 +86,7 @@ impl Core {
         self.doors = Some((p, p));
     }
 
+    /// The exception test, and then the compression of what it sends.
     fn take(&mut self, p: Point) {
         let Some(last) = self.held else {
             return self.in_order(p);
@@ -103,6 +108,7 @@ impl Core {
     }
 }
 
+/// Puts a point into a sorted list, in place of one at the same time.
 fn put(content: &mut Vec<Point>, p: Point) {
     match content.binary_search_by_key(&p.t, |q| q.t) {
         Ok(i) => content[i] = p,
@@ -110,7 +116,7 @@ fn put(content: &mut Vec<Point>, p: Point) {
     }
 }
 
-/// Four words behind a version that is odd while they are written, as a cell of the board has them.
+/// Four words with a version that is odd while they are written, as the board has them for each tag.
 #[derive(Default)]
 struct Shown {
     version: AtomicU64,
@@ -130,6 +136,7 @@ impl Shown {
     }
 }
 
+/// Takes a random walk of `count` values, with room for `room` values in the lists. Returns the nanoseconds and the records.
 fn takes<const POSTS: bool>(count: u32, room: usize) -> (u128, usize) {
     let shown = Box::new(Shown::default());
     let mut core = Core { records: Vec::with_capacity(2 * room), ..Core::default() };
@@ -155,6 +162,7 @@ fn takes<const POSTS: bool>(count: u32, room: usize) -> (u128, usize) {
     (start.elapsed().as_nanos(), core.records.len().max(content.len()).max(usize::from(entries.is_empty())))
 }
 
+/// Writes `count` values in batches of 64 to the file. Returns the nanoseconds.
 fn device(count: u32) -> std::io::Result<u128> {
     std::fs::create_dir_all("historian.d")?;
     let file = OpenOptions::new().create(true).truncate(true).read(true).write(true).open("historian.d/cell")?;

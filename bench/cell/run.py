@@ -1,11 +1,14 @@
 #!/usr/bin/env python3
-"""run.py: times takes and commits of a cell, compared with plain code.
+"""run.py [FOLDER]: times takes and commits of a cell, compared with plain code.
 
-Lays main.rattle as a crate into a copy of the crates that it stands on, builds it (`rt run`), and compiles plain.rs. A walk of
-a million values is taken without commits by both in turn, and by the plain one posting after each take as well; then one with
-a commit after each 64th on a file, compared with the bare writes and syncs of such batches. It prints medians over the runs, the
-ratios, what was aimed at, and bytes a take. It runs by hand, never as a test; with a word it builds in that folder, and keeps
-it."""
+It copies main.rattle and the crates that it depends on into a repository of their own, builds that (`rt run`), and compiles plain.rs. It
+builds in FOLDER (an absolute path) and keeps it; without the word it builds in a temporary folder. It runs by hand, never as a test.
+
+It prints the load of the machine, and these figures with what was aimed at. A time is the median of seven runs. All runs of one program
+come before those of the next.
+- A million takes without a commit: nanoseconds a take of the cell, of plain code, and of plain code that posts each take too.
+- The bytes of memory that a take needs: the least peak of seven runs with a million takes, less the least peak with none.
+- 32,768 takes with a commit after each 64th, on a file: microseconds for each 64, compared with the bare writes and syncs of them."""
 import os
 import shutil
 import statistics
@@ -21,18 +24,18 @@ COMMITTED = 32_768
 
 
 def below(name):
-    """The crates of this repository that one stands on, and itself."""
+    """A crate, and the crates of this repository that it depends on."""
     with open(os.path.join(ROOT, "crates.txt")) as listed:
         lines = [line.split("#")[0].strip() for line in listed]
-    deps = {line.split(":")[0].split()[0]: line.split(":")[1].split() for line in lines if ":" in line}
+    uses = {line.split(":")[0].split()[0]: line.split(":")[1].split() for line in lines if ":" in line}
     names = [name]
     for each in names:
-        names += [dep for dep in deps[each] if dep in deps and dep not in names]
+        names += [used for used in uses[each] if used in uses and used not in names]
     return names
 
 
 def proofs(folder):
-    """The proof that a lone board's poster posts to it: that of the tests of cells."""
+    """Copies the proof that a lone board's poster posts to it from the crate `cell_tests`."""
     os.makedirs(os.path.join(folder, "alone"), exist_ok=True)
     for source, name in [("Lone.antt", "Lone.antt"), ("cells/alone/Answers.antt", "alone/Answers.antt")]:
         with open(os.path.join(ROOT, "crates", "cell_tests", "proofs", source)) as text:
@@ -44,7 +47,7 @@ def proofs(folder):
 
 
 def build(folder):
-    """The program, built in a repository of its own, and the plain one."""
+    """Builds both programs in a folder: the paths of the proved one and of the plain one."""
     names = below("tag_cell")
     crates = os.path.join(folder, "crates")
     for name in names:
@@ -67,7 +70,7 @@ def build(folder):
 
 
 def run(folder, words):
-    """What was printed, and the peak memory in kilobytes."""
+    """Runs a program over no devices: the numbers that it printed, and its peak memory in kilobytes."""
     shutil.rmtree(os.path.join(folder, "historian.d"), ignore_errors=True)
     child = subprocess.run(["/usr/bin/time", "-f", "%M"] + words, cwd=folder, stdin=subprocess.DEVNULL, capture_output=True,
                            check=True)
@@ -75,6 +78,7 @@ def run(folder, words):
 
 
 def median(folder, program, what, count):
+    """The median of the nanoseconds that a program printed."""
     return statistics.median(run(folder, [program, what, str(count)])[0][0] for _ in range(RUNS))
 
 

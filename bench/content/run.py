@@ -1,9 +1,12 @@
 #!/usr/bin/env python3
-"""run.py: times contents of pages, and windows over them, compared with a plain sorted vector of a million points.
+"""run.py [FOLDER]: times contents of pages, and windows over them, compared with a plain sorted vector of a million points.
 
-Lays main.rattle as a crate into a copy of the crates that it stands on, builds it (`rt run`), and runs each work in
-both ways, three times in turn. It prints medians, the ratio of the rates, what was aimed at, and bytes a point. It runs
-by hand, never as a test; with a word it builds in that folder, and keeps it."""
+It copies main.rattle and the crates that it depends on into a repository of their own, and builds that (`rt run`). It builds in FOLDER
+and keeps it; without the word it builds in a temporary folder. It runs by hand, never as a test.
+
+Each work runs in both ways in turn, three times. It prints the load of the machine, and for each work the medians: nanoseconds for one
+put or window in both ways, the ratio of the rates, what was aimed at, and milliseconds of taking memory beforehand. Last it prints the
+bytes of memory that a point needs, from the highest peaks of three runs."""
 import os
 import shutil
 import statistics
@@ -15,13 +18,13 @@ HERE = os.path.dirname(os.path.abspath(__file__))
 ROOT = os.path.dirname(os.path.dirname(HERE))
 BELOW = ["trend_num", "trend_model", "page_pool", "late_insert", "interp_read", "weighted_total"]
 RUNS = 3
-# The work, and how many times the plain rate the paged rate is to be at least.
+# Each work, and what is aimed at: the rate of pages is at least so many times the plain rate.
 WORKS = [("in_order", 1 / 3), ("late", 50), ("whole_area", 5), ("whole_stair", 5), ("whole_low", 5),
          ("small_area", 1), ("small_stair", 1), ("small_low", 1)]
 
 
 def build(folder):
-    """The program, built in a repository of its own."""
+    """Builds the program in a folder: its path."""
     crates = os.path.join(folder, "crates")
     for name in BELOW:
         shutil.copytree(os.path.join(ROOT, "crates", name), os.path.join(crates, name), dirs_exist_ok=True,
@@ -39,13 +42,14 @@ def build(folder):
 
 
 def run(program, work, how):
-    """What was printed, and the peak memory in kilobytes. A child's peak begins with its parent's, so the parent is small."""
+    """The numbers that were printed, and the peak memory in kilobytes. It begins with that of this process, which is kept small."""
     words = ["/usr/bin/time", "-f", "%M", program, work, how]
     child = subprocess.run(words, stdin=subprocess.DEVNULL, capture_output=True, check=True)
     return [int(word) for word in child.stdout.split()], int(child.stderr)
 
 
 def measure(program, work, aim):
+    """Prints the figures of a work. Ends the script if both ways did the same puts or windows with different checksums."""
     told = {"paged": [], "plain": []}
     for _ in range(RUNS):
         for how in told:

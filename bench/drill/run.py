@@ -1,10 +1,13 @@
 #!/usr/bin/env python3
-"""run.py [PROGRAM]: times `drill 7 64 57500`, 3.68 million takes of 64 collectors at 64 tags in memory, on one processor and on four.
+"""run.py [PROGRAM]: times `drill 7 64 57500` on one processor and on four, or on as many as there are.
 
-PROGRAM is a built historian (crates/historian/out/historian, after `rt run` there). It prints medians over the runs, the rates, the
-memory at its peak, and how much faster four processors are than one; 2.5 times was aimed at. Every run has to print the same bytes,
-and 57,500 takes for each tag. More events are too many: the group may have 2,097,152 records of its tags, and 62,500 events a tag
-leave 2,269,568 (`fault: limit copies`). It runs by hand, never as a test, on a machine with four processors and nothing else at work."""
+PROGRAM is a built historian (crates/historian/out/historian, after `rt run` there). The drill makes 3.68 million takes in memory: 57,500
+events for each of 64 tags, which have a collector each. 62,500 events are refused (`fault: limit copies`): a group may copy 2,097,152
+records of its tags, and 2,269,568 would be kept.
+
+It prints medians of three runs: seconds, million takes a second, and MB of memory at the peak. Then it prints how many times as fast
+four processors are as one; 2.5 is aimed at. Every run has to print the same bytes, and 57,500 takes for each tag. It runs by hand, never
+as a test, on a machine with four processors and nothing else at work."""
 import os
 import statistics
 import subprocess
@@ -17,7 +20,7 @@ WORDS = ["drill", "7", str(TAGS), str(EVENTS)]
 
 
 def timed(program, processors):
-    """The seconds of a run on these processors, what it printed, and its memory at the peak in MB."""
+    """Runs the drill on these processors: its seconds, what it printed, and its peak memory in MB."""
     start = time.perf_counter()
     child = subprocess.Popen([program] + WORDS, stdout=subprocess.PIPE,
                              preexec_fn=lambda: os.sched_setaffinity(0, processors))

@@ -1,12 +1,18 @@
 #!/usr/bin/env python3
 """run.py [PROGRAM] [--values N] [--tags N] [--runs N]: what it costs to store a plant's values in order of time, and grouped by tag.
 
-A million values of 1,000 tags, each tag once a second, by 16 collectors, on devices that stand: the files in order of time, as loggers
-write them; the same rows grouped by tag, as tools/feed.py hands them over; the whole of tools/feed.py, from a CSV file with ISO
-times to the moved file; `log`, which has one device for all; and SQLite in commits of 64 rows in order of time, with a write-ahead log
-and full synchronous. It prints for each the median of the seconds, values a second, syncs (counted in one more run by strace, if it
-is there), and bytes on disk a value, of the records alone and with the fixed part of each device. PROGRAM is a built historian
-(crates/historian/out/historian, after `rt run` there). It runs by hand, never as a test, with all processors free."""
+PROGRAM is a built historian (crates/historian/out/historian, after `rt run` there). A million values of 1,000 tags, each tag once a
+second, are stored in five ways. The devices of the tags exist already and hold nothing.
+- `run`, with the rows of 16 collectors in order of time, as loggers write them.
+- `run`, with the same rows grouped by tag, as tools/feed.py hands them over.
+- tools/feed.py as a whole, from a CSV file with ISO times to the moved file.
+- `log`, with the rows in order of time: one device for all tags.
+- SQLite, with the rows in order of time: commits of 64, with a write-ahead log and full synchronous.
+
+It prints for each: the median of the seconds (three runs), values a second, syncs and syncs a value, and bytes on disk a value. The last
+column is the bytes of the records alone, without the fixed part of each device. Syncs are counted by strace in one more run; without
+strace there is `-`. The files lie in a temporary folder in BENCH_DIR, or in /var/tmp. It runs by hand, never as a test, with all
+processors free."""
 import argparse
 import datetime
 import os
@@ -35,7 +41,7 @@ SYNCS = re.compile(r"^\s*[\d.]+\s+[\d.]+\s+\d+\s+(\d+).*\s(?:fsync|fdatasync|syn
 
 
 def walks(tags, seconds):
-    """Of each tag its values, one a second, that go up or down by at most 2."""
+    """The values of each tag, one a second. Each goes up or down by at most 2."""
     draw, out = random.Random(SEED), []
     for _ in range(tags):
         value, values = 0, []
@@ -52,7 +58,7 @@ def write(path, lines):
 
 
 def lay(folder, values):
-    """The base, the plans by time and by tag with their collectors' files, and a CSV file as a logger writes it."""
+    """Writes the base, a plan by time and one by tag with their collectors' files, and a CSV file as a logger writes it."""
     tags, seconds = len(values), len(values[0])
     os.makedirs(folder)
     write(os.path.join(folder, "base.toml"), (TAG % n for n in range(tags)))
@@ -81,7 +87,7 @@ def timed(words, folder):
 
 
 def fresh(program, folder):
-    """Devices that stand, and hold nothing."""
+    """Makes new devices of the tags without values, and puts the logger's file into an empty inbox."""
     for name in ("historian.d", "feed.d", "done", "inbox"):
         shutil.rmtree(os.path.join(folder, name), ignore_errors=True)
     timed([program, "check", "base.toml"], folder)
@@ -90,7 +96,7 @@ def fresh(program, folder):
 
 
 def syncs(words, folder):
-    """How many syncs a command makes with all that it starts; None without strace."""
+    """How many syncs a command and all that it starts make. None without strace."""
     if not shutil.which("strace"):
         return None
     trace = os.path.join(folder, "trace")
@@ -100,13 +106,13 @@ def syncs(words, folder):
 
 
 def device_bytes(folder):
-    """The bytes of all devices, and of their records alone."""
+    """The bytes of all devices, and those of their records alone."""
     sizes = [os.path.getsize(os.path.join(folder, "historian.d", name)) for name in os.listdir(os.path.join(folder, "historian.d"))]
     return sum(sizes), sum(max(0, size - FIXED) for size in sizes)
 
 
 def database(path, source):
-    """Stores a logger's rows in SQLite, 64 in a commit; in a process of its own, so that its syncs can be counted."""
+    """Stores a logger's rows in SQLite, 64 in a commit, and prints the seconds. Its process is its own, so syncs can be counted."""
     with open(source) as text:
         parted = (line.rstrip("\n").split(",") for line in text)
         rows = [(int(tag[1:]), int(1000 * datetime.datetime.fromisoformat(t).timestamp()), int(v)) for tag, t, v in parted]
@@ -123,7 +129,7 @@ def database(path, source):
 
 
 def in_database(folder, under=()):
-    """The seconds of the commits."""
+    """Stores the rows in a new database, if asked to under another program: the seconds of the commits."""
     for name in os.listdir(folder):
         if name.startswith("plain.db"):
             os.remove(os.path.join(folder, name))
@@ -132,14 +138,14 @@ def in_database(folder, under=()):
 
 
 def show(name, count, took, calls, size, records):
-    """A line of the table."""
+    """Prints a line of the table."""
     shown = "%9s %7s" % ("-", "-") if calls is None else "%9d %7.3f" % (calls, calls / count)
     print("%-34s %8.2f %9.0f %s %8.1f %8s" % (name, took, count / took, shown, size / count,
                                               "-" if records is None else "%.1f" % (records / count)), flush=True)
 
 
 def measure(program, folder, count, runs):
-    """The table."""
+    """Measures each way, and prints the table."""
     feed = [sys.executable, os.path.join(ROOT, "tools", "feed.py"), "--program", program]
     ways = [("run, in order of time", [program, "run", "base.toml", "time.toml"]),
             ("run, grouped by tag", [program, "run", "base.toml", "tag.toml"]),

@@ -1,11 +1,13 @@
 #!/usr/bin/env python3
-"""run.py: times single changes of a row's frames, compared with going over the whole row after each.
+"""run.py [FOLDER [WINDOWS]]: times single changes of a row's frames, compared with going over the whole row after each.
 
-Lays main.rattle as a crate into a copy of the crates that it stands on, builds it (`rt run`), and runs it over rows of
-100,000 and of 1,000,000 windows, with runs that are short, long, and as long as the row. It prints medians of the time a change,
-what was aimed at (20 microseconds at 100,000 windows; at 1,000,000 at most 1.5 times that of 100,000), and how much faster than
-going over the row it is. It runs by hand, never as a test; with a word it builds in that folder, and keeps it; with a second
-word it takes that many windows in place of 100,000, and ten times as many in place of 1,000,000."""
+It copies main.rattle and the crates that it depends on into a repository of their own, and builds that (`rt run`). It builds in FOLDER
+and keeps it; without the word it builds in a temporary folder. It runs by hand, never as a test.
+
+It runs over rows of 100,000 windows (or WINDOWS) and of ten times as many. The frames in them are short, long, or one as long as the row.
+Both ways run in turn, five times. It prints the load of the machine and medians: nanoseconds a change, how many times as fast that is as
+going over the row, and milliseconds of making the frames. 20 microseconds a change are aimed at, and with ten times the windows at most
+1.5 times the time."""
 import os
 import shutil
 import statistics
@@ -17,14 +19,14 @@ HERE = os.path.dirname(os.path.abspath(__file__))
 ROOT = os.path.dirname(os.path.dirname(HERE))
 BELOW = ["trend_num", "event_frames"]
 RUNS = 5
-# One window in how many is not true: runs of a few windows, of thousands, and one run.
+# One window in so many is not true: frames of a few windows, of thousands, and one frame.
 GAPS = [4, 5_000, 1_000_000_000]
 MOST_NANOSECONDS = 20_000
 MOST_RATIO = 1.5
 
 
 def build(folder):
-    """The program, built in a repository of its own."""
+    """Builds the program in a folder: its path."""
     crates = os.path.join(folder, "crates")
     for name in BELOW:
         shutil.copytree(os.path.join(ROOT, "crates", name), os.path.join(crates, name), dirs_exist_ok=True,
@@ -42,7 +44,7 @@ def build(folder):
 
 
 def run(program, windows, gap, how):
-    """The nanoseconds of a change, and those of making the frames of the row."""
+    """Runs the program: the nanoseconds of a change, and those of making the frames of the row."""
     words = [program, str(windows), str(gap), how]
     child = subprocess.run(words, stdin=subprocess.DEVNULL, capture_output=True, check=True)
     making, work, count, _ = [int(word) for word in child.stdout.split()]
@@ -50,7 +52,7 @@ def run(program, windows, gap, how):
 
 
 def measure(program, windows, gap):
-    """Medians: a change in both ways, and making."""
+    """Measures both ways and prints medians: the nanoseconds of a change that `apply` makes."""
     kept, anew = [], []
     for _ in range(RUNS):
         kept.append(run(program, windows, gap, "kept"))

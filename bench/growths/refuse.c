@@ -1,5 +1,6 @@
-/* refuse.c: a library that is loaded before the C library and refuses one growth of memory, the one whose number, counted from 1
-since the process began, the variable REFUSED_GROWTH has. All others are had from the C library. */
+/* refuse.c: a library that is loaded before the C library (LD_PRELOAD) and refuses one growth of memory. Each call of malloc, calloc,
+realloc and the like counts as a growth. The variable REFUSED_GROWTH has the number of the one that is refused, counted from 1 once
+this library has begun. It refuses none if the number is 0 or missing. The C library answers all other calls. */
 #define _GNU_SOURCE
 #include <errno.h>
 #include <stdatomic.h>

@@ -1,11 +1,15 @@
 #!/usr/bin/env python3
-"""run.py [PROGRAM [COMMAND..]]: refuses each growth of memory in turn, and says what the program did.
+"""run.py [PROGRAM [COMMAND..]]: refuses each growth of memory in turn, and prints what the program did.
 
 PROGRAM is a built historian (crates/historian/out/historian, after `rt run` there). Each command runs over a small plant again and
-again: refuse.c refuses its first growth, then its second, until a run meets no refusal. A run that was refused one has to report
-`fault: memory` with its exit code, or to end as it does without a refusal, where the growth was not needed. After each refused
-session of `run` the tags are checked: their devices have to open. It runs by hand,
-never as a test; a program that answers otherwise is named, and the exit code is 1."""
+again: refuse.c refuses its first growth, then its second, and so on until the refusals come after its last growth. COMMAND names some of
+the commands; `run` is tried too, because the others read its devices.
+
+A refused run has to print `fault: memory` and end with that exit code. Where the growth was not needed, it may end as it does without a
+refusal. After each `run` that ends with `fault: memory`, `check` has to open the devices of the tags.
+
+It prints a line for each command: how many growths were reported as refused, how many runs ended otherwise, and the exit code without a
+refusal. Up to five of those other runs follow. The exit code is 1 if there are any. It runs by hand, never as a test."""
 import os
 import shutil
 import subprocess
@@ -60,20 +64,20 @@ COMMANDS = [
 
 
 def call(program, words, folder, library, refused):
-    """The exit code and the output of a run that is refused this growth."""
-    env = dict(os.environ, LD_PRELOAD=library, REFUSED_GROWTH=str(refused))
+    """The exit code and the output of a run in which this growth is refused, or none if it is 0."""
+    variables = dict(os.environ, LD_PRELOAD=library, REFUSED_GROWTH=str(refused))
     with open(os.path.join(folder, "lines.csv"), "rb") as lines:
-        child = subprocess.run([program] + words, cwd=folder, stdin=lines, capture_output=True, env=env)
+        child = subprocess.run([program] + words, cwd=folder, stdin=lines, capture_output=True, env=variables)
     return child.returncode, child.stdout
 
 
 def opens(program, folder):
-    """Whether the tags' devices open once a session was refused a growth."""
+    """Whether `check` opens the devices of the tags."""
     return subprocess.run([program, "check", "base.toml"], cwd=folder, capture_output=True).returncode == 0
 
 
 def try_all(program, words, folder, library):
-    """How many growths were refused until a run met none, how many were told, and what else was answered."""
+    """How many refusals a command reported, the runs that ended otherwise, and how it ends without a refusal."""
     devices = os.path.join(folder, "historian.d")
     kept = os.path.join(folder, "kept.d")
     shutil.rmtree(kept, ignore_errors=True)
@@ -81,6 +85,7 @@ def try_all(program, words, folder, library):
         shutil.copytree(devices, kept)
 
     def renew():
+        """Puts the devices back as they were."""
         shutil.rmtree(devices, ignore_errors=True)
         if os.path.isdir(kept):
             shutil.copytree(kept, devices)

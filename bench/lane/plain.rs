@@ -1,7 +1,8 @@
-//! What the durable queue is measured against: plain code that nobody verified, with the same calls and the same work.
-//! `run.py` compiles it. The words are WHAT SLOTS: `append` appends as many batches of 64 as there are slots, `scan` reads
-//! all of them in pieces of 64 slots into one list, and `read` reads the file as it is. The file is `historian.d/lane`.
-//! Printed are the nanoseconds that it took, and how many raw values or bytes there are.
+//! Plain code that nobody verified, to compare the lane with. It writes and syncs as the lane does. `run.py` compiles it.
+//!
+//! The words are WHAT SLOTS. `append` appends as many batches of 64 as there are slots. `scan` reads all slots up to the last
+//! open gate, 64 at a time, into one list. `read` reads the file as it is. The file is `historian.d/lane`. It prints the
+//! nanoseconds of that work, and how many raw values, or bytes of `read`, there are.
 use std::fs::{self, File, OpenOptions};
 use std::io::Result;
 use std::os::unix::fs::FileExt;
@@ -22,6 +23,7 @@ fn batch() -> Vec<Point> {
         .collect()
 }
 
+/// Appends a batch for each slot. Returns how many values that was.
 fn append(file: &File, slots: usize) -> Result<u64> {
     let points = batch();
     let mut next = 0u64;
@@ -42,10 +44,12 @@ fn append(file: &File, slots: usize) -> Result<u64> {
     Ok(next)
 }
 
+/// The first eight bytes as a number.
 fn number(bytes: &[u8]) -> u64 {
     u64::from_be_bytes(bytes[..8].try_into().unwrap())
 }
 
+/// Reads the batches of all slots into a list. Returns how many values it has.
 fn scan(file: &File, slots: usize) -> Result<u64> {
     let mut gates = vec![0; slots];
     file.read_exact_at(&mut gates, 400)?;

@@ -1,11 +1,14 @@
 #!/usr/bin/env python3
-"""run.py: times the durable queue on a file, compared with plain code.
+"""run.py [FOLDER]: times the lane of a tag on a file, compared with plain code.
 
-Lays main.rattle and its proof as a crate into a copy of the crates that it stands on, builds it (`rt run`), and compiles
-plain.rs. Appends batches of 64 by both in turn, each with two writes and two syncs of the file's data; and scans a lane of
-65,536 full slots, compared with a plain scan and with reading the file into memory. It prints medians over the runs, the rates, and
-what was aimed at; of scans also the processor's time, which another program's load does not change. It runs by hand, never as
-a test; with a word it builds in that folder, and keeps it."""
+It copies main.rattle with its proof, and the crates that it depends on, into a repository of their own, builds that (`rt run`), and
+compiles plain.rs. It builds in FOLDER (an absolute path) and keeps it; without the word it builds in a temporary folder. It runs by hand,
+never as a test.
+
+Both programs append 512 batches of 64 values, each with two writes and two syncs of the file's data. Then the proved one scans a lane of
+65,536 full slots, compared with a plain scan and with reading the file into memory. The programs take turns, seven times. It prints the
+load of the machine and medians: milliseconds a batch or a scan, the ratio of the rates, and what was aimed at. It prints the time of the
+processor for the scans too, because other work on the machine changes that less."""
 import os
 import shutil
 import statistics
@@ -23,7 +26,7 @@ SLOTS = 65536
 
 
 def build(folder):
-    """The program, built in a repository of its own, and the plain one."""
+    """Builds both programs in a folder: the paths of the proved one and of the plain one."""
     crates = os.path.join(folder, "crates")
     for name in BELOW:
         shutil.copytree(os.path.join(ROOT, "crates", name), os.path.join(crates, name), dirs_exist_ok=True,
@@ -45,7 +48,7 @@ def build(folder):
 
 
 def lay(folder, slots, full):
-    """A lane of so many slots, full or empty, on the disk."""
+    """Writes a lane of so many slots, full or empty, and syncs it."""
     path = os.path.join(folder, "historian.d", "lane")
     os.makedirs(os.path.dirname(path), exist_ok=True)
     with open(path, "wb") as out:
@@ -61,7 +64,7 @@ def lay(folder, slots, full):
 
 
 def run(folder, words):
-    """What was printed, and the processor's seconds."""
+    """Runs a program: the nanoseconds and the count that it printed, and the seconds that the processor worked for it."""
     child = subprocess.Popen(words, cwd=folder, stdin=subprocess.DEVNULL, stdout=subprocess.PIPE)
     told = child.stdout.read().split()
     _, status, usage = os.wait4(child.pid, 0)
@@ -70,6 +73,7 @@ def run(folder, words):
 
 
 def show(name, ours, other, aim):
+    """Prints a line: the medians of two lists of milliseconds, their ratio, and whether it meets the aim if there is one."""
     ratio = statistics.median(other) / statistics.median(ours)
     print("%-34s ours %9.3f ms  other %9.3f ms  rate %5.2f times%s"
           % (name, statistics.median(ours), statistics.median(other), ratio,
@@ -77,6 +81,7 @@ def show(name, ours, other, aim):
 
 
 def appends(folder, program, plain):
+    """Measures appends to an empty lane by both programs."""
     told = {program: [], plain: []}
     for _ in range(RUNS):
         for each in told:
@@ -89,6 +94,7 @@ def appends(folder, program, plain):
 
 
 def scans(folder, program, plain):
+    """Measures scans of a full lane by both programs, and reading its file."""
     lay(folder, SLOTS, True)
     ways = {"ours": [program, "scan"], "scan": [plain, "scan"], "read": [plain, "read"]}
     took = {way: [] for way in ways}

@@ -1,7 +1,8 @@
-/* plain.c FILE..: what `log` does with these collectors' files, in plain code: a thread a file, one list under one lock, and the
-same calls of the device. A thread puts its rows in order; after each 64th and after its last it holds the lock until nothing
-waits: a block of 4,096 rows or fewer is written behind a closed gate, synced, the gate opened, and synced again. It tells how many
-rows were put and how many blocks written. No archive is made of the rows, nothing is compared, and no memory is looked after. */
+/* plain.c FILE..: plain code that does with these collectors' files what `log` does: a thread a file, one list under one lock, and
+the same calls of the device, which is the file plain.log. A thread puts its rows in order. After each 64th and after its last it
+keeps the lock until no row waits. It writes a block of at most 4,096 rows behind a closed gate, syncs it, opens the gate, and syncs
+again. It prints how many rows were put and how many blocks were written. It makes no archive of the rows, compares nothing, and
+does not free its lists. `run.py` compiles it. */
 #include <fcntl.h>
 #include <pthread.h>
 #include <stdint.h>
@@ -22,16 +23,19 @@ static size_t put, acked, blocks;
 static off_t end = 12;
 static int device;
 
+/* Writes a number as so many bytes, the highest first. */
 static void big(unsigned char *at, uint64_t n, int bytes)
 {
     for (int i = bytes - 1; i >= 0; i--, n >>= 8) at[i] = (unsigned char)n;
 }
 
+/* Ends the program if a call has failed. */
 static void must(int so, const char *what)
 {
     if (!so) { perror(what); exit(1); }
 }
 
+/* Writes blocks until no row waits. Its caller holds the lock. */
 static void commit(void)
 {
     static unsigned char block[13 + MOST * ROW];
@@ -56,6 +60,7 @@ static void commit(void)
     }
 }
 
+/* The thread of a file: puts its rows, and commits after each 64th and after the last. */
 static void *collect(void *given)
 {
     struct file *f = given;
@@ -68,15 +73,16 @@ static void *collect(void *given)
     return NULL;
 }
 
+/* Reads the rows of a file into memory. */
 static void read_rows(struct file *f)
 {
-    int fd = open(f->name, O_RDONLY);
-    off_t size = fd < 0 ? -1 : lseek(fd, 0, SEEK_END);
+    int source = open(f->name, O_RDONLY);
+    off_t size = source < 0 ? -1 : lseek(source, 0, SEEK_END);
     must(size >= 0, f->name);
     char *text = malloc((size_t)size + 1), *at = text;
-    must(text && pread(fd, text, (size_t)size, 0) == size, f->name);
+    must(text && pread(source, text, (size_t)size, 0) == size, f->name);
     text[size] = 0;
-    close(fd);
+    close(source);
     size_t lines = 0;
     for (off_t i = 0; i < size; i++) lines += text[i] == '\n';
     f->rows = malloc(lines * sizeof *f->rows);

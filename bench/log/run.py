@@ -1,10 +1,15 @@
 #!/usr/bin/env python3
-"""run.py [PROGRAM]: times `log`, compared with plain code with the same batches and calls, and with one device a tag.
+"""run.py [PROGRAM]: times `log`, compared with plain code that makes the same batches and calls, and with one device a tag.
 
-PROGRAM is a built historian (crates/historian/out/historian, after `rt run` there). A million walk values of 64 tags in 16
-collectors go into one log; the same files through plain.c, a program in C that puts and commits as `log` does and makes no archive;
-and through `run`, where each tag has a device of its own. It prints medians over the runs, the rates, and what was aimed at. It
-runs by hand, never as a test, with all processors free and on the disk that devices are meant for."""
+PROGRAM is a built historian (crates/historian/out/historian, after `rt run` there). A million values of 64 tags, which walk at random,
+come from 16 collectors. Three programs store the same files in turn, three times:
+- `log` puts them into one log.
+- plain.c, in C, puts and commits as `log` does, and makes no archive.
+- `run` gives each tag a device of its own.
+
+It prints how many blocks plain.c wrote, and medians: the seconds and rows a second of each. Then it compares: the time of `log` divided
+by that of `run`, and the rate of `log` divided by that of plain.c, of which 0.9 is aimed at. The files lie in a temporary folder in
+BENCH_DIR, or in /var/tmp. It runs by hand, never as a test, with all processors free and on the disk that devices are meant for."""
 import os
 import random
 import shutil
@@ -29,7 +34,7 @@ comp_max = 28_800_000
 
 
 def lay(folder):
-    """A plant whose collectors have four tags each, a row of each in turn."""
+    """Writes a plant whose collectors have four tags each, with a row of each in turn."""
     with open(os.path.join(folder, "base.toml"), "w") as out:
         out.write("\n".join(TAG % n for n in range(TAGS)))
     with open(os.path.join(folder, "plan.toml"), "w") as out:
@@ -44,7 +49,7 @@ def lay(folder):
 
 
 def timed(words, folder):
-    """The seconds of a run over new devices, and what it printed."""
+    """Runs a command over new devices, which has to end well: its seconds, and what it printed."""
     shutil.rmtree(os.path.join(folder, "historian.d"), ignore_errors=True)
     start = time.perf_counter()
     child = subprocess.run(words, cwd=folder, capture_output=True)

@@ -1,7 +1,8 @@
-/* plain.c: reads the records of a tag's device as plainly as can be, keeps them, and tells the average of the line through them.
+/* plain.c FILE RECORDS PLACE: reads so many records of a tag's device from this place on, keeps them, and prints the average of the
+ * line through them. `run.py` compiles it.
  *
- * It goes over the log in pieces of 64 KB, stores each record in one array that is made at first, and tests nothing: no header, no
- * summary, no lane, no letter, no range, no order. So it tells what the reading and keeping of so many records costs alone. */
+ * It goes over the log in pieces of 64 KB, and stores each record in one array that it makes at first. It tests no header, summary,
+ * lane, letter, range or order. So its time is that of reading and keeping so many records alone. */
 #include <fcntl.h>
 #include <stdint.h>
 #include <stdio.h>
@@ -17,12 +18,14 @@ struct record {
     int64_t value;
 };
 
+/* Eight bytes as a number, the highest first. */
 static uint64_t number(const uint8_t *bytes) {
     uint64_t n;
     memcpy(&n, bytes, sizeof n);
     return __builtin_bswap64(n);
 }
 
+/* Stores so many records of a piece. */
 static void keep(struct record *to, const uint8_t *bytes, size_t count) {
     for (size_t i = 0; i < count; i++) {
         const uint8_t *b = bytes + RECORD * i;

@@ -1,10 +1,13 @@
 #!/usr/bin/env python3
-"""run.py: times the opening of a device of a million records, and one average over its whole span.
+"""run.py [PROGRAM]: times the opening of a device of a million records, with one average over its whole span.
 
-Runs `trend` of the program that `rt run` left in crates/historian (or of the program that is named), compared with a plain program
-(`plain.c`, `cc` at its fastest) that keeps the same records and tests nothing, and with `cat` of the device's file, seven times
-each in turn, with the file in the page cache. It prints medians, their ratios, what was aimed at, and the peak memory for each record.
-It runs by hand, never as a test."""
+PROGRAM is a built historian (crates/historian/out/historian, after `rt run` there). `trend` opens the device and answers. It is compared
+with plain.c (`cc -O3`), which keeps the same records and tests nothing, and with `cat` of the device's file. Each runs in turn, seven
+times, with the file in the page cache.
+
+It prints the load of the machine, the answer, and medians: the seconds of each, and which part of the speed of plain.c and of `cat` the
+program has; 0.50 of `cat` is aimed at. Last it prints the highest peak of memory in bytes a record; 48 is aimed at. It runs by hand,
+never as a test."""
 import os
 import statistics
 import struct
@@ -24,18 +27,19 @@ TUNING = (0, 1_000_000, 0, 0, 1_000_000)
 
 
 def points():
-    """Points of a line that goes up and down, so that each is kept."""
+    """The points: they jump up and down, so that each is kept."""
     return ((1000 * k, k * 7919 % 20011 - 10000) for k in range(RECORDS))
 
 
 def summary():
-    """The summary of all records: the last one is held, and a new span hangs at it."""
+    """The summary of all records: the last one is held, and it is the hinge too."""
     last = struct.pack(">Qq", 1000 * (RECORDS - 1), (RECORDS - 1) * 7919 % 20011 - 10000)
     numbers = b"".join(n.to_bytes(size, "big") for n, size in zip(TUNING, (7, 6, 7, 6, 6)))
     return struct.pack(">QIB3x", RECORDS, RECORDS, 0x15) + last + bytes(16) + last + bytes(32) + numbers
 
 
 def lay(folder):
+    """Writes the device, and the texts with which `trend` asks it: the path of the device."""
     header = b"PHT1" + bytes([2]) + b"T1".ljust(64, b"\0") + struct.pack(">5QI14x", *TUNING, SLOTS)
     path = os.path.join(folder, "historian.d", "T1.tag")
     os.makedirs(os.path.dirname(path))
@@ -55,7 +59,7 @@ def lay(folder):
 
 
 def run(folder, words):
-    """The seconds that the words took, the peak memory in kilobytes, and what was printed."""
+    """Runs a command that has to end well: its seconds, its peak memory in kilobytes, and what it printed."""
     start = time.perf_counter()
     child = subprocess.run(["/usr/bin/time", "-f", "%M"] + words, cwd=folder, capture_output=True)
     took = time.perf_counter() - start
@@ -65,6 +69,7 @@ def run(folder, words):
 
 
 def build(folder):
+    """Compiles plain.c in a folder: its path."""
     plain = os.path.join(folder, "plain")
     subprocess.run(["cc", "-O3", "-o", plain, os.path.join(HERE, "plain.c")], check=True)
     return plain

@@ -1,7 +1,7 @@
-/* fast.c: a packer that is as fast as we can make one, to measure `historian pack` against. It reads plain lines alone, eight digits at a
-   time, out of one small buffer, compares slopes in 128 bits, and prints through one buffer. It checks nothing: not the form of a line, not
-   the range of a number, not the length of the input, not how many records there are. Nobody should use it for anything else.
-   cc -O3 -march=native */
+/* fast.c: a packer that is as fast as we can make one, to compare `historian pack` with. It takes the same words. `run.py` compiles it
+   (cc -O3 -march=native). It reads plain lines alone, eight digits at a time, through one small buffer. It compares slopes in 128 bits,
+   and writes all records at the end, from one buffer that grows. It checks nothing: not the form of a line, not the range of a number,
+   not the length of the input, not how many records there are. Nobody should use it for anything else. */
 #include <stdbool.h>
 #include <stdint.h>
 #include <stdlib.h>
@@ -26,6 +26,7 @@ static size_t used, room;
 /* Two decimal digits of each number below 100. */
 static char pairs[200];
 
+/* Writes a number in decimal. Returns the place after it. */
 static char *print_number(char *to, uint64_t n) {
   char digits[24];
   char *p = digits + sizeof digits;
@@ -40,6 +41,7 @@ static char *print_number(char *to, uint64_t n) {
   return to + count;
 }
 
+/* Adds a line to the text. The kind has four letters and a comma. */
 static void print_point(const char *kind, point p) {
   if (room - used < LINE) text = realloc(text, room = room * 2 + PRINTED);
   char *to = text + used;
@@ -52,11 +54,12 @@ static void print_point(const char *kind, point p) {
   used = (size_t)(to - text);
 }
 
-/* Whether the slope rise / run is at most the other. */
+/* Whether the slope rise / run is at most other_rise / other_run. */
 static inline bool flatter(int64_t rise, uint64_t run, int64_t other_rise, uint64_t other_run) {
   return (wide)rise * other_run <= (wide)other_rise * run;
 }
 
+/* The compression of a value that was sent in order. */
 static inline void compress(point p) {
   point newest = held.at;
   held = (maybe){true, p};
@@ -86,12 +89,14 @@ static inline void compress(point p) {
   upper = lower = p;
 }
 
+/* Sends the pending value, if there is one. */
 static inline void send_waiting(void) {
   if (!waiting.some) return;
   waiting.some = false;
   compress(waiting.at);
 }
 
+/* The exception test. */
 static inline void offer(point p) {
   if (!held.some) {
     compress(p);
@@ -112,11 +117,13 @@ static inline void offer(point p) {
   compress(p);
 }
 
+/* The number that eight digits make, each in a byte of its own and the first one lowest. */
 static inline uint64_t eight_digits(uint64_t word) {
   word = word * 10 + (word >> 8);
   return ((word & 0xff000000ff) * (100 + (1000000ull << 32)) + (word >> 16 & 0xff000000ff) * (1 + (10000ull << 32))) >> 32;
 }
 
+/* Reads a number in decimal. Returns the place after it. */
 static inline const char *read_number(const char *at, uint64_t *number) {
   uint64_t word, sum = 0;
   memcpy(&word, at, 8);
@@ -130,6 +137,7 @@ static inline const char *read_number(const char *at, uint64_t *number) {
   return at;
 }
 
+/* Reads a line and offers its value. Returns the place after it. */
 static inline const char *read_line(const char *at) {
   uint64_t time, size;
   at = read_number(at, &time) + 1;

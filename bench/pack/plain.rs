@@ -1,5 +1,5 @@
-//! A plain, unverified packer with two doors, with the words and the output of `historian pack`: what the program is
-//! measured against. `run.py` compiles it.
+//! A plain packer with two doors that nobody verified, to compare `historian pack` with. It takes the same words and prints the
+//! same lines. It reads all of the input first. `run.py` compiles it.
 use std::io::{Read, Write};
 
 #[derive(Clone, Copy)]
@@ -24,12 +24,13 @@ struct Archive {
     doors: Option<(Point, Point)>,
 }
 
-/// The slope from `a` to x raised by `dx` is at most that to y raised by `dy`.
+/// Whether the slope from `a` to `x` raised by `dx` is at most that to `y` raised by `dy`.
 fn not_steeper(a: Point, x: Point, dx: i128, y: Point, dy: i128) -> bool {
     (x.v as i128 + dx - a.v as i128) * (y.t - a.t) as i128 <= (y.v as i128 + dy - a.v as i128) * (x.t - a.t) as i128
 }
 
 impl Archive {
+    /// The compression of a value that was sent in order.
     fn take_in_order(&mut self, tuning: &Tuning, p: Point) {
         let held = self.held.replace(p);
         let (Some(a), Some(q)) = (self.hinge, held) else {

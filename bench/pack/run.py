@@ -1,9 +1,16 @@
 #!/usr/bin/env python3
 """run.py: times `historian pack`, compared with two other packers, on 60 MB of lines.
 
-Builds the program (`rt run`), the plain packer (`rustc`, at its fastest) and the fast one (`cc`, at its fastest), makes series from a fixed
-seed, runs the three in turn, seven times each, compares what they print, and prints medians, ratios, and peak memory. It runs by hand, never
-as a test. The plain packer reads all of the input first, and its numerals with `str::parse`; the fast one tests nothing at all."""
+It builds the program (`rt run`), the plain packer (`rustc`, at its fastest) and the fast one (`cc`, at its fastest). The plain packer
+reads all of the input first, and its numerals with `str::parse`; the fast one tests nothing. The lines are three series from a fixed
+seed, each whole and cut to half. One series comes with CR LF too, which the plain packer does not take. All have to print the same bytes.
+
+The packers run in turn, seven times. It prints for each series:
+- the median of the seconds of each packer, and the part of each other's time that the program takes.
+- the program's peak memory in KB, and how much of it is left without 24 bytes a record.
+- how many times as long the whole series takes as its half.
+
+It runs by hand, never as a test."""
 import os
 import random
 import select
@@ -23,15 +30,15 @@ CC = ["cc", "-O3", "-march=native", "-Wno-parentheses"]
 
 
 def write_lines(path, kind, size, ending="\n"):
-    """Writes lines TIME,VALUE, one by one, so that this process stays small. walk: a random walk; flat: one long flat line; quarter: about a
-    quarter of the values is kept."""
-    rng = random.Random(20261126)
+    """Writes at most so many bytes of lines TIME,VALUE, one by one, so that this process stays small. walk: a random walk; flat: one
+    long flat line; quarter: about a quarter of the values is kept."""
+    draw = random.Random(20261126)
     t, v, done, n = 1_700_000_000_000, 5000, 0, 0
     with open(path, "w", newline="") as out:
         while True:
-            t += rng.randrange(500, 1500)
+            t += draw.randrange(500, 1500)
             if kind == "walk":
-                v += rng.randrange(-9, 10)
+                v += draw.randrange(-9, 10)
             elif kind == "quarter":
                 v = 5000 + (4000 if (n // 8) % 2 else 0) + n % 3
             n += 1
@@ -43,7 +50,7 @@ def write_lines(path, kind, size, ending="\n"):
 
 
 def timed(program, path):
-    """Seconds, and what was printed."""
+    """Runs a packer: its seconds, and what it printed."""
     with open(path, "rb") as source:
         began = time.perf_counter()
         child = subprocess.Popen([program] + WORDS, stdin=source, stdout=subprocess.PIPE)
@@ -56,7 +63,7 @@ def timed(program, path):
 
 
 def high_water(pid):
-    """The most kilobytes that a process has had so far; 0 where it has ended."""
+    """The most kilobytes that a process has had so far. 0 once it has ended."""
     with open("/proc/%d/status" % pid) as status:
         for line in status:
             if line.startswith("VmHWM:"):
@@ -65,7 +72,7 @@ def high_water(pid):
 
 
 def peak_memory(program, path):
-    """The most kilobytes that the program has had, seen every millisecond and after each piece of what it prints."""
+    """The most kilobytes that a packer had. The script looks each millisecond, and whenever the packer prints."""
     peak = 0
     with open(path, "rb") as source:
         child = subprocess.Popen([program] + WORDS, stdin=source, stdout=subprocess.PIPE)
@@ -79,7 +86,7 @@ def peak_memory(program, path):
 
 
 def compared(name, programs, path):
-    """Runs the programs in turn, and gives the medians of the first and its part of each other's."""
+    """Runs the packers in turn, and prints their medians and the first one's memory: the median of the first in seconds."""
     seconds, printed = {p: [] for p in programs}, set()
     for _ in range(RUNS):
         for program in programs:

@@ -1,10 +1,13 @@
 #!/usr/bin/env python3
-"""run.py: times sheets that get one record at a time, compared with sheets made anew.
+"""run.py [FOLDER]: times sheets that get one record at a time, compared with sheets made anew.
 
-Lays main.rattle as a crate, with the loop invariants that its proof needs, into a copy of the crates that it stands on,
-builds it (`rt run`), and runs it with 100,000 and with 1,000,000 kept records at first, and a thousand single records of
-each kind, three times in turn. It prints medians: a sheet made anew, one record, their ratio, and one record compared with one of
-the smaller sheet. It runs by hand, never as a test; with a word it builds in that folder, and keeps it."""
+It copies main.rattle with its proof, and the crates that it depends on, into a repository of their own, and builds that (`rt run`). It
+builds in FOLDER and keeps it; without the word it builds in a temporary folder. It runs by hand, never as a test.
+
+A sheet gets 100,000 or 1,000,000 kept records at once, and then a thousand records one at a time, kept ones or late ones. Each of the
+four runs three times. It prints the load of the machine and medians: milliseconds of the sheet made anew, microseconds of one more
+record, and which part of the former that is. Then it divides the time of one more record in the larger sheet by that in the smaller one;
+at most 2 is aimed at."""
 import os
 import shutil
 import statistics
@@ -54,7 +57,7 @@ ghosts-times _ a = record { name = a.blank.name; parts = a.blank.parts }
 
 
 def build(folder):
-    """The program, built in a repository of its own."""
+    """Builds the program in a folder: its path."""
     crates = os.path.join(folder, "crates")
     for name in BELOW:
         shutil.copytree(os.path.join(ROOT, "crates", name), os.path.join(crates, name), dirs_exist_ok=True,
@@ -79,6 +82,7 @@ def build(folder):
 
 
 def run(program, first, kind):
+    """Runs the program: the four numbers that it printed."""
     words = [program, str(first), str(SINGLES), kind]
     told = subprocess.run(words, stdin=subprocess.DEVNULL, capture_output=True, check=True).stdout
     return [int(word) for word in told.split()]

@@ -1,4 +1,6 @@
-"""The historian itself: a session of one collector, and what a reader asks of the archive."""
+"""The historian as a row of run.py: a session of one collector, and a reader's questions to the archive.
+
+HISTORIAN in the environment names the built program; without it that is crates/historian/out/historian."""
 import os
 import re
 import shutil
@@ -20,11 +22,12 @@ comp_max = 28_800_000
 
 
 class Historian(Rival):
-    """Its answers are of the archive: each has to be within CompDev and twice ExcDev, and one for the rounding, of the right one."""
+    """Its answers are those of the archive. Each may differ from the right one by CompDev, twice ExcDev, and one for rounding."""
     promise, at_by = "devices synced twice a batch, {:,} values each", "the archive's line"
     near = COMP_DEV + 2 * EXC_DEV + 1
 
     def prepare(self):
+        """Writes the base, the plans and the collector's file."""
         self.most = 0
         os.mkdir(self.data)
         self.write("base.toml", BASE)
@@ -38,7 +41,7 @@ class Historian(Rival):
             out.write(text)
 
     def call(self, *words):
-        """What the program prints; its peak memory counts."""
+        """Runs the program in its folder, and notes its peak memory: what it printed."""
         child = subprocess.run(["/usr/bin/time", "-f", "%M", PROGRAM, *words], cwd=self.data, capture_output=True, text=True)
         if child.returncode != 0:
             raise RuntimeError("%s: %s" % (words, (child.stdout + child.stderr)[:300]))
@@ -46,15 +49,18 @@ class Historian(Rival):
         return child.stdout
 
     def ingest(self):
+        """Runs a session over new devices, which has to take all values."""
         shutil.rmtree(os.path.join(self.data, "historian.d"), ignore_errors=True)
         text = self.call("run", "base.toml", "plan.toml")
         if " taken=%d " % len(self.series.times) not in text:
             raise ValueError("not all values were taken: " + text[:200])
 
     def settle(self):
+        """Does nothing: there is nothing to settle."""
         pass
 
     def ask(self, queries):
+        """The numbers that `trend` answers to these queries."""
         self.write("asks.csv", "".join(query + "\n" for query in queries))
         return [float(n) for n in re.findall(r"(-?\d+)$", self.call("trend", "base.toml", "asks.toml"), re.M)]
 

@@ -1,13 +1,14 @@
-"""What this disk allows."""
+"""The row of run.py that shows what this disk allows."""
 import os
 import time
 
 
 def disk(folder):
+    """Writes to a file in a folder: a line with milliseconds a synced append, MB a second, and the values a second that they allow."""
     file = os.open(f"{folder}/appended", os.O_CREAT | os.O_WRONLY | os.O_APPEND)
 
     def append(block, times):
-        """Seconds of the writes and a sync."""
+        """The seconds of so many writes of a block and one sync."""
         start = time.perf_counter()
         for _ in range(times):
             os.write(file, block)

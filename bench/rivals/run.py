@@ -1,14 +1,22 @@
 #!/usr/bin/env python3
 """run.py [--values N] [--kind walk|flat|quarter] [--only NAME,..]: what a plant would pick instead, compared with the historian.
 
-One row for the program and for each rival, on the same values of one tag, each in a fresh folder and a process of its own. SQLite is
-always there; PostgreSQL (with PGBIN, the folder of its initdb), InfluxDB and VictoriaMetrics are where their packages are
-installed, and their row says so where not. Columns: values a second until the last batch is acknowledged; bytes on disk a raw value
-then, and once settled by its own flush and compaction; the mean of the whole span, median of five, and 1,000 means of a thousandth
-each, in all; 1,000 values at times of raw values, in all; peak memory of its largest process. Every answer is checked against
-plain Python before its time counts: of the rivals it has to be the mean of the samples, of the historian, whose means are over
-time and whose archive is approximate, within CompDev, twice ExcDev and one of the mean over time. It runs by hand, never as a
-test, with all processors free. --only takes names or their beginnings."""
+It prints a row for the disk, for the historian (HISTORIAN names it, or it is crates/historian/out/historian), and for each rival. These
+store the same values of one tag, each in a fresh folder and a process of its own. SQLite is always there. PostgreSQL (PGBIN names the
+folder of its initdb), InfluxDB and VictoriaMetrics have to be installed; the row of a missing one says `failed`. The values come from
+series.py, once for each kind, and stay in the folder rivals-data of the folder for temporary files.
+
+The columns are:
+- ingest/s: values a second until the last batch is acknowledged, as the column durability says.
+- B/value, settled: bytes on disk a raw value just then, and after the rival's own flush and compaction.
+- avg ms: milliseconds for the mean of the whole span, median of five.
+- windows ms: milliseconds for the means of a thousand windows of a thousandth each, in all.
+- at t ms: milliseconds for 1,000 values at times of raw values, in all; the column "at t by" says what finds them.
+- MiB: the peak memory of the largest process, in units of 1,048,576 bytes.
+
+Plain Python checks every answer, and a wrong one ends the row. A rival's answer has to be the mean of the samples. The historian's means
+are over time, and its archive is approximate: its answers may differ from the mean over time by CompDev, twice ExcDev and one. --only
+takes names of rows or their beginnings. It runs by hand, never as a test, with all processors free."""
 import argparse
 import math
 import multiprocessing
@@ -27,7 +35,7 @@ from ours import Historian
 from sql import Postgres, PostgresBrin, Sqlite
 from web import Influx, Victoria
 
-RIVALS = {  # and its batch
+RIVALS = {  # each with the number of values in a batch; None is all in one
     "historian": (Historian, 64),
     "sqlite-64": (Sqlite, 64),
     "sqlite-100000": (Sqlite, 100_000),
@@ -45,7 +53,7 @@ HEADS = "rival,durability,ingest/s,B/value,settled,avg ms,windows ms,at t ms,MiB
 
 
 def asked(question, right, near):
-    """Milliseconds of the answers, once each is seen to be right, or so near to what is."""
+    """The milliseconds of a question. Fails unless each answer is as near to the right one as asked for."""
     start = time.perf_counter()
     answers = list(question())
     taken = time.perf_counter() - start
@@ -56,6 +64,7 @@ def asked(question, right, near):
 
 
 def measure(name, rival, series):
+    """Runs a rival through all that is measured: the row to print."""
     rival.prepare()
     empty = rival.disk(False), rival.disk(True)
     start = time.perf_counter()
@@ -76,10 +85,10 @@ def measure(name, rival, series):
 
 
 def job(name, *data):
-    """In a process of its own, so that memory is counted afresh; gives the line to print."""
+    """Measures one row in this process, which does nothing else, so that memory is counted from new: the row to print."""
     series = Series(*data)
     with tempfile.TemporaryDirectory(prefix="rivals-") as folder:
-        os.chmod(folder, 0o755)  # user postgres passes through
+        os.chmod(folder, 0o755)  # so that the user postgres gets to its data
         if name not in RIVALS:
             return f"{name:<18} {rest.disk(folder)}"
         make, batch = RIVALS[name]
@@ -91,7 +100,7 @@ def job(name, *data):
 
 
 def end(*_):
-    """A polite end goes through each `finally`: servers stop, the folder goes."""
+    """Ends the workers and this process so that each `finally` runs: servers stop, and folders are removed."""
     for worker in multiprocessing.active_children():
         worker.terminate()
     sys.exit("ended")

@@ -1,6 +1,6 @@
-//! A plain, unverified reader of rows `TAG,TIME,VALUE` for 200 tags: what the proved one is measured against. It splits lines
-//! and fields by searches for a byte, reads numerals with `str::parse`, and looks names up in a map. It knows no quotes.
-//! `run.py` compiles it.
+//! A plain reader of rows `TAG,TIME,VALUE` of 200 tags that nobody verified, to compare the proved one with. It splits lines and
+//! fields by searches for a byte, reads numerals with `str::parse`, and looks names up in a map. It knows no quotes. It prints
+//! what main.rattle prints. `run.py` compiles it.
 use std::collections::HashMap;
 use std::io::Read;
 use std::time::Instant;
@@ -15,6 +15,7 @@ fn number<N: std::str::FromStr>(digits: &[u8]) -> Option<N> {
     std::str::from_utf8(digits).ok()?.parse().ok()
 }
 
+/// The row in a line, or none if it has no known tag or a number is out of range.
 fn row(tags: &HashMap<Vec<u8>, u32>, line: &[u8]) -> Option<Row> {
     let line = line.strip_suffix(b"\r").unwrap_or(line);
     let first = line.iter().position(|b| *b == b',')?;

@@ -1,9 +1,13 @@
 #!/usr/bin/env python3
-"""run.py: times the reading of collector rows, compared with a plain reader that nobody verified.
+"""run.py [FOLDER]: times the reading of collectors' rows, compared with a plain reader that nobody verified.
 
-Lays main.rattle as a crate into a copy of the crates that it stands on, builds it (`rt run`), and runs both in turn, seven
-times each, on 60 MB of rows over 200 tags. It prints medians, their ratio, what was aimed at, and bytes a row besides the
-input. It runs by hand, never as a test; with a word it builds in that folder, and keeps it."""
+It copies main.rattle and the crates that it depends on into a repository of their own, builds that (`rt run`), and compiles plain.rs. It
+builds in FOLDER and keeps it; without the word it builds in a temporary folder. It runs by hand, never as a test.
+
+Both read 60 MB of rows of 200 tags in turn, seven times. They have to find as many rows with the same sum of values. It prints the load
+of the machine and medians: the seconds of both, and the part of the plain time that the proved reader takes. These are for bytes and rows
+together, of which at most 0.80 is aimed at, and for the rows alone. Last it prints the highest peak of memory of the proved reader in
+bytes a row, without the input; at most 32 are aimed at."""
 import os
 import random
 import shutil
@@ -20,7 +24,7 @@ SIZE = 60_000_000
 
 
 def build(folder):
-    """The program, built in a repository of its own."""
+    """Builds both programs in a folder: the paths of the proved one and of the plain one."""
     crates = os.path.join(folder, "crates")
     for name in BELOW:
         for part in ("src", "specs", "proofs"):
@@ -43,19 +47,19 @@ def build(folder):
 
 
 def write_rows(path):
-    """Rows of 200 tags in turn, whose values walk, line by line, so that this process stays small."""
-    rng = random.Random(20261127)
+    """Writes rows of 200 tags in random order, whose values walk at random. It does so line by line, so that this process stays small."""
+    draw = random.Random(20261127)
     t, size, values = 1_700_000_000_000, 0, [0] * 200
     with open(path, "w") as out:
         while size < SIZE:
-            tag = rng.randrange(200)
-            t += rng.randrange(1, 20)
-            values[tag] += rng.randrange(-40, 41)
+            tag = draw.randrange(200)
+            t += draw.randrange(1, 20)
+            values[tag] += draw.randrange(-40, 41)
             size += out.write("T%03d,%d,%d\n" % (tag, t, values[tag]))
 
 
 def run(program, path):
-    """What was printed, and the peak memory in kilobytes. A child's peak begins with its parent's, so the parent is small."""
+    """The numbers that were printed, and the peak memory in kilobytes. It begins with that of this process, which is kept small."""
     with open(path, "rb") as rows:
         child = subprocess.run(["/usr/bin/time", "-f", "%M", program], stdin=rows, capture_output=True, check=True)
     return [int(word) for word in child.stdout.split()], int(child.stderr)

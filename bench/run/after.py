@@ -1,10 +1,12 @@
 #!/usr/bin/env python3
-"""after.py [PROGRAM]: how long a session of `run` goes on once its workers have ended, where nothing lacks.
+"""after.py [PROGRAM]: times what a session of `run` does after its workers have ended, where it took all values.
 
-Four million rows over 1,024 tags by 16 collectors, each by 64 rows of a tag in turn, on devices in memory (/dev/shm), so that the
-disk does not count. strace shows when the last worker's thread ends and when the report is written: between them lie the
-comparison of all openings and tapes with the files, what lacks (nothing), the end of every device, and the text. It runs by hand,
-never as a test, with all processors free."""
+PROGRAM is a built historian (crates/historian/out/historian, after `rt run` there). 16 collectors bring four million rows of 1,024 tags,
+64 rows of a tag in turn. The devices lie in memory (/dev/shm), so the disk does not count.
+
+strace notes when the last worker's thread ends, and when the program writes its report. Between these the session compares all openings
+and tapes with the files, finds nothing that is missing, ends each device, and makes the text. It prints the median of that time in
+seconds, of three sessions; at most 1.0 is aimed at. It runs by hand, never as a test, with all processors free."""
 import os
 import re
 import statistics
@@ -27,7 +29,7 @@ comp_max = 28_800_000
 
 
 def lay(folder):
-    """A plant whose collectors go round its tags, 64 rows each time."""
+    """Writes a plant in which each collector goes round 64 of the tags, 64 rows each time."""
     with open(os.path.join(folder, "base.toml"), "w") as out:
         out.write("\n".join(TAG % n for n in range(TAGS)))
     with open(os.path.join(folder, "plan.toml"), "w") as out:
@@ -40,7 +42,7 @@ def lay(folder):
 
 
 def after(program, folder):
-    """The seconds from the end of the last worker to the report."""
+    """Runs a session over new devices under strace: the seconds from the end of its last worker to its report."""
     subprocess.run(["rm", "-rf", os.path.join(folder, "historian.d")], check=True)
     trace = os.path.join(folder, "trace")
     words = ["strace", "-f", "--seccomp-bpf", "-ttt", "-e", "trace=exit,write", "-o", trace, program, "run", "base.toml", "plan.toml"]

@@ -1,11 +1,17 @@
 #!/usr/bin/env python3
-"""run.py [PROGRAM]: times sessions of `run`, compared with bare devices and SQLite, on this disk.
+"""run.py [PROGRAM]: times sessions of `run`, compared with bare writes and syncs and with SQLite, on the disk of the working folder.
 
-PROGRAM is a built historian (crates/historian/out/historian, after `rt run` there, which is done where it is not). A walk of a
-million values goes into one tag, and into eight tags by eight collectors; the same into SQLite, in commits of 64 with a write-ahead
-log and full synchronous; and as bare batches of 64 as a lane has them, two writes and two syncs each. Then `trend` answers one and a
-thousand windows of the archive, and SQLite the same averages of the raw rows. It prints medians over the runs, ratios and what
-was aimed at, bytes on the device and of memory a value. It runs by hand, never as a test, with all processors free."""
+PROGRAM is a built historian. Without the word it is crates/historian/out/historian, which is built if it is missing (`rt run`). A random
+walk of a million values is stored in five ways, three times in turn:
+- `run`, into one tag.
+- Bare batches of 64, as a lane has them: two writes and two syncs each.
+- SQLite, in commits of 64, with a write-ahead log and full synchronous.
+- `run`, with an eighth of the values in each of eight tags, by eight collectors.
+- Eight processes at once, which write an eighth of the bare batches each.
+
+Then `trend` answers one window and a thousand windows of the archive, and SQLite answers the same averages of the raw rows. It prints
+medians in seconds, ratios of rates with what was aimed at, and bytes of memory and on the device a value. It runs by hand, never as a
+test, with all processors free."""
 import multiprocessing
 import os
 import random
@@ -33,7 +39,7 @@ comp_max = 28_800_000
 
 
 def walk(count, seed):
-    """Times a second apart, and values that go up or down by at most 2."""
+    """So many points: times a second apart, and values that go up or down by at most 2."""
     draw, value = random.Random(seed), 0
     for i in range(count):
         value += draw.randint(-2, 2)
@@ -41,7 +47,7 @@ def walk(count, seed):
 
 
 def lay(folder, tags, count):
-    """A plant of so many tags, with one collector each."""
+    """Writes a plant of so many tags, each with one collector of `count` rows."""
     with open(os.path.join(folder, "base.toml"), "w") as out:
         out.write("\n".join(TAG % n for n in range(tags)))
     with open(os.path.join(folder, "plan.toml"), "w") as out:
@@ -52,7 +58,7 @@ def lay(folder, tags, count):
 
 
 def timed(words, folder):
-    """The seconds of a run, and its peak memory in bytes."""
+    """Runs a command that has to end well: its seconds, and its peak memory in bytes."""
     start = time.perf_counter()
     child = subprocess.run(["/usr/bin/time", "-f", "%M"] + words, cwd=folder, capture_output=True)
     took = time.perf_counter() - start
@@ -62,39 +68,39 @@ def timed(words, folder):
 
 
 def session(program, folder):
-    """A session over new devices."""
+    """Runs a session over new devices: its seconds, and its peak memory in bytes."""
     shutil.rmtree(os.path.join(folder, "historian.d"), ignore_errors=True)
     return timed([program, "run", "base.toml", "plan.toml"], folder)
 
 
 def bare(folder, batches):
-    """Bare batches: a slot and its gate, a sync behind each."""
+    """Writes so many bare batches, each a slot and its gate with a sync after each: the seconds."""
     path = os.path.join(folder, "bare%d" % os.getpid())
     slots = 4096
-    fd = os.open(path, os.O_RDWR | os.O_CREAT | os.O_TRUNC)
-    os.pwrite(fd, bytes(400 + slots + 1034 * slots), 0)
-    os.fdatasync(fd)
+    file = os.open(path, os.O_RDWR | os.O_CREAT | os.O_TRUNC)
+    os.pwrite(file, bytes(400 + slots + 1034 * slots), 0)
+    os.fdatasync(file)
     slot, gate = bytes(range(256)) * 4 + bytes(10), b"\xa5"
     start = time.perf_counter()
     for n in range(batches):
-        os.pwrite(fd, slot, 400 + slots + 1034 * (n % slots))
-        os.fdatasync(fd)
-        os.pwrite(fd, gate, 400 + n % slots)
-        os.fdatasync(fd)
+        os.pwrite(file, slot, 400 + slots + 1034 * (n % slots))
+        os.fdatasync(file)
+        os.pwrite(file, gate, 400 + n % slots)
+        os.fdatasync(file)
     took = time.perf_counter() - start
-    os.close(fd)
+    os.close(file)
     os.remove(path)
     return took
 
 
 def at_once(folder, batches):
-    """The longest of eight processes that write as many bare batches together."""
+    """Eight processes write an eighth of the bare batches each: the seconds of the slowest."""
     with multiprocessing.Pool(8) as pool:
         return max(pool.starmap(bare, [(folder, batches // 8)] * 8))
 
 
 def database(folder, count):
-    """The walk in commits of 64: the seconds, and the connection."""
+    """Stores the walk in a new database, in commits of 64: the seconds, and the open connection."""
     for name in ("plain.db", "plain.db-wal", "plain.db-shm"):
         path = os.path.join(folder, name)
         if os.path.exists(path):
@@ -113,13 +119,13 @@ def database(folder, count):
 
 
 def windows(count, many):
-    """So many windows side by side over all of the walk, but for its ends."""
+    """So many windows, one after the other, over all of the walk but for its ends."""
     width = 1000 * (count - 200) // many
     return [(1000 * 100 + n * width, 1000 * 100 + (n + 1) * width) for n in range(many)]
 
 
 def trend(program, folder, count, many):
-    """The seconds that it takes to open the archive and answer these windows."""
+    """The seconds of a `trend` that opens the archive and answers so many windows."""
     with open(os.path.join(folder, "asks.toml"), "w") as out:
         out.write('[[reader]]\nfile = "asks.csv"\n')
     with open(os.path.join(folder, "asks.csv"), "w") as out:
@@ -128,6 +134,7 @@ def trend(program, folder, count, many):
 
 
 def averages(base, count, many):
+    """The seconds that SQLite takes for the averages of the raw rows in the same windows."""
     start = time.perf_counter()
     for window in windows(count, many):
         base.execute("select avg(v) from raw where t >= ? and t < ?", window).fetchone()
@@ -135,6 +142,7 @@ def averages(base, count, many):
 
 
 def aimed(name, ratio, aim):
+    """Prints a ratio, and whether it is at least what is aimed at."""
     print("%-66s %6.2f  aim %.1f %s" % (name, ratio, aim, "met" if ratio >= aim else "MISSED"), flush=True)
 
 

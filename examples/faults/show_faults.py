@@ -1,8 +1,10 @@
 #!/usr/bin/env python3
-"""show_faults.py PROGRAM [CASE..]: makes each fault, and compares exit status and line with what is kept in faults.txt.
+"""show_faults.py [PROGRAM [CASE..]]: makes each fault, and compares exit status and line with those kept in faults.txt.
 
-PROGRAM is the command that runs the program, `historian` on the path or a built one. Each case gets a fresh folder with a copy of the
-texts next to this script, and what its recipe below writes there; then its words are run. Standard library alone."""
+PROGRAM is the command that runs the program: `historian` on the path, or a built one. CASE names some of the cases. Each case gets a
+fresh folder with a copy of the texts next to this script, and with what its recipe below writes. Then its words run there. The script
+prints what differs, and last how many cases there are or how many differ. The exit status is 1 if one differs. It uses the standard
+library alone."""
 import os
 import shlex
 import shutil
@@ -26,12 +28,12 @@ def tag(name="F1", step=False, values=((0, 0), (10, 10), (20, 0))):
 
 
 def whole(letters, text, behind=CLOSED):
-    """The bytes of a group's device or of a log: the layout, and what stands behind it from the first block's gate on."""
+    """The bytes of a group's device or of a log: the layout, and after it the bytes from the first block's gate on."""
     return OPEN + letters + len(text).to_bytes(4, "big") + text + behind
 
 
 def with_q(data):
-    """The same bytes with another one in the second place."""
+    """The same bytes, but Q as the second one."""
     return data[:1] + b"Q" + data[2:]
 
 
@@ -42,7 +44,7 @@ def block(version):
 
 
 def many(count, text):
-    """So many copies of a text, each with its number in the place of %d."""
+    """So many copies of a text, each with its number for %d."""
     return "".join(text % n for n in range(count)).encode()
 
 
@@ -50,7 +52,7 @@ TAG = '[[tag]]\nname = "T%d"\nexc_dev = 0\nexc_max = 0\ncomp_dev = 0\ncomp_min =
 GROUP = '[[group]]\nname = "g%d"\ntags = ["T0"]\nstart = 0\nperiod = 1\n'
 CALC = '[[group.calc]]\nname = "c%d"\nformula = "1"\n'
 
-# What each case writes besides the texts: a name, and its bytes, or None for a folder.
+# What each case writes besides the texts: names with their bytes, or with None for a folder.
 RECIPES = {
     "tag_is_a_folder": lambda: {"historian.d/F1.tag": None},
     "group_is_a_folder": lambda: {"historian.d/u1.grp": None},
@@ -78,7 +80,7 @@ RECIPES = {
 
 
 def kept():
-    """The cases of faults.txt: name, words, exit status, what is printed."""
+    """The cases of faults.txt: name, words, exit status, and what the program prints."""
     with open(os.path.join(HERE, "faults.txt")) as table:
         for line in table:
             if not line.startswith("#"):
@@ -100,7 +102,7 @@ def lay(name, folder):
 
 
 def file_behind(words, sign, folder):
-    """The name behind a sign `<` or `>`, which is taken out of the words with it, as a path; or None."""
+    """Takes a sign `<` or `>` and the name after it out of the words: the path of that file, or None without a sign."""
     if sign not in words:
         return None
     at = words.index(sign)
@@ -110,7 +112,7 @@ def file_behind(words, sign, folder):
 
 
 def told(program, words, folder):
-    """The exit status of the words, and what was printed."""
+    """Runs the program with these words: its exit status, and what it printed on standard output."""
     words = list(words)
     source = os.open(file_behind(words, "<", folder) or os.devnull, os.O_RDONLY)
     sink = file_behind(words, ">", folder)

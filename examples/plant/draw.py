@@ -1,9 +1,9 @@
 #!/usr/bin/env python3
-"""draw.py [PROGRAM] [--make]: the three pictures of the plant in docs/, drawn by tools/draw.py.
+"""draw.py [PROGRAM] [--make]: draws the three pictures of the plant in docs/ by tools/draw.py, and compares them with those kept there.
 
-It feeds the first day and the buffer in a fresh folder, as feed_two_days.py does, and draws the flow, the hot hours of the temperature
-and the valve from the files that were fed and the program's answers. Each has to be the picture that is kept in docs/; with --make it
-is kept."""
+It feeds the first day and the buffer in a fresh folder, as feed_two_days.py does. The pictures show the flow, the temperature with its hot
+hours, and the valve, from the files that were fed and from the program's answers. The script prints the names of pictures that differ, and
+then ends with 1. With --make it keeps what it draws in docs/."""
 import os
 import shlex
 import subprocess

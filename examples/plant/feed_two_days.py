@@ -1,10 +1,13 @@
 #!/usr/bin/env python3
-"""feed_two_days.py [PROGRAM]: the two days of the plant once more, fed by tools/feed.py from files as loggers write them.
+"""feed_two_days.py [PROGRAM]: feeds the two days of the plant by tools/feed.py, and compares what comes of it with live_two_days.py.
 
-`make_days.py --iso` writes the files: ISO times, decimals, one of them wide. They go into the inbox one after the other, and then the
-program has to print what live_two_days.py kept when it took the same values by hand: so the feeder makes the same archive. Between
-the turns base.toml is edited as an operator would: without the group while the buffer comes, with another CompDev on the second day.
-Of a turn that is refused the tool's own words are printed."""
+`make_days.py --iso` writes files as loggers do: with ISO times and decimals, and one of them wide. They go into the inbox in three turns.
+Then the program has to print what live_two_days.py kept when the program took the same values by hand. So the feeder makes the same
+archive. Between the turns the script edits base.toml as an operator would: without the group while the buffer comes, and with another
+CompDev on the second day.
+
+It prints the outputs that differ, or how many there are. The exit status is 1 if one differs. If the tool refuses a turn, the script ends
+with the tool's own words."""
 import os
 import shlex
 import shutil
@@ -17,7 +20,7 @@ import live_two_days as days  # noqa: E402
 
 HERE = os.path.dirname(os.path.abspath(__file__))
 TOOLS = os.path.join(HERE, "..", "..", "tools")
-TURNS = [  # the base, the files, and the steps of live_two_days.py whose output has to be the same
+TURNS = [  # base, files, and the steps of live_two_days.py whose output has to be the same
     ("base.toml", ["flow1.csv", "unit1.csv"], ["trends1", "shifts1", "hot1"]),
     ("tags.toml", ["buffer.csv"], ["hot2"]),
     ("retuned.toml", ["flow2.csv", "unit2.csv"], ["shifts2", "check"]),
@@ -26,7 +29,7 @@ WORDS = {name: words for name, _, words in days.STEPS}
 
 
 def lay(folder):
-    """A plant's folder, and in it the files of its loggers."""
+    """Writes the plant's texts into a folder, and the files of its loggers into one of its own there."""
     os.makedirs(os.path.join(folder, "inbox"))
     os.makedirs(os.path.join(folder, "loggers"))
     for name in os.listdir(HERE):
@@ -38,7 +41,7 @@ def lay(folder):
 
 
 def feed(program, folder, base, files):
-    """Takes a base over, moves files into the inbox and feeds them. Ends with the tool's own words if it refuses."""
+    """Puts a base in place, moves files into the inbox, and feeds them. Ends the script with the tool's own words if it refuses."""
     shutil.copy(os.path.join(folder, "unit.toml" if base == "base.toml" else base), os.path.join(folder, "base.toml"))
     for name in files:
         os.rename(os.path.join(folder, "loggers", name), os.path.join(folder, "inbox", name))

@@ -1,10 +1,12 @@
 #!/usr/bin/env python3
-"""live_two_days.py PROGRAM [--make]: two days of the plant through the program, in a fresh folder, compared with what is kept.
+"""live_two_days.py PROGRAM [--make]: takes two days of the plant through the program, and compares each output with the kept one.
 
-PROGRAM is the command that runs it, `historian` on the path or a built one. The collectors' files are made by make_days.py; then the
-steps below run one after the other over the same devices, and each output has to be the kept one byte for byte (how often the
-calculations were evaluated depends on when the refresher comes, and is left out). With --make what was printed is kept. How far it is
-is printed on standard error, if that is a terminal."""
+PROGRAM is the command that runs the program: `historian` on the path, or a built one. make_days.py makes the collectors' files in a fresh
+folder. Then the steps below run in order, over the same devices. Each has to print what is kept, byte for byte. The number of evaluations
+is left out, because it depends on when the refresher comes.
+
+The script prints the steps that differ, or how many there are. The exit status is 1 if one differs. With --make it keeps what the steps
+print. On a terminal it shows on standard error how far it is."""
 import os
 import re
 import shlex
@@ -38,14 +40,14 @@ def lay(folder):
 
 
 def told(program, words, folder):
-    """What a step printed, without how often calculations were evaluated."""
+    """What a step printed, without the number of evaluations, and with its exit code if that is not 0."""
     child = subprocess.run(program + words, cwd=folder, stdin=subprocess.DEVNULL, capture_output=True)
     text = re.sub(r" evals=\d+", "", child.stdout.decode())
     return text if child.returncode == 0 else "%sexit %d\n" % (text, child.returncode)
 
 
 def live(program, folder, progress=lambda done: None):
-    """Each step's name, and what it printed."""
+    """Runs the steps in a folder: the name of each, and what it printed."""
     lay(folder)
     for done, (name, _, words) in enumerate(STEPS):
         progress(done)
@@ -54,7 +56,7 @@ def live(program, folder, progress=lambda done: None):
 
 
 def show(done):
-    """How far it is, on a terminal alone."""
+    """Shows on standard error how many steps are done, if that is a terminal."""
     if sys.stderr.isatty():
         what = STEPS[done][1] if done < len(STEPS) else "done"
         sys.stderr.write("\r\033[K%d of %d: %s" % (done, len(STEPS), what + ("\n" if done == len(STEPS) else "")))

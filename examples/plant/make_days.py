@@ -1,12 +1,12 @@
 #!/usr/bin/env python3
 """make_days.py [--iso]: writes the collectors' files of the plant into the working folder, from a fixed seed.
 
-Two times 24 hours from 2024-03-30 00:00 on, in the zone of the calendar, where 2024-03-31 has 23. `flow1.csv` and
-`unit1.csv` are the
-first day, `flow2.csv` and `unit2.csv` the second; `buffer.csv` is what a logger had buffered of the first and hands over late.
+They hold two days from 2024-03-30 00:00 on, each of 24 hours. In the zone of the calendar 2024-03-31 has 23 hours. `flow1.csv` and
+`unit1.csv` are the first day, `flow2.csv` and `unit2.csv` the second. `buffer.csv` is what a logger had kept back of the first day, and
+hands over late.
 
-With --iso it writes the same values as loggers would, for `tools/feed.py`: the flow a value a line with offsets in its times, the unit
-as a wide file in UTC, the buffer on the local clock without an offset; temperature and level are decimals."""
+With --iso it writes the same values as loggers would, for tools/feed.py. The flow has a value a line, and offsets in its times. The unit
+is a wide file in UTC. The buffer is on the local clock, without an offset. Temperature and level are decimals."""
 import datetime
 import sys
 
@@ -16,7 +16,7 @@ SECOND = FIRST + DAY
 
 
 class Noise:
-    """Numbers from a generator of 31 bits, so that they are the same everywhere."""
+    """Random numbers from a generator of 31 bits, so that they are the same everywhere."""
 
     def __init__(self, seed):
         self.state = seed
@@ -36,7 +36,7 @@ def along(corners, t):
 
 
 def hours(corners):
-    """Corners whose times are in minutes of the day."""
+    """Corners in milliseconds, from corners in minutes of the day."""
     return [(60_000 * m, v) for m, v in corners]
 
 
@@ -71,12 +71,13 @@ def unit_rows(begin, noise, missing):
 
 
 def buffered(begin, missing):
-    """What a logger kept of the time in which the temperature was missing, a value a minute: hot for most of it."""
+    """What a logger kept of the time in which the temperature was missing: a value a minute, each of them hot."""
     for t in range(missing[0], missing[1], 60_000):
         yield t, "TIC201.PV,%d,%d" % (begin + t, 8660 + t // 60_000 % 7)
 
 
 def write(name, rows):
+    """Writes rows as the program takes them, in order of time."""
     with open(name, "w") as out:
         for _, row in sorted(rows, key=lambda row: row[0]):
             out.write(row + "\n")
@@ -87,13 +88,13 @@ CHANGE = 1_711_846_800_000  # 2024-03-31 02:00 on the local clock, which then sh
 
 
 def plain(tag, value):
-    """A value as its instrument shows it."""
+    """A value as its instrument shows it, with decimals if it has some."""
     scale = SCALES.get(tag, 1)
     return "%d.%0*d" % (value // scale, len(str(scale)) - 1, value % scale) if scale > 1 else str(value)
 
 
 def iso(t, hours=0, offset="Z"):
-    """A time so many hours ahead of UTC."""
+    """A time as ISO text, on a clock so many hours ahead of UTC."""
     moment = datetime.datetime.fromtimestamp(t // 1000, datetime.timezone.utc) + datetime.timedelta(hours=hours)
     return moment.strftime("%Y-%m-%dT%H:%M:%S") + offset
 
@@ -106,14 +107,14 @@ def parted(rows):
 
 
 def write_lines(name, rows, time):
-    """A file of one value a line."""
+    """Writes a file with one value a line."""
     with open(name, "w") as out:
         out.write("tag,time,value\n")
         out.writelines("%s,%s,%s\n" % (tag, time(t), plain(tag, v)) for t, tag, v in parted(rows))
 
 
 def write_wide(name, rows, tags):
-    """A file of one time a line, with a column for each tag."""
+    """Writes a file with one time a line, and a column for each tag."""
     table = {}
     for t, tag, v in parted(rows):
         table.setdefault(t, {})[tag] = plain(tag, v)
@@ -123,6 +124,7 @@ def write_wide(name, rows, tags):
 
 
 def with_offset(t):
+    """A time as ISO text on the local clock, with its offset."""
     return iso(t, 1, "+01:00") if t < CHANGE else iso(t, 2, "+02:00")
 
 

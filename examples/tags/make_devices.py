@@ -1,8 +1,8 @@
 #!/usr/bin/env python3
-"""make_devices.py: writes the devices of the tags T1 and S1 into the folder historian.d of the working folder.
+"""make_devices.py: writes the devices of the tags T1 and S1 into the folder historian.d of the working folder. It prints nothing.
 
-Each is a device as a session leaves it that committed one batch and made no checkpoint: the layout, and four values in the first
-lane slot. The tag N1 has no device yet; whoever opens it makes one."""
+A session that committed one batch and made no checkpoint leaves such a device: the layout, and four values in the first lane slot. The
+tag N1 has no device yet; the first command that opens it makes one."""
 import os
 import struct
 
@@ -11,7 +11,7 @@ OPEN = b"\xa5"
 
 
 def device(name, tuning, step, values):
-    """The bytes of a device: its header, two closed places for a summary, and the lane with one batch."""
+    """The bytes of a device: its header, two closed summary slots, and the lane with one batch."""
     header = b"PHT1" + bytes([len(name)]) + name.encode().ljust(64, b"\0")
     header += struct.pack(">5QIB13x", *tuning, SLOTS, step)
     batch = struct.pack(">QH", 0, len(values)) + b"".join(struct.pack(">Qq", t, v) for t, v in values)

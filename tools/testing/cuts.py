@@ -1,8 +1,10 @@
-"""cuts.py: power cuts while a turn is fed. The calls of a feed, the feeder's own and the program's, are recorded by strace with the moments
-of each; then plants are built as a cut at a random moment may leave them, and fed to the end.
+"""cuts.py: tests of the feeder when the power is cut; test_tools.py runs them.
 
-Of a file there is all that was synced by then. What was written later is there or not, whole, in part, or as zeros. Names are made,
-moved and removed in the order of the calls: all those before the last sync of their folder, and some of the later ones."""
+strace records the calls of a feed, the feeder's and the program's, with their moments. A test then makes plants as a cut at a random
+moment may leave them, and feeds each to the end. It has to be the plant of an undisturbed feed.
+
+A file has all that was synced by that moment. A later write is missing, whole, in part, or zeros. Names are made, moved and
+removed in the order of the calls: all those before the last sync of their folder, and some of the later ones."""
 import os
 import random
 import re
@@ -15,17 +17,17 @@ NAMES = ("rename", "unlink", "unlinkat", "rmdir", "mkdir")
 TRACED = "openat,write,pwrite64,sendfile,ftruncate,fsync,fdatasync," + ",".join(NAMES)
 LINE = re.compile(r"(\d+\.\d+) (\w+)\((.*)\) += (\d+)(?:<(.*?)>)? <([\d.]+)>$")
 HEXES = re.compile(r'[<"]((?:\\x..)*)[>"]')
-PARTS = {False: ("none", "all", "first", "zeros"), True: ("none", "all")}  # of a write, if it is a single byte
+PARTS = {False: ("none", "all", "first", "zeros"), True: ("none", "all")}  # of a write, by whether it is a single byte
 
 
 class File:
-    """The bytes of a file: those that were there at first, and what was written to it when, and when it was synced."""
+    """A file: the bytes that it had at first, what was written to it and when, and when it was synced."""
 
     def __init__(self, data=b""):
         self.first, self.writes, self.syncs = data, [], []
 
     def known(self, moment):
-        """The bytes that were synced by a moment, and the writes since that had begun."""
+        """The bytes that were synced by a moment, and the later writes that had begun by then."""
         sync = max((begin for begin, end in self.syncs if end <= moment), default=0)
         data = self.first
         for _, end, at, text in self.writes:
@@ -34,7 +36,7 @@ class File:
         return data, [(at, text) for begin, end, at, text in self.writes if end > sync and begin <= moment]
 
     def image(self, moment, draw):
-        """The bytes that a cut at a moment may leave."""
+        """Bytes that a cut at a moment may leave."""
         data, later = self.known(moment)
         whole = draw.random() < 0.3
         for at, text in later:
@@ -45,14 +47,14 @@ class File:
 
 
 def torn(text, part, draw):
-    """A write in part. None is a cut of the whole file to nothing."""
+    """The bytes that a write leaves if it is made in part. A text of None cuts the whole file to nothing, and has no parts."""
     if text is None or part == "all":
         return text
     return bytes(len(text)) if part == "zeros" else text[:draw.randrange(len(text) + 1)]
 
 
 def written(data, at, text):
-    """The bytes once a write is made; `at` is None behind the end."""
+    """The bytes once a write is made at a place; None stands for the end. A text of None cuts all bytes off."""
     if text is None:
         return b""
     at = len(data) if at is None else at
@@ -60,7 +62,7 @@ def written(data, at, text):
 
 
 class Disk:
-    """A plant's folder as it stood, and all that a feed did to it."""
+    """A plant's folder as it was before a feed, and all that the feed did to it."""
 
     def __init__(self, folder):
         self.folder, self.now, self.first, self.moves, self.syncs, self.calls = folder, {}, {}, [], [], 0
@@ -72,10 +74,11 @@ class Disk:
         self.now = dict(self.first)
 
     def short(self, path):
+        """The path as seen from the plant's folder."""
         return os.path.relpath(path, self.folder)
 
     def take(self, begin, end, kind, given, answer, opened):
-        """A call: what it does to files and names."""
+        """Notes what a call does to files and names."""
         paths = [bytes.fromhex(text.replace("\\x", "")).decode("utf-8", "replace") for text in HEXES.findall(given)]
         if kind == "openat":
             paths = [bytes.fromhex(opened.replace("\\x", "")).decode()]
@@ -103,7 +106,7 @@ class Disk:
             file.writes.append((begin, end, None, source))
 
     def move(self, begin, kind, name, what):
-        """Notes a change of names, and makes it."""
+        """Notes a change of names and its moment, and makes it."""
         self.moves.append((begin, kind, name, what))
         change(self.now, kind, name, what)
 
@@ -117,7 +120,7 @@ class Disk:
         return count
 
     def build(self, folder, draw):
-        """A folder as a cut at some moment leaves it."""
+        """Writes a folder as a cut at a random moment may leave it."""
         moment = draw.choice([at for at, *_ in self.moves] + [end for *_, end in self.syncs]
                              + [write[1] for file in self.now.values() if file for write in file.writes]) + draw.choice((-1e-6, 1e-6))
         begun = sum(at <= moment for at, *_ in self.moves)
@@ -133,7 +136,7 @@ class Disk:
 
 
 def change(tree, kind, name, what):
-    """Makes a change of names: `what` is a new file, or where a name moves."""
+    """Makes a change of names: `what` is a new file, None for a new folder, or the name that another one gets."""
     if kind == "rename":
         tree[what] = tree.pop(name)
     elif kind in ("make", "mkdir"):
@@ -143,7 +146,7 @@ def change(tree, kind, name, what):
 
 
 def recorded(trial):
-    """What a feed does, which has to end well."""
+    """Runs a feed under strace, which has to end well: all that it did."""
     disk, trace = Disk(trial.folder), trial.folder + ".trace"
     os.makedirs(trace)
     under = ["strace", "-ff", "-ttt", "-T", "-y", "-xx", "-s", "10000000", "-e", "trace=" + TRACED, "-o", os.path.join(trace, "of")]
@@ -160,14 +163,14 @@ def recorded(trial):
 
 
 def new_plant(folder, program):
-    """A plant that was never fed."""
+    """A plant that was never fed, with files in its inbox; and what has to come of them."""
     trial = Trial(os.path.join(folder, "new"), program)
     trial.deliver(0, hours=3)
     return trial, expected(os.path.join(folder, "hand"), program, trial.rows)
 
 
 def cut(folder, program, settings, make):
-    """Builds plants as cuts leave them, and feeds each to the end: it has to be the plant of an undisturbed feed."""
+    """Makes plants as cuts leave them, and feeds each to the end: it has to be the plant of an undisturbed feed."""
     if not shutil.which("strace"):
         return "no strace here: not tried"
     trial, wanted = make(folder, program)
@@ -184,17 +187,17 @@ def cut(folder, program, settings, make):
 
 
 def power_cut(folder, program, settings):
-    """Cuts while the second block is fed."""
+    """The power is cut while the second block is fed."""
     return cut(folder, program, settings, two_blocks)
 
 
 def power_cut_on_new_plant(folder, program, settings):
-    """Cuts while a plant is fed for the first time."""
+    """The power is cut while a plant is fed for the first time."""
     return cut(folder, program, settings, new_plant)
 
 
 def power_cut_while_retuning(folder, program, settings):
-    """Cuts while an edited base is taken over."""
+    """The power is cut while the feeder takes an edited base over."""
     return cut(folder, program, settings, edited_blocks)
 
 

@@ -1,5 +1,7 @@
-"""daily.py: tests of what comes into a plant every day: times and decimals, refused rows, half-written files, wrong clocks, the same
-file twice, and what the tools print in words."""
+"""daily.py: tests of what comes into a plant each day; test_tools.py runs them.
+
+These are times and decimals, refused rows, files that are not whole, wrong clocks, and files that come twice. The tests look at the words
+too in which the tools say what is wrong."""
 import csv
 import fcntl
 import os
@@ -20,7 +22,7 @@ NOW = 1000 * int(time.time())
 
 
 def refused(do, *given):
-    """The reason for which a field is refused."""
+    """The reason for which a field is refused, or how it is taken."""
     try:
         return "taken as %r" % (do(*given),)
     except rows.BadField as why:
@@ -28,7 +30,7 @@ def refused(do, *given):
 
 
 def times_and_decimals(folder, program, settings):
-    """Each text as it is stored, or why not."""
+    """Each text is stored as the right number, or refused for the right reason."""
     zones = zoneinfo.available_timezones()  # none where the machine has no time zones
     for text, zone, wanted in [
             ("2024-03-30T10:00:00+01:00", None, 1_711_789_200_000), ("2024-03-30 09:00:00.1239Z", None, 1_711_789_200_123),
@@ -55,7 +57,7 @@ def times_and_decimals(folder, program, settings):
 
 
 def refused_rows(folder, program, settings):
-    """Bad rows go to refused/ with number and reason, all others are stored; corrected there, the file can be fed."""
+    """Bad rows go to refused/ with number and reason, and all others are stored. The refused rows can be corrected and fed."""
     trial = Trial(os.path.join(folder, "a"), program)
     trial.write("inbox/x.csv", "FIC1.PV,2024-03-29T00:00:00Z,1.50\nNOBODY,2024-03-29T00:00:00Z,1\nFIC1.PV,2024-03-29T00:01:00Z\n\n"
                 "LIC4.PV,soon,4\nLIC4.PV,2024-03-29T00:02:00Z,\"4\nFIC1.PV,2024-03-29T00:03:00Z,\"2.50\"\n"
@@ -77,7 +79,7 @@ def refused_rows(folder, program, settings):
 
 
 def no_scale_no_decimals(folder, program, settings):
-    """A decimal of a tag without a scale is refused, not rounded away; `engunits = "0.01 degC"` in the base is a scale."""
+    """A decimal of a tag without a scale is refused and not rounded. `engunits = "0.01 degC"` in the base is a scale."""
     trial = Trial(os.path.join(folder, "a"), program)
     trial.write("base.toml", base_text(names=("FIC1.PV",)).replace("exc_dev", 'engunits = "0.01 degC"\nexc_dev', 1).replace(GROUP, "")
                 + base_text(names=("LIC4.PV",), group=""))
@@ -88,7 +90,7 @@ def no_scale_no_decimals(folder, program, settings):
 
 
 def scale_stays(folder, program, settings):
-    """Another scale of a tag that has values is refused by each tool, and nothing is stored; a turn that was stopped keeps its own."""
+    """Each tool refuses another scale of a tag that has values, and stores nothing. A turn that was stopped keeps its own scales."""
     trial = Trial(os.path.join(folder, "a"), program)
     trial.write("feed.toml", "settle_seconds = 0\n")
     trial.write("inbox/x.csv", "LIC4.PV,5,12\nLIC4.PV,6,50.04\nFIC1.PV,6,7\n")
@@ -106,7 +108,7 @@ def scale_stays(folder, program, settings):
 
 
 def half_written_file(folder, program, settings):
-    """A file without a line end at its end, a file that changes just now and one of another name stay; whole, they are fed."""
+    """A file whose last line has no end and a file of another name stay in the inbox. Once the first is whole, it is fed."""
     trial = Trial(os.path.join(folder, "a"), program)
     trial.write("feed.toml", trial.read("feed.toml").replace("settle_seconds = 0", "settle_seconds = 3600"))
     trial.write("inbox/x.csv", "LIC4.PV,1000,5\nLIC4.PV,2000,6")
@@ -122,7 +124,7 @@ def half_written_file(folder, program, settings):
 
 
 def written_to_while_fed(folder, program, settings):
-    """Rows that are added to a file while it is fed are not lost: it goes to refused/, and that is said."""
+    """Rows that are added to a file while it is fed are not lost: the file goes to refused/, and the feeder says so."""
     trial = Trial(os.path.join(folder, "a"), program)
     trial.write("inbox/x.csv", "FIC1.PV,1000,5\nFIC1.PV,2000,6\n")
     status, text = trial.feed(how="append")
@@ -131,7 +133,7 @@ def written_to_while_fed(folder, program, settings):
 
 
 def inbox_on_another_disk(folder, program, settings):
-    """Files of an inbox on another disk are copied to done/ and then removed, also where the feeder is killed before it removes them."""
+    """Files of an inbox on another disk are copied to done/ and then removed, also if the feeder is killed in between."""
     if not os.path.isdir("/dev/shm") or os.stat("/dev/shm").st_dev == os.stat(folder).st_dev:
         return "there is one disk here: not tried"
     trial = Trial(os.path.join(folder, "a"), program)
@@ -150,8 +152,8 @@ def inbox_on_another_disk(folder, program, settings):
 
 
 def wrong_clock(folder, program, settings):
-    """A value from the future is refused, so the ones that come after it are not late; so is one from before `not_before`, such as one
-    whose time is in seconds."""
+    """A value from the future is refused, so those that come after it are not late. A value from before `not_before` is refused too,
+    such as one whose time is in seconds."""
     trial = Trial(os.path.join(folder, "a"), program)
     stamps = [NOW - 120_000, NOW + 20_000, NOW + 600_000, 253_402_300_799_999, NOW + 21_000]
     trial.write("inbox/x.csv", "".join("LIC4.PV,%d,%d\n" % (t, 10 * n) for n, t in enumerate(stamps)))
@@ -169,7 +171,7 @@ def wrong_clock(folder, program, settings):
 
 
 def same_file_twice(folder, program, settings):
-    """The bytes of a file are fed once, whatever its name is the second time. That is said, also when the turn was stopped."""
+    """The bytes of a file are fed once, whatever its name is the second time. The feeder says so, also after a stopped turn."""
     trial, wanted = two_blocks(folder, program)
     trial.fed()
     shutil.copy(trial.path("done/000001/00-a.csv"), trial.path("inbox/00-a.csv"))
@@ -183,7 +185,7 @@ def same_file_twice(folder, program, settings):
 
 
 def said_each_time(folder, program, settings):
-    """Each call says that a file stays in the inbox, and a feeder with --every says it again after a while; UTF-16 is named."""
+    """Each call says that a file stays in the inbox; a feeder with --every says it again after a while. It names UTF-16."""
     trial = Trial(os.path.join(folder, "a"), program)
     trial.write("inbox/x.csv", "LIC4.PV,1000,5")
     with open(trial.path("inbox/y.csv"), "wb") as out:
@@ -202,7 +204,7 @@ def said_each_time(folder, program, settings):
 
 
 def no_csv_at_all(folder, program, settings):
-    """A file of bytes, one with other separators and one with another header are refused row by row, and a hint says why."""
+    """Bytes that are no text, other separators and another header are refused row by row, and a hint says why."""
     trial = Trial(os.path.join(folder, "a"), program)
     with open(trial.path("inbox/a.csv"), "wb") as out:
         out.write(b"\0\xff" + b"x" * 300_000 + b'\n"' + b"y" * 300_000 + b'"\nLIC4.PV,1000,5\n')
@@ -215,7 +217,7 @@ def no_csv_at_all(folder, program, settings):
 
 
 def faults_in_words(folder, program, settings):
-    """A base that the program refuses, a program that is not there, a folder that is no plant: a clear line, and nothing is touched."""
+    """A refused base, a missing program, an unknown setting, a folder that is no plant: a clear line, and nothing is touched."""
     trial = Trial(os.path.join(folder, "a"), program)
     trial.deliver(0)
     trial.write("base.toml", base_text().replace("exc_dev = 10", "exc_dev = -10", 2).replace("exc_dev = -10", "exc_dev = 10", 1))
@@ -239,7 +241,7 @@ def faults_in_words(folder, program, settings):
 
 
 def begins_with_init(folder, program, settings):
-    """--init writes a feed.toml with which the plant can be fed, and never over one that is there."""
+    """--init writes a feed.toml with which the plant can be fed, and never overwrites one."""
     trial = Trial(os.path.join(folder, "a"), program)
     os.remove(trial.path("feed.toml"))
     os.rmdir(trial.path("inbox"))
@@ -253,7 +255,7 @@ def begins_with_init(folder, program, settings):
 
 
 def goes_on_every_second(folder, program, settings):
-    """With --every it feeds what comes while it runs, also behind a process that has the plant for long."""
+    """With --every the feeder feeds what comes while it runs, also after it waited for another process."""
     trial = Trial(os.path.join(folder, "a"), program)
     child = subprocess.Popen(trial.words("--every", "0.2"), stdout=subprocess.PIPE, text=True)
     try:

@@ -1,6 +1,8 @@
-"""disk_calls.py: calls of the system that fail or are interrupted, by strace. After a failed one the session ends with the device's
-fault, makes no further call on that device, and whatever is left of each tag are the first rows of its file, with all that were
-acknowledged; the next session stores what lacks. After an interrupted one the session ends as if nothing had been."""
+"""disk_calls.py: tests of calls of the system that fail or are interrupted; test_disk.py runs them. strace makes a call fail.
+
+After a failed call the session ends with the fault of that device, and neither writes nor syncs it again. Each tag then has the first
+rows of its file, with all that were acknowledged, and the next session stores the others. After an interrupted call the session ends as
+if nothing had happened."""
 import os
 import random
 import re
@@ -12,8 +14,8 @@ from disk_plant import COMMANDS, HALF, NOTHING, ROWS, UNITS, Plant, check_same
 NAMED = ("openat", "mkdir", "statx", "rename", "renameat", "renameat2", "unlink", "unlinkat")
 TRACED = "pread64,pwrite64,ftruncate,fsync,fdatasync,read,write,flock,getdents64," + ",".join(NAMED)
 CHANGES = ("pwrite64", "fdatasync", "ftruncate")
-FAILING = {"pwrite64": 10, "fdatasync": 10, "fsync": 1, "openat": 2, "pread64": 1}  # and up to the how manieth of a thread
-FOLDER = {"openat": 2, "flock": 1, "fsync": 4, "getdents64": 2, "mkdir": 1}
+FAILING = {"pwrite64": 10, "fdatasync": 10, "fsync": 1, "openat": 2, "pread64": 1}  # of a thread's first so many calls, one fails
+FOLDER = {"openat": 2, "flock": 1, "fsync": 4, "getdents64": 2, "mkdir": 1}  # the same on the folder
 DEVICE = ("openat", "statx", "fsync", "fdatasync", "pread64", "pwrite64")
 INTERRUPTED = [(kind, "historian.d/T1.tag") for kind in DEVICE] + [
     ("mkdir", "historian.d"), ("statx", "historian.d"), ("openat", "historian.d"),
@@ -21,14 +23,15 @@ INTERRUPTED = [(kind, "historian.d/T1.tag") for kind in DEVICE] + [
 
 
 def injected(plant, verb, errors, paths=()):
-    """Runs a command in which calls have errors, given as strace has them (`fdatasync:error=EIO:when=2`), on these paths if any are
-    given: exit status, what it printed, and the calls behind the first error, each as its kind and names, or None if there was none."""
+    """Runs a command in which calls have errors, on these paths or on all. An error is given as strace takes it, such as
+    `fdatasync:error=EIO:when=2`. Returns the exit status, what it printed, and the calls after the first error as their kinds and names.
+    The last is None if no call had an error."""
     trace = plant.path("trace")
     os.makedirs(trace)
     under = ["strace", "-ff", "-ttt", "-y", "-xx", "-qq", "-o", os.path.join(trace, "of"), "-e", "trace=" + TRACED]
     for error in errors:
         under += ["-e", "inject=" + error]
-    for path in paths:  # as the program names it, and as the system does
+    for path in paths:  # as the program writes it, and as the system does
         under += ["-P", path, "-P", plant.path(path)]
     status, text = plant.call(*COMMANDS[verb], under=under)
     text = "".join(line for line in text.splitlines(True) if not line.startswith("strace: "))
@@ -43,14 +46,14 @@ def injected(plant, verb, errors, paths=()):
 
 
 def kind_and_names(line):
-    """The kind of the call that a line tells, and the names of its files."""
+    """The kind of the call in a line of strace, and the names of its files."""
     kind = re.sub(r"^[\d.]+ (\w*).*", r"\1", line.strip())
     paths = re.findall(r'"((?:\\x..)+)"' if kind in NAMED else r"<((?:\\x..)+)>", line)
     return kind, [os.path.basename(text_of(path)) for path in paths]
 
 
 def stood(folder, program, verb):
-    """A plant in which half of the rows are stored, with the other half to come."""
+    """A plant in which a session stored half of the rows, with the other half in its files."""
     plant = Plant(folder, program)
     plant.deliver(NOTHING, ROWS // 2)
     plant.told(verb)
@@ -59,7 +62,7 @@ def stood(folder, program, verb):
 
 
 def failing(folder, program, settings, verb, devices, audit):
-    """Lets a call fail on a device or on the folder, over devices that stand and over new ones, until there were enough."""
+    """Makes calls fail on a device or on the folder, with old devices and with new ones, until there were enough."""
     if not shutil.which("strace"):
         return "no strace here: not tried"
     draw, count, tried = random.Random(settings.seed), 0, 0
@@ -80,7 +83,7 @@ def failing(folder, program, settings, verb, devices, audit):
 
 
 def check_failure(status, text, later, device, given):
-    """The device is told, and no call that changes it is made behind the one that failed."""
+    """Fails unless the session names the device and makes no call that changes it after the one that failed."""
     if later is None:
         assert status == 0, "%s was not met, but the session ends with %d: %s" % (given, status, text)
         return
@@ -91,32 +94,32 @@ def check_failure(status, text, later, device, given):
 
 
 def audit_run(plant, least, goes_on):
-    """Looks at what a session of `run` left, and at times goes on."""
+    """Checks what a session of `run` left, and what the next session leaves if asked to."""
     plant.audit(least)
     if goes_on:
         plant.finish()
 
 
 def audit_log(plant, least, goes_on):
-    """Looks at what a session of `log` left, and at times goes on."""
+    """Checks what a session of `log` left, and what the next session leaves if asked to."""
     plant.audit_log(least)
     if goes_on:
         plant.finish_log()
 
 
 def failing_calls_of_run(folder, program, settings):
-    """`run` tells which device has failed; nothing that was acknowledged is lost, and the next session goes on."""
+    """`run` names the device that has failed. Nothing that was acknowledged is lost, and the next session goes on."""
     return failing(folder, program, settings, "run", ("T1.tag", "T2.tag", "T3.tag", "shift.grp"), audit_run)
 
 
 def failing_calls_of_log(folder, program, settings):
-    """The same of `log`."""
+    """`log` names its device. Nothing that was acknowledged is lost, and the next session goes on."""
     return failing(folder, program, settings, "log", ("plant.log",), audit_log)
 
 
 def interrupted_calls(folder, program, settings):
-    """A call that a signal interrupts is made again: `run` leaves the whole plant, over devices that stand and over new ones. A read of the
-    folder's names alone is not made again: it is a fault."""
+    """`run` makes a call again if a signal interrupts it, and leaves the whole plant, with old devices and with new ones. An interrupted
+    read of the folder's names is a fault, and is not tried here."""
     if not shutil.which("strace"):
         return "no strace here: not tried"
     count, refused = 0, []

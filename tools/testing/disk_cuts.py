@@ -1,8 +1,10 @@
-"""disk_cuts.py: power cuts. The calls of a session are recorded by strace, with the moments of each; then folders are built as a cut at a
-random moment may leave them, and the program opens them.
+"""disk_cuts.py: tests of the program when the power is cut; test_disk.py runs them.
 
-Of a file there is all that was synced by then. Of what came later each write is there or not, whole or in part or as other bytes; a
-single byte is there or not. A file whose name was not synced is there or not."""
+strace records the calls of a session with their moments. A test then makes folders as a cut at a random moment may leave them, and the
+program opens them.
+
+A file has all that was synced by that moment. A later write is missing, whole, in part, or other bytes; a single byte is there or not. A
+file whose name was not synced is empty or missing."""
 import os
 import random
 import re
@@ -18,7 +20,7 @@ LINE = re.compile(r'(\d+\.\d+) (\w+)\((.*)\) = (-?\d+)(?:<(.*?)>)?.* <([\d.]+)>$
 
 
 def recorded(plant, verb):
-    """Runs a session under strace: its calls on the files of the folder, in the order of their moments."""
+    """Runs a session under strace, which has to end well: its calls on the files of the folder, in the order of their moments."""
     trace = plant.path("trace")
     os.makedirs(trace)
     under = ["strace", "-ff", "-ttt", "-T", "-y", "-xx", "-s", "1000000", "-e", "trace=" + TRACED, "-o", os.path.join(trace, "of")]
@@ -33,7 +35,7 @@ def recorded(plant, verb):
 
 
 def call_of(line):
-    """The call that a line of strace tells, if it is one on the folder of devices or makes, writes or syncs a file in it."""
+    """The call in a line of strace, if it makes, writes or syncs a file of the folder of devices, or syncs the folder; else None."""
     found = LINE.match(line.strip())
     if not found:
         return None
@@ -49,11 +51,12 @@ def call_of(line):
 
 
 def text_of(hexes):
+    """The text that strace prints as hexadecimal bytes."""
     return bytes.fromhex(hexes.replace("\\x", "")).decode()
 
 
 class Session:
-    """What stood in the folder before a session, its calls, and what each file may hold at a moment of it."""
+    """A session: the files that were in the folder before it, and its calls."""
 
     def __init__(self, plant, verb):
         self.first = files_of(plant)
@@ -61,12 +64,12 @@ class Session:
         self.names = set(self.first) | {call.name for call in self.calls} - {"historian.d"}
 
     def moment(self, draw):
-        """A moment within some call, or between two."""
+        """A random moment in a call, at its end, or just after it."""
         call = draw.choice(self.calls)
         return draw.choice((draw.uniform(call.begin, call.end), call.end, call.end + 1e-6))
 
     def known(self, name, moment):
-        """The bytes of a file that were synced at a moment, or None where its name was not, and the calls on it since."""
+        """The bytes of a file that were synced by a moment, or None if its name was not; and the later calls on it."""
         data, since, is_named = self.first.get(name, b""), [], name in self.first
         for call in self.calls:
             if call.begin > moment or call.name not in (name, "historian.d"):
@@ -81,7 +84,7 @@ class Session:
         return (data if is_named else None), since
 
     def image(self, name, moment, draw):
-        """The bytes that a cut at a moment may leave of a file, or None where it is not there."""
+        """Bytes that a cut at a moment may leave of a file, or None if the file is not there."""
         data, since = self.known(name, moment)
         if data is None:
             return b"" if since and draw.random() < 0.5 else None
@@ -103,7 +106,7 @@ def written(data, calls):
 
 
 def torn(data, call, draw):
-    """The bytes once a write is made in part: its first bytes, some of its sectors, or other bytes in the place of its own."""
+    """The bytes once a write is made as a cut may leave it: not, whole, its first bytes, some sectors, or other bytes."""
     size = len(call.data)
     how = draw.choice(("none", "all", "first", "sectors", "zeros", "others", "open") if size > 1 else ("none", "all"))
     if how == "none":
@@ -118,13 +121,13 @@ def torn(data, call, draw):
 
 
 def files_of(plant):
-    """The bytes of the devices by name."""
+    """The bytes of the files in the folder of devices, by name."""
     folder = plant.path("historian.d")
     return {name: plant.read("historian.d/" + name) for name in os.listdir(folder)} if os.path.isdir(folder) else {}
 
 
 def build(folder, program, session, moment, draw):
-    """A folder as a cut leaves it."""
+    """Writes a plant's folder as a cut at a moment may leave it."""
     plant = Plant(folder, program)
     os.makedirs(plant.path("historian.d"))
     for name in session.names:
@@ -135,7 +138,7 @@ def build(folder, program, session, moment, draw):
 
 
 def cuts(folder, program, settings, verb, kinds, look):
-    """Looks at images of sessions of some kinds until there were enough."""
+    """Checks images of sessions of these kinds, half as many as asked for."""
     if not shutil.which("strace"):
         return "no strace here: not tried"
     draw, values, count = random.Random(settings.seed), 0, settings.count // 2
@@ -151,7 +154,7 @@ def cuts(folder, program, settings, verb, kinds, look):
 
 
 def traced(folder, program, verb, draw, is_new, has_lanes):
-    """A session over devices that are new or have half of the rows already, at will with short lanes."""
+    """A session over devices that are new or have half of the rows already, with short lanes or not."""
     plant = Plant(folder, program)
     if has_lanes:
         plant.make_lanes(draw)
@@ -163,7 +166,7 @@ def traced(folder, program, verb, draw, is_new, has_lanes):
 
 
 def look_at_run(plant, session, moment, goes_on):
-    """What `check` and `trend` find, and at times that the plant goes on from there."""
+    """Checks what `check` and `trend` find, and what the next session leaves if asked to: how many values there are."""
     least = {name: events_in(session.known(name + ".tag", moment)[0] or b"") for name in TAGS}
     found = plant.audit(least)
     if goes_on:
@@ -172,7 +175,7 @@ def look_at_run(plant, session, moment, goes_on):
 
 
 def look_at_log(plant, session, moment, goes_on):
-    """What `log` finds."""
+    """Checks what `log` finds, and what the next session leaves if asked to: how many values there are."""
     known = rows_on_log(session.known("plant.log", moment)[0] or b"")
     found = plant.audit_log({name: sum(TAGS[row[0]] == name for row in known) for name in TAGS})
     if goes_on:
@@ -181,13 +184,13 @@ def look_at_log(plant, session, moment, goes_on):
 
 
 def cuts_of_run(folder, program, settings):
-    """Cuts of `run` over new devices, over devices of short lanes, and over devices that stand."""
+    """The power is cut in `run`, over new devices and over old ones, each with lanes as usual and with short ones."""
     kinds = [(is_new, has_lanes) for is_new in (True, False) for has_lanes in (False, True)]
     return cuts(folder, program, settings, "run", kinds, look_at_run)
 
 
 def cuts_of_log(folder, program, settings):
-    """Cuts of `log` into a new log, and behind what stands there."""
+    """The power is cut in `log`, into a new log and into one that has rows."""
     return cuts(folder, program, settings, "log", [(True, False), (False, False)], look_at_log)
 
 

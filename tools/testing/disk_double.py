@@ -1,5 +1,6 @@
-"""disk_double.py: two processes on one folder. The one that comes second is refused as long as the first one lives, and changes nothing;
-the first one ends as if it had been alone."""
+"""disk_double.py: tests of two processes in one folder; test_disk.py runs them.
+
+While the first process lives, the program refuses the second one, which changes nothing. The first one ends as if it had been alone."""
 import os
 import random
 import re
@@ -16,13 +17,13 @@ CHANGES = re.compile(r"^\d+ +(pwrite64|ftruncate|mkdir|unlink|rename|fsync|fdata
 
 
 def has_lock(child):
-    """Whether a process has locked a file or a folder."""
+    """Whether a process holds a lock on a file or a folder."""
     with open("/proc/locks") as locks:
         return any(line.split()[4] == str(child.pid) for line in locks if "->" not in line)
 
 
 def second(plant, verb):
-    """Runs the second process: exit status, what it printed, and its calls that change something, where strace is there."""
+    """Runs the second process: exit status, what it printed, and its calls that change something, if strace is there."""
     trace = plant.path("trace")
     under = ["strace", "-f", "-qq", "-o", trace, "-e", "trace=file,desc"] if shutil.which("strace") else []
     status, text = plant.call(*COMMANDS[verb], under=under)
@@ -31,8 +32,8 @@ def second(plant, verb):
 
 
 def double(plant, verb, other, delay):
-    """Starts a session, stops it a while after it locked the folder, starts another process, and lets the first one go on: whether
-    they met."""
+    """Starts a session, stops it a while after it locked the folder, runs another process, and lets the first go on. Returns whether
+    they met, and what the first printed."""
     first = plant.start(*COMMANDS[verb])
     while not has_lock(first) and first.poll() is None:
         time.sleep(0.0002)
@@ -50,7 +51,7 @@ def double(plant, verb, other, delay):
 
 
 def doubles(folder, program, settings, verb, other):
-    """Double sessions until there were enough that met."""
+    """Makes double sessions until enough of them met."""
     draw, count, tried = random.Random(settings.seed), 0, 0
     lines = Plant(os.path.join(folder, "lines"), program).lines(WHOLE)
     longest = duration(os.path.join(folder, "first"), program, verb) / 2
@@ -72,27 +73,27 @@ def doubles(folder, program, settings, verb, other):
 
 
 def double_run(folder, program, settings):
-    """`run` beside `run`."""
+    """A second `run` while `run` has the folder."""
     return doubles(folder, program, settings, "run", "run")
 
 
 def double_retuning(folder, program, settings):
-    """`check` of a base that retunes each tag beside `run`."""
+    """`check` of a base that retunes each tag, while `run` has the folder."""
     return doubles(folder, program, settings, "run", "retune")
 
 
 def double_trend(folder, program, settings):
-    """`trend` beside `run`."""
+    """`trend` while `run` has the folder."""
     return doubles(folder, program, settings, "run", "trend")
 
 
 def double_log(folder, program, settings):
-    """`log` beside `log`."""
+    """A second `log` while `log` has the folder."""
     return doubles(folder, program, settings, "log", "log")
 
 
 def started_together(folder, program, settings):
-    """Two sessions that start at the same moment: either one is refused, or they went one after the other."""
+    """Two sessions start at the same moment: one is refused, or they go one after the other."""
     both = 0
     for place in range(max(2, settings.count // 10)):
         plant = Plant(os.path.join(folder, str(place)), program)

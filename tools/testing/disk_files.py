@@ -1,5 +1,7 @@
-"""disk_files.py: files that are not as they should be. What may only be read is read; a link, a file with two names, what is no file, a
-file of more than 1 GB, and one whose first byte is damaged are refused in a moment, and stay as they are."""
+"""disk_files.py: tests of files that are damaged or of another kind; test_disk.py runs them.
+
+The program reads a folder that it may not write to. Within seconds it refuses a link, a file with two names, what is no file, a file of
+more than 1 GB, and a file whose first byte is damaged. These stay as they are."""
 import os
 import random
 import shutil
@@ -19,7 +21,7 @@ CALENDAR = b'zone = "CET-1"\nstarts = ["06:00", "18:00"]\ntags = ["T1"]\nmeasure
 
 
 def full_plant(folder, program):
-    """A plant with devices of tags, a group and a log."""
+    """A plant whose tags, group and log have devices with all rows."""
     plant = Plant(folder, program)
     plant.write("calendar.toml", CALENDAR)
     plant.write("more.toml", base_text(names=TAGS + ("T4",)).encode())
@@ -29,7 +31,7 @@ def full_plant(folder, program):
 
 
 def state(plant):
-    """What stands in the folder: of each name its kind and rights, length, place, moment of change, and a link's target."""
+    """The names in the folder of devices, each with kind and rights, length, number, time of change, and the target of a link."""
     found = {}
     for name in sorted(os.listdir(plant.path("historian.d"))):
         seen = os.lstat(plant.device(name))
@@ -39,7 +41,7 @@ def state(plant):
 
 
 def refused(plant, name):
-    """Each command that opens a device tells it as a fault, in a moment, and leaves all devices as they are. Answers how many."""
+    """Fails unless each command that opens a device refuses it within seconds and changes nothing: how many commands."""
     before = state(plant)
     for verb in OPENS[name]:
         start = time.monotonic()
@@ -52,7 +54,7 @@ def refused(plant, name):
 
 
 def unknown_word(folder, program, settings):
-    """A word that is no command opens no device: not even a marked one is written anew."""
+    """With words that are no command the program opens no device, and writes no marked one anew."""
     plant = full_plant(os.path.join(folder, "plant"), program)
     plant.write("historian.d/T1.tag.fault", b"")
     before = state(plant)
@@ -62,7 +64,7 @@ def unknown_word(folder, program, settings):
 
 
 def damaged_first_bytes(folder, program, settings):
-    """A tag, a group or the log whose first byte is neither 00 nor an open gate is refused, and goes on once the byte is put back."""
+    """A device whose first byte is neither 00 nor an open gate is refused. Once the byte is put back, the program reads it."""
     draw, count = random.Random(settings.seed), 0
     plant = full_plant(os.path.join(folder, "plant"), program)
     wanted = plant.told("trend")
@@ -79,7 +81,7 @@ def damaged_first_bytes(folder, program, settings):
 
 
 def closed_first_bytes(folder, program, settings):
-    """A tag or the log whose first byte is 00, with a gate open behind it, is refused. With no gate open it is begun anew."""
+    """A tag's device or the log is refused if its first byte is 00 and a later gate is open. A device without one begins anew."""
     count, plant = 0, full_plant(os.path.join(folder, "plant"), program)
     for name in ("T1.tag", "plant.log"):
         good = plant.read("historian.d/" + name)
@@ -93,16 +95,16 @@ def closed_first_bytes(folder, program, settings):
 
 
 def zeroed_first_sectors(folder, program, settings):
-    """A tag's device whose first sector reads as zeros, with records behind its lane, is refused: no making is as long."""
+    """A tag's device with records behind its lane is refused if its first sector is zeros: one that is being made is shorter."""
     plant = full_plant(os.path.join(folder, "plant"), program)
-    plant.told("retune")  # which puts the records behind the lane
+    plant.told("retune")  # this puts the records behind the lane
     good = plant.read("historian.d/T1.tag")
     plant.write("historian.d/T1.tag", bytes(512) + good[512:])
     return "%d refusals" % refused(plant, "T1.tag")
 
 
 def links_and_names(folder, program, settings):
-    """Links, to a device, to a text, to nothing and to themselves, files with two names, and what is no file."""
+    """Links (to a device, to a text, to nothing, to themselves), files with two names, and what is no file are refused."""
     count = 0
     plant = full_plant(os.path.join(folder, "plant"), program)
     for name in OPENS:
@@ -161,7 +163,7 @@ KINDS = [link_to_device, link_to_text, link_to_nothing, link_to_itself, second_n
 
 
 def large_files(folder, program, settings):
-    """Files of 10 GB that take no room on the disk, of zeros and of a device with zeros behind it, are refused and take no memory."""
+    """Files of 10 GB that take no room on the disk are refused, with less than 500 MB of memory: zeros, or a device and zeros."""
     count, most = 0, 0
     plant = full_plant(os.path.join(folder, "plant"), program)
     for name in OPENS:
@@ -178,7 +180,7 @@ def large_files(folder, program, settings):
 
 
 def memory_of(plant, words):
-    """How much memory a run takes at most, in KB."""
+    """Runs a command: its peak memory in KB."""
     child = plant.start(*words)
     used = os.wait4(child.pid, 0)[2].ru_maxrss
     child.communicate()
@@ -186,7 +188,7 @@ def memory_of(plant, words):
 
 
 def strangers(folder, program, settings):
-    """What lies in the folder and is asked by nobody disturbs nobody; the folder may be a link, but no file, and no link to nothing."""
+    """Files in the folder that no command needs change nothing. The folder may be a link, but no file, and no link to nothing."""
     plant = full_plant(os.path.join(folder, "plant"), program)
     wanted = {verb: plant.told(verb) for verb in READS}
     os.symlink("nothing", plant.device("a.tag"))
@@ -211,7 +213,7 @@ def strangers(folder, program, settings):
 
 
 def reads_what_it_may(plant, wanted, **user):
-    """What reads answers as before, what has to write is a fault, and nothing changes."""
+    """Fails unless commands that read answer as before, those that have to write end with a fault, and nothing changes."""
     before = state(plant)
     for verb in READS:
         assert plant.call(*COMMANDS[verb], **user) == (0, wanted[verb]), "%s: %s" % (verb, plant.call(*COMMANDS[verb], **user))
@@ -222,7 +224,7 @@ def reads_what_it_may(plant, wanted, **user):
 
 
 def for_everybody(folder, program):
-    """The program as a copy that each user may run, in a folder into which each may look."""
+    """Copies the program so that each user may run it, and opens the folder to each user: the command of the copy."""
     os.chmod(folder, 0o755)
     first, *others = program.split()
     copy = shutil.copy(first, os.path.join(folder, "program"))
@@ -231,19 +233,19 @@ def for_everybody(folder, program):
 
 
 def reader():
-    """What starts a process as a user who owns nothing, where this one is root."""
+    """Settings that start a process as a user who owns nothing, if this process is root's."""
     return {"user": NOBODY, "group": NOBODY, "extra_groups": []} if os.getuid() == 0 else {}
 
 
 def may_only_be_read(plant):
-    """Lets nobody but root write to the devices and their folder."""
+    """Takes the right to write to the devices and their folder from all but root."""
     for name in os.listdir(plant.path("historian.d")):
         os.chmod(plant.device(name), 0o444)
     os.chmod(plant.path("historian.d"), 0o555)
 
 
 def read_only_files(folder, program, settings):
-    """A user who may only read, in a folder in which he may write nothing."""
+    """A user who may read the folder and write nothing in it gets answers. A device that he may not read is a fault."""
     plant = full_plant(os.path.join(folder, "plant"), for_everybody(folder, program))
     wanted = {verb: plant.told(verb) for verb in READS}
     may_only_be_read(plant)
@@ -257,7 +259,7 @@ def read_only_files(folder, program, settings):
 
 
 def read_only_mount(folder, program, settings):
-    """The same on a file system that is mounted for reading alone, if one may be mounted here."""
+    """The program answers on a file system that is mounted for reading alone, if one may be mounted here."""
     place = os.path.join(folder, "small")
     os.makedirs(place)
     if subprocess.run(["mount", "-t", "tmpfs", "tmpfs", place], stderr=subprocess.DEVNULL).returncode:

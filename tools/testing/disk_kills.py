@@ -1,5 +1,7 @@
-"""disk_kills.py: the program is killed at random moments of `run` and of `log`. What stood on the devices just before the kill has to be
-there afterwards, each tag has to have the first rows of its file, and the next session has to end as if nobody had stopped the first."""
+"""disk_kills.py: tests that kill the program at random moments of `run` and of `log`, and at given calls; test_disk.py runs them.
+
+All values that stood on the devices just before a kill have to be there after it. Each tag has to have the first rows of its file, and
+no others. The next session has to end as if nobody had stopped the first."""
 import os
 import random
 import shutil
@@ -10,7 +12,7 @@ from disk_plant import COMMANDS, GROUP, NOTHING, ROWS, Plant
 
 
 def kill_of_run(draw, plant, delay):
-    """Kills a session after a while, and looks at what is left. Answers whether it was still running, and how many values are left."""
+    """Kills a session after a while and checks what is left: whether it was still running, and how many values are left."""
     plant.make_lanes(draw)
     child = plant.start(*COMMANDS["run"])
     time.sleep(delay)
@@ -22,7 +24,7 @@ def kill_of_run(draw, plant, delay):
 
 
 def kill_of_log(draw, plant, delay):
-    """The same of `log`; half of the rows may have come in a session before."""
+    """Does the same with `log`; a session before may have stored half of the rows."""
     if draw.random() < 0.5:
         plant.deliver(NOTHING, ROWS // 2)
         plant.told("log")
@@ -37,7 +39,7 @@ def kill_of_log(draw, plant, delay):
 
 
 def stop(child):
-    """Kills a process, if it still runs: whether it did."""
+    """Kills a process: whether it still ran."""
     is_running = child.poll() is None
     child.kill()
     child.communicate()
@@ -45,7 +47,7 @@ def stop(child):
 
 
 def kills(folder, program, settings, verb, kill):
-    """Kills until they are used up."""
+    """Kills sessions until enough kills met one that still ran: half as many as asked for."""
     draw, count, values, place = random.Random(settings.seed), 0, 0, 0
     longest = duration(os.path.join(folder, "first"), program, verb)
     while count < settings.count // 2:
@@ -59,7 +61,7 @@ def kills(folder, program, settings, verb, kill):
 
 
 def duration(folder, program, verb):
-    """How long a session takes that nobody stops."""
+    """The seconds of a session that nobody stops."""
     plant = Plant(folder, program)
     start = time.monotonic()
     plant.told(verb)
@@ -67,25 +69,25 @@ def duration(folder, program, verb):
 
 
 def kills_of_run(folder, program, settings):
-    """`run` over devices of one to 64 lane slots is killed; then `check` and `trend` answer, and a second `run` stores what lacks."""
+    """`run` over devices with 1 to 64 lane slots is killed. Then `check` and `trend` answer, and a second `run` stores the other rows."""
     return kills(folder, program, settings, "run", kill_of_run)
 
 
 def kills_of_log(folder, program, settings):
-    """`log` is killed; then `log` tells the rows that are there."""
+    """`log` is killed. Then `log` answers with the rows that are there, and a second one stores the others."""
     return kills(folder, program, settings, "log", kill_of_log)
 
 
 def killed_at(plant, verb, device, kind, number):
-    """Kills a session at the n-th call of a kind on a device: whether it came so far."""
+    """Kills a session at the n-th call of a kind on a device: whether it made so many."""
     status, text, _ = injected(plant, verb, ["%s:signal=KILL:when=%d" % (kind, number)], ["historian.d/" + device])
     assert status in (0, -9, 137), "%s %d of %s: exit %d, %s" % (kind, number, device, status, text)
     return status != 0
 
 
 def kills_at_calls(folder, program, settings):
-    """The program is killed at each call on a device that it makes, and on a group's whose definition has changed: what is left is
-    never taken for a damaged device, and the next session ends as if nobody had stopped the first."""
+    """The program is killed at its first calls on a new device, and on a group's whose definition has changed. It never takes what is
+    left for a damaged device, and the next session ends as if nobody had stopped the first."""
     if not shutil.which("strace"):
         return "no strace here: not tried"
     new, regrouped = Plant(os.path.join(folder, "new"), program), stood(os.path.join(folder, "old"), program, "run")
@@ -106,7 +108,7 @@ def kills_at_calls(folder, program, settings):
 
 
 def finish(plant, verb, is_same):
-    """Lets the next session store what lacks; the replies are the whole plant's where the group is."""
+    """The next session stores the other rows. If the group is the usual one, all answers have to be those of the whole plant."""
     if verb == "log":
         plant.finish_log()
     elif is_same:

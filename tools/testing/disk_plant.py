@@ -1,8 +1,7 @@
-"""disk_plant.py: a plant of three tags and a group for the tests of the disk, and what stands in its devices, read here by the rules of
-docs/FORMATS.md and not by the program.
+"""disk_plant.py: a plant of three tags and a group for the tests of the disk.
 
-Each tag has all its values from one collector, so whatever a stop leaves of a tag has to be the first rows of its file. The line of
-`check` for the first k rows of a tag is found without any device, by `pack`."""
+The tests read its devices by the rules of docs/FORMATS.md, without the program. All values of a tag come from one collector, so whatever
+a stop leaves of a tag has to be the first rows of its file. `pack` finds the line of `check` for those rows, without a device."""
 import copy
 import os
 import random
@@ -16,7 +15,7 @@ TAGS = ("T1", "T2", "T3")
 FILES = {"T1": "c1.csv", "T2": "c1.csv", "T3": "c2.csv"}
 EXC_DEV, EXC_MAX, COMP_DEV, COMP_MAX = 2, 600_000, 5, 28_800_000
 PERIOD, WINDOWS = 60_000, 18
-ROWS = 320  # of each tag: several batches of 64, and checkpoints where the lane is short
+ROWS = 320  # of each tag: several batches of 64, and with a short lane several checkpoints
 TAG = '[[tag]]\nname = "%s"\nexc_dev = %d\nexc_max = %d\ncomp_dev = %d\ncomp_min = 0\ncomp_max = %d\n\n'
 GROUP = """[[group]]
 name = "shift"
@@ -41,16 +40,16 @@ COMMANDS = {"run": ("run", "base.toml", "plan.toml"), "log": ("log", "base.toml"
             "frames": ("frames", "base.toml", "shift", "mean", "1"),
             "shifts": ("shifts", "base.toml", "calendar.toml", "1971-01-01", "1"), "retune": ("check", "retuned.toml")}
 UNITS = {"T1.tag": "tag 1", "T2.tag": "tag 2", "T3.tag": "tag 3", "shift.grp": "group 1", "plant.log": "log"}
-KNOWN = {}  # the lines that were asked for already
+KNOWN = {}  # lines and replies that were found already
 
 
 def base_text(comp_dev=COMP_DEV, names=TAGS):
-    """The base; another comp_dev retunes each tag."""
+    """The text of the base; another comp_dev retunes each tag."""
     return "".join(TAG % (name, EXC_DEV, EXC_MAX, comp_dev, COMP_MAX) for name in names) + GROUP
 
 
 def rows_of(name):
-    """The values of a tag as times and values; some come late."""
+    """The rows of a tag, as times and values; some come late."""
     draw, rows, value = random.Random(name), [], 500
     for step in range(ROWS):
         value += draw.randint(-6, 6)
@@ -66,13 +65,13 @@ NOTHING, HALF, WHOLE = ({name: count for name in TAGS} for count in (0, ROWS // 
 
 
 def file_text(file, stored, until):
-    """The rows of a collector's file, of each tag from those on that are stored already; tags that share a file take turns."""
+    """The text of a collector's file without the first rows of each tag that are stored already. Tags in one file take turns."""
     rows = [(place, name, ALL[name][place]) for name in TAGS if FILES[name] == file for place in range(stored[name], until)]
     return "".join("%s,%d,%d\n" % (name, t, v) for _, name, (t, v) in sorted(rows))
 
 
 def rows_on_log(data):
-    """The rows of the log: tag, collector, row of its file, time and value."""
+    """The rows in the bytes of a log: tag, collector, row of its file, time and value."""
     rows, at = [], 9 + number(data, 5, 4)
     while len(data) > 1 and data[0] == OPEN and at < len(data) and data[at] == OPEN:
         count = number(data, at + 9, 4)
@@ -82,14 +81,14 @@ def rows_on_log(data):
 
 
 def new_device(name, slots):
-    """The bytes of a tag's new device with so many lane slots; the program makes 64."""
+    """The bytes of a tag's new device with so many lane slots; the program itself makes 64."""
     head = b"PHT1" + bytes([len(name)]) + name.encode().ljust(64, b"\0")
     tuning = struct.pack(">5Q", EXC_DEV, EXC_MAX, COMP_DEV, 0, COMP_MAX)
     return (bytes([OPEN]) + head + tuning + struct.pack(">I", slots)).ljust(400 + 1035 * slots, b"\0")
 
 
 class Plant:
-    """A plant's folder of a test, and the program."""
+    """The folder of a test's plant, and the program."""
 
     def __init__(self, folder, program):
         self.folder, self.program = folder, program
@@ -109,14 +108,16 @@ class Plant:
         return other
 
     def deliver(self, stored, until=ROWS):
-        """Writes the collectors' files, of each tag without the rows that are stored already."""
+        """Writes the collectors' files, up to some row of each tag, without the first rows that are stored already."""
         for file in set(FILES.values()):
             self.write(file, file_text(file, stored, until).encode())
 
     def path(self, *names):
+        """The path of a file in the plant's folder."""
         return os.path.join(self.folder, *names)
 
     def device(self, name):
+        """The path of a device."""
         return self.path("historian.d", name)
 
     def write(self, name, data):
@@ -124,7 +125,7 @@ class Plant:
             out.write(data)
 
     def read(self, name):
-        """The bytes of a file; none where it is missing."""
+        """The bytes of a file; none if it is missing."""
         try:
             with open(self.path(name), "rb") as data:
                 return data.read()
@@ -132,7 +133,7 @@ class Plant:
             return b""
 
     def make_lanes(self, draw):
-        """Makes some of the devices beforehand, with short lanes, so that a session has many checkpoints."""
+        """Makes some of the devices with short lanes, so that a session has many checkpoints."""
         os.makedirs(self.path("historian.d"), exist_ok=True)
         for name in TAGS:
             slots = draw.choice((None, 1, 2, 4))
@@ -140,7 +141,7 @@ class Plant:
                 self.write("historian.d/%s.tag" % name, new_device(name, slots))
 
     def start(self, *words, under=(), **more):
-        """Starts the program, if asked to under another one such as strace."""
+        """Starts the program, under another one such as strace if asked to: the process."""
         words = [*under, *self.program.split(), *words]
         return subprocess.Popen(words, cwd=self.folder, stdout=subprocess.PIPE, stderr=subprocess.PIPE, text=True, **more)
 
@@ -151,21 +152,21 @@ class Plant:
         return child.returncode, text + told
 
     def told(self, verb):
-        """What a command prints, which has to end well."""
+        """Runs a command that has to end well: what it printed."""
         status, text = self.call(*COMMANDS[verb])
         assert status == 0, "%s ends with %d: %s" % (verb, status, text[-2000:])
         return text
 
     def events(self):
-        """How many events stand on each tag's device."""
+        """How many events each tag's device has."""
         return {name: events_in(self.read("historian.d/%s.tag" % name)) for name in TAGS}
 
     def lines(self, events):
-        """What `check` has to print where each tag took so many first rows."""
+        """What `check` has to print if each tag took so many first rows."""
         return "".join(self.line(name, events[name]) for name in TAGS)
 
     def line(self, name, count):
-        """The line of a tag after its first rows, found by `pack`."""
+        """The line that `check` has to print for a tag after so many first rows. `pack` finds it."""
         if (name, count) not in KNOWN:
             text = "".join("%d,%d\n" % row for row in ALL[name][:count])
             words = ["pack", *map(str, (EXC_DEV, EXC_MAX, COMP_DEV, 0, COMP_MAX))]
@@ -176,7 +177,7 @@ class Plant:
         return KNOWN[name, count]
 
     def whole(self):
-        """The line of `check` and the replies of `trend` of a plant that nobody stopped."""
+        """The lines of `check` and the replies of `trend` of a plant that nobody stopped."""
         if "whole" not in KNOWN:
             other = Plant(self.path("whole"), self.program)
             other.told("run")
@@ -186,7 +187,7 @@ class Plant:
         return KNOWN["whole"]
 
     def audit(self, least):
-        """After a stop: of each tag the first rows, and no fewer than were there before it. Answers how many values there are."""
+        """Fails unless a stop left the first rows of each tag, and at least so many: how many values there are."""
         events = self.events()
         for name in TAGS:
             assert least[name] <= events[name] <= ROWS, "%s has %d of %d acknowledged values" % (name, events[name], least[name])
@@ -199,7 +200,7 @@ class Plant:
         return sum(events.values())
 
     def finish(self):
-        """Stores the rows that lack: then the plant is as one that nobody stopped."""
+        """Stores the other rows by another session. Fails unless the plant is then as one that nobody stopped."""
         self.deliver(self.events())
         self.told("run")
         check, trend = self.whole()
@@ -207,7 +208,7 @@ class Plant:
         check_same(self.told("trend"), trend, "trend at the end")
 
     def logged(self):
-        """How many rows of each tag stand on the log: they are the first ones of its file."""
+        """How many rows of each tag the log has. Fails unless they are the first ones of its file."""
         rows = {name: [] for name in TAGS}
         for tag, _, _, t, v in rows_on_log(self.read("historian.d/plant.log")):
             rows[TAGS[tag]].append((t, v))
@@ -216,20 +217,20 @@ class Plant:
         return {name: len(mine) for name, mine in rows.items()}
 
     def audit_log(self, least):
-        """After a stop of `log`: of each tag the first rows, and no fewer than were there before it. Answers how many there are."""
+        """Fails unless a stop of `log` left the first rows of each tag, and at least so many: how many rows there are."""
         counts = self.logged()
         assert all(least[name] <= counts[name] for name in TAGS), "%s rows of %s acknowledged ones" % (counts, least)
         check_same(self.told("rows"), self.lines(counts), "log after a stop")
         return sum(counts.values())
 
     def finish_log(self):
-        """Puts the rows that lack into the log."""
+        """Puts the other rows into the log by another session. Fails unless it then has all."""
         self.deliver(self.logged())
         check_same(self.told("log"), self.lines(WHOLE), "log at the end")
 
 
 def check_same(got, wanted, what):
-    """Tells the first line that differs."""
+    """Fails with the first line that differs, if one does."""
     if got != wanted:
         pairs = [(a, b) for a, b in zip(got.splitlines(), wanted.splitlines()) if a != b]
         raise AssertionError("%s: %r in place of %r" % (what, *(pairs or [(got[-200:], wanted[-200:])])[0]))

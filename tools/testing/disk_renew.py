@@ -1,6 +1,8 @@
-"""disk_renew.py: what becomes of a device on which a call has failed. The system may show bytes then that never came to the disk, so the
-whole file is written anew: a new one is synced, takes the old one's name, and the folder is synced. Where that fails too a file
-`NAME.fault` is left, and the next run that can do it writes the device anew before it believes what it reads."""
+"""disk_renew.py: tests of what becomes of a device on which a write or a sync has failed; test_disk.py runs them.
+
+After a failure the system may show bytes that never came to the disk. So the program writes the whole file anew: it syncs a new file,
+gives it the old one's name, and syncs the folder. If that fails after a failed sync, it leaves a mark, the file `NAME.fault`. Then the
+next run that can do it writes the device anew before it trusts what it reads."""
 import os
 import random
 import shutil
@@ -10,22 +12,22 @@ from disk_calls import audit_log, audit_run, injected, stood
 from disk_files import READS, for_everybody, full_plant, may_only_be_read, reader, state
 from disk_plant import COMMANDS, HALF, UNITS
 
-RENEWALS = {"openat": 4, "write": 1, "fsync": 2, "rename": 1}  # which call of its kind, on the folder and the files, is the renewal's
-ORDER = ["write", "fsync", "rename", "fsync", "unlink", "fsync"]
+RENEWALS = {"openat": 4, "write": 1, "fsync": 2, "rename": 1}  # which call of its kind, on the folder and the files, writes the device anew
+ORDER = ["write", "fsync", "rename", "fsync", "unlink", "fsync"]  # of the calls that write a device anew and remove its mark
 
 
 def left_over(plant):
-    """The names in the folder that are no devices."""
+    """The names in the folder of devices that are no devices."""
     return sorted(name for name in os.listdir(plant.path("historian.d")) if name not in UNITS)
 
 
 def node(plant, device):
-    """Which file stands under a name."""
+    """The number of the file that has a device's name."""
     return os.stat(plant.device(device)).st_ino
 
 
 def renewal(calls, device):
-    """The kinds of the calls on a device's new file, on its mark, and on the folder, in their order; writes behind each other as one."""
+    """The kinds of the calls on a device's new file, its mark and the folder, in order. Several of a kind in a row are one."""
     kinds = []
     for kind, names in calls:
         is_folder = kind == "fsync" and names[:1] == ["historian.d"]
@@ -35,7 +37,7 @@ def renewal(calls, device):
 
 
 def fail(plant, verb, device, errors):
-    """A session in which calls on a device and its new file have errors: the calls behind the first one."""
+    """Runs a session in which calls on a device and its new file have errors: the calls after the first one."""
     paths = ["historian.d", "historian.d/" + device, "historian.d/" + device + ".new", "historian.d/" + device + ".fault"]
     status, text, later = injected(plant, verb, errors, paths)
     assert later is not None and (status, text) == (7, "fault: device %s\n" % UNITS[device]), (device, errors, status, text)
@@ -43,7 +45,7 @@ def fail(plant, verb, device, errors):
 
 
 def each_failure(folder, program, settings, look):
-    """Lets a write or a sync of one device fail, again and again."""
+    """Makes a write or a sync of a device fail in session after session, calls `look` for each, and checks what is left: how many."""
     draw, count = random.Random(settings.seed), 0
     for verb, devices, audit in (("run", ("T1.tag", "T2.tag", "T3.tag", "shift.grp"), audit_run), ("log", ("plant.log",), audit_log)):
         old = stood(os.path.join(folder, verb), program, verb)
@@ -59,7 +61,7 @@ def each_failure(folder, program, settings, look):
 
 
 def written_anew(folder, program, settings):
-    """After a failed write or sync the device is another file with all that was acknowledged, and nothing else is left."""
+    """After a failed write or sync the device is another file, with all that was acknowledged. No other file is left."""
     if not shutil.which("strace"):
         return "no strace here: not tried"
 
@@ -74,8 +76,8 @@ def written_anew(folder, program, settings):
 
 
 def marked(folder, program, settings):
-    """Where the writing anew fails too a mark is left after a failed sync, and none after a failed write; the next command that may write
-    does it, and takes the mark away."""
+    """If writing the device anew fails too, a mark is left after a failed sync, and none after a failed write. The next command that may
+    write writes the marked device anew, and removes the mark."""
     if not shutil.which("strace"):
         return "no strace here: not tried"
     draw = random.Random(settings.seed)
@@ -88,14 +90,14 @@ def marked(folder, program, settings):
         assert (device + ".fault" in left_over(plant)) == is_marked and node(plant, device) == before, (error, kind, left_over(plant))
         plant.told("check" if verb == "run" else "rows")
         if kind == "rename" and not is_marked:
-            # A new file that could not be renamed stays until the next one is written.
+            # A new file that could not be renamed stays until another one is written.
             os.remove(plant.device(device + ".new"))
         assert not left_over(plant) and (node(plant, device) != before) == is_marked, "%s: %s" % (kind, left_over(plant))
     return "%d devices" % each_failure(folder, program, settings, look)
 
 
 def marked_and_read_only(folder, program, settings):
-    """A device with a mark that this user cannot write anew is refused, and stays as it is; another user can, and then all read it."""
+    """A marked device is refused and stays as it is if the user may not write. Once another user may, all commands answer."""
     plant = full_plant(os.path.join(folder, "plant"), for_everybody(folder, program))
     wanted = {verb: plant.told(verb) for verb in READS}
     plant.write("historian.d/T1.tag.fault", b"")
@@ -114,7 +116,7 @@ def marked_and_read_only(folder, program, settings):
 
 
 def renewal_follows_no_link(folder, program, settings):
-    """Links under the names of the new file and of the mark are not followed: what is behind them stays as it is."""
+    """The program does not follow a link that has the name of the new file: the file behind it stays as it is."""
     plant = full_plant(os.path.join(folder, "plant"), program)
     plant.write("outside", b"somebody's text\n")
     plant.write("historian.d/T1.tag.fault", b"")
@@ -125,7 +127,7 @@ def renewal_follows_no_link(folder, program, settings):
 
 
 def renewal_keeps_rights(folder, program, settings):
-    """A device that is written anew keeps its rights and its owner."""
+    """A device that is written anew keeps its rights; its owner too, which only root can try."""
     plant = full_plant(os.path.join(folder, "plant"), program)
     os.chmod(plant.device("T1.tag"), 0o600)
     if os.getuid() == 0:

@@ -1,5 +1,6 @@
-"""keeping.py: tests of what stands in the archive and is read from it: seals and backups, an archive and a group that are full,
-questions and pictures."""
+"""keeping.py: tests of what the archive keeps and of the tools that read it; test_tools.py runs them.
+
+These are seals and backups, an archive and a group without room for more, questions, and pictures."""
 import csv
 import os
 import re
@@ -18,8 +19,8 @@ SPREAD = 3_000_000
 
 
 def found_by_seals(folder, program, settings):
-    """A flipped bit, wherever it is, a missing file and rows stored by hand are named before the program opens anything; the
-    copy in backup/ is named, and with it all goes on."""
+    """Each tool names a device with a flipped bit before the program opens anything, and the feeder names a missing one. It names the
+    copy in backup/, with which all goes on."""
     trial, wanted = two_blocks(folder, program)
     copy = trial.fed("--backup").strip()
     device, good = trial.path("historian.d/LIC4.PV.tag"), trial.path(copy, "historian.d/LIC4.PV.tag")
@@ -44,8 +45,8 @@ def found_by_seals(folder, program, settings):
 
 
 def which_copy(folder, program, settings):
-    """What is to be done is said: one file copied back, the whole plant, a group's file moved away, or all files fed again. Without seals,
-    or with damaged ones, --verify says so."""
+    """The feeder says what to do: put the whole plant back, move a group's file away, or feed all files again. Without seals, or with
+    damaged ones, --verify says so."""
     trial, _ = two_blocks(folder, program)
     device, first = trial.path("historian.d/LIC4.PV.tag"), trial.fed("--backup").strip()
     trial.fed()
@@ -74,8 +75,8 @@ def which_copy(folder, program, settings):
 
 
 def log_is_sealed(folder, program, settings):
-    """The plant's log is sealed and copied too. Rows that are put into it by hand are no damage; a flipped bit among those that were sealed
-    is, and so is a missing log."""
+    """The plant's log is sealed and copied too. Rows that `log` adds to it by hand are no damage. A flipped bit among the sealed ones is
+    damage, and so is a missing log."""
     trial, _ = two_blocks(folder, program)
     log, rows = trial.path("historian.d/plant.log"), trial.rows
     trial.write("mine.toml", '[[collector]]\nfile = "mine.csv"\n')
@@ -105,7 +106,7 @@ def log_is_sealed(folder, program, settings):
 
 
 def run_by_hand(folder, program, settings):
-    """Rows that were stored by hand between two turns are reported; --seal accepts them, and a group's file may be taken away."""
+    """The feeder reports rows that were stored by hand between two turns. --seal accepts them. A group's file may be removed."""
     trial, _ = two_blocks(folder, program)
     trial.store_by_hand([(1711800000000, "LIC4.PV", 5)])
     status, text = trial.feed()
@@ -118,8 +119,8 @@ def run_by_hand(folder, program, settings):
 
 
 def killed_by_hand(folder, program, settings):
-    """The program was run by hand and killed before the feeder was ever used: the feeder says how many rows of each tag are stored, and
-    feeds none of them again; ask.py answers."""
+    """The program was run by hand on half of the rows, as after a kill, before the feeder was ever used. The feeder says how many rows
+    of each tag are stored, and feeds nothing until --seal. ask.py answers."""
     trial = Trial(os.path.join(folder, "a"), program)
     trial.deliver(0, hours=3)
     wanted = expected(os.path.join(folder, "hand"), program, trial.rows)
@@ -141,12 +142,12 @@ def killed_by_hand(folder, program, settings):
 
 
 def put_back_from_backup(folder, program, settings):
-    """The devices are lost: the backup is put back, the files that were fed since go into the inbox again, and nothing is missing."""
+    """The devices are lost. The backup is put back, the files that were fed later are fed again, and nothing is missing."""
     trial = Trial(os.path.join(folder, "a"), program)
     trial.deliver(0, hours=3)
     trial.fed()
     copy = trial.fed("--backup").strip()
-    os.makedirs(trial.path("backup/2020-01-01T000000Z.part"))  # that a stop left
+    os.makedirs(trial.path("backup/2020-01-01T000000Z.part"))  # as a stop leaves it
     for block in (1, 2):
         trial.deliver(block, hours=3)
         for file in "ab":  # files of the same names in each turn
@@ -166,8 +167,7 @@ def put_back_from_backup(folder, program, settings):
 
 
 def archive_is_full(folder, program, settings):
-    """Rows for which a tag has no room go to refused/, in a file of their own, and the other tags go on. (The limit is lowered for
-    this.)"""
+    """Rows for which a tag has no room go to refused/, in a file of their own, and the other tags go on. The test lowers the limit."""
     trial = Trial(os.path.join(folder, "a"), program)
     lines = ["FIC1.PV,%d,%d\nLIC4.PV,%d,5\n" % (1000 * n, n % 2 * 100, 1000 * n) for n in range(100)]
     trial.write("inbox/no-room.csv", "".join(lines) + "LIC4.PV,soon,5\n")
@@ -183,13 +183,14 @@ def archive_is_full(folder, program, settings):
 
 
 def files_are_not_too_long(folder, program, settings):
-    """A tag with more rows than a collector's file may have bytes for gets them in several runs. (The limit is lowered for this.)"""
+    """A tag with more rows than fit into a collector's file gets them in several runs. The test lowers the limit."""
     trial = Trial(os.path.join(folder, "a"), program)
     trial.deliver(0, hours=3)
     wanted = expected(os.path.join(folder, "hand"), program, trial.rows)
     plant, runs, sizes = Plant(trial.folder, program), [], []
 
     def call(*words):
+        """Notes the runs and the sizes of their files, and calls the program."""
         if words[0] == "run":
             runs.append(words)
             sizes.extend(os.path.getsize(trial.path("feed.d/turn", name)) for name in os.listdir(trial.path("feed.d/turn"))
@@ -204,7 +205,7 @@ def files_are_not_too_long(folder, program, settings):
 
 
 def group_is_too_large(folder, program, settings):
-    """A group with too many windows never keeps rows from being stored: they are, and the limit is explained."""
+    """A group with too many windows does not keep rows from being stored, and the feeder explains the limit."""
     trial = Trial(os.path.join(folder, "a"), program)
     trial.write("base.toml", base_text(group=GROUP.replace("900_000", "7")))
     trial.deliver(0)
@@ -221,7 +222,7 @@ def group_is_too_large(folder, program, settings):
 
 
 def questions(folder, program, settings):
-    """ask.py gives all points of a tag, however many, and what the program answers, with ISO times and decimals."""
+    """ask.py prints all points of a tag, however many, and what the program answers, with ISO times and decimals."""
     trial = Trial(os.path.join(folder, "a"), program)
     points = [(START + 1000 * n, 100 * (n % 2) + n % 7) for n in range(SPREAD // 1000)]
     trial.write("base.toml", base_text().replace("exc_dev = 10", "exc_dev = 0").replace("comp_dev = 30", "comp_dev = 0"))
@@ -248,7 +249,7 @@ def questions(folder, program, settings):
 
 
 def pictures(folder, program, settings):
-    """draw.py draws what the archive has: a well-formed SVG with all points, a legend, units, round ticks and the limit."""
+    """draw.py draws what the archive has, in a well-formed SVG: late points, a legend, units, round ticks and the limit."""
     trial = Trial(os.path.join(folder, "a"), program)
     trial.write("base.toml", base_text().replace("exc_dev", 'descriptor = "flow < 3"\nengunits = "0.01 l/h"\nexc_dev', 1))
     trial.deliver(0)

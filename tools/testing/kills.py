@@ -1,5 +1,7 @@
-"""kills.py: tests that kill: feeder, program or both at random moments, the program at each of its writes and syncs, the feeder at each
-of its own calls that change files. After each the archive has to be that of a plant that was never stopped."""
+"""kills.py: tests that kill the feeder, the program, or both; test_tools.py runs them.
+
+They do so at random moments, and at writes and syncs of the program. They kill the feeder at calls too by which it syncs or cuts a file,
+or changes a name. Then the feed goes on to its end, and the archive has to be that of a plant that nobody stopped."""
 import os
 import random
 import re
@@ -11,11 +13,11 @@ from seals import sealed_events
 from trial import (LINES, STEPS, Trial, base_text, block_files, check_put_away, check_same, expected, feed_and_kill, two_blocks,
                    wait_for_orphans)
 
-BLOCKS = 12  # of six hours: three days
+BLOCKS = 12  # of six hours each: three days
 
 
 def three_days(folder, program, rows_a_run=900):
-    """A plant with all files of three days in its inbox; a turn takes a few of them."""
+    """A plant with all files of three days in its inbox. `rows_a_run` decides how many of them a turn takes."""
     trial = Trial(folder, program, rows_a_run)
     for block in range(BLOCKS):
         trial.deliver(block)
@@ -23,7 +25,7 @@ def three_days(folder, program, rows_a_run=900):
 
 
 def undisturbed(folder, program, settings):
-    """Three days through the feeder make the archive that the program makes of the same rows by hand, in order of time."""
+    """Three days through the feeder make the archive that the program makes of the same rows by hand."""
     trial = three_days(os.path.join(folder, "fed"), program, 4_000_000)
     trial.fed()
     answers, events = trial.answers(), sealed_events(Plant(trial.folder, program))
@@ -33,7 +35,7 @@ def undisturbed(folder, program, settings):
 
 
 def durations(folder, program):
-    """How long a feed takes that has nothing to do, and how long a turn of three days takes in the mean."""
+    """The seconds of a feed that has nothing to do, and the mean of the seconds of a turn, at least 0.02."""
     trial, begin = three_days(folder, program), time.monotonic()
     trial.fed()
     between = time.monotonic()
@@ -43,8 +45,8 @@ def durations(folder, program):
 
 
 def killed_at_random(folder, program, settings):
-    """Feeder, program or both are killed at random moments, until the kills are used up; then the feed ends by itself. Half of the moments
-    are counted from where the program begins to store rows, because a fast one does so for a small part of a turn."""
+    """Feeder, program or both are killed at random moments, again and again; at last the feed ends by itself. Half of the delays begin
+    once the program stores rows, because a fast program does so for a small part of a turn."""
     draw, kills, met, plants = random.Random(settings.seed), 0, 0, 0
     idle, turn = durations(os.path.join(folder, "timed"), program)
     while kills < settings.kills:
@@ -65,14 +67,14 @@ def killed_at_random(folder, program, settings):
 
 
 def strace(call, number, device=None):
-    """The words that kill what they start at its n-th call of this kind, on one device if one is given."""
+    """The words of strace that kill a command at its n-th call of this kind, on one device if one is given."""
     only = ["-P", device] if device else []
     return ["strace", "-qq", "-o", "/dev/null", "-e", "trace=" + call, "-e", "inject=%s:signal=KILL:when=%d" % (call, number)] + only
 
 
 def stop_at_each(trial, wanted, numbers, stopped_feed):
-    """Copies a plant, stops a feed of the copy, lets the next one end and looks at the archive; for each number until nothing is
-    stopped any more. Answers how often something was."""
+    """For each number: copies a plant, stops a feed of the copy at that call, feeds it to the end, and checks the archive. It ends at a
+    number at which nothing stops. Returns how many feeds were stopped."""
     stood, kills = trial.folder + ".stood", 0
     os.rename(trial.folder, stood)
     for number in numbers:
@@ -93,7 +95,7 @@ def stop_at_each(trial, wanted, numbers, stopped_feed):
 
 
 def stop_program(trial, wanted, settings, some):
-    """Kills the program at each of its writes and each of its syncs on each device; in the short form at a few of them."""
+    """Kills the program at each write and each sync of each device, or at `some` of them in the short form: how many kills, in words."""
     if not shutil.which("strace"):
         return "no strace here: not tried"
     plain, kills = trial.program, 0
@@ -113,14 +115,14 @@ def stop_program(trial, wanted, settings, some):
 
 
 def program_stopped_at_its_calls(folder, program, settings):
-    """The program is killed at its calls on devices that stand; each tag of lines gets two batches."""
+    """The program is killed at its calls on devices that have values. Each tag of lines gets two batches."""
     trial, wanted = two_blocks(folder, program, hours=6)
     some = [("pwrite64", "FIC1.PV.tag", [3]), ("fdatasync", "XV8.ZSO.tag", [2]), ("pwrite64", "unit.grp", [2])]
     return stop_program(trial, wanted, settings, some)
 
 
 def program_stopped_on_new_devices(folder, program, settings):
-    """The same where the devices are only being made."""
+    """The program is killed at its calls on devices that it makes."""
     trial = Trial(os.path.join(folder, "new"), program)
     trial.deliver(0, hours=1)
     wanted = expected(os.path.join(folder, "hand"), program, trial.rows)
@@ -128,13 +130,13 @@ def program_stopped_on_new_devices(folder, program, settings):
 
 
 def program_stopped_while_retuning(folder, program, settings):
-    """The program is killed while an edited base is taken over: each tag is retuned once all the same."""
+    """The program is killed while it takes an edited base over. Each tag is still retuned only once."""
     trial, wanted = edited_blocks(folder, program)
     return stop_program(trial, wanted, settings, [("pwrite64", "FIC1.PV.tag", [2]), ("fdatasync", "XV7.ZSO.tag", [3])])
 
 
 def edited_blocks(folder, program):
-    """A plant that was fed a block, whose base was then edited, with the next block in its inbox; and what has to come of both."""
+    """A plant that was fed a block, whose base was edited then, with the next block in its inbox; and what it has to answer."""
     trial, _ = two_blocks(folder, program)
     trial.write("base.toml", base_text(comp_dev=4))
     hand = Trial(os.path.join(folder, "hand"), program)
@@ -145,7 +147,7 @@ def edited_blocks(folder, program):
 
 
 def stop_feeder(trial, wanted, settings, some):
-    """Kills the feeder at each of its own syncs, renames, removals and made folders; in the short form at a few of them."""
+    """Kills the feeder at each sync, cut and change of a name, or at `some` of them in the short form: how many kills, in words."""
     if not shutil.which("strace"):
         return "no strace here: not tried"
     each, kills = [(call, range(1, 1000)) for call in ("fsync", "rename", "unlink", "unlinkat", "rmdir", "mkdir", "ftruncate")], 0

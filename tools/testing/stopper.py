@@ -1,9 +1,11 @@
-"""stopper.py HOW PROGRAM.. WORDS..: stands in the program's place, and does something to its `run`; the tests' way to stop at a
-known place.
+"""stopper.py HOW PROGRAM.. WORDS..: takes the program's place, and does something to its `run`; tests use it to stop at a given place.
 
-before: is killed before the program starts. after: the program ends, and then this is killed. half: of each collector the program is
-given the first half of its rows, and then this is killed. wait: it waits for a file `go` before the program starts. append: a row is
-added to the first file of the inbox before."""
+Each other command it runs as it is. HOW is one of these:
+- before: it kills itself in place of starting the program.
+- after: the program ends, and then it kills itself.
+- half: it gives the program the first half of each collector's rows, and then kills itself.
+- wait: it waits for a file `go`, ten minutes at most, and then runs the program.
+- append: it adds a row to the first file of the inbox, and then runs the program."""
 import os
 import signal
 import subprocess
@@ -13,7 +15,7 @@ import tomllib
 
 
 def halve(plan):
-    """The same plan over files that have the first half of the rows of each collector."""
+    """Writes a plan over files with the first half of each collector's rows: its name."""
     with open(plan, "rb") as text:
         names = [collector["file"] for collector in tomllib.load(text).get("collector", [])]
     for number, name in enumerate(names):

@@ -1,5 +1,7 @@
-"""stops.py: tests of the lock, of a full disk, of a program that outlives its feeder, of turns that were stopped half way, and of a base
-that is edited, or a program that is run by hand, before they are finished."""
+"""stops.py: tests of the lock, of a full disk, and of turns that are stopped half way; test_tools.py runs them.
+
+A program may outlive its feeder. Before a stopped turn is finished, the base may be edited, the program may be run by hand, or a file may
+be damaged."""
 import fcntl
 import os
 import signal
@@ -11,7 +13,7 @@ from trial import Trial, base_text, check_put_away, check_same, children, expect
 
 
 def second_feeder(folder, program, settings):
-    """A second feeder, and one while a script holds the lock, end with a clear line and do nothing."""
+    """A feeder that finds the lock taken, by another feeder or by a script, ends with a clear line and does nothing."""
     trial, wanted = two_blocks(folder, program)
     with open(trial.path("historian.d", "feed.lock"), "a") as lock:
         fcntl.flock(lock, fcntl.LOCK_EX)
@@ -26,7 +28,7 @@ def second_feeder(folder, program, settings):
 
 
 def program_outlives_its_feeder(folder, program, settings):
-    """A feeder that is killed leaves a program that goes on: it keeps the lock, so that no feed begins meanwhile."""
+    """If a feeder is killed and its program goes on, the program keeps the lock, so no other feed begins until it ends."""
     trial, wanted = two_blocks(folder, program)
     first = waiting_feed(trial)
     kill(first.pid)
@@ -44,13 +46,14 @@ def program_outlives_its_feeder(folder, program, settings):
 
 
 def waiting_feed(trial):
-    """A feed whose program has been started and waits for a file `go`."""
+    """Starts a feed whose program waits for a file `go`: the process of the feeder."""
     process = subprocess.Popen(trial.words(how="wait"), stdout=subprocess.DEVNULL, stderr=subprocess.DEVNULL)
     wait_for(lambda: os.path.exists(trial.path("feed.d", "turn.json")) and children(process.pid))
     return process
 
 
 def wait_for(holds):
+    """Waits until something holds. Fails after five minutes."""
     end = time.monotonic() + 300
     while not holds():
         assert time.monotonic() < end, "waited too long"
@@ -58,8 +61,8 @@ def wait_for(holds):
 
 
 def damaged_while_unfinished(folder, program, settings):
-    """A damaged first byte, a first sector of zeros, an empty file and a missing one while a turn is unfinished: the feeder and a
-    question refuse before the program opens anything, and the file stays as it is."""
+    """While a turn is unfinished, a device has a damaged first byte, a first sector of zeros, no bytes, or is missing. feed.py and ask.py
+    refuse before the program opens anything, and the file stays as it is."""
     trial, wanted = two_blocks(folder, program)
     assert trial.feed(how="half")[0] == 137
     good = bytes_of(trial.path("historian.d/FIC1.PV.tag"))
@@ -87,7 +90,7 @@ def put_bytes(path, data):
 
 
 def polite_stop(folder, program, settings):
-    """SIGTERM and Ctrl-C stop a feeder as a kill does."""
+    """SIGTERM, and in the long form Ctrl-C too, stop a feeder as a kill does."""
     for number in (signal.SIGTERM, signal.SIGINT)[:2 if settings.long else 1]:
         place = os.path.join(folder, str(int(number)))
         os.makedirs(place)
@@ -102,7 +105,7 @@ def polite_stop(folder, program, settings):
 
 
 def full_disk(folder, program, settings):
-    """No file may grow beyond a size (as on a full disk): the feeder ends with a clear line, and once there is room all is stored."""
+    """No file may grow beyond a size, as on a full disk. The feeder ends with a clear line; once there is room it stores all."""
     trial = Trial(os.path.join(folder, "new"), program)
     trial.deliver(0, hours=3)
     wanted = expected(os.path.join(folder, "hand"), program, trial.rows)
@@ -119,7 +122,7 @@ def full_disk(folder, program, settings):
 
 
 def full_file_system(folder, program, settings):
-    """The same on a file system that is really full, if one may be mounted here."""
+    """A file system is full, if one may be mounted here. The feeder ends with 7 or 22; once there is room it stores all."""
     place = os.path.join(folder, "small")
     os.makedirs(place)
     if subprocess.run(["mount", "-t", "tmpfs", "-o", "size=900k", "tmpfs", place], stderr=subprocess.DEVNULL).returncode:
@@ -146,7 +149,7 @@ def full_file_system(folder, program, settings):
 
 
 def stopped_half_way(folder, program, settings):
-    """Half of the rows are stored, all, or none, and then the feeder is started again; meanwhile the program is run by hand."""
+    """A turn stored half of the rows, all, or none, and then `check` is run by hand. The next feed stores the others."""
     for how in ("half", "after", "before"):
         place = os.path.join(folder, how)
         os.makedirs(place)
@@ -160,8 +163,8 @@ def stopped_half_way(folder, program, settings):
 
 
 def edited_base(folder, program, settings):
-    """A base that is edited between a stop and the next start: the turn is finished with the base it began with, then the edited one is
-    taken over, which retunes each tag once."""
+    """The base is edited between a stop and the next start. The feeder finishes the turn with the base that it began with. Then it takes
+    the edited one over, which retunes each tag once."""
     trial, wanted = two_blocks(folder, program)
     assert trial.feed(how="half")[0] == 137
     trial.write("base.toml", base_text(comp_dev=4))
@@ -177,8 +180,8 @@ def edited_base(folder, program, settings):
 
 
 def edited_and_run_by_hand(folder, program, settings):
-    """If the program is run by hand with the edited base before the turn is finished, nobody can say which rows are stored: the feeder
-    says so, names the tag and touches nothing."""
+    """The program is run by hand with an edited base before the turn is finished, so nobody can say which rows are stored. The feeder
+    says so, names the tag, and touches nothing."""
     trial, _ = two_blocks(folder, program)
     assert trial.feed(how="half")[0] == 137
     trial.write("base.toml", base_text(comp_dev=4))
@@ -190,7 +193,7 @@ def edited_and_run_by_hand(folder, program, settings):
 
 
 def foreign_rows(folder, program, settings):
-    """Rows that somebody stores by hand between a stop and the next start are noticed by the value that the tag holds."""
+    """Somebody stores rows by hand between a stop and the next start. The feeder notices it by the value that the tag holds."""
     trial, _ = two_blocks(folder, program)
     assert trial.feed(how="before")[0] == 137
     trial.store_by_hand([(1711800000000, "FIC1.PV", 5), (1711800060000, "FIC1.PV", 5000)])
@@ -199,7 +202,7 @@ def foreign_rows(folder, program, settings):
 
 
 def late_row_frees_what_was_set_aside(folder, program, settings):
-    """A late row makes its tag hold a value of an earlier turn, which the exception test had set aside: that is no foreign one."""
+    """A late row makes its tag hold a pending value of an earlier turn. The feeder does not take that for a value stored by hand."""
     trial = Trial(os.path.join(folder, "a"), program)
     trial.write("inbox/1.csv", "LIC4.PV,1000,5\nLIC4.PV,30000,9\n")
     trial.fed()
@@ -210,7 +213,7 @@ def late_row_frees_what_was_set_aside(folder, program, settings):
 
 
 def turn_is_damaged(folder, program, settings):
-    """If what was written down of an unfinished turn is damaged, nothing is stored by guess."""
+    """If a file of an unfinished turn in feed.d is damaged, the feeder says so and stores nothing."""
     trial, _ = two_blocks(folder, program)
     assert trial.feed(how="half")[0] == 137
     before = trial.by_hand("check", "base.toml")

@@ -1,6 +1,7 @@
-"""trial.py: a plant that is generated for the tests: eight tags over three days, in files as loggers write them; and ways to stop a feed.
+"""trial.py: a generated plant for the tests of the tools, and ways to stop a feed.
 
-What must come out is found without the tools: the same rows as whole numbers in one collector's file, through the program alone."""
+The plant has eight tags, whose values come in files as loggers write them. What it has to answer is found without the tools: the program
+takes the same rows as whole numbers from one collector's file."""
 import contextlib
 import datetime
 import fcntl
@@ -16,7 +17,7 @@ import time
 
 HERE = os.path.dirname(os.path.abspath(__file__))
 TOOLS = os.path.dirname(HERE)
-START, MINUTE, HOUR = 1_711_670_400_000, 60_000, 3_600_000  # 2024-03-29 00:00 UTC; in the night to the 31st clocks go forward
+START, MINUTE, HOUR = 1_711_670_400_000, 60_000, 3_600_000  # 2024-03-29 00:00 UTC; clocks go forward on the 31st
 ZONE = datetime.timezone(datetime.timedelta(hours=1))
 LINES = {"FIC1.PV": 100, "FIC2.PV": 100, "TIC3.PV": 1000, "LIC4.PV": 1, "PIC5.PV": 10, "QIC6.PV": 100}
 STEPS = {"XV7.ZSO": 1, "XV8.ZSO": 1}
@@ -39,18 +40,18 @@ formula = "avg('TIC3.PV') > 20100"
 
 
 def base_text(comp_dev=30, names=(*LINES, *STEPS), group=GROUP):
-    """A base of these tags."""
+    """The text of a base with these tags."""
     return "".join(TAG % (name, 10, comp_dev, "step = true\n" if name in STEPS else "") for name in names) + group
 
 
 def feed_text(rows_a_run=4_000_000):
-    """A feed.toml that gives each tag its scale."""
+    """The text of a feed.toml that gives each tag its scale."""
     scales = "".join('[tag."%s"]\nscale = %d\n' % item for item in (LINES | STEPS).items())
     return "rows_a_run = %d\nsettle_seconds = 0\n%s" % (rows_a_run, scales)
 
 
 def block_rows(block, hours=6, every=3 * MINUTE):
-    """The rows of some hours, as time, tag and whole value, in the order in which loggers hand them over; some come late."""
+    """The rows of a block of hours, as time, tag and whole value, in the order in which loggers hand them over; some are late."""
     draw, rows, late = random.Random(1000 + block), [], []
     for step in range(hours * HOUR // every):
         t = START + block * hours * HOUR + step * every
@@ -74,7 +75,7 @@ def iso(t):
 
 
 def block_files(block, hours=6, every=3 * MINUTE):
-    """The two files of a block: names and texts, and their rows in the order in which they are fed."""
+    """The two files of a block, as names with texts; and their rows in the order in which they are fed."""
     rows = block_rows(block, hours, every)
     scales = LINES | STEPS
     long = [row for row in rows if row[1] not in WIDE]
@@ -86,7 +87,7 @@ def block_files(block, hours=6, every=3 * MINUTE):
 
 
 class Trial:
-    """A plant's folder of a test, and the program."""
+    """The folder of a test's plant, and the program."""
 
     def __init__(self, folder, program, rows_a_run=4_000_000):
         self.folder, self.program = folder, program
@@ -96,6 +97,7 @@ class Trial:
         self.rows, self.blocks = [], []
 
     def path(self, *names):
+        """The path of a file in the plant's folder."""
         return os.path.join(self.folder, *names)
 
     def write(self, name, text):
@@ -107,7 +109,7 @@ class Trial:
             return text.read()
 
     def deliver(self, block, **sizes):
-        """Puts the files of a block into the inbox, and remembers its rows."""
+        """Puts the files of a block into the inbox, and notes its rows."""
         files, rows = block_files(block, **sizes)
         for name, text in files.items():
             self.write(os.path.join("inbox", name), text)
@@ -115,29 +117,29 @@ class Trial:
         self.blocks.append(block)
 
     def words(self, *given, how=None):
-        """feed.py and its words; `how` names what stopper.py does to the program's `run`."""
+        """The command that runs feed.py. `how` names what stopper.py does to the program's `run`."""
         program = self.program if how is None else "%s %s %s %s" % (sys.executable, os.path.join(HERE, "stopper.py"), how, self.program)
         return [sys.executable, os.path.join(TOOLS, "feed.py"), *given, "--wait", "0.3", "--program", program, self.folder]
 
     def feed(self, *given, how=None, under=()):
-        """Runs feed.py to its end, if asked to under another program such as strace: exit status, and what it said."""
+        """Runs feed.py to its end, under another program such as strace if asked to: exit status, and what it printed."""
         child = subprocess.run([*under, *self.words(*given, how=how)], capture_output=True, text=True)
         return child.returncode, child.stdout + child.stderr
 
     def fed(self, *given):
-        """Runs feed.py, which has to end well, and answers what it said."""
+        """Runs feed.py, which has to end well: what it printed."""
         status, text = self.feed(*given)
         assert status == 0, "feed.py %s ends with %d: %s" % (given, status, text)
         return text
 
     def tool(self, name, *given):
-        """Runs another tool in the plant's folder: exit status, and what it said."""
+        """Runs another tool in the plant's folder: exit status, and what it printed."""
         words = [sys.executable, os.path.join(TOOLS, name), "--program", self.program, *given]
         child = subprocess.run(words, cwd=self.folder, capture_output=True, text=True)
         return child.returncode, child.stdout + child.stderr
 
     def by_hand(self, *words):
-        """What the program prints, called by hand."""
+        """Runs the program by hand, which has to end well: what it printed."""
         child = subprocess.run([*self.program.split(), *words], cwd=self.folder, capture_output=True, text=True)
         if child.returncode:
             raise AssertionError("%s: exit %d, %s" % (words, child.returncode, child.stdout + child.stderr))
@@ -150,7 +152,7 @@ class Trial:
         self.by_hand("run", "base.toml", "mine.toml")
 
     def answers(self, base="base.toml"):
-        """The lines of `check`, and the replies of `trend` to questions about each tag and each window of the group."""
+        """The lines of `check`, and the replies of `trend` to questions about each tag and each seventh window of the group."""
         last = START + 73 * HOUR
         asks = []
         for name in (*LINES, *STEPS):
@@ -163,21 +165,21 @@ class Trial:
         return self.by_hand("check", base) + self.by_hand("trend", base, "questions.toml")
 
 
-INSIDE = threading.Lock()  # held by a case that calls the tools' functions itself
+INSIDE = threading.Lock()  # a case holds it while it calls functions of the tools itself
 
 
 @contextlib.contextmanager
 def printed():
-    """What the tools print that a case calls itself; one case at a time, because there is one standard output."""
+    """Catches what functions of the tools print. One case at a time, because there is one standard output."""
     with INSIDE, contextlib.redirect_stdout(io.StringIO()) as said:
         yield said
 
 
-KNOWN = {}  # the answers for rows that were asked for already
+KNOWN = {}  # the answers of plants that took some rows, found already
 
 
 def expected(folder, program, rows):
-    """The answers of a plant that took these rows from one collector, by the program alone."""
+    """The answers of a plant in which the program alone took these rows, from one collector."""
     if tuple(rows) in KNOWN:
         return KNOWN[tuple(rows)]
     plant = Trial(folder, program)
@@ -201,6 +203,7 @@ def children(process):
 
 
 def kill(process):
+    """Kills a process, if it is still there."""
     try:
         os.kill(process, signal.SIGKILL)
     except ProcessLookupError:
@@ -208,7 +211,7 @@ def kill(process):
 
 
 def storing(process):
-    """The processes of `run` that a feeder started."""
+    """The processes of `run` among those that a feeder started."""
     found = []
     for child in children(process):
         try:
@@ -220,8 +223,8 @@ def storing(process):
 
 
 def feed_and_kill(trial, delay, whom, waits):
-    """Starts a feed, if asked to waits until the program stores rows, and kills after a delay: the feeder, its program, or both. Answers
-    whether something was killed, and whether the program stored rows just then."""
+    """Starts a feed, waits until the program stores rows if asked to, and after a delay kills the feeder, its program, or both. Returns
+    whether the feeder still ran, and whether the program stored rows just then."""
     child = subprocess.Popen(trial.words(), stdout=subprocess.DEVNULL, stderr=subprocess.DEVNULL)
     while waits and child.poll() is None and not storing(child.pid):
         time.sleep(0.001)
@@ -237,8 +240,7 @@ def feed_and_kill(trial, delay, whom, waits):
 
 
 def wait_for_orphans(trial):
-    """Waits until a program that outlived its feeder ends: it holds the lock until then. A feeder that was killed before it made its lock
-    has started none."""
+    """Waits until a program that outlived its feeder ends: it holds the lock until then. Without a lock file no program was started."""
     try:
         lock = open(trial.path("historian.d", "feed.lock"), "a")
     except FileNotFoundError:
@@ -248,7 +250,7 @@ def wait_for_orphans(trial):
 
 
 def two_blocks(folder, program, hours=3):
-    """A plant that was fed a block, with the next one in its inbox; and what has to come of both."""
+    """A plant that was fed a block, with the next one in its inbox; and what it has to answer after both."""
     trial = Trial(os.path.join(folder, "two"), program)
     trial.deliver(0, hours=hours)
     trial.fed()
@@ -257,14 +259,14 @@ def two_blocks(folder, program, hours=3):
 
 
 def check_same(got, wanted, what):
-    """Tells the first line that differs."""
+    """Fails with the first line that differs, if one does."""
     if got != wanted:
         pairs = [(a, b) for a, b in zip(got.splitlines(), wanted.splitlines()) if a != b]
         raise AssertionError("%s: %s in place of %s" % (what, *(pairs or [(got[-200:], wanted[-200:])])[0]))
 
 
 def check_put_away(trial, count):
-    """All files were fed and stand in done/, as they were delivered; nothing is left of the turns."""
+    """Fails unless so many files lie in done/, none in the inbox or in refused/, and feed.d has nothing of an unfinished turn."""
     assert os.listdir(trial.path("inbox")) == [], os.listdir(trial.path("inbox"))
     done = [name for turn in os.listdir(trial.path("done")) for name in os.listdir(trial.path("done", turn))]
     assert len(done) == len(set(done)) == count, sorted(done)
