@@ -4,7 +4,7 @@ ghost use Rattle.disk_model.specs.Stores.{empty_trace};
 ghost use Rattle.told_store.specs.Notes.{IsFresh, told_by};
 ghost use Rattle.told_store.specs.Places.{AllFresh, is_placed, is_stopped_in, told_in};
 
-use crate::folder::{FOLDER, Folder};
+use crate::folder::{FOLDER, Folder, MOST_TRIES};
 use crate::host::Host;
 use crate::kept::Kept;
 use crate::places::{exchange, insert, is_stopped, len_of, make_place};
@@ -77,7 +77,8 @@ impl<R: Files<File = File> + AllocGlobal> DirStore<R> {
         store
     }
 
-    // Locks the folder if there is one, and reads its wanted devices.
+    // Locks the folder if there is one, and reads its wanted devices. If a signal interrupts the read of the names, this
+    // begins anew.
     fn read_all(&mut self, wanted: Wanted) -> io::Result<()>
     where
         R: Clone + Drop,
@@ -85,10 +86,16 @@ impl<R: Files<File = File> + AllocGlobal> DirStore<R> {
         ensures told { AllFresh self.new.places }
         ensures faults { self.new.faults ≡ self.old.faults }
     {
-        if self.folder.lock_if_there()? {
-            read_devices(&self.folder, wanted, &mut self.places)?;
+        if !self.folder.lock_if_there()? {
+            return Ok(());
         }
-        Ok(())
+        for _ in 0..MOST_TRIES {
+            match read_devices(&self.folder, wanted, &mut self.places) {
+                Err(error) if error.kind() == ErrorKind::Interrupted => {}
+                answer => return answer,
+            }
+        }
+        Err(ErrorKind::Interrupted.into())
     }
 
     // Returns the device of a name, over its file.

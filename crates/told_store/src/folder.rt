@@ -15,8 +15,8 @@ const MARK: &str = ".fault";
 // A file of more bytes is not read.
 const MOST_BYTES: u64 = 1 << 30;
 
-// How many times at most a call is made that signals interrupt.
-const MOST_TRIES: u32 = 1 << 20;
+/// How many times at most a call is made that signals interrupt.
+pub(crate) const MOST_TRIES: u32 = 1 << 20;
 
 // Makes a call, and makes it again if a signal interrupts it.
 fn again<T: Drop, Call: Fn() -> io::Result<T>>(call: Call) -> io::Result<T>

@@ -17,6 +17,7 @@
 //! - `host.rt`: each method makes the one call that it notes.
 //! - `folder.rt`: it locks the folder, and reads and opens the file of a device's name. It refuses a link, a file with
 //!   two names, a file of more than 1 GB, and a file whose length has changed since it was read.
+//! - `dir_store.rt`: it gives a device the file of its name.
 //!
 //! A refused device counts a fault, and its file stays untouched. If another process has the folder, or the folder
 //! cannot be read, every device is refused so. A file that may not be written is opened for reading, and a write of it
