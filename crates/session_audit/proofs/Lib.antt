@@ -23,4 +23,4 @@ pub mod DurableLaws
 pub mod Starts
 pub mod AddedRows
 pub mod Begun
-pub mod Takes
+pub mod TakeCounts

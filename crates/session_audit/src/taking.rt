@@ -1,5 +1,5 @@
 // Takes the rows of collectors that tapes lack.
-ghost use Rattle.std.specs.Prelude.{◌≡◌, ℕ, ◌<◌, ◌≤◌, List, All, IfErr, OnOk, length, slice_index};
+ghost use Rattle.std.specs.Prelude.{◌≡◌, ℕ, ◌<◌, ◌≤◌, List, All, IfErr, OnOk, length, slice_index, slice_index_or};
 ghost use Rattle.calc_refresh.specs.Lists.{lists_of};
 ghost use Rattle.session_audit.specs.Agendas.{phase_item};
 ghost use Rattle.session_audit.specs.Found.{Reached};
@@ -9,6 +9,7 @@ ghost use Rattle.session_audit.specs.Cells.{AreAllBegun, AreAllFound, AreAllShow
 ghost use Rattle.session_audit.specs.Workers.{AreOver};
 ghost use Rattle.session_audit.specs.CellRefusals.{IsTakeRefusal, tag_rows, take_status};
 ghost use Rattle.tag_cell.specs.Tapes.{taken};
+ghost use Rattle.tag_cell.specs.Told.{ToldCell};
 
 use crate::adding::{Adding, add_missing};
 use crate::agenda::number_in;
@@ -50,7 +51,7 @@ pub fn take_missing<D: Disk, R: Wait>(
     match add_missing::<Takings<'_, D, R>>(&how, cells, files, works) {
         Ok(()) => Ok(()),
         Err((tag, no)) => {
-            let takes = count_takes(cells[tag as usize].tape());
+            let takes = takes_on(cells, tag);
             Err(take_status(tag, takes, rooms[tag as usize], no))
         }
     }
@@ -105,6 +106,14 @@ impl<'a, D: Disk, R: Wait> Adding for Takings<'a, D, R> {
     ghost gains_nothing = { longer_refl IsTakeEntry };
 
     ghost gains_twice = { longer_trans IsTakeEntry };
+}
+
+// Returns how many takes the tape of a tag has.
+fn takes_on<D: Disk>(cells: &[Cell<D>], tag: u32) -> usize
+    requires known { tag < length cells.now }
+    ensures { (d : ToldCell D) → result ≡ length (taken (slice_index_or cells.now tag d).tape) }
+{
+    count_takes(cells[tag as usize].tape())
 }
 
 // Returns how many takes a tape has.

@@ -1,5 +1,5 @@
 use Rattle.std.proofs.Common.{arith}
-use Rattle.session_audit.proofs.Takes.{count_no, count_yes}
+use Rattle.session_audit.proofs.TakeCounts.{count_no, count_yes}
 use Rattle.session_audit.proofs.taking.count_takes.Goals.{in-Take, in_default}
 use Rattle.session_audit.proofs.taking.count_takes.Goals as goal
 

@@ -1,4 +1,4 @@
-use Rattle.std.proofs.Common.{◌<◌, ◌∙◌, [], ap, get_or, length, subst, sym}
+use Rattle.std.proofs.Common.{◌<◌, ◌∙◌, [], ap, arith, length, subst, sym}
 use Rattle.std.proofs.lemmas.Option.{get_or_from_slice_get, slice_get_within}
 use Rattle.calc_refresh.specs.Lists.{lists_of}
 use Rattle.tag_cell.specs.Told.{take_refusal}
@@ -46,6 +46,17 @@ returns-in-Err-clause-refused g c =
     (subst (λ n. stop.worker < n) over.as_many stop.working) (c.requires.rooms ∙ sym c.add_missing.ensures.gained.as_many)
     c.requires.counted within (stop.due (record { items = []; at = [] })) in
     subst (IsTakeRefusal (phase_item c.args.earlier) files rooms cells) (sym c.take_status.ensures)
-    (take_refused (phase_item c.args.earlier) files rooms cells tag c.count_takes-takes.result stop.one c.in-Err.no within
+    (take_refused (phase_item c.args.earlier) files rooms cells tag c.takes_on-takes.result stop.one c.in-Err.no within
     (ap take_refusal (get_or_from_slice_get cells tag stop.one stop.one stop.there) ∙ stop.refused)
-    (c.count_takes-takes.ensures.count) lack.0 lack.1)
+    (c.takes_on-takes.ensures stop.one) lack.0 lack.1)
+
+pub takes_on-takes-requires : goal.takes_on-takes-requires
+takes_on-takes-requires g c =
+    let stop = c.in-Err.ensures.refused in
+    record { known = slice_get_within c.add_missing.new.units c.in-Err.tag stop.one stop.there }
+
+pub bounds-rooms-tag : goal.bounds-rooms-tag
+bounds-rooms-tag g c =
+    let stop = c.in-Err.ensures.refused in
+    let within = slice_get_within c.add_missing.new.units c.in-Err.tag stop.one stop.there in
+    omega (arith, within, c.requires.rooms, c.add_missing.ensures.gained.as_many)
