@@ -34,33 +34,26 @@ def below(name):
     return names
 
 
-def proofs(folder):
-    """Copies the proof that a lone board's poster posts to it from the crate `cell_tests`."""
-    os.makedirs(os.path.join(folder, "alone"), exist_ok=True)
-    for source, name in [("Lone.antt", "Lone.antt"), ("cells/alone/Answers.antt", "alone/Answers.antt")]:
-        with open(os.path.join(ROOT, "crates", "cell_tests", "proofs", source)) as text:
-            told = text.read().replace("cell_tests.proofs.cells", "cell_bench.proofs").replace("cell_tests", "cell_bench")
-        with open(os.path.join(folder, name), "w") as out:
-            out.write(told)
-    with open(os.path.join(folder, "Lib.antt"), "w") as out:
-        out.write("pub mod Lone\n")
+def is_left(folder, names):
+    """Of the files in a folder, those that are not copied: edits, and what was made, but not the libraries that were proved."""
+    if os.path.basename(folder) == "out":
+        return [name for name in names if name != "rlib"]
+    return [name for name in names if name == "must-fail"]
 
 
 def build(folder):
     """Builds both programs in a folder: the paths of the proved one and of the plain one."""
-    names = below("tag_cell")
+    names = sorted({*below("tag_cell"), *below("told_store"), *below("test_rig")})
     crates = os.path.join(folder, "crates")
     for name in names:
-        shutil.copytree(os.path.join(ROOT, "crates", name), os.path.join(crates, name), dirs_exist_ok=True,
-                        ignore=shutil.ignore_patterns("out", "must-fail"))
+        shutil.copytree(os.path.join(ROOT, "crates", name), os.path.join(crates, name), dirs_exist_ok=True, ignore=is_left)
     source = os.path.join(crates, "cell_bench", "src")
     os.makedirs(source, exist_ok=True)
     shutil.copyfile(os.path.join(HERE, "main.rattle"), os.path.join(source, "main.rt"))
-    proofs(os.path.join(crates, "cell_bench", "proofs"))
     with open(os.path.join(ROOT, "crates.txt")) as listed:
         lines = [line for line in listed if line.split(":")[0].split()[:1] and line.split(":")[0].split()[0] in names]
     with open(os.path.join(folder, "crates.txt"), "w") as out:
-        out.write("".join(lines) + "cell_bench may_wait=9: anyhow atomic_table trend_num disk_model snapshot_table tag_cell\n")
+        out.write("".join(lines) + "cell_bench may_wait=9: anyhow trend_num disk_model told_store tag_cell test_rig\n")
     shutil.copyfile(os.path.join(ROOT, "HANDLES"), os.path.join(folder, "HANDLES"))
     subprocess.run(["rt", "run", "--jobs", "2"], cwd=os.path.dirname(source), stdin=subprocess.DEVNULL,
                    stdout=subprocess.DEVNULL, stderr=subprocess.DEVNULL, check=True)
