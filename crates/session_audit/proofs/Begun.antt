@@ -1,5 +1,5 @@
 -- What was found on tapes is the first of what is due.
-use Rattle.std.proofs.Common.{◌≡◌, ℕ, ◌<◌, ◌≤◌, ◌∙◌, ◌++◌, inl, inr, List, [], length, get_or, take, drop, Option, sym, ap, subst, arith, append-nil}
+use Rattle.std.proofs.Common.{ℕ, ◌<◌, ◌≤◌, ◌∙◌, ◌++◌, inl, inr, List, [], length, get_or, take, drop, Option, sym, ap, subst, arith, append-nil}
 use Rattle.std.specs.Option.{option_map_or}
 use Rattle.std.proofs.lemmas.Bool.{cases_lt}
 use Rattle.std.proofs.lemmas.List.{take-append-drop}

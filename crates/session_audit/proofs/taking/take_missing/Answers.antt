@@ -3,14 +3,13 @@ use Rattle.std.proofs.lemmas.Option.{get_or_from_slice_get, slice_get_within}
 use Rattle.calc_refresh.specs.Lists.{lists_of}
 use Rattle.tag_cell.specs.Told.{take_refusal}
 use Rattle.session_audit.specs.Agendas.{phase_item}
-use Rattle.session_audit.specs.CellRefusals.{IsTakeRefusal, take_status}
+use Rattle.session_audit.specs.CellRefusals.{IsTakeRefusal}
 use Rattle.session_audit.specs.Cells.{IsTakeEntry, cell_tape}
 use Rattle.session_audit.specs.Tapes.{ask_of, take_of}
 use Rattle.session_audit.proofs.Begun.{tapes_begun}
 use Rattle.session_audit.proofs.EntryKinds.{longer_found, taken_asks}
 use Rattle.session_audit.proofs.FullTapes.{rows_lacking}
 use Rattle.session_audit.proofs.Refused.{take_refused}
-use Rattle.session_audit.proofs.taking.take_missing.Given as given
 use Rattle.session_audit.proofs.taking.take_missing.Goals as goal
 use Rattle.session_audit.proofs.taking.take_missing.Goals.{In-Err}
 

@@ -1,4 +1,4 @@
-use Rattle.std.proofs.Common.{◌∙◌, ap, get_or, length}
+use Rattle.std.proofs.Common.{◌∙◌, ap, length}
 use Rattle.std.proofs.lemmas.List.{get_or_default}
 use Rattle.tag_cell.specs.Tapes.{taken}
 use Rattle.tag_cell.specs.Told.{ToldCell as Cell}
