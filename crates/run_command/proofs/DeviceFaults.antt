@@ -22,7 +22,7 @@ use Rattle.plant_store.specs.Closings.{CountsClosed}
 use Rattle.session_report.specs.declared.session.Session.{Session}
 use Rattle.tag_base.specs.declared.definition.Base.{Base}
 use Rattle.run_command.specs.declared.work.Given.{Given}
-use Rattle.run_command.specs.Refusals.{IsMakingRefusal, IsRefused, OfAsk, OfCommit, OfFinding, OfGroup, OfMaking, OfMemory, OfPull, OfRefresh as OfRefreshing, OfRest, OfRowAsk, OfStop, OfTag, OfTake, OfTaking, OfTurns}
+use Rattle.run_command.specs.Refusals.{IsMakingRefusal, IsRefused, OfAsk, OfCommit, OfFinding, OfGroup, OfMaking, OfMemory, OfPull, OfRefresh as OfRefreshing, OfRest, OfRowAsk, OfStop, OfTag, OfTake, OfTaking, OfTurns, OfWant}
 use Rattle.run_command.specs.Runs.{IsOver, IsUndone, OfNone, OfSettling}
 use Rattle.run_command.specs.Headline.{IsFaultCounted}
 use Rattle.plant_status.proofs.Elements.{element}
@@ -80,6 +80,7 @@ module _ {D : Type 0} (trace : D → Option Trace) (ticks faults : D → ℕ) (b
     of_rest notes unit (OfStop so) = absurd so
     of_rest notes unit (OfMaking ended so) = of_making unit so
     of_rest notes unit (OfPull ended so) = absurd so.differs.differs
+    of_rest notes unit (OfWant same) = absurd (cc same)
 
     pub of_undone : (opened : List (Cell D)) (opened_books : List (Book D)) (notes : List WorkerNote) (unit : Device)
         → IsUndone g opened opened_books cells books notes (DeviceFault unit) → HasRisen before now

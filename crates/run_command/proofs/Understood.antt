@@ -21,7 +21,7 @@ use Rattle.plant_store.specs.Openings.{IsPlantRefusal, OfGroups, OfTags}
 use Rattle.plant_files.specs.PlanRows as plans
 use Rattle.session_report.specs.declared.session.Session.{Session}
 use Rattle.run_command.specs.declared.work.Given.{Given}
-use Rattle.run_command.specs.Refusals.{IsRefused, OfAsk, OfCommit, OfFinding, OfGroup, OfMaking, OfMemory as OfWanting, OfPull, OfRefresh as OfRefreshing, OfRest, OfRowAsk, OfStop, OfTag, OfTake, OfTaking, OfTurns}
+use Rattle.run_command.specs.Refusals.{IsRefused, OfAsk, OfCommit, OfFinding, OfGroup, OfMaking, OfMemory as OfWanting, OfPull, OfRefresh as OfRefreshing, OfRest, OfRowAsk, OfStop, OfTag, OfTake, OfTaking, OfTurns, OfWant}
 use Rattle.run_command.specs.Runs as runs
 
 -- no file is refused so
@@ -79,6 +79,7 @@ module _ {D : Type 0} where
     of_rest notes (OfMaking ended (OfRefreshing is)) = of_book _ _ is.group is.book is.refused
     of_rest notes (OfMaking ended (OfWanting same)) = cc same
     of_rest notes (OfPull ended is) = is.differs.differs
+    of_rest notes (OfWant same) = cc same
 
     pub of_undone : (opened : List (Cell D)) (opened_books : List (Book D)) (notes : List WorkerNote)
         → runs.IsUndone g opened opened_books cells books notes BadWords → ⊥

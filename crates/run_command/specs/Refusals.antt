@@ -46,14 +46,15 @@ pub data IsMakingRefusal {D : Type 0} (g : Given) (cells : List (Cell D)) (books
   OfRefresh : IsRefreshRefusal (durable_lists cells) (lists_of g.inputs.items) books s → IsMakingRefusal g cells books s
   OfMemory : s ≡ WantOfMemory → IsMakingRefusal g cells books s
 
--- one of these two, or a worker was stopped or found no memory, or what a group has is not what it pulled of its
--- inputs' tags
+-- the refusals, in order: one that comes of the tapes; a worker was stopped or found no memory; what the tapes lack
+-- cannot be done; what a group has is not what it pulled of its inputs' tags. A lack of memory may come at any time.
 pub data IsRefused {D : Type 0} (g : Given) (notes : List WorkerNote) (cells : List (Cell D)) (books : List (Book D)) (s : Status)
     : Type 0 where
   OfFinding : IsFindingRefusal g cells books s → IsRefused g notes cells books s
   OfStop : IsStop notes s → IsRefused g notes cells books s
   OfMaking : HaveAllEnded notes → IsMakingRefusal g cells books s → IsRefused g notes cells books s
   OfPull : HaveAllEnded notes → IsPullMismatch (lists_of g.inputs.items) cells books s → IsRefused g notes cells books s
+  OfWant : s ≡ WantOfMemory → IsRefused g notes cells books s
 
 -- ---- comparison with the openings
 

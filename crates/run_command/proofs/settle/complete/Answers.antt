@@ -3,7 +3,7 @@ use Rattle.std.proofs.lemmas.Result.{err_from_is_err_and}
 use Rattle.std.specs.declared.alloc.Global.{Global}
 use Rattle.calc_refresh.specs.Lists.{lists_of}
 use Rattle.session_audit.specs.Pulls.{ArePulled, IsPullMismatch}
-use Rattle.run_command.specs.Refusals.{OfFinding, OfMaking, OfPull}
+use Rattle.run_command.specs.Refusals.{OfFinding, OfMaking, OfPull, OfStop}
 use Rattle.run_command.proofs.Making.{few_refreshes, inputs_kept}
 use Rattle.run_command.proofs.Foreign.{finding_foreign}
 use Rattle.run_command.proofs.Results.{at_ok, err_weaker, ok_weaker}
@@ -55,3 +55,8 @@ returns-clause-begun g c = λ none. c.make_up.ensures.begun
 
 pub returns-clause-ended : goal.returns-clause-ended
 returns-clause-ended g c = at_ok c.compare_pulls.result c.in_ok-check_endings.ensures.ended
+
+pub returns-in_err-check_endings-clause-refused : goal.returns-in_err-check_endings-clause-refused
+returns-in_err-check_endings-clause-refused g c =
+    let p = err_from_is_err_and c.from_residual-in_err-check_endings.result c.from_residual-in_err-check_endings.ensures.1 in
+    rw (p.1, p.2) (OfStop c.in_err-check_endings.ensures.stopped)

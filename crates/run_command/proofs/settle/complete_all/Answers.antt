@@ -4,6 +4,7 @@ use Rattle.std.specs.declared.alloc.Global.{Global}
 use Rattle.value_rows.specs.declared.raw.RawRow.{RawRow}
 use Rattle.session_audit.specs.Agendas.{ask_item, row_item, phase_item}
 use Rattle.collector_pool.specs.Work.{IsRowOf}
+use Rattle.run_command.specs.Refusals.{OfWant}
 use Rattle.run_command.proofs.Making.{known_asks, known_row_asks, over_again}
 use Rattle.run_command.proofs.settle.complete_all.Goals as goal
 
@@ -28,3 +29,12 @@ complete-requires-clause-over g c = record {
   row_readers = over_again row_item (length c.args.books.now) _ _ _ _ c.deref-3.ensures.value c.deref_mut-3.ensures.value
       c.in-Ok-row_askers_of.ensures.over;
 }
+
+pub returns-in_default-clause-refused : goal.returns-in_default-clause-refused
+returns-in_default-clause-refused g c = OfWant refl
+
+pub returns-in_default-readers_of-clause-refused : goal.returns-in_default-readers_of-clause-refused
+returns-in_default-readers_of-clause-refused g c = OfWant refl
+
+pub returns-in_default-row_askers_of-clause-refused : goal.returns-in_default-row_askers_of-clause-refused
+returns-in_default-row_askers_of-clause-refused g c = OfWant refl

@@ -2,7 +2,7 @@ use Rattle.std.proofs.Common.{◌∙◌, List, ap, is_ok, sym, subst, length}
 use Rattle.std.proofs.lemmas.Result.{err_from_is_err_and}
 use Rattle.collector_pool.specs.declared.note.WorkerNote.{WorkerNote}
 use Rattle.run_command.specs.Endings.{HaveAllEnded}
-use Rattle.run_command.specs.Refusals.{IsRefused, OfRest, notes_of}
+use Rattle.run_command.specs.Refusals.{IsRefused, OfGroup, OfRest, OfTag, notes_of}
 use Rattle.run_command.proofs.Kept.{books_as_kept, cells_as_kept}
 use Rattle.run_command.proofs.Making.{inputs_of_kept}
 use Rattle.plant_status.specs.declared.unit.Unit.TheVariants.{Group, Tag}
@@ -68,3 +68,13 @@ returns-in-Ok-clause-ran g c = at_ok c.complete_all.result (ap is_ok c.in-Ok.is)
 
 pub returns-in-Ok-clause-begun : goal.returns-in-Ok-clause-begun
 returns-in-Ok-clause-begun g c = λ none. c.complete_all.ensures.begun none
+
+pub returns-in_err-compare_all-clause-refused : goal.returns-in_err-compare_all-clause-refused
+returns-in_err-compare_all-clause-refused g c =
+    let p = err_from_is_err_and c.from_residual.result c.from_residual.ensures.1 in
+    rw (p.1, p.2) (OfTag c.in_err-compare_all.ensures.differs)
+
+pub returns-in_err-compare_all-2-clause-refused : goal.returns-in_err-compare_all-2-clause-refused
+returns-in_err-compare_all-2-clause-refused g c =
+    let p = err_from_is_err_and c.from_residual-in_err-compare_all-2.result c.from_residual-in_err-compare_all-2.ensures.1 in
+    rw (p.1, p.2) (OfGroup c.in_ok-compare_all.ensures.same c.in_err-compare_all-2.ensures.differs)
