@@ -79,7 +79,7 @@ module _ {D : Type 0} (trace : D → Option Trace) (ticks faults : D → ℕ) (b
     of_rest notes unit (OfFinding (OfTurns so)) = absurd so
     of_rest notes unit (OfStop so) = absurd so
     of_rest notes unit (OfMaking ended so) = of_making unit so
-    of_rest notes unit (OfPull ended so) = absurd so.differs.differs
+    of_rest notes unit (OfPull ended made so) = absurd so.differs.differs
     of_rest notes unit (OfWant same) = absurd (cc same)
 
     pub of_undone : (opened : List (Cell D)) (opened_books : List (Book D)) (notes : List WorkerNote) (unit : Device)

@@ -33,6 +33,7 @@ promised number tags events stops_before stops_now answer s is =
         → IsDoneSo (phase_item earlier) (λ i. 1 + turns_in i []) base rows [] s text
         → IsDoneSo (phase_item earlier) (λ i. 1) base rows [] s text
     once earlier base rows text it = record {
+      ended = it.ended;
       mixed = it.mixed;
       refreshed = λ i d g below. it.refreshed i d g below;
       same = it.same;

@@ -62,12 +62,12 @@ module _ (base : Base) (g : Given) (s : Session) where
           subst (IsUndone g opened opened_books cells books notes) (sym same) undone
 
 -- what holds of a phase that is done holds of a session that answers a text
-pub ran_told : {P : Type 0} (base : Base) (g : Given) (s : Session) (came : Result (Unit {0}) Status) (told : Result (String Global) Status)
+pub ran_told : (P : Type 0) (base : Base) (g : Given) (s : Session) (came : Result (Unit {0}) Status) (told : Result (String Global) Status)
     → IsReported base g s came told → OnOk came P → OnOk told P
-ran_told base g s (Ok x) (Ok text) is p = p
-ran_told base g s (Ok x) (Err why) is p = tt
-ran_told base g s (Err why) (Ok text) is p = absurd (cc (is.refused))
-ran_told base g s (Err why) (Err e) is p = tt
+ran_told P base g s (Ok x) (Ok text) is p = p
+ran_told P base g s (Ok x) (Err why) is p = tt
+ran_told P base g s (Err why) (Ok text) is p = absurd (cc (is.refused))
+ran_told P base g s (Err why) (Err e) is p = tt
 
 -- where an opening counted no fault, those counted since are all that were counted since before it
 pub counted_since : {D : Type 0} (faults : D → ℕ) (cells : List (Cell D)) (books : List (Book D)) (before opened now : ℕ)

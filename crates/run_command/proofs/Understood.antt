@@ -78,7 +78,7 @@ module _ {D : Type 0} where
     of_rest notes (OfMaking ended (OfCommit is)) = is
     of_rest notes (OfMaking ended (OfRefreshing is)) = of_book _ _ is.group is.book is.refused
     of_rest notes (OfMaking ended (OfWanting same)) = cc same
-    of_rest notes (OfPull ended is) = is.differs.differs
+    of_rest notes (OfPull ended made is) = is.differs.differs
     of_rest notes (OfWant same) = cc same
 
     pub of_undone : (opened : List (Cell D)) (opened_books : List (Book D)) (notes : List WorkerNote)

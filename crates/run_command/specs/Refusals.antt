@@ -24,6 +24,7 @@ use Rattle.session_audit.specs.BookRefusals.{IsRefreshRefusal}
 use Rattle.session_audit.specs.GroupTurns.{IsTurnsMismatch}
 use Rattle.run_command.specs.declared.work.Given.{Given}
 use Rattle.run_command.specs.Endings.{HaveAllEnded, IsStop}
+use Rattle.run_command.specs.Steps.{AreStepsMade}
 use Rattle.session_audit.specs.CellOpenings.{IsCellAsKept, IsTagMismatch}
 use Rattle.session_audit.specs.Openings.{AreAsKept}
 
@@ -53,7 +54,8 @@ pub data IsRefused {D : Type 0} (g : Given) (notes : List WorkerNote) (cells : L
   OfFinding : IsFindingRefusal g cells books s → IsRefused g notes cells books s
   OfStop : IsStop notes s → IsRefused g notes cells books s
   OfMaking : HaveAllEnded notes → IsMakingRefusal g cells books s → IsRefused g notes cells books s
-  OfPull : HaveAllEnded notes → IsPullMismatch (lists_of g.inputs.items) cells books s → IsRefused g notes cells books s
+  OfPull : HaveAllEnded notes → AreStepsMade g cells books → IsPullMismatch (lists_of g.inputs.items) cells books s
+      → IsRefused g notes cells books s
   OfWant : s ≡ WantOfMemory → IsRefused g notes cells books s
 
 -- ---- comparison with the openings

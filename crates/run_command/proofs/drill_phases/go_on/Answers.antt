@@ -1,4 +1,4 @@
-use Rattle.std.proofs.Common.{◌∙◌, ◌++◌, [], List, ap, arith, length, refl, sym}
+use Rattle.std.proofs.Common.{◌∙◌, ◌++◌, [], List, ap, arith, length, refl, subst, sym}
 use Rattle.std.proofs.lemmas.List.{append-nil}
 use Rattle.collector_pool.specs.declared.note.WorkerNote.{WorkerNote}
 use Rattle.run_command.specs.Runs as runs

@@ -31,7 +31,7 @@ returns g c old before was rest same =
           (subst (λ (v : Vec WorkerNote Global). OnOk ended.answer (HaveAllEnded v.items)) (sym closed.notes) end.ended) end.made end.pulled closed.told;
       notes = subst (λ (v : Vec WorkerNote Global). AreNotes g.row.S-Dev.Denot given.work (g.P.Passes.stops c.args.passes.now)
           (g.P.Passes.stops c.hold_phase-ended.new.passes) v.items) (sym closed.notes) end.notes;
-      ran = ran_told c.args.base.now given s ended.answer _ closed.told
+      ran = ran_told (AreNotesOfAll g.row.S-Dev.Denot given.work s.workers.items) c.args.base.now given s ended.answer _ closed.told
           (subst (λ (v : Vec WorkerNote Global). OnOk ended.answer (AreNotesOfAll g.row.S-Dev.Denot given.work v.items)) (sym closed.notes) end.ran);
       begun = λ none. end.begun (λ of. none (foreign_told c.args.base.now given s ended.answer _ closed.told of));
       undone = undone_told c.args.base.now given s ended.cells.items ended.books.items _ _ s.workers.items ended.answer _ closed.told

@@ -1,4 +1,4 @@
-use Rattle.std.proofs.Common.{Vec, ap, inl, map, refl, ◌∙◌}
+use Rattle.std.proofs.Common.{Vec, ap, map, ◌∙◌}
 use Rattle.std.specs.declared.alloc.Global.{Global}
 use Rattle.value_rows.specs.declared.asked.Query.{Query}
 use Rattle.value_rows.specs.declared.raw.RawRow.{RawRow}
@@ -35,5 +35,3 @@ returns-in-Ok-clause-unheld g c = λ name plan_name told planned none. err_weake
     (λ why is. OfOpening c.args.read.base c.args.read.plan (map (λ list. list.items) c.args.read.rows.items)
     (map (λ list. list.items) c.args.read.queries.items) planned is) (c.run_given.ensures.unheld none)
 
-pub returns-in-Err-clause-counts : goal.returns-in-Err-clause-counts
-returns-in-Err-clause-counts g c = λ none few. rw c.refused.ensures.answer (inl refl)

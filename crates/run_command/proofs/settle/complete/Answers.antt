@@ -31,7 +31,7 @@ compare_pulls-requires-clause-few_turns g c =
 
 pub returns-clause-refused : goal.returns-clause-refused
 returns-clause-refused g c = err_weaker c.compare_pulls.result
-    (λ why is. OfPull c.in_ok-check_endings.ensures.ended (subst (λ (l : List (Vec ℕ Global)). IsPullMismatch (lists_of l) c.make_up.new.cells c.make_up.new.books why)
+    (λ why is. OfPull c.in_ok-check_endings.ensures.ended c.in_ok-make_up.ensures.made (subst (λ (l : List (Vec ℕ Global)). IsPullMismatch (lists_of l) c.make_up.new.cells c.make_up.new.books why)
     c.deref.ensures.value is)) c.compare_pulls.ensures.differs
 
 pub returns-clause-pulled : goal.returns-clause-pulled
