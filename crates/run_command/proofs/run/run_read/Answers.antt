@@ -34,4 +34,3 @@ pub returns-in-Ok-clause-unheld : goal.returns-in-Ok-clause-unheld
 returns-in-Ok-clause-unheld g c = λ name plan_name told planned none. err_weaker c.run_given.result.answer
     (λ why is. OfOpening c.args.read.base c.args.read.plan (map (λ list. list.items) c.args.read.rows.items)
     (map (λ list. list.items) c.args.read.queries.items) planned is) (c.run_given.ensures.unheld none)
-
