@@ -1,6 +1,6 @@
 -- Archives that stand for the points of the first rows of a log, row by row.
 use Rattle.std.proofs.Common.{◌≡◌, ℕ, suc, ◌+◌, ◌^◌, ◌<◌, ◌≤◌, Bool, true, false, List, [], ◌∷◌, ◌++◌, length, get_or, map, take, refl, sym, ap, ◌∙◌, subst, inl, inr, arith, append_assoc, length-take}
-use Rattle.std.specs.Prelude.{◌≢◌, ◌⊎◌, All, filter, nat_eq, slice_set}
+use Rattle.std.specs.Prelude.{◌≢◌, ◌⊎◌, All, filter, nat_eq, slice_set, Result, Ok, Err, IsErr}
 use Rattle.std.proofs.Math.Seq.{get_or-append_seam}
 use Rattle.std.proofs.lemmas.Bool.{cases_eq, cases_lt}
 use Rattle.std.proofs.lemmas.List.{append-nil, get_or_append_left, get_or-set_other, get_or-set_same, length-append, length-map, length-set, map-append, take_more}
@@ -163,11 +163,17 @@ row_full tags rows cores place d old number records all within standing room sam
 pub no_room : (tags : List TagDef) (rows : List LogRow) → HasRoomBelow tags rows 0
 no_room tags rows = λ place less. absurd (omega arith)
 
--- the core of the row at a place has room, and so have those of the rows before it
-pub row_fits : (tags : List TagDef) (rows : List LogRow) (cores : List Core) (place : ℕ) (d : LogRow) (old : Core)
+-- a success is no refusal
+no_err : {T E : Type 0} (r : Result T E) (x : T) → r ≡ Ok x → IsErr r → ⊥
+no_err (Ok y) x is refused = cc
+no_err (Err why) x is refused = cc
+
+-- the core of the row at a place had room, as had those of the rows before it
+pub row_fits : {T E : Type 0} (r : Result T E) (x : T) (tags : List TagDef) (rows : List LogRow) (cores : List Core) (place : ℕ) (d : LogRow) (old : Core)
     → All (IsLogRow (length tags)) rows → place < length rows → AreStanding tags (take place rows) cores → HasRoomBelow tags rows place
-    → (most_records < length (get_or cores (get_or rows place d).tag old).state.records + 2 → ⊥) → HasRoomBelow tags rows (place + 1)
-row_fits tags rows cores place d old all within standing room few = λ k less. elim (cases_lt k place) [
+    → r ≡ Ok x → (most_records < length (get_or cores (get_or rows place d).tag old).state.records + 2 → IsErr r)
+    → HasRoomBelow tags rows (place + 1)
+row_fits r x tags rows cores place d old all within standing room is refused = λ k less. elim (cases_lt k place) [
   | inl below ↦ room k below
   | inr above ↦ subst (HasRoomAt tags rows) (omega (arith, less, above)) here
 ]
@@ -185,7 +191,7 @@ row_fits tags rows cores place d old all within standing room few = λ k less. e
       there = slice_get-get_or rows place d within;
       stands = λ def. standing.stand row.tag def old known;
       few = elim (cases_lt most_records (length (get_or cores row.tag old).state.records + 2)) [
-        | inl many ↦ absurd (few many)
+        | inl many ↦ absurd (no_err r x is (refused many))
         | inr most ↦ most
       ];
     }

@@ -86,13 +86,13 @@ module _ (base : Base) (h : LogHistory) where
   foreign_told (Ok x) told is of = absurd of
   foreign_told (Err why) told is of = subst (λ (r : Result (String Global) Status). AdmitsForeignPut r) (sym is.refused) of
 
-  -- if there is a text, the log was not refused
-  text_told : {P : Type 0} (came : Result Unit Status) (told : Result (String Global) Status) → IsLogReported base h came told
+  -- what holds of a log that is not refused holds if there is a text
+  text_told : (P : Type 0) (came : Result Unit Status) (told : Result (String Global) Status) → IsLogReported base h came told
       → OnOk came P → OnOk told P
-  text_told (Ok x) (Ok text) is p = p
-  text_told (Ok x) (Err why) is p = tt
-  text_told (Err why) (Ok text) is p = absurd (cc (is.refused))
-  text_told (Err why) (Err e) is p = tt
+  text_told P (Ok x) (Ok text) is p = p
+  text_told P (Ok x) (Err why) is p = tt
+  text_told P (Err why) (Ok text) is p = absurd (cc (is.refused))
+  text_told P (Err why) (Err e) is p = tt
 
   module _ {D : Type 0} (rows : List (List RawRow)) (log : ToldLog D) where
     -- if there is a text, the log is done
@@ -165,7 +165,7 @@ is_run {D} trace ticks faults base rows known first e old mid new before now sto
       notes_are = ended.notes_are;
       begun = λ other. subst (λ (l : List LogTurn). ArePutsBegun rows l) (sym is.tape)
           (ended.begun (λ of. other (foreign_told base e.history e.answer answer told of)));
-      ended = text_told base e.history e.answer answer told ended.ended;
+      ended = text_told base e.history (AreUnstopped ended.notes) e.answer answer told ended.ended;
       done = done_told base e.history rows ended.log e.answer answer told is ended.made;
       undone = undone;
       others = λ n differs. others' n differs ∙ others n differs;

@@ -15,7 +15,7 @@ use Rattle.commit_log.proofs.Tapes.{puts-append}
 use Rattle.plant_more.specs.declared.log_note.LogNote.{LogNote}
 use Rattle.plant_more.specs.LogTurns.{IsCommit, IsCommitted}
 use Rattle.plant_more.specs.declared.log_known.KnownLog.{KnownLog}
-use Rattle.plant_more.specs.LogFinding.{AreFirstRows, AreFound, ArePutsBegun, AreWhole, IsPutMismatch, rows_by, rows_in}
+use Rattle.plant_more.specs.LogFinding.{AreFound, AreLeadingRows, ArePutsBegun, AreWhole, IsPutMismatch, rows_by, rows_in}
 use Rattle.commit_log.specs.declared.row.LogRow.{LogRow}
 use Rattle.plant_more.specs.LogKnown.{FirstDiffer, IsAsKnown, IsLogMismatch, found_numbers, known_numbers}
 use Rattle.plant_more.specs.LogMaking.{AreRowsFor, IsCommitRefusal}
@@ -46,13 +46,13 @@ same_rows old new is collector =
 whole_on : {D : Type 0} (files : List (List RawRow)) (old new : ToldLog D) → IsCommitted old new → AreWhole files old.tape → AreWhole files new.tape
 whole_on files old new is whole = λ collector. same_rows old new is collector ∙ whole collector
 
--- so are they the first of their collector's
+-- rows that are the first of their collectors' still are after them
 pub begun_on : {D : Type 0} (files : List (List RawRow)) (old new : ToldLog D) → IsCommitted old new → ArePutsBegun files old.tape
     → ArePutsBegun files new.tape
 begun_on files old new is begun = λ collector.
-    subst (λ (l : List LogRow). AreFirstRows l (rows_in files collector)) (sym (same_rows old new is collector)) (begun collector)
+    subst (λ (l : List LogRow). AreLeadingRows l (rows_in files collector)) (sym (same_rows old new is collector)) (begun collector)
 
--- rows that were found are the first of their collector's
+-- rows that were found are the first of their collectors'
 pub found_begun : (files : List (List RawRow)) (tape : List LogTurn) (next : List ℕ) → AreFound files tape next → ArePutsBegun files tape
 found_begun files tape next found = λ collector.
     let rest : List LogRow = drop (slice_index next collector) (rows_in files collector) in
@@ -62,12 +62,12 @@ found_begun files tape next found = λ collector.
           ∙ ap (λ (l : List LogRow). l ++ rest) (sym (found.each collector));
     }
 
--- a changed opening may go with a put of no file
+-- if the opening has changed, there may be a put of no file
 pub opening_foreign : (why : Status) → IsOpening why → MayBeForeignPut why
 opening_foreign (Mismatch (Opening unit) kept told) is = tt
 opening_foreign other is = absurd is
 
--- so may a put that is not its collector's next row
+-- so there may be if a put is not its collector's next row
 pub put_foreign : (files : List (List RawRow)) (tape : List LogTurn) (why : Status) → IsPutMismatch files tape why → MayBeForeignPut why
 put_foreign files tape (Mismatch (LogPlace place) kept told) is =
     subst (λ (k : Seen). MayBeForeignPut (Mismatch (LogPlace place) k told)) (sym is.kept_is) tt

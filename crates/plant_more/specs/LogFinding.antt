@@ -41,13 +41,13 @@ abbrev pub AreWhole : List (List RawRow) → List LogTurn → Type 0
 AreWhole files tape = (collector : ℕ) → rows_by collector (puts tape) ≡ rows_in files collector
 
 -- these are the first of all rows, in their order
-pub record AreFirstRows (rows all : List LogRow) : Type 0 where
+pub record AreLeadingRows (rows all : List LogRow) : Type 0 where
   pub rest : List LogRow
   pub is : all ≡ rows ++ rest
 
 -- of each collector only the first rows of its file were put, in their order; no other row was put
 abbrev pub ArePutsBegun : List (List RawRow) → List LogTurn → Type 0
-ArePutsBegun files tape = (collector : ℕ) → AreFirstRows (rows_by collector (puts tape)) (rows_in files collector)
+ArePutsBegun files tape = (collector : ℕ) → AreLeadingRows (rows_by collector (puts tape)) (rows_in files collector)
 
 -- the numbers of found rows are unchanged for all collectors but this one
 pub record AreOthersSame (collector : ℕ) (old new : List ℕ) : Type 0 where

@@ -40,8 +40,8 @@ pub record IsHistoryOfLog {D : Type 0} (l : ToldLog D) (h : LogHistory) : Type 0
 
 -- A log at its end: its device, its history, and the notes of its workers. No worker was stopped, and it has all the
 -- rows that these had to put; or there is a refusal. `known` is the copy of its opening. Unless the refusal is a
--- mismatch of the opening, the log still agrees with that copy. Unless the answer admits a put that is in no file, the
--- log has of each collector only the first of its rows.
+-- mismatch of the opening, the log still agrees with that copy. Unless the answer admits a put of no file, the log has
+-- of each collector only its first rows, in order, and no other put.
 pub record IsEnded {D : Type 0} (trace : D → Option Trace) (ticks faults : D → ℕ) (files : List (List RawRow)) (known : KnownLog)
     (before now : ℕ) (e : EndedLog D) : Type 0 where
   pub log : ToldLog D
@@ -88,8 +88,8 @@ pub record IsLogOpenedAs (base : Base) (before : Option Trace) (h : LogHistory) 
   pub tags : h.tags ≡ length base.tags.items
   pub opening : Shows before (λ c. StandsForRows (plant_text base.tags.items) (length base.tags.items) c h.opening.items)
 
--- Why a log is not done: a refusal after its workers have ended; or all is done but its report, for which there was no
--- memory or a tag could get too many records.
+-- Why a log is not done. Either it was refused after its workers had ended. Or only its report is missing: there was no
+-- memory, or a tag could get too many records.
 pub data IsUndone {D : Type 0} (faults : D → ℕ) (base : Base) (rows : List (List RawRow)) (notes : List LogNote) (known : KnownLog)
     (l : ToldLog D) (h : LogHistory) (why : Status) : Type 0 where
   OfSettling : IsSettlingRefusal faults rows notes known l why → IsUndone faults base rows notes known l h why
@@ -113,9 +113,9 @@ pub record CountsLog (answer : Result (String Global) Status) (before now : ℕ)
 -- crash at any moment since its opening leaves of the device the opening's rows followed by the oldest puts, with all
 -- acknowledged rows among them.
 -- Unless the answer is a mismatch of the opening, its opening has the rows for which the device stood. Unless the answer
--- admits a put that is in no file, of each collector only the first of its rows were put, in order, and no other row.
--- The log is done, or there is a cause. If it is done, no worker was stopped by its pass, and none found no memory. The
--- store counted `before` faults before it, and counts `now` after it.
+-- admits a put of no file, the log has of each collector only its first rows, in order, and no other put. The log is
+-- done, or there is a cause. If it is done, no pass stopped a worker, and each worker found memory. The store counted
+-- `before` faults before it, and counts `now` after it.
 pub record IsRun {D : Type 0} (trace : D → Option Trace) (ticks faults : D → ℕ) (base : Base) (rows : List (List RawRow))
     (old new : TracesByName) (before now : ℕ) (stops_before stops_now : ℕ) (answer : Result (String Global) Status) (h : LogHistory)
     : Type 0 where

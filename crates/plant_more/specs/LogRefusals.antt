@@ -66,9 +66,9 @@ abbrev pub IsOfOpening : {T : Type 0} → Result T Status → Type 0
 IsOfOpening (Ok x) = ⊥
 IsOfOpening (Err why) = IsOpening why
 
--- The refusals after which the tape may have a put that is in no file. Two report a difference: the opening has
--- changed, or a put is not its collector's next row. The third is want of memory, which may come before the tape is
--- compared with the files.
+-- The refusals after which the tape may have a put of no file. Two report a difference: the opening has changed, or a
+-- put is not its collector's next row. The third is want of memory, which may come before the tape is compared with the
+-- files.
 abbrev pub MayBeForeignPut : Status → Type 0
 MayBeForeignPut (status.Mismatch (Opening unit) kept told) = ⊤
 MayBeForeignPut (status.Mismatch (LogPlace place) (seen.Put tag collector row point) told) = ⊤

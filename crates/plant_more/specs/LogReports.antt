@@ -40,8 +40,8 @@ pub record IsLineToldOf (tags : List TagDef) (rows : List LogRow) (text : List �
   pub standing : AreStanding tags rows cores
   pub same : text ≡ check_text tags cores
 
--- The row at this place can be taken: an archive that stands for its tag's points in the rows before it has room for two
--- records more.
+-- The row at this place can be taken. An archive that stands for its tag's points in the rows before it has room for two
+-- more records.
 pub record HasRoomAt (tags : List TagDef) (rows : List LogRow) (place : ℕ) : Type 0 where
   pub row : LogRow
   pub state : State
@@ -49,12 +49,12 @@ pub record HasRoomAt (tags : List TagDef) (rows : List LogRow) (place : ℕ) : T
   pub stands : (def : TagDef) → Stands (log_origin_of (slice_index_or tags row.tag def)) (log_history_of row.tag (take place rows)) state
   pub few : length state.records + 2 ≤ most_records
 
--- each of the first rows, so many, can be taken
+-- each row before this place can be taken
 abbrev pub HasRoomBelow : List TagDef → List LogRow → ℕ → Type 0
-HasRoomBelow tags rows count = (place : ℕ) → place < count → HasRoomAt tags rows place
+HasRoomBelow tags rows end = (place : ℕ) → place < end → HasRoomAt tags rows place
 
--- The row after the first `count` rows is the first that cannot be taken. An archive that stands for its tag's points in
--- the rows before it has so many records that one point more could bring too many.
+-- The row at place `count` is the first that cannot be taken. An archive stands for its tag's points in the rows before
+-- it, and has so many records. One point more could bring too many.
 pub record IsTagFull (tags : List TagDef) (rows : List LogRow) (number : ℕ) : Type 0 where
   pub tag : ℕ
   pub count : ℕ

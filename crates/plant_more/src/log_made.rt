@@ -16,7 +16,7 @@ use plant_status::{Place, Seen, Status, Unit};
 use value_rows::RawRow;
 
 // Puts each row of the collectors' files that the tape of a log lacks, file after file. `next` counts, for each
-// collector, how many of its rows were found.
+// collector, how many of its rows were found, also after a refusal.
 pub(crate) fn put_missing<D: Disk>(
     log: &mut Log<D>,
     files: &[Vec<RawRow>],

@@ -20,5 +20,5 @@ returns-in-Err-clause-refused g c =
 
 pub returns-in-Ok-clause-room : goal.returns-in-Ok-clause-room
 returns-in-Ok-clause-room g c =
-    row_fits c.args.tags.now c.args.rows.now c.args.cores.now c.args.place _ _ c.requires.rows c.requires.within c.requires.standing
-    c.requires.room (λ many. absurd (cc (c.in-Ok.ensures.one.full.1 many)))
+    row_fits c.take.result _ c.args.tags.now c.args.rows.now c.args.cores.now c.args.place _ _ c.requires.rows c.requires.within
+    c.requires.standing c.requires.room c.in-Ok.is c.take.ensures.one.full.1
