@@ -1,10 +1,11 @@
 -- Archives that stand for the points of the first rows of a log, row by row.
-use Rattle.std.proofs.Common.{◌≡◌, ℕ, suc, ◌+◌, ◌^◌, ◌<◌, ◌≤◌, Bool, true, false, List, [], ◌∷◌, ◌++◌, length, get_or, map, take, refl, sym, ap, ◌∙◌, inl, inr, arith, append_assoc, length-take}
-use Rattle.std.specs.Prelude.{◌≢◌, ◌⊎◌, All, filter, nat_eq, slice_set}
+use Rattle.std.proofs.Common.{◌≡◌, ℕ, suc, ◌+◌, ◌^◌, ◌<◌, ◌≤◌, Bool, true, false, List, [], ◌∷◌, ◌++◌, length, get_or, map, take, refl, sym, ap, ◌∙◌, subst, inl, inr, arith, append_assoc, length-take}
+use Rattle.std.specs.Prelude.{◌≢◌, ◌⊎◌, All, filter, nat_eq, slice_set, Result, Ok, Err, IsErr}
 use Rattle.std.proofs.Math.Seq.{get_or-append_seam}
 use Rattle.std.proofs.lemmas.Bool.{cases_eq, cases_lt}
 use Rattle.std.proofs.lemmas.List.{append-nil, get_or_append_left, get_or-set_other, get_or-set_same, length-append, length-map, length-set, map-append, take_more}
 use Rattle.std.proofs.lemmas.List.Elements.{filter-append}
+use Rattle.std.proofs.lemmas.Option.{slice_get-get_or}
 use Rattle.trend_num.specs.Limits.{most_records}
 use Rattle.trend_num.specs.declared.point.Point.{Point}
 use Rattle.trend_num.specs.declared.tag_def.TagDef.{TagDef}
@@ -19,7 +20,7 @@ use Rattle.commit_log.specs.Images.{log_points_of}
 use Rattle.commit_log.specs.Tapes.{puts}
 use Rattle.commit_log.proofs.Tapes.{puts-append}
 use Rattle.plant_status.proofs.Elements.{element}
-use Rattle.plant_more.specs.LogReports.{AreStanding, IsTagFull, log_history_of, log_origin_of}
+use Rattle.plant_more.specs.LogReports.{AreStanding, HasRoomAt, HasRoomBelow, IsTagFull, log_history_of, log_origin_of}
 
 -- one event more
 followed-push : (h events : List Event) (e : Event) → followed h (events ++ e ∷ []) ≡ e ∷ followed h events
@@ -138,21 +139,61 @@ row_taken tags rows cores place d old core all within standing step stands =
 
 -- the core of the row at a place could have too many records
 pub row_full : (tags : List TagDef) (rows : List LogRow) (cores : List Core) (place : ℕ) (d : LogRow) (old : Core) (number records : ℕ)
-    → All (IsLogRow (length tags)) rows → place < length rows → AreStanding tags (take place rows) cores → number ≡ records
-    → records ≡ length (get_or cores (get_or rows place d).tag old).state.records
+    → All (IsLogRow (length tags)) rows → place < length rows → AreStanding tags (take place rows) cores → HasRoomBelow tags rows place
+    → number ≡ records → records ≡ length (get_or cores (get_or rows place d).tag old).state.records
     → most_records < length (get_or cores (get_or rows place d).tag old).state.records + 2 → IsTagFull tags rows number
-row_full tags rows cores place d old number records all within standing same records_are many =
+row_full tags rows cores place d old number records all within standing room same records_are many =
     let row : LogRow = get_or rows place d in
     let there : row.tag < length tags = (all place d within).tag in
     record {
       tag = row.tag;
       count = place;
+      next = row;
       state = (get_or cores row.tag old).state;
-      there = there;
-      within = omega (arith, within);
+      known = there;
+      there = slice_get-get_or rows place d within;
+      of_tag = refl;
       stands = λ def. standing.stand row.tag def old there;
       number_is = same ∙ records_are;
       many = rw (same ∙ records_are) many;
+      first = room;
+    }
+
+-- no row comes before the first one
+pub no_room : (tags : List TagDef) (rows : List LogRow) → HasRoomBelow tags rows 0
+no_room tags rows = λ place less. absurd (omega arith)
+
+-- a success is no refusal
+no_err : {T E : Type 0} (r : Result T E) (x : T) → r ≡ Ok x → IsErr r → ⊥
+no_err (Ok y) x is refused = cc
+no_err (Err why) x is refused = cc
+
+-- the core of the row at a place had room, as had those of the rows before it
+pub row_fits : {T E : Type 0} (r : Result T E) (x : T) (tags : List TagDef) (rows : List LogRow) (cores : List Core) (place : ℕ) (d : LogRow) (old : Core)
+    → All (IsLogRow (length tags)) rows → place < length rows → AreStanding tags (take place rows) cores → HasRoomBelow tags rows place
+    → r ≡ Ok x → (most_records < length (get_or cores (get_or rows place d).tag old).state.records + 2 → IsErr r)
+    → HasRoomBelow tags rows (place + 1)
+row_fits r x tags rows cores place d old all within standing room is refused = λ k less. elim (cases_lt k place) [
+  | inl below ↦ room k below
+  | inr above ↦ subst (HasRoomAt tags rows) (omega (arith, less, above)) here
+]
+  where
+    row : LogRow
+    row = get_or rows place d
+
+    known : row.tag < length tags
+    known = (all place d within).tag
+
+    here : HasRoomAt tags rows place
+    here = record {
+      row = row;
+      state = (get_or cores row.tag old).state;
+      there = slice_get-get_or rows place d within;
+      stands = λ def. standing.stand row.tag def old known;
+      few = elim (cases_lt most_records (length (get_or cores row.tag old).state.records + 2)) [
+        | inl many ↦ absurd (no_err r x is (refused many))
+        | inr most ↦ most
+      ];
     }
 
 -- the rows of the first turns and of one more

@@ -23,11 +23,11 @@ use Rattle.commit_log.proofs.Tapes.{fit_rows}
 use Rattle.plant_more.specs.declared.log_note.LogNote.{LogNote}
 use Rattle.plant_more.specs.declared.log_known.KnownLog.{KnownLog}
 use Rattle.plant_more.specs.declared.log_session.EndedLog.{EndedLog}
-use Rattle.plant_more.specs.LogFinding.{AreWhole}
+use Rattle.plant_more.specs.LogFinding.{ArePutsBegun, AreWhole}
 use Rattle.plant_more.specs.LogHeadline.{HasLogCountRisen, IsDone, IsEnded, IsHistoryOfLog, IsLogOpenedAs, IsRun, IsLogReported, IsUndone, OfReport, OfSettling}
 use Rattle.plant_more.specs.LogKnown.{IsAsKnown}
 use Rattle.plant_more.specs.LogOpenings.{AreOthersSame, TracesByName, IsLogOpened}
-use Rattle.plant_more.specs.LogRefusals.{ArePutsMade, IsOfOpening, IsSettlingRefusal, OfCommit, OfFinding, OfMemory, OfOpening, OfPut, OfRest, OfStop}
+use Rattle.plant_more.specs.LogRefusals.{AdmitsForeignPut, ArePutsMade, AreUnstopped, IsOfOpening, IsSettlingRefusal, OfCommit, OfFinding, OfMemory, OfOpening, OfPut, OfRest, OfStop}
 use Rattle.plant_more.specs.LogReports.{log_rows}
 use Rattle.plant_more.specs.LogTexts.{log_name, plant_text}
 
@@ -80,6 +80,20 @@ module _ (base : Base) (h : LogHistory) where
   opening_told (Ok x) told is of = absurd of
   opening_told (Err why) told is of = subst (λ (r : Result (String Global) Status). IsOfOpening r) (sym is.refused) of
 
+  -- so is a refusal that admits a put of no file
+  foreign_told : (came : Result Unit Status) (told : Result (String Global) Status) → IsLogReported base h came told
+      → AdmitsForeignPut came → AdmitsForeignPut told
+  foreign_told (Ok x) told is of = absurd of
+  foreign_told (Err why) told is of = subst (λ (r : Result (String Global) Status). AdmitsForeignPut r) (sym is.refused) of
+
+  -- what holds of a log that is not refused holds if there is a text
+  text_told : (P : Type 0) (came : Result Unit Status) (told : Result (String Global) Status) → IsLogReported base h came told
+      → OnOk came P → OnOk told P
+  text_told P (Ok x) (Ok text) is p = p
+  text_told P (Ok x) (Err why) is p = tt
+  text_told P (Err why) (Ok text) is p = absurd (cc (is.refused))
+  text_told P (Err why) (Err e) is p = tt
+
   module _ {D : Type 0} (rows : List (List RawRow)) (log : ToldLog D) where
     -- if there is a text, the log is done
     done_told : (came : Result Unit Status) (told : Result (String Global) Status) → IsLogReported base h came told → IsHistoryOfLog log h
@@ -96,12 +110,12 @@ module _ (base : Base) (h : LogHistory) where
     module _ (faults : D → ℕ) (notes : List LogNote) (known : KnownLog) where
       -- and a cause where there is none
       undone_told : (came : Result Unit Status) (told : Result (String Global) Status) → IsLogReported base h came told
-          → OnOk came (ArePutsMade rows log) → IfErr came (IsSettlingRefusal faults rows notes known log)
+          → OnOk came (AreUnstopped notes) → OnOk came (ArePutsMade rows log) → IfErr came (IsSettlingRefusal faults rows notes known log)
           → IfErr told (IsUndone faults base rows notes known log h)
-      undone_told (Ok x) (Ok text) is made refused = tt
-      undone_told (Ok x) (Err why) is made refused = OfReport made is.untold
-      undone_told (Err why) (Ok text) is made refused = tt
-      undone_told (Err why) (Err e) is made refused =
+      undone_told (Ok x) (Ok text) is ended made refused = tt
+      undone_told (Ok x) (Err why) is ended made refused = OfReport ended made is.untold
+      undone_told (Err why) (Ok text) is ended made refused = tt
+      undone_told (Err why) (Err e) is ended made refused =
           OfSettling (subst (IsSettlingRefusal faults rows notes known log) (err_is why e (Err e) refl is.refused) refused)
         where
           err_is : (a b : Status) (r : Result (String Global) Status) → r ≡ Err b → r ≡ Err a → a ≡ b
@@ -110,7 +124,7 @@ module _ (base : Base) (h : LogHistory) where
       -- a fault that a status reports was counted
       fault_counted : (unit : Device) → IsUndone faults base rows notes known log h (DeviceFault unit) → 0 < faults log.dev
       fault_counted unit (OfSettling is) = fault_of_unit faults rows notes known log unit is
-      fault_counted unit (OfReport made is) = absurd is
+      fault_counted unit (OfReport ended made is) = absurd is
 
       faults_told : (told : Result (String Global) Status) (before now : ℕ) → IfErr told (IsUndone faults base rows notes known log h)
           → before < 2 ^ 64 → now ≡ sum_of_counts before (faults log.dev)
@@ -149,6 +163,9 @@ is_run {D} trace ticks faults base rows known first e old mid new before now sto
           (subst (λ (o : Option Trace). IsHandedOut e.history o (ticks e.dev) (faults e.dev)) (sym back) ended.history);
       opened_as = λ other. opened_as other;
       notes_are = ended.notes_are;
+      begun = λ other. subst (λ (l : List LogTurn). ArePutsBegun rows l) (sym is.tape)
+          (ended.begun (λ of. other (foreign_told base e.history e.answer answer told of)));
+      ended = text_told base e.history (AreUnstopped ended.notes) e.answer answer told ended.ended;
       done = done_told base e.history rows ended.log e.answer answer told is ended.made;
       undone = undone;
       others = λ n differs. others' n differs ∙ others n differs;
@@ -166,7 +183,7 @@ is_run {D} trace ticks faults base rows known first e old mid new before now sto
     total = counted ∙ ap (λ (d : D). sum_of_counts before (faults d)) ended.device
 
     undone : IfErr answer (IsUndone faults base rows ended.notes known ended.log e.history)
-    undone = undone_told base e.history rows ended.log faults ended.notes known e.answer answer told ended.made ended.refused
+    undone = undone_told base e.history rows ended.log faults ended.notes known e.answer answer told ended.ended ended.made ended.refused
 
     as_known : (IsOfOpening answer → ⊥) → IsAsKnown ended.log known
     as_known other = ended.as_known (λ of. other (opening_told base e.history e.answer answer told of))

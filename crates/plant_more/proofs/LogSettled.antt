@@ -1,8 +1,9 @@
 -- A log that is brought to its end, step by step.
-use Rattle.std.proofs.Common.{◌≡◌, ℕ, suc, List, [], ◌∷◌, ◌++◌, Result, Ok, Err, refl, sym, ap, ◌∙◌, subst, arith}
-use Rattle.std.specs.Prelude.{All, IfErr, OnOk}
-use Rattle.std.proofs.lemmas.List.{append-nil}
-use Rattle.plant_status.specs.declared.mismatch.Place.TheVariants.{Opening}
+use Rattle.std.proofs.Common.{◌≡◌, ℕ, suc, List, [], ◌∷◌, ◌++◌, Result, Ok, Err, drop, refl, sym, ap, ◌∙◌, subst, arith}
+use Rattle.std.specs.Prelude.{All, IfErr, OnOk, slice_index}
+use Rattle.std.proofs.lemmas.List.{append-nil, take-append-drop}
+use Rattle.plant_status.specs.declared.mismatch.Place.TheVariants.{Log as LogPlace, Opening}
+use Rattle.plant_status.specs.declared.mismatch.Seen.{Seen}
 use Rattle.plant_status.specs.declared.status.Status.{Status}
 use Rattle.plant_status.specs.declared.status.Status.TheVariants.{Mismatch}
 use Rattle.value_rows.specs.declared.raw.RawRow.{RawRow}
@@ -14,11 +15,11 @@ use Rattle.commit_log.proofs.Tapes.{puts-append}
 use Rattle.plant_more.specs.declared.log_note.LogNote.{LogNote}
 use Rattle.plant_more.specs.LogTurns.{IsCommit, IsCommitted}
 use Rattle.plant_more.specs.declared.log_known.KnownLog.{KnownLog}
-use Rattle.plant_more.specs.LogFinding.{AreWhole, rows_by}
+use Rattle.plant_more.specs.LogFinding.{AreFound, AreLeadingRows, ArePutsBegun, AreWhole, IsPutMismatch, rows_by, rows_in}
 use Rattle.commit_log.specs.declared.row.LogRow.{LogRow}
 use Rattle.plant_more.specs.LogKnown.{FirstDiffer, IsAsKnown, IsLogMismatch, found_numbers, known_numbers}
 use Rattle.plant_more.specs.LogMaking.{AreRowsFor, IsCommitRefusal}
-use Rattle.plant_more.specs.LogRefusals.{AreUnstopped, ArePutsMade, IsOpening, IsRestRefusal, OfCommit}
+use Rattle.plant_more.specs.LogRefusals.{AreUnstopped, ArePutsMade, IsOpening, IsRestRefusal, MayBeForeignPut, OfCommit}
 
 -- a log that differs from what was kept is reported as an opening
 opening_of : (found wanted : List ℕ) (why : Status) → FirstDiffer found wanted why → IsOpening why
@@ -35,11 +36,47 @@ no_puts (Put row ∷ es) all = absurd (all 0 (Put row) (omega arith))
 no_puts (Commit moment acked ∷ es) all = no_puts es (λ k d few. all (suc k) d (omega arith))
 
 -- so rows that were put are the same after them
-whole_on : {D : Type 0} (files : List (List RawRow)) (old new : ToldLog D) → IsCommitted old new → AreWhole files old.tape → AreWhole files new.tape
-whole_on files old new is whole = λ collector.
+same_rows : {D : Type 0} (old new : ToldLog D) → IsCommitted old new → (collector : ℕ)
+    → rows_by collector (puts new.tape) ≡ rows_by collector (puts old.tape)
+same_rows old new is collector =
     ap (λ (l : List LogTurn). rows_by collector (puts l)) is.tape
-    ∙ (ap (rows_by collector) (puts-append old.tape is.more ∙ (ap (λ (l : List LogRow). puts old.tape ++ l) (no_puts is.more is.each)
-    ∙ append-nil (puts old.tape))) ∙ whole collector)
+    ∙ ap (rows_by collector) (puts-append old.tape is.more ∙ (ap (λ (l : List LogRow). puts old.tape ++ l) (no_puts is.more is.each)
+    ∙ append-nil (puts old.tape)))
+
+whole_on : {D : Type 0} (files : List (List RawRow)) (old new : ToldLog D) → IsCommitted old new → AreWhole files old.tape → AreWhole files new.tape
+whole_on files old new is whole = λ collector. same_rows old new is collector ∙ whole collector
+
+-- rows that are the first of their collectors' still are after them
+pub begun_on : {D : Type 0} (files : List (List RawRow)) (old new : ToldLog D) → IsCommitted old new → ArePutsBegun files old.tape
+    → ArePutsBegun files new.tape
+begun_on files old new is begun = λ collector.
+    subst (λ (l : List LogRow). AreLeadingRows l (rows_in files collector)) (sym (same_rows old new is collector)) (begun collector)
+
+-- rows that were found are the first of their collectors'
+pub found_begun : (files : List (List RawRow)) (tape : List LogTurn) (next : List ℕ) → AreFound files tape next → ArePutsBegun files tape
+found_begun files tape next found = λ collector.
+    let rest : List LogRow = drop (slice_index next collector) (rows_in files collector) in
+    record {
+      rest = rest;
+      is = sym (take-append-drop (slice_index next collector) (rows_in files collector))
+          ∙ ap (λ (l : List LogRow). l ++ rest) (sym (found.each collector));
+    }
+
+-- if the opening has changed, there may be a put of no file
+pub opening_foreign : (why : Status) → IsOpening why → MayBeForeignPut why
+opening_foreign (Mismatch (Opening unit) kept told) is = tt
+opening_foreign other is = absurd is
+
+-- so there may be if a put is not its collector's next row
+pub put_foreign : (files : List (List RawRow)) (tape : List LogTurn) (why : Status) → IsPutMismatch files tape why → MayBeForeignPut why
+put_foreign files tape (Mismatch (LogPlace place) kept told) is =
+    subst (λ (k : Seen). MayBeForeignPut (Mismatch (LogPlace place) k told)) (sym is.kept_is) tt
+put_foreign files tape other is = absurd is
+
+-- what holds anyway holds at a success
+pub at_ok : {A E P : Type 0} (r : Result A E) → P → OnOk r P
+at_ok (Ok x) p = p
+at_ok (Err why) p = tt
 
 -- a log of which all rows were put, once none rows_waiting
 pub made_on : {D E : Type 0} (files : List (List RawRow)) (old new : ToldLog D) (r : Result Unit E) → IsCommitted old new → AreWhole files old.tape

@@ -82,10 +82,10 @@ module _ {D : Type 0} (faults : D → ℕ) (files : List (List RawRow)) (notes :
 
   no_undone : (base : Base) (h : LogHistory) (why : Status) → IsUndone faults base files notes known l h why → IsOfOthers why → ⊥
   no_undone base h why (OfSettling is) of = no_settling why is of
-  no_undone base h Done (OfReport made is) of = is
-  no_undone base h BadWords (OfReport made is) of = is
-  no_undone base h WriteFault (OfReport made is) of = is
-  no_undone base h other (OfReport made is) of = absurd of
+  no_undone base h Done (OfReport ended made is) of = is
+  no_undone base h BadWords (OfReport ended made is) of = is
+  no_undone base h WriteFault (OfReport ended made is) of = is
+  no_undone base h other (OfReport ended made is) of = absurd of
 
 pub no_run : {D : Type 0} (trace : D → Option Trace) (ticks faults : D → ℕ) (base : Base) (rows : List (List RawRow)) (old new : TracesByName)
     (before now stops_before stops_now : ℕ) (answer : Result (String Global) Status) (h : LogHistory)

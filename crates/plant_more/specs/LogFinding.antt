@@ -1,5 +1,5 @@
 -- The rows of collectors on the tape of a log, and the first put that is not the expected row.
-use Rattle.std.specs.Prelude.{◌≡◌, ◌≢◌, ℕ, ◌+◌, ◌<◌, ◌≤◌, List, [], ◌∷◌, filter, length, nat_eq, slice_get, slice_index, slice_set, take, Option, Some}
+use Rattle.std.specs.Prelude.{◌≡◌, ◌≢◌, ℕ, ◌+◌, ◌<◌, ◌≤◌, List, [], ◌∷◌, ◌++◌, filter, length, nat_eq, slice_get, slice_index, slice_set, take, Option, Some}
 use Rattle.std.specs.Option.{option_map, option_map_or, unwrap_or}
 use Rattle.plant_status.specs.declared.mismatch.Place.TheVariants.{Log as LogPlace}
 use Rattle.plant_status.specs.declared.mismatch.Seen.{Seen}
@@ -39,6 +39,15 @@ pub record AreFound (files : List (List RawRow)) (tape : List LogTurn) (next : L
 -- of each collector all rows of its file were put, in order, each once, and no others
 abbrev pub AreWhole : List (List RawRow) → List LogTurn → Type 0
 AreWhole files tape = (collector : ℕ) → rows_by collector (puts tape) ≡ rows_in files collector
+
+-- these are the first of all rows, in their order
+pub record AreLeadingRows (rows all : List LogRow) : Type 0 where
+  pub rest : List LogRow
+  pub is : all ≡ rows ++ rest
+
+-- of each collector only the first rows of its file were put, in their order; no other row was put
+abbrev pub ArePutsBegun : List (List RawRow) → List LogTurn → Type 0
+ArePutsBegun files tape = (collector : ℕ) → AreLeadingRows (rows_by collector (puts tape)) (rows_in files collector)
 
 -- the numbers of found rows are unchanged for all collectors but this one
 pub record AreOthersSame (collector : ℕ) (old new : List ℕ) : Type 0 where

@@ -18,11 +18,11 @@ use Rattle.commit_log.specs.Told.{IsHandedOut, ToldLog}
 use Rattle.plant_more.specs.declared.log_note.LogNote.{LogNote}
 use Rattle.plant_more.specs.declared.log_known.KnownLog.{KnownLog}
 use Rattle.plant_more.specs.declared.log_session.EndedLog.{EndedLog}
-use Rattle.plant_more.specs.LogFinding.{AreWhole}
+use Rattle.plant_more.specs.LogFinding.{ArePutsBegun, AreWhole}
 use Rattle.plant_more.specs.LogKnown.{IsAsKnown}
 use Rattle.plant_more.specs.LogMaking.{total_rows}
 use Rattle.plant_more.specs.LogOpenings.{AreOthersSame, TracesByName, IsLogKept, IsLogOpened, IsOpeningRefusal}
-use Rattle.plant_more.specs.LogRefusals.{AreNotes, ArePutsMade, IsOfOpening, IsSettlingRefusal}
+use Rattle.plant_more.specs.LogRefusals.{AdmitsForeignPut, AreNotes, ArePutsMade, AreUnstopped, IsOfOpening, IsSettlingRefusal}
 use Rattle.plant_more.specs.LogReports.{IsReportRefusal, IsLineToldOf, log_rows}
 use Rattle.plant_more.specs.LogTexts.{log_name, plant_text}
 
@@ -38,9 +38,10 @@ pub record IsHistoryOfLog {D : Type 0} (l : ToldLog D) (h : LogHistory) : Type 0
   pub tape : h.tape.items ≡ l.tape
   pub acked : h.acked ≡ l.acked
 
--- A log at its end: its device, its history, and the notes of its workers. It has all the rows that these had to put,
--- or there is a refusal. `known` is the copy of its opening. Unless the refusal is a mismatch of the opening, the log
--- still agrees with that copy.
+-- A log at its end: its device, its history, and the notes of its workers. No worker was stopped, and it has all the
+-- rows that these had to put; or there is a refusal. `known` is the copy of its opening. Unless the refusal is a
+-- mismatch of the opening, the log still agrees with that copy. Unless the answer admits a put of no file, the log has
+-- of each collector only its first rows, in order, and no other put.
 pub record IsEnded {D : Type 0} (trace : D → Option Trace) (ticks faults : D → ℕ) (files : List (List RawRow)) (known : KnownLog)
     (before now : ℕ) (e : EndedLog D) : Type 0 where
   pub log : ToldLog D
@@ -49,7 +50,9 @@ pub record IsEnded {D : Type 0} (trace : D → Option Trace) (ticks faults : D �
   pub history_is : IsHistoryOfLog log e.history
   pub history : IsHandedOut e.history (trace e.dev) (ticks e.dev) (faults e.dev)
   pub notes_are : AreNotes D files before now notes
+  pub ended : OnOk e.answer (AreUnstopped notes)
   pub made : OnOk e.answer (ArePutsMade files log)
+  pub begun : (AdmitsForeignPut e.answer → ⊥) → ArePutsBegun files log.tape
   pub as_known : (IsOfOpening e.answer → ⊥) → IsAsKnown log known
   pub refused : IfErr e.answer (IsSettlingRefusal faults files notes known log)
 
@@ -85,11 +88,13 @@ pub record IsLogOpenedAs (base : Base) (before : Option Trace) (h : LogHistory) 
   pub tags : h.tags ≡ length base.tags.items
   pub opening : Shows before (λ c. StandsForRows (plant_text base.tags.items) (length base.tags.items) c h.opening.items)
 
--- Why a log is not done: a refusal after its workers have ended, or no memory or too many records for its report.
+-- Why a log is not done. Either it was refused after its workers had ended. Or only its report is missing: there was no
+-- memory, or a tag could get too many records.
 pub data IsUndone {D : Type 0} (faults : D → ℕ) (base : Base) (rows : List (List RawRow)) (notes : List LogNote) (known : KnownLog)
     (l : ToldLog D) (h : LogHistory) (why : Status) : Type 0 where
   OfSettling : IsSettlingRefusal faults rows notes known l why → IsUndone faults base rows notes known l h why
-  OfReport : ArePutsMade rows l → IsReportRefusal base.tags.items (log_rows h) why → IsUndone faults base rows notes known l h why
+  OfReport : AreUnstopped notes → ArePutsMade rows l → IsReportRefusal base.tags.items (log_rows h) why
+      → IsUndone faults base rows notes known l h why
 
 -- a count has risen, or is the largest value of its type
 abbrev pub HasLogCountRisen : ℕ → ℕ → Type 0
@@ -107,8 +112,10 @@ pub record CountsLog (answer : Result (String Global) Status) (before now : ℕ)
 -- It was opened on the device of its name, and given back there. No other device has changed. Its history is legal. A
 -- crash at any moment since its opening leaves of the device the opening's rows followed by the oldest puts, with all
 -- acknowledged rows among them.
--- Unless the answer is a mismatch of the opening, its opening has the rows for which the device stood. The log is done,
--- or there is a cause. The store counted `before` faults before it, and counts `now` after it.
+-- Unless the answer is a mismatch of the opening, its opening has the rows for which the device stood. Unless the answer
+-- admits a put of no file, the log has of each collector only its first rows, in order, and no other put. The log is
+-- done, or there is a cause. If it is done, no pass stopped a worker, and each worker found memory. The store counted
+-- `before` faults before it, and counts `now` after it.
 pub record IsRun {D : Type 0} (trace : D → Option Trace) (ticks faults : D → ℕ) (base : Base) (rows : List (List RawRow))
     (old new : TracesByName) (before now : ℕ) (stops_before stops_now : ℕ) (answer : Result (String Global) Status) (h : LogHistory)
     : Type 0 where
@@ -123,6 +130,8 @@ pub record IsRun {D : Type 0} (trace : D → Option Trace) (ticks faults : D →
   pub history : IsHandedOut h (new log_name) (ticks log.dev) (faults log.dev)
   pub opened_as : (IsOfOpening answer → ⊥) → IsLogOpenedAs base (old log_name) h
   pub notes_are : AreNotes D rows stops_before stops_now notes
+  pub begun : (AdmitsForeignPut answer → ⊥) → ArePutsBegun rows h.tape.items
+  pub ended : OnOk answer (AreUnstopped notes)
   pub done : IfOk answer (λ text. IsDone base rows h (string_bytes text))
   pub undone : IfErr answer (IsUndone faults base rows notes known log h)
   pub others : AreOthersSame old new

@@ -1,7 +1,8 @@
 -- What a log results in once its workers have ended, and why it is refused.
 use Rattle.std.specs.Prelude.{◌≡◌, ◌≢◌, ℕ, ◌<◌, List, All, Any, length, Result, Ok, Err, ⊤}
 use Rattle.std.specs.List.{AllWithin, HoldsAt}
-use Rattle.plant_status.specs.declared.mismatch.Place.TheVariants.{Opening}
+use Rattle.plant_status.specs.declared.mismatch.Place.TheVariants.{Log as LogPlace, Opening}
+use Rattle.plant_status.specs.declared.mismatch.Seen.TheVariants as seen
 use Rattle.plant_status.specs.declared.status.Status.{Status}
 use Rattle.plant_status.specs.declared.status.Status.TheVariants as status
 use Rattle.value_rows.specs.declared.raw.RawRow.{RawRow}
@@ -64,3 +65,16 @@ IsOpening other = ⊥
 abbrev pub IsOfOpening : {T : Type 0} → Result T Status → Type 0
 IsOfOpening (Ok x) = ⊥
 IsOfOpening (Err why) = IsOpening why
+
+-- The refusals after which the tape may have a put of no file. Two report a difference: the opening has changed, or a
+-- put is not its collector's next row. The third is want of memory, which may come before the tape is compared with the
+-- files.
+abbrev pub MayBeForeignPut : Status → Type 0
+MayBeForeignPut (status.Mismatch (Opening unit) kept told) = ⊤
+MayBeForeignPut (status.Mismatch (LogPlace place) (seen.Put tag collector row point) told) = ⊤
+MayBeForeignPut status.WantOfMemory = ⊤
+MayBeForeignPut other = ⊥
+
+abbrev pub AdmitsForeignPut : {T : Type 0} → Result T Status → Type 0
+AdmitsForeignPut (Ok x) = ⊥
+AdmitsForeignPut (Err why) = MayBeForeignPut why

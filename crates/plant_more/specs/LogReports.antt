@@ -1,5 +1,5 @@
 -- What the command prints of the rows of a log: one line for each tag.
-use Rattle.std.specs.Prelude.{◌≡◌, ℕ, ◌+◌, ◌<◌, ◌≤◌, List, [], ◌++◌, length, map, take, slice_index_or, ⊤}
+use Rattle.std.specs.Prelude.{◌≡◌, ℕ, ◌+◌, ◌<◌, ◌≤◌, List, [], ◌++◌, length, map, take, slice_get, slice_index_or, Some, ⊤}
 use Rattle.trend_num.specs.Limits.{most_records}
 use Rattle.trend_num.specs.declared.refusal.What.TheVariants.{Records}
 use Rattle.trend_num.specs.declared.tag_def.TagDef.{TagDef}
@@ -40,17 +40,33 @@ pub record IsLineToldOf (tags : List TagDef) (rows : List LogRow) (text : List �
   pub standing : AreStanding tags rows cores
   pub same : text ≡ check_text tags cores
 
--- An archive that stands for a tag's points in the first of these rows has so many records. One point more could bring
--- too many.
+-- The row at this place can be taken. An archive that stands for its tag's points in the rows before it has room for two
+-- more records.
+pub record HasRoomAt (tags : List TagDef) (rows : List LogRow) (place : ℕ) : Type 0 where
+  pub row : LogRow
+  pub state : State
+  pub there : slice_get rows place ≡ Some row
+  pub stands : (def : TagDef) → Stands (log_origin_of (slice_index_or tags row.tag def)) (log_history_of row.tag (take place rows)) state
+  pub few : length state.records + 2 ≤ most_records
+
+-- each row before this place can be taken
+abbrev pub HasRoomBelow : List TagDef → List LogRow → ℕ → Type 0
+HasRoomBelow tags rows end = (place : ℕ) → place < end → HasRoomAt tags rows place
+
+-- The row at place `count` is the first that cannot be taken. An archive stands for its tag's points in the rows before
+-- it, and has so many records. One point more could bring too many.
 pub record IsTagFull (tags : List TagDef) (rows : List LogRow) (number : ℕ) : Type 0 where
   pub tag : ℕ
   pub count : ℕ
+  pub next : LogRow
   pub state : State
-  pub there : tag < length tags
-  pub within : count ≤ length rows
+  pub known : tag < length tags
+  pub there : slice_get rows count ≡ Some next
+  pub of_tag : next.tag ≡ tag
   pub stands : (def : TagDef) → Stands (log_origin_of (slice_index_or tags tag def)) (log_history_of tag (take count rows)) state
   pub number_is : number ≡ length state.records
   pub many : most_records < number + 2
+  pub first : HasRoomBelow tags rows count
 
 -- why there is no report of the rows: a tag could get too many records, or there was no memory
 abbrev pub IsReportRefusal : List TagDef → List LogRow → Status → Type 0

@@ -16,7 +16,7 @@ use plant_status::{Place, Seen, Status, Unit};
 use value_rows::RawRow;
 
 // Puts each row of the collectors' files that the tape of a log lacks, file after file. `next` counts, for each
-// collector, how many of its rows were found.
+// collector, how many of its rows were found, also after a refusal.
 pub(crate) fn put_missing<D: Disk>(
     log: &mut Log<D>,
     files: &[Vec<RawRow>],
@@ -26,6 +26,7 @@ pub(crate) fn put_missing<D: Disk>(
     requires rows { AreRowsFor log.old.tags (row_lists_of files.now) }
     requires small { total_rows (row_lists_of files.now) < 2 ^ 64 }
     requires found { AreFound (row_lists_of files.now) log.old.tape next.old }
+    ensures found { AreFound (row_lists_of files.now) log.new.tape next.new }
     ensures whole { OnOk result (AreWhole (row_lists_of files.now) log.new.tape) }
     ensures same { IsSameLog log.old log.new }
     ensures refused { IfErr result (IsPutRefusal D.fault_count (total_rows (row_lists_of files.now)) log.new) }
@@ -62,7 +63,7 @@ fn put_file<D: Disk>(
     requires total { total ≡ total_rows (row_lists_of files.now) }
     requires found { AreFound (row_lists_of files.now) log.old.tape next.old }
     requires known { collector < length files.now }
-    ensures found { OnOk result (AreFound (row_lists_of files.now) log.new.tape next.new) }
+    ensures found { AreFound (row_lists_of files.now) log.new.tape next.new }
     ensures all { OnOk result (slice_index next.new collector ≡ length (rows_in (row_lists_of files.now) collector)) }
     ensures others { AreOthersSame collector next.old next.new }
     ensures same { IsSameLog log.old log.new }
@@ -88,7 +89,7 @@ fn put_next<D: Disk>(
     requires found { AreFound (row_lists_of files.now) log.old.tape next.old }
     requires known { collector < length files.now }
     requires lacks { slice_index next.old collector < length (rows_in (row_lists_of files.now) collector) }
-    ensures found { OnOk result (AreFound (row_lists_of files.now) log.new.tape next.new) }
+    ensures found { AreFound (row_lists_of files.now) log.new.tape next.new }
     ensures advanced { OnOk result (next.new ≡ slice_set next.old collector (slice_index next.old collector + 1)) }
     ensures unchanged { OnErr result (next.new ≡ next.old) }
     ensures same { IsSameLog log.old log.new }

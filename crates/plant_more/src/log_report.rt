@@ -3,7 +3,7 @@ ghost use Rattle.std.specs.Prelude.{◌≡◌, ◌+◌, ◌^◌, ◌<◌, [], Al
 ghost use Rattle.trend_num.specs.Ranges.{TuningInRange};
 ghost use Rattle.trend_model.specs.State.{Stands};
 ghost use Rattle.commit_log.specs.Blocks.{IsLogRow};
-ghost use Rattle.plant_more.specs.LogReports.{AreStanding, IsReportRefusal, IsLineToldOf, log_rows, log_origin_of};
+ghost use Rattle.plant_more.specs.LogReports.{AreStanding, HasRoomBelow, IsReportRefusal, IsLineToldOf, log_rows, log_origin_of};
 
 use commit_log::{LogHistory, LogRow, LogTurn};
 use plant_status::{Status, What};
@@ -130,7 +130,9 @@ fn take_row<L: Ledger>(
     requires within { place < length rows.now }
     requires countable { place + 1 < 2 ^ 64 }
     requires standing { AreStanding tags.now (take place rows.now) cores.old }
+    requires room { HasRoomBelow tags.now rows.now place }
     ensures standing { OnOk result (AreStanding tags.now (take (place + 1) rows.now) cores.new) }
+    ensures room { OnOk result (HasRoomBelow tags.now rows.now (place + 1)) }
     ensures refused { IfErr result (IsReportRefusal tags.now rows.now) }
 {
     let LogRow { tag, point, .. } = rows[place];

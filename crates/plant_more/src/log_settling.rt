@@ -2,10 +2,10 @@
 ghost use Rattle.std.specs.Prelude.{◌≡◌, ◌^◌, ◌<◌, IfErr, OnOk, length};
 ghost use Rattle.plant_more.specs.LogNotes.{row_lists_of};
 ghost use Rattle.plant_more.specs.LogTurns.{IsSameLog};
-ghost use Rattle.plant_more.specs.LogFinding.{AreFound};
+ghost use Rattle.plant_more.specs.LogFinding.{AreFound, ArePutsBegun};
 ghost use Rattle.plant_more.specs.LogKnown.{IsAsKnown};
 ghost use Rattle.plant_more.specs.LogMaking.{AreRowsFor, total_rows};
-ghost use Rattle.plant_more.specs.LogRefusals.{ArePutsMade, IsOfOpening, IsRestRefusal, IsSettlingRefusal};
+ghost use Rattle.plant_more.specs.LogRefusals.{AdmitsForeignPut, ArePutsMade, AreUnstopped, IsOfOpening, IsRestRefusal, IsSettlingRefusal};
 
 use crate::log_endings::check_endings;
 use crate::log_finding::{find_puts, none_found};
@@ -31,7 +31,9 @@ pub(crate) fn settle<D: Disk>(
     requires few { length files.now < 2 ^ 32 }
     requires rows { AreRowsFor known.now.tags (row_lists_of files.now) }
     requires small { total_rows (row_lists_of files.now) < 2 ^ 64 }
+    ensures ended { OnOk result (AreUnstopped notes.now) }
     ensures made { OnOk result (ArePutsMade (row_lists_of files.now) log.new) }
+    ensures begun { (AdmitsForeignPut result → ⊥) → ArePutsBegun (row_lists_of files.now) log.new.tape }
     ensures known { (IsOfOpening result → ⊥) → IsAsKnown log.new known.now }
     ensures refused { IfErr result (IsSettlingRefusal D.fault_count (row_lists_of files.now) notes.now known.now log.new) }
 {
@@ -54,7 +56,9 @@ fn complete<D: Disk>(
     requires rows { AreRowsFor log.old.tags (row_lists_of files.now) }
     requires small { total_rows (row_lists_of files.now) < 2 ^ 64 }
     requires found { AreFound (row_lists_of files.now) log.old.tape next.old }
+    ensures ended { OnOk result (AreUnstopped notes.now) }
     ensures made { OnOk result (ArePutsMade (row_lists_of files.now) log.new) }
+    ensures begun { ArePutsBegun (row_lists_of files.now) log.new.tape }
     ensures same { IsSameLog log.old log.new }
     ensures refused { IfErr result (IsRestRefusal D.fault_count (row_lists_of files.now) notes.now log.new) }
 {

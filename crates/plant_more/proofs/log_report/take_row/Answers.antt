@@ -1,5 +1,5 @@
 use Rattle.std.proofs.Common.{◌≡◌, refl, rules}
-use Rattle.plant_more.proofs.LogReports.{row_full, row_taken, taken_count}
+use Rattle.plant_more.proofs.LogReports.{row_fits, row_full, row_taken, taken_count}
 use Rattle.plant_more.proofs.log_report.take_row.Goals as goal
 
 pub take-requires-clause-countable : goal.take-requires-clause-countable
@@ -16,4 +16,9 @@ pub returns-in-Err-clause-refused : goal.returns-in-Err-clause-refused
 returns-in-Err-clause-refused g c =
     let same : c.from.result ≡ c.in-Err.full.records = search rules in
     row_full c.args.tags.now c.args.rows.now c.args.cores.now c.args.place _ _ c.from.result c.in-Err.full.records c.requires.rows
-    c.requires.within c.requires.standing same c.in-Err.ensures.one.full_records (c.in-Err.ensures.one.full.0 refl)
+    c.requires.within c.requires.standing c.requires.room same c.in-Err.ensures.one.full_records (c.in-Err.ensures.one.full.0 refl)
+
+pub returns-in-Ok-clause-room : goal.returns-in-Ok-clause-room
+returns-in-Ok-clause-room g c =
+    row_fits c.take.result _ c.args.tags.now c.args.rows.now c.args.cores.now c.args.place _ _ c.requires.rows c.requires.within
+    c.requires.standing c.requires.room c.in-Ok.is c.take.ensures.one.full.1

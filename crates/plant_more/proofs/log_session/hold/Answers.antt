@@ -20,7 +20,9 @@ returns-in-Ok-clause-ended g c = record {
   };
   history = c.into_history-dev.ensures.history;
   notes_are = record { of_all = c.in-Ok.ensures.notes; stopped = c.in-Ok.ensures.stops };
+  ended = rw (← c.deref.ensures.value) c.settle-answer.ensures.ended;
   made = c.settle-answer.ensures.made;
+  begun = c.settle-answer.ensures.begun;
   as_known = c.settle-answer.ensures.known;
   refused = rw (← c.deref.ensures.value) c.settle-answer.ensures.refused;
 }

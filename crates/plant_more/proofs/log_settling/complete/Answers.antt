@@ -2,7 +2,7 @@ use Rattle.std.proofs.lemmas.Result.{err_from_is_err_and}
 use Rattle.plant_more.specs.LogNotes.{row_lists_of}
 use Rattle.plant_more.proofs.LogCommitting.{same_log_on}
 use Rattle.plant_more.specs.LogRefusals.{OfPut, OfStop}
-use Rattle.plant_more.proofs.LogSettled.{commit_refused, made_on}
+use Rattle.plant_more.proofs.LogSettled.{at_ok, begun_on, commit_refused, found_begun, made_on}
 use Rattle.plant_more.proofs.log_settling.complete.Goals as goal
 
 pub returns-in_err-check_endings-clause-refused : goal.returns-in_err-check_endings-clause-refused
@@ -29,3 +29,19 @@ returns-clause-refused g c =
     let good = c.in_ok-check_endings.ensures in
     commit_refused _ (row_lists_of c.args.files.now) c.args.notes.now c.commit_rest.new.log c.commit_rest.result
     (record { none_halted = good.none_halted; all_found = good.all_found }) c.commit_rest.ensures.refused
+
+pub returns-in_err-check_endings-clause-begun : goal.returns-in_err-check_endings-clause-begun
+returns-in_err-check_endings-clause-begun g c = found_begun (row_lists_of c.args.files.now) _ c.args.next.now c.requires.found
+
+pub returns-in_err-put_missing-clause-begun : goal.returns-in_err-put_missing-clause-begun
+returns-in_err-put_missing-clause-begun g c = found_begun (row_lists_of c.args.files.now) _ _ c.put_missing.ensures.found
+
+pub returns-clause-begun : goal.returns-clause-begun
+returns-clause-begun g c =
+    begun_on (row_lists_of c.args.files.now) c.put_missing.new.log c.commit_rest.new.log c.commit_rest.ensures.committed
+    (found_begun (row_lists_of c.args.files.now) _ _ c.put_missing.ensures.found)
+
+pub returns-clause-ended : goal.returns-clause-ended
+returns-clause-ended g c =
+    let good = c.in_ok-check_endings.ensures in
+    at_ok c.commit_rest.result (record { none_halted = good.none_halted; all_found = good.all_found })
