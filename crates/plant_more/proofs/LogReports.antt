@@ -159,10 +159,6 @@ row_full tags rows cores place d old number records all within standing room sam
       first = room;
     }
 
--- no row comes before the first one
-pub no_room : (tags : List TagDef) (rows : List LogRow) → HasRoomBelow tags rows 0
-no_room tags rows = λ place less. absurd (omega arith)
-
 -- a success is no refusal
 no_err : {T E : Type 0} (r : Result T E) (x : T) → r ≡ Ok x → IsErr r → ⊥
 no_err (Ok y) x is refused = cc
