@@ -33,7 +33,7 @@ was_words (BadName word) same = absurd (cc same)
 of_both : {D : Type 0} (first second : Given) (opened : List (Cell D)) (opened_books : List (Book D)) (cells : List (Cell D))
     (books : List (Book D)) (notes : List WorkerNote) → IsUndoneOfBoth first second opened opened_books cells books notes BadWords → ⊥
 of_both first second opened opened_books cells books notes (OfFirst is) = of_undone first cells books opened opened_books notes is
-of_both first second opened opened_books cells books notes (OfSecond between between_books front same same_books made is) =
+of_both first second opened opened_books cells books notes (OfSecond between between_books front ended same same_books made is) =
     of_undone second cells books between between_books is.more is.undone
 
 pub understood : (number tags events stops_before stops_now : ℕ) (session : Option Session) (answer : Result (String Global) Status)

@@ -1,5 +1,5 @@
 -- What the phases of a drill come to, and what the drill answers.
-use Rattle.std.proofs.Common.{◌≡◌, ◌≤◌, ℕ, List, false, Option, Result, Ok, Err, OnOk, IfErr, String, Global, arith, ap, length, refl, sym, subst}
+use Rattle.std.proofs.Common.{◌≡◌, ◌⊎◌, ◌≤◌, ℕ, List, false, Option, Result, Ok, Err, OnOk, IfErr, String, Global, arith, ap, length, refl, sym, subst}
 use Rattle.std.specs.Result.{is_err}
 use Rattle.disk_model.specs.Traces.{Trace}
 use Rattle.plant_status.specs.declared.status.Status.{Status}
@@ -13,12 +13,13 @@ use Rattle.collector_pool.specs.declared.work.Work.{Work}
 use Rattle.collector_pool.specs.Work.{worker_count}
 use Rattle.session_report.specs.declared.session.Session.{Session}
 use Rattle.run_command.specs.declared.work.Given.{Given}
-use Rattle.run_command.specs.Refusals.{IsOpening}
+use Rattle.run_command.specs.Refusals.{AdmitsForeign, IsOpening, MayBeForeign}
+use Rattle.run_command.specs.Steps.{AreBegun}
 use Rattle.run_command.specs.Runs.{IsSessionHeld, IsReported}
 use Rattle.run_command.specs.Runs as runs
 use Rattle.run_command.specs.Sessions.{AreNotes, OfAll, OfNone}
 use Rattle.run_command.specs.Drills.{IsRunInPhases, drill_answer, drill_status}
-use Rattle.run_command.specs.DrillPhases.{AreNotesOfBoth, IsUndoneOfBoth, OfFirst}
+use Rattle.run_command.specs.DrillPhases.{AreNotesOfAllBoth, AreNotesOfBoth, IsUndoneOfBoth, OfFirst}
 
 -- what is so where a call succeeds
 pub where_ok : {T E P : Type 0} (r : Result T E) → is_err r ≡ false → OnOk r P → P
@@ -49,6 +50,24 @@ opening_kept WantOfMemory is = is
 opening_kept (OtherPlant at) is = is
 opening_kept (BadName word) is = is
 
+-- so is a refusal after which a tape may have a take of no file
+foreign_kept : (why : Status) → MayBeForeign why → MayBeForeign (drill_status why)
+foreign_kept Done is = is
+foreign_kept BadWords is = is
+foreign_kept (BadText file rule place at) is = is
+foreign_kept (BadRow file row reason) is = is
+foreign_kept (ReadFault file) is = is
+foreign_kept WriteFault is = is
+foreign_kept (DeviceFault unit) is = absurd is
+foreign_kept (Damaged unit at byte) is = is
+foreign_kept (OtherTag tag found wanted) is = is
+foreign_kept (Limit what number) is = is
+foreign_kept (Mismatch place kept told) is = is
+foreign_kept (Halted worker) is = is
+foreign_kept WantOfMemory is = is
+foreign_kept (OtherPlant at) is = is
+foreign_kept (BadName word) is = is
+
 -- the answer has a cause: the phases are not done, or no memory was found for the report
 pub both_told : {D : Type 0} (base : Base) (first second : Given) (s : Session) (opened : List (Cell D)) (opened_books : List (Book D))
     (cells : List (Cell D)) (books : List (Book D)) (notes : List WorkerNote) (came : Result (Unit {0}) Status)
@@ -67,11 +86,13 @@ pub phases_told : {D : Type 0} (trace : D → Option Trace) (ticks faults : D �
     (before now stops_before stops_now : ℕ) (told : Result (String Global) Status) (s : Session)
     → (held : IsSessionHeld trace ticks faults base second old new before now told s)
     → AreNotesOfBoth D first.work second.work stops_before stops_now s.workers.items
+    → OnOk told (AreNotesOfAllBoth D first.work second.work s.workers.items)
+    → ((AdmitsForeign told → ⊥) → AreBegun first held.cells held.books ⊎ AreBegun second held.cells held.books)
     → IfErr told (IsUndoneOfBoth first second held.opened held.opened_books held.cells held.books s.workers.items)
     → IsRunInPhases trace ticks faults base first second old new before now stops_before stops_now (drill_answer told) s
-phases_told trace ticks faults base first second old new before now stops_before stops_now (Ok text) s held notes undone =
-    record { held = held; notes = notes; undone = tt }
-phases_told trace ticks faults base first second old new before now stops_before stops_now (Err why) s held notes undone = record {
+phases_told trace ticks faults base first second old new before now stops_before stops_now (Ok text) s held notes ran begun undone =
+    record { held = held; notes = notes; ran = ran; begun = begun; undone = tt }
+phases_told trace ticks faults base first second old new before now stops_before stops_now (Err why) s held notes ran begun undone = record {
   held = record {
     opened = held.opened;
     opened_books = held.opened_books;
@@ -85,5 +106,7 @@ phases_told trace ticks faults base first second old new before now stops_before
     done = tt;
   };
   notes = notes;
+  ran = tt;
+  begun = λ none. begun (λ of. none (foreign_kept why of));
   undone = record { cause = why; told = refl; undone = undone };
 }

@@ -10,7 +10,7 @@ use Rattle.trend_num.specs.declared.refusal.WantOfMemory.{WantOfMemory}
 use Rattle.collector_pool.specs.declared.note.WorkerNote.{WorkerNote}
 use Rattle.collector_pool.specs.declared.work.Work.{Work}
 use Rattle.collector_pool.specs.Notes.{AreNotesOf, stops_with}
-use Rattle.run_command.specs.Refusals.{notes_of}
+use Rattle.run_command.specs.Refusals.{AdmitsForeign, notes_of}
 use Rattle.run_command.specs.Endings.{HaveAllEnded}
 use Rattle.run_command.specs.Sessions.{AreNotes, AreNotesOfAll, OfAll, OfNone}
 
@@ -20,12 +20,16 @@ pub notes_are : (D : Type 0) (w : Work) (before now : ℕ) (r : Result (Vec Work
 notes_are D w before now (Ok notes) are stops none = OfAll are stops
 notes_are D w before now (Err why) are stops none = OfNone refl none
 
--- where workers ended by themselves, they had begun
-pub ran_all : (D : Type 0) (w : Work) (r : Result (Vec WorkerNote Global) WantOfMemory) (a : Result (Unit {0}) Status)
-    → IfOk r (λ notes. AreNotesOfAll D w notes.items) → OnOk a (is_ok r ≡ true) → OnOk a (AreNotesOfAll D w (notes_of r))
-ran_all D w r (Err why) are worked = tt
-ran_all D w (Ok notes) (Ok x) are worked = are
-ran_all D w (Err why) (Ok x) are worked = absurd (false≢true worked)
+-- where the workers began, these are the notes of all of them
+pub ran_all : (D : Type 0) (w : Work) (r : Result (Vec WorkerNote Global) WantOfMemory)
+    → IfOk r (λ notes. AreNotesOfAll D w notes.items) → is_ok r ≡ true → AreNotesOfAll D w (notes_of r)
+ran_all D w (Ok notes) are worked = are
+ran_all D w (Err why) are worked = absurd (false≢true worked)
+
+-- what holds unless an answer admits a take or a question of no file holds at Ok
+pub at_text : (P : Type 0) {T : Type 0} (r : Result T Status) → ((AdmitsForeign r → ⊥) → P) → OnOk r P
+at_text P (Ok x) follows = follows (λ no. no)
+at_text P (Err why) follows = tt
 
 -- the workers of two phases
 pub ended_both : (front more : List WorkerNote) → HaveAllEnded front → HaveAllEnded more → HaveAllEnded (front ++ more)

@@ -8,7 +8,8 @@ use Rattle.group_book.specs.Told.{ToldBook as Book}
 use Rattle.tag_cell.specs.Told.{ToldCell as Cell}
 use Rattle.run_command.specs.declared.work.Given.{Given}
 use Rattle.run_command.specs.Runs.{IsContinued, IsContinuedGroup, IsUndone}
-use Rattle.run_command.specs.Sessions.{AreNotes}
+use Rattle.run_command.specs.Endings.{HaveAllEnded}
+use Rattle.run_command.specs.Sessions.{AreNotes, AreNotesOfAll}
 use Rattle.run_command.specs.Steps.{AreStepsMade}
 
 -- the notes of a phase follow those that were there; the passes count one more stop for each of its workers that was
@@ -32,13 +33,27 @@ pub record IsUndoneBehind {D : Type 0} (g : Given) (cells : List (Cell D)) (book
   pub behind : notes ≡ front ++ more
   pub undone : IsUndone g cells books last last_books more why
 
--- why two phases are not done: the first is not; or the first is, with these cells, books and notes, which continue
--- those that were opened, and the second is not
+-- the notes of all workers of the first phase, then those of all workers of the second
+pub record AreNotesOfAllBoth (D : Type 0) (first second : Work) (notes : List WorkerNote) : Type 0 where
+  pub front : List WorkerNote
+  pub more : List WorkerNote
+  pub behind : notes ≡ front ++ more
+  pub of_first : AreNotesOfAll D first front
+  pub of_second : AreNotesOfAll D second more
+
+-- the notes of all workers of a phase, behind those that were there
+pub record AreNotesOfAllBehind (D : Type 0) (work : Work) (front notes : List WorkerNote) : Type 0 where
+  pub more : List WorkerNote
+  pub behind : notes ≡ front ++ more
+  pub are : AreNotesOfAll D work more
+
+-- Why two phases are not done: the first is not. Or the first is, with these notes, and cells and books that have the
+-- openings of those before it; and the second is not.
 pub data IsUndoneOfBoth {D : Type 0} (first second : Given) (opened : List (Cell D)) (opened_books : List (Book D))
     (cells : List (Cell D)) (books : List (Book D)) (notes : List WorkerNote) (why : Status) : Type 0 where
   OfFirst : IsUndone first opened opened_books cells books notes why
       → IsUndoneOfBoth first second opened opened_books cells books notes why
   OfSecond : (between : List (Cell D)) (between_books : List (Book D)) (front : List WorkerNote)
-      → AllZip IsContinued opened between → AllZip IsContinuedGroup opened_books between_books
+      → HaveAllEnded front → AllZip IsContinued opened between → AllZip IsContinuedGroup opened_books between_books
       → AreStepsMade first between between_books → IsUndoneBehind second between between_books front cells books notes why
       → IsUndoneOfBoth first second opened opened_books cells books notes why

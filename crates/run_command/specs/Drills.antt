@@ -1,5 +1,5 @@
 -- What a drill comes to: its session, or why there is none.
-use Rattle.std.specs.Prelude.{◌≡◌, ℕ, ◌/◌, ◌<◌, List, [], All, length, replicate, slice_index_or, Option, Some, Result, Ok, Err, IfErr, IfOk, String, string_bytes}
+use Rattle.std.specs.Prelude.{◌≡◌, ◌⊎◌, ℕ, ◌/◌, ◌<◌, List, [], All, length, replicate, slice_index_or, Option, Some, Result, Ok, Err, IfErr, IfOk, OnOk, String, string_bytes}
 use Rattle.std.specs.List.{AllZip}
 use Rattle.std.specs.declared.alloc.Global.{Global}
 use Rattle.trend_num.specs.declared.tag_def.TagDef.{TagDef}
@@ -24,11 +24,12 @@ use Rattle.plant_files.specs.PlanRows.{IsGoodBase}
 use Rattle.session_report.specs.declared.session.Session.{Session}
 use Rattle.run_command.specs.declared.work.Given.{Given}
 use Rattle.run_command.specs.Headline.{AreGroupsSound, IsDoneSo, IsTagSound}
-use Rattle.run_command.specs.Refusals.{IsOfOpening}
+use Rattle.run_command.specs.Refusals.{AdmitsForeign, IsOfOpening}
 use Rattle.run_command.specs.Runs.{IsSessionHeld, IsUnopened, IsWorkIn}
 use Rattle.run_command.specs.DrillPlant.{IsDrillGroup, drill_tags}
 use Rattle.run_command.specs.DrillRows.{drill_rows_of}
-use Rattle.run_command.specs.DrillPhases.{AreNotesOfBoth, IsUndoneOfBoth}
+use Rattle.run_command.specs.DrillPhases.{AreNotesOfAllBoth, AreNotesOfBoth, IsUndoneOfBoth}
+use Rattle.run_command.specs.Steps.{AreBegun}
 
 -- ---- the plant
 
@@ -68,13 +69,16 @@ pub record IsDrillUndone {D : Type 0} (first second : Given) (opened : List (Cel
   pub told : why ≡ drill_status cause
   pub undone : IsUndoneOfBoth first second opened opened_books cells books s.workers.items cause
 
--- A session of two phases over a base, and what came of it. It ran, and is done with the second phase. The passes
--- counted as many stops as workers were stopped. Both phases are done, or the answer has a cause.
+-- A session of two phases over a base, and what came of it. The passes counted as many stops as workers were stopped. If
+-- there is a text, there is a note of each worker. Unless the answer admits a take of no file, each tape shows only first
+-- rows of its last phase. Both phases are done, or the answer has a cause.
 pub record IsRunInPhases {D : Type 0} (trace : D → Option Trace) (ticks faults : D → ℕ) (base : Base) (first second : Given)
     (old new : DeviceTraces) (before now stops_before stops_now : ℕ) (answer : Result (String Global) Status) (s : Session)
     : Type 0 where
   pub held : IsSessionHeld trace ticks faults base second old new before now answer s
   pub notes : AreNotesOfBoth D first.work second.work stops_before stops_now s.workers.items
+  pub ran : OnOk answer (AreNotesOfAllBoth D first.work second.work s.workers.items)
+  pub begun : (AdmitsForeign answer → ⊥) → AreBegun first held.cells held.books ⊎ AreBegun second held.cells held.books
   pub undone : IfErr answer (IsDrillUndone first second held.opened held.opened_books held.cells held.books s)
 
 -- what a device in memory records: its calls, their number, and how many of them have failed

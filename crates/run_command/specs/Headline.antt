@@ -179,8 +179,8 @@ IsFaultCounted before now why = (unit : Device) → why ≡ DeviceFault unit →
 -- The session of the plan in a file over the base in another, and its answer. The devices recorded such calls before,
 -- and record such calls now; the store counted so many faults before, and so many now. Whatever the answer is, each tag
 -- and each group is sound. Each was opened as what its device stood for, unless the answer reports that an opening has
--- changed. Unless the answer admits an entry of no file, no tag and no group has any. If there is a text, the session is
--- done.
+-- changed. Unless the answer admits a take or a question of no file, no tag and no group has any. If there is a text, the
+-- session is done.
 pub record IsPromised (name plan_name : List ℕ) (told : ToldFiles) (before now : DeviceTraces) (faults_before faults_now : ℕ)
     (answer : Result (String Global) Status) (s : Session) : Type 0 where
   pub base : Base

@@ -69,9 +69,9 @@ abbrev pub IsOfOpening : {T : Type 0} → Result T Status → Type 0
 IsOfOpening (Ok x) = ⊥
 IsOfOpening (Err why) = IsOpening why
 
--- The refusals after which a tape may have an entry of no file: one that reports such an entry, a group that was
--- refreshed too often, or an opening that has changed; and want of memory, which may come before the tapes are compared
--- with the files.
+-- The refusals after which a tape may have a take or a question of no file: one that reports such an entry, a group that
+-- was refreshed too often, or an opening that has changed; and want of memory, which may come before the tapes are
+-- compared with the files.
 abbrev pub MayBeForeign : Status → Type 0
 MayBeForeign (Mismatch (Opening unit) kept told) = ⊤
 MayBeForeign (Mismatch (Take tag place) kept told) = ⊤

@@ -188,14 +188,14 @@ pub record IsSessionHeld {D : Type 0} (trace : D → Option Trace) (ticks faults
   pub same_groups : (IsOfOpening answer → ⊥) → AllZip IsContinuedGroup opened_books books
   pub done : IfOk answer (λ text. IsDone base g cells books s (string_bytes text))
 
--- A session of this work over a base, and what came of it. It ran. The passes counted as many stops as workers were
--- stopped; if there is a text, all workers ran. Unless the answer admits an entry of no file, each tape shows only first
--- rows of the files. The session is done, or the answer has a cause.
+-- A session of this work over a base, and what came of it. The passes counted as many stops as workers were stopped.
+-- Unless the answer admits a take or a question of no file, there is a note of each worker, and each tape shows only
+-- first rows of the files. The session is done, or the answer has a cause.
 pub record IsRun {D : Type 0} (trace : D → Option Trace) (ticks faults : D → ℕ) (base : Base) (g : Given) (old new : DeviceTraces)
     (before now : ℕ) (stops_before stops_now : ℕ) (answer : Result (String Global) Status) (s : Session) : Type 0 where
   pub held : IsSessionHeld trace ticks faults base g old new before now answer s
   pub notes : AreNotes D g.work stops_before stops_now s.workers.items
-  pub ran : OnOk answer (AreNotesOfAll D g.work s.workers.items)
+  pub ran : (AdmitsForeign answer → ⊥) → AreNotesOfAll D g.work s.workers.items
   pub begun : (AdmitsForeign answer → ⊥) → AreBegun g held.cells held.books
   pub undone : IfErr answer (IsUndone g held.opened held.opened_books held.cells held.books s.workers.items)
 

@@ -1,14 +1,14 @@
 // Two phases of a session over the same cells and books.
-ghost use Rattle.std.specs.Prelude.{◌≡◌, ◌++◌, [], ◌<◌, ◌≤◌, ◌+◌, ◌^◌, IfErr, OnOk, length, vec_capacity, vec_len};
+ghost use Rattle.std.specs.Prelude.{◌≡◌, ◌⊎◌, ◌++◌, [], ◌<◌, ◌≤◌, ◌+◌, ◌^◌, IfErr, OnOk, length, vec_capacity, vec_len};
 ghost use Rattle.std.specs.List.{AllZip};
 ghost use Rattle.calc_refresh.specs.Lists.{lists_of};
 ghost use Rattle.session_audit.specs.Inputs.{AreInputs};
 ghost use Rattle.session_audit.specs.Pulls.{ArePulled};
 ghost use Rattle.run_command.specs.Endings.{HaveAllEnded};
-ghost use Rattle.run_command.specs.Refusals.{IsOfOpening};
+ghost use Rattle.run_command.specs.Refusals.{AdmitsForeign, IsOfOpening};
 ghost use Rattle.run_command.specs.Runs.{IsContinued, IsContinuedGroup};
-ghost use Rattle.run_command.specs.Steps.{AreGivenFor, AreStepsMade};
-ghost use Rattle.run_command.specs.DrillPhases.{AreNotesBehind, AreNotesOfBoth, IsUndoneBehind, IsUndoneOfBoth};
+ghost use Rattle.run_command.specs.Steps.{AreBegun, AreGivenFor, AreStepsMade};
+ghost use Rattle.run_command.specs.DrillPhases.{AreNotesBehind, AreNotesOfAllBehind, AreNotesOfAllBoth, AreNotesOfBoth, IsUndoneBehind, IsUndoneOfBoth};
 
 use crate::phase::{EndedPhase, hold_phase};
 use crate::work::Given;
@@ -48,6 +48,7 @@ pub(crate) fn hold_both<D: Disk + Send, P: Passes, R: Threads + Wait + Sync>(
     ensures notes { AreNotesOfBoth D first.now.work second.now.work (P.stops passes.old) (P.stops passes.new) result.notes.items }
 
     // If all is done.
+    ensures ran { OnOk result.answer (AreNotesOfAllBoth D first.now.work second.now.work result.notes.items) }
     ensures ended { OnOk result.answer (HaveAllEnded result.notes.items) }
     ensures made { OnOk result.answer (AreStepsMade second.now result.cells.items result.books.items) }
     ensures pulled { OnOk result.answer (ArePulled (lists_of second.now.inputs.items) result.cells.items result.books.items) }
@@ -55,6 +56,10 @@ pub(crate) fn hold_both<D: Disk + Send, P: Passes, R: Threads + Wait + Sync>(
     // Unless the answer reports that an opening has changed.
     ensures same_cells { (IsOfOpening result.answer → ⊥) → AllZip IsContinued cells.items result.cells.items }
     ensures same_books { (IsOfOpening result.answer → ⊥) → AllZip IsContinuedGroup books.items result.books.items }
+
+    // Unless the answer admits a take of no file.
+    ensures begun { (AdmitsForeign result.answer → ⊥) → AreBegun first.now result.cells.items result.books.items
+        ⊎ AreBegun second.now result.cells.items result.books.items }
 
     // If not all is done, why.
     ensures undone { IfErr result.answer (IsUndoneOfBoth first.now second.now cells.items books.items result.cells.items
@@ -105,6 +110,8 @@ fn go_on<D: Disk + Send, P: Passes, R: Threads + Wait + Sync>(
     requires board { vec_len cells ≤ length board.now }
     requires no_readers { second.now.work.readers.items ≡ [] }
     requires ended { HaveAllEnded notes.items }
+    ensures ran { OnOk result.answer (AreNotesOfAllBehind D second.now.work notes.items result.notes.items) }
+    ensures begun { (AdmitsForeign result.answer → ⊥) → AreBegun second.now result.cells.items result.books.items }
     ensures cells { vec_len result.cells ≡ vec_len cells }
     ensures books { vec_len result.books ≡ vec_len books }
     ensures notes { AreNotesBehind D second.now.work (P.stops passes.old) (P.stops passes.new) notes.items result.notes.items }

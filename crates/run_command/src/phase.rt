@@ -56,7 +56,6 @@ pub(crate) fn hold_phase<D: Disk + Send, P: Passes, R: Threads + Wait + Sync>(
     ensures notes { AreNotes D given.now.work (P.stops passes.old) (P.stops passes.new) result.notes.items }
 
     // If all is done.
-    ensures ran { OnOk result.answer (AreNotesOfAll D given.now.work result.notes.items) }
     ensures ended { OnOk result.answer (HaveAllEnded result.notes.items) }
     ensures made { OnOk result.answer (AreStepsMade given.now result.cells.items result.books.items) }
     ensures pulled { OnOk result.answer (ArePulled (lists_of given.now.inputs.items) result.cells.items result.books.items) }
@@ -65,7 +64,8 @@ pub(crate) fn hold_phase<D: Disk + Send, P: Passes, R: Threads + Wait + Sync>(
     ensures same_cells { (IsOfOpening result.answer → ⊥) → AllZip IsContinued cells.items result.cells.items }
     ensures same_books { (IsOfOpening result.answer → ⊥) → AllZip IsContinuedGroup books.items result.books.items }
 
-    // Unless the answer admits an entry of no file.
+    // Unless the answer admits a take or a question of no file.
+    ensures ran { (AdmitsForeign result.answer → ⊥) → AreNotesOfAll D given.now.work result.notes.items }
     ensures begun { (AdmitsForeign result.answer → ⊥) → AreBegun given.now result.cells.items result.books.items }
 
     // If not all is done, why.
@@ -129,7 +129,7 @@ pub(crate) fn hold<D: Disk + Send, P: Passes, R: Threads + Wait + Sync>(
     ensures cells { vec_len result.cells ≡ vec_len cells }
     ensures books { vec_len result.books ≡ vec_len books }
     ensures notes { AreNotes D given.now.work (P.stops passes.old) (P.stops passes.new) result.notes.items }
-    ensures ran { OnOk result.answer (AreNotesOfAll D given.now.work result.notes.items) }
+    ensures ran { (AdmitsForeign result.answer → ⊥) → AreNotesOfAll D given.now.work result.notes.items }
     ensures ended { OnOk result.answer (HaveAllEnded result.notes.items) }
     ensures made { OnOk result.answer (AreStepsMade given.now result.cells.items result.books.items) }
     ensures pulled { OnOk result.answer (ArePulled (lists_of given.now.inputs.items) result.cells.items result.books.items) }
@@ -187,7 +187,7 @@ fn settle_all<D: Disk, R: Wait>(
     ensures pulled { OnOk result (ArePulled (lists_of given.now.inputs.items) cells.new.items books.new.items) }
     ensures as_many_cells { vec_len cells.new ≡ vec_len cells.old }
     ensures as_many_books { vec_len books.new ≡ vec_len books.old }
-    ensures ran { OnOk result (is_ok notes.now ≡ true) }
+    ensures ran { (AdmitsForeign result → ⊥) → is_ok notes.now ≡ true }
     ensures ended { OnOk result (HaveAllEnded (notes_of notes.now)) }
     ensures begun { (AdmitsForeign result → ⊥) → AreBegun given.now cells.new.items books.new.items }
     ensures known { (IsOfOpening result → ⊥) → AreAsKept IsCellAsKept cells.new.items known.now }

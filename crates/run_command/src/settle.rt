@@ -50,7 +50,7 @@ pub(crate) fn settle<D: Disk, R: Wait>(
     ensures pulled { OnOk result (ArePulled (lists_of given.now.inputs.items) cells.new books.new) }
     ensures as_many_cells { length cells.new ≡ length cells.old }
     ensures as_many_books { length books.new ≡ length books.old }
-    ensures ran { OnOk result (is_ok notes.now ≡ true) }
+    ensures ran { (AdmitsForeign result → ⊥) → is_ok notes.now ≡ true }
     ensures ended { OnOk result (HaveAllEnded (notes_of notes.now)) }
     ensures begun { (AdmitsForeign result → ⊥) → AreBegun given.now cells.new books.new }
     ensures known { (IsOfOpening result → ⊥) → AreAsKept IsCellAsKept cells.new known.now }

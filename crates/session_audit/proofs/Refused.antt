@@ -1,5 +1,5 @@
 -- Why a value was not taken.
-use Rattle.std.proofs.Common.{◌≡◌, ◌⊎◌, ℕ, ◌+◌, ◌<◌, inl, inr, Bool, true, false, nat_le, nat_lt, List, length, get_or, Option, None, Some, refl, sym, ap, subst, arith}
+use Rattle.std.proofs.Common.{◌≡◌, ◌⊎◌, ℕ, ◌+◌, ◌<◌, ◌≤◌, inl, inr, Bool, true, false, nat_le, nat_lt, List, length, get_or, Option, None, Some, refl, sym, ap, subst, arith}
 use Rattle.std.specs.Prelude.{slice_index, if◌then◌else◌}
 use Rattle.std.proofs.lemmas.Bool.Decides.{nat_tests}
 use Rattle.std.proofs.lemmas.Option.{slice_get-get_or, none-some}
@@ -47,10 +47,13 @@ take_refused item_of files rooms cells tag takes d why within is counted fewer l
       | inl (failed, broken) ↦ subst (λ x. IsTakeRefusal item_of files rooms cells (take_status tag takes (get_or rooms tag 0) x)) (sym broken)
           (so_at (λ x. x.journal.failed ≡ true) cells tag d within failed)
       | inr (inl (full, room)) ↦ subst (λ x. IsTakeRefusal item_of files rooms cells (take_status tag takes (get_or rooms tag 0) x)) (sym room)
-          (so_at _ cells tag d within (ap Number counted, refl, fewer))
+          (so_at _ cells tag d within (ap Number counted, refl, fewer, at_most c.room (length (taken c.tape)) full))
       | inr (inr (many, full)) ↦ subst (λ x. IsTakeRefusal item_of files rooms cells (take_status tag takes (get_or rooms tag 0) x)) (sym full)
           (tag, so_at _ cells tag d within (refl, below most_records (length c.state.records + 2) many, lack))
     ]
   where
+    at_most : (a b : ℕ) → nat_le a b ≡ true → a ≤ b
+    at_most a b h = grind (arith, nat_tests, h)
+
     below : (a b : ℕ) → nat_lt a b ≡ true → a < b
     below a b h = grind (arith, nat_tests, h)

@@ -1,5 +1,5 @@
 -- Why a step of a session is refused.
-use Rattle.std.specs.Prelude.{◌≡◌, ℕ, ◌+◌, ◌<◌, List, [], ◌∷◌, length, slice_get, slice_index, Option, Some, true, nat_eq, ⊤}
+use Rattle.std.specs.Prelude.{◌≡◌, ℕ, ◌+◌, ◌<◌, ◌≤◌, List, [], ◌∷◌, length, slice_get, slice_index, Option, Some, true, nat_eq, ⊤}
 use Rattle.trend_num.specs.Limits.{most_records}
 use Rattle.trend_num.specs.declared.refusal.What.TheVariants.{Records}
 use Rattle.std.specs.List.{count_by}
@@ -30,14 +30,14 @@ abbrev pub tag_rows : ℕ → List (List RawRow) → ℕ
 tag_rows tag [] = 0
 tag_rows tag (rows ∷ files) = count_by (λ r. nat_eq r.tag tag) rows + tag_rows tag files
 
--- Why a row is not taken: the tag's device has failed. Or the tape has fewer takes than the tag has rows, and no room;
--- the status has both numbers. Or the tag could have too many records, and a row is due there that its tape lacks.
+-- Why a row is not taken: the tag's device has failed. Or the tape has no room, and fewer takes than the tag has rows; the
+-- status has both numbers. Or the tag could have too many records, and a row is due there that its tape lacks.
 abbrev pub IsTakeRefusal : {D : Type 0} → (ℕ → ℕ → RawRow → Option Item) → List (List RawRow) → List ℕ → List (ToldCell D) → Status
     → Type 0
 IsTakeRefusal item_of files rooms cells (DeviceFault (Tag tag)) = IsSo cells tag (λ c. c.journal.failed ≡ true)
 IsTakeRefusal item_of files rooms cells (Mismatch (Takes tag) kept told) = IsSo cells tag (λ c.
     (kept ≡ Number (length (taken c.tape))) × (told ≡ Number (slice_index rooms tag))
-    × (length (taken c.tape) < slice_index rooms tag))
+    × (length (taken c.tape) < slice_index rooms tag) × (c.room ≤ length (taken c.tape)))
 IsTakeRefusal item_of files rooms cells (Limit Records number) = (tag : ℕ) × IsSo cells tag (λ c.
     (number ≡ length c.state.records) × (most_records < number + 2) × LacksRow take_of item_of files tag c.tape)
 IsTakeRefusal item_of files rooms cells other = ⊥

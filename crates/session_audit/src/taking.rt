@@ -130,7 +130,7 @@ fn count_takes(tape: &[Entry]) -> usize
     count
 }
 
-// Returns the status of a refused row of a tag, whose tape has so many takes, and whose files have so many rows.
+// Returns the status of a refused row, of a tag with so many takes on its tape and so many rows in the files.
 fn take_status(tag: u32, takes: usize, rows: u32, no: TakeNo) -> Status
     ensures { result ≡ take_status tag takes rows no }
 {

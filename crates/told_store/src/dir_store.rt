@@ -77,8 +77,8 @@ impl<R: Files<File = File> + AllocGlobal> DirStore<R> {
         store
     }
 
-    // Locks the folder if there is one, and reads its wanted devices. If a signal interrupts the read of the names, this
-    // begins anew.
+    // Locks the folder if there is one, and reads its wanted devices. If a signal interrupts the read of the names, it
+    // reads them again; no device is read twice.
     fn read_all(&mut self, wanted: Wanted) -> io::Result<()>
     where
         R: Clone + Drop,
@@ -148,7 +148,7 @@ fn read_devices<R: Files<File = File> + AllocGlobal + Clone + Drop>(
     Ok(())
 }
 
-// Reads the file of a device, and puts what was read at the device's name.
+// Reads the file of a device, unless that was done before, and puts what was read at the device's name.
 fn keep<R: Files<File = File> + AllocGlobal>(
     folder: &Folder<R>,
     places: &mut BTreeMap<String, Kept>,
@@ -157,6 +157,9 @@ fn keep<R: Files<File = File> + AllocGlobal>(
     requires { AllFresh places.old }
     ensures { AllFresh places.new }
 {
+    if places.contains_key(name) {
+        return Ok(());
+    }
     let alloc = folder.rt.alloc();
     let kept = Kept::of_file(alloc, name, folder.read(name));
     insert(alloc, places, name, kept)?;

@@ -3,9 +3,9 @@ use Rattle.std.specs.Prelude.{IfErr, OnOk}
 use Rattle.std.specs.declared.alloc.Global.{Global}
 use Rattle.collector_pool.specs.declared.note.WorkerNote.{WorkerNote}
 use Rattle.run_command.proofs.Continued.{inputs_of_base}
-use Rattle.run_command.proofs.Told.{held_told}
+use Rattle.run_command.proofs.Told.{foreign_told, held_told, ran_told}
 use Rattle.run_command.specs.Endings.{HaveAllEnded}
-use Rattle.run_command.specs.DrillPhases.{AreNotesOfBoth, IsUndoneOfBoth}
+use Rattle.run_command.specs.DrillPhases.{AreNotesOfAllBoth, AreNotesOfBoth, IsUndoneOfBoth}
 use Rattle.run_command.proofs.DrillUndone.{both_told, phases_told}
 use Rattle.run_command.proofs.drill_command.hold_drill.Goals as goal
 
@@ -30,6 +30,9 @@ returns g c old before was rest same =
     (subst (λ (v : Vec WorkerNote Global). OnOk ended.answer (HaveAllEnded v.items)) (sym closed.notes) end.ended) end.made end.pulled closed.told)
     (subst (λ (v : Vec WorkerNote Global). AreNotesOfBoth g.row.S-Dev.Denot first.work second.work (g.P.Passes.stops c.args.passes.now)
     (g.P.Passes.stops c.hold_both-ended.new.passes) v.items) (sym closed.notes) end.notes)
+    (ran_told (AreNotesOfAllBoth g.row.S-Dev.Denot first.work second.work s.workers.items) base second s ended.answer _ closed.told
+    (subst (λ (v : Vec WorkerNote Global). OnOk ended.answer (AreNotesOfAllBoth g.row.S-Dev.Denot first.work second.work v.items)) (sym closed.notes) end.ran))
+    (λ none. end.begun (λ of. none (foreign_told base second s ended.answer _ closed.told of)))
     (both_told base first second s _ _ ended.cells.items ended.books.items s.workers.items ended.answer _ closed.told
     (subst (λ (v : Vec WorkerNote Global). IfErr ended.answer (IsUndoneOfBoth first second c.args.plant.cells.items c.args.plant.books.items
     ended.cells.items ended.books.items v.items)) (sym closed.notes) end.undone)))

@@ -5,7 +5,8 @@ use Rattle.run_command.specs.Runs as runs
 use Rattle.run_command.specs.Sessions.{OfNone}
 use Rattle.run_command.proofs.Continued.{groups_still, still}
 use Rattle.run_command.specs.Endings.{HaveAllEnded}
-use Rattle.run_command.proofs.Notes.{ended_both}
+use Rattle.run_command.specs.Sessions.{AreNotesOfAll}
+use Rattle.run_command.proofs.Notes.{at_text, ended_both}
 use Rattle.run_command.proofs.Results.{err_weaker, ok_weaker}
 use Rattle.run_command.proofs.DrillUndone.{few_notes, where_ok}
 use Rattle.run_command.proofs.drill_phases.go_on.Goals as goal
@@ -61,3 +62,13 @@ returns-clause-ended g c = ok_weaker c.hold_phase-cells.result.answer
     (sym (c.join.ensures ∙ ap (λ (l : List WorkerNote). l ++ c.hold_phase-cells.result.notes.items) c.reserve.ensures.items))
     (ended_both c.args.notes.items c.hold_phase-cells.result.notes.items c.requires.ended ended))
     c.hold_phase-cells.ensures.ended
+
+pub returns-clause-ran : goal.returns-clause-ran
+returns-clause-ran g c = ok_weaker c.hold_phase-cells.result.answer
+    (λ are. record {
+      more = c.hold_phase-cells.result.notes.items;
+      behind = c.join.ensures ∙ ap (λ (l : List WorkerNote). l ++ c.hold_phase-cells.result.notes.items) c.reserve.ensures.items;
+      are = are;
+    })
+    (at_text (AreNotesOfAll g.row.D.Denot c.args.second.now.work c.hold_phase-cells.result.notes.items) c.hold_phase-cells.result.answer
+    c.hold_phase-cells.ensures.ran)

@@ -1,14 +1,14 @@
-use Rattle.std.proofs.Common.{[], Result, OnOk, refl, subst, sym}
+use Rattle.std.proofs.Common.{[], Result, OnOk, inl, inr, refl, subst, sym}
 use Rattle.std.specs.Prelude.{IfErr}
 use Rattle.std.proofs.lemmas.List.{append-nil}
 use Rattle.plant_status.specs.declared.status.Status.{Status}
 use Rattle.run_command.specs.Endings.{HaveAllEnded}
-use Rattle.run_command.specs.Refusals.{IsOfOpening}
+use Rattle.run_command.specs.Refusals.{AdmitsForeign, IsOfOpening}
 use Rattle.run_command.specs.Runs.{IsUndone}
 use Rattle.run_command.specs.Sessions.{OfNone}
 use Rattle.run_command.specs.Steps.{AreStepsMade}
 use Rattle.run_command.proofs.Continued.{books_on, cells_on, inputs_continued}
-use Rattle.run_command.proofs.Results.{err_weaker}
+use Rattle.run_command.proofs.Results.{err_weaker, ok_weaker}
 use Rattle.run_command.specs.DrillPhases.{OfFirst, OfSecond}
 use Rattle.run_command.proofs.drill_phases.hold_both.Goals as goal
 
@@ -34,6 +34,7 @@ pub returns-in-Ok-clause-undone : goal.returns-in-Ok-clause-undone
 returns-in-Ok-clause-undone g c = err_weaker c.go_on.result.answer
     (λ why is. OfSecond c.hold_phase-cells.result.cells.items c.hold_phase-cells.result.books.items
     c.hold_phase-cells.result.notes.items
+    (subst (λ (r : Result (Unit {0}) Status). OnOk r (HaveAllEnded c.hold_phase-cells.result.notes.items)) c.in-Ok.is c.hold_phase-cells.ensures.ended)
     (c.hold_phase-cells.ensures.same_cells (λ of. subst (λ (r : Result (Unit {0}) Status). IsOfOpening r) c.in-Ok.is of))
     (c.hold_phase-cells.ensures.same_books (λ of. subst (λ (r : Result (Unit {0}) Status). IsOfOpening r) c.in-Ok.is of))
     (subst (λ (r : Result (Unit {0}) Status). OnOk r (AreStepsMade c.args.first.now c.hold_phase-cells.result.cells.items
@@ -70,3 +71,21 @@ returns-in-Err-clause-undone g c =
 pub go_on-requires-clause-ended : goal.go_on-requires-clause-ended
 go_on-requires-clause-ended g c κs within =
     subst (λ (r : Result (Unit {0}) Status). OnOk r (HaveAllEnded c.hold_phase-cells.result.notes.items)) c.in-Ok.is c.hold_phase-cells.ensures.ended
+
+pub returns-in-Ok-clause-ran : goal.returns-in-Ok-clause-ran
+returns-in-Ok-clause-ran g c = ok_weaker c.go_on.result.answer
+    (λ ran. record {
+      front = c.hold_phase-cells.result.notes.items;
+      more = ran.more;
+      behind = ran.behind;
+      of_first = c.hold_phase-cells.ensures.ran (λ of. subst (λ (r : Result (Unit {0}) Status). AdmitsForeign r) c.in-Ok.is of);
+      of_second = ran.are;
+    })
+    c.go_on.ensures.ran
+
+pub returns-in-Ok-clause-begun : goal.returns-in-Ok-clause-begun
+returns-in-Ok-clause-begun g c = λ none. inr (c.go_on.ensures.begun none)
+
+pub returns-in-Err-clause-begun : goal.returns-in-Err-clause-begun
+returns-in-Err-clause-begun g c = λ none. inl (c.hold_phase-cells.ensures.begun
+    (λ of. none (subst (λ (r : Result (Unit {0}) Status). AdmitsForeign r) c.in-Err.is of)))

@@ -44,10 +44,10 @@ returns-clause-refused g c =
     c.settle_all-answer.ensures.refused
 
 pub returns-clause-ran : goal.returns-clause-ran
-returns-clause-ran g c =
-    subst (λ (l : List WorkerNote). OnOk c.settle_all-answer.result (AreNotesOfAll g.row.D.Denot c.args.given.now.work l)) (sym c.notes_in.ensures)
-    (ran_all g.row.D.Denot c.args.given.now.work c.run_workers-cells.result.notes c.settle_all-answer.result c.run_workers-cells.ensures.notes
-    c.settle_all-answer.ensures.ran)
+returns-clause-ran g c = λ none.
+    subst (λ (l : List WorkerNote). AreNotesOfAll g.row.D.Denot c.args.given.now.work l) (sym c.notes_in.ensures)
+    (ran_all g.row.D.Denot c.args.given.now.work c.run_workers-cells.result.notes c.run_workers-cells.ensures.notes
+    (c.settle_all-answer.ensures.ran none))
 
 pub returns-clause-ended : goal.returns-clause-ended
 returns-clause-ended g c =

@@ -67,7 +67,8 @@ returns-in-Err-clause-begun g c = λ none.
     absurd (none (subst (λ (r : Result (Unit {0}) Status). AdmitsForeign r) (sym c.unready.ensures.answer) tt))
 
 pub returns-in-Err-clause-ran : goal.returns-in-Err-clause-ran
-returns-in-Err-clause-ran g c = rw c.unready.ensures.answer tt
+returns-in-Err-clause-ran g c = λ none.
+    absurd (none (subst (λ (r : Result (Unit {0}) Status). AdmitsForeign r) (sym c.unready.ensures.answer) tt))
 
 pub returns-in-Err-clause-ended : goal.returns-in-Err-clause-ended
 returns-in-Err-clause-ended g c = rw c.unready.ensures.answer tt

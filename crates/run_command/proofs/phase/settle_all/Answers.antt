@@ -43,3 +43,6 @@ returns-clause-begun g c = λ none.
       whole_again c.args.books.now.len c.args.books.now.items c.settle.new.books (search rules) (search rules),
     )
     (c.settle.ensures.begun none))
+
+pub returns-clause-ran : goal.returns-clause-ran
+returns-clause-ran g c = λ none. c.settle.ensures.ran none

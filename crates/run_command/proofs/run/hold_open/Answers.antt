@@ -6,7 +6,7 @@ use Rattle.run_command.specs.Runs.{IsUndone}
 use Rattle.run_command.specs.Endings.{HaveAllEnded}
 use Rattle.run_command.specs.Sessions.{AreNotes, AreNotesOfAll}
 use Rattle.run_command.proofs.Continued.{inputs_of_base}
-use Rattle.run_command.proofs.Told.{foreign_told, held_told, ran_told, undone_told}
+use Rattle.run_command.proofs.Told.{foreign_told, held_told, undone_told}
 use Rattle.run_command.proofs.run.hold_open.Goals as goal
 
 pub hold_phase-ended-requires-clause-inputs : goal.hold_phase-ended-requires-clause-inputs
@@ -31,8 +31,8 @@ returns g c old before was rest same =
           (subst (λ (v : Vec WorkerNote Global). OnOk ended.answer (HaveAllEnded v.items)) (sym closed.notes) end.ended) end.made end.pulled closed.told;
       notes = subst (λ (v : Vec WorkerNote Global). AreNotes g.row.S-Dev.Denot given.work (g.P.Passes.stops c.args.passes.now)
           (g.P.Passes.stops c.hold_phase-ended.new.passes) v.items) (sym closed.notes) end.notes;
-      ran = ran_told (AreNotesOfAll g.row.S-Dev.Denot given.work s.workers.items) c.args.base.now given s ended.answer _ closed.told
-          (subst (λ (v : Vec WorkerNote Global). OnOk ended.answer (AreNotesOfAll g.row.S-Dev.Denot given.work v.items)) (sym closed.notes) end.ran);
+      ran = λ none. subst (λ (v : Vec WorkerNote Global). AreNotesOfAll g.row.S-Dev.Denot given.work v.items) (sym closed.notes)
+          (end.ran (λ of. none (foreign_told c.args.base.now given s ended.answer _ closed.told of)));
       begun = λ none. end.begun (λ of. none (foreign_told c.args.base.now given s ended.answer _ closed.told of));
       undone = undone_told c.args.base.now given s ended.cells.items ended.books.items _ _ s.workers.items ended.answer _ closed.told
           (subst (λ (v : Vec WorkerNote Global). IfErr ended.answer (IsUndone given c.args.opened.plant.cells.items c.args.opened.plant.books.items

@@ -10,7 +10,7 @@ use Rattle.session_audit.specs.BookOpenings.{IsBookDifference}
 use Rattle.session_audit.specs.CellOpenings.{IsCellDifference}
 use Rattle.run_command.proofs.Mismatches.{mismatch_is_opening}
 use Rattle.run_command.proofs.Foreign.{opening_foreign}
-use Rattle.run_command.proofs.Results.{at_ok, err_weaker, ok_weaker}
+use Rattle.run_command.proofs.Results.{err_weaker, ok_weaker}
 use Rattle.run_command.proofs.settle.settle.Goals as goal
 
 pub returns-in_err-compare_all-clause-known : goal.returns-in_err-compare_all-clause-known
@@ -64,7 +64,7 @@ returns-in-Ok-clause-ended g c = ok_weaker c.complete_all.result
     (λ ended. subst HaveAllEnded (c.deref.ensures.value ∙ sym (ap notes_of c.in-Ok.is)) ended) c.complete_all.ensures.ended
 
 pub returns-in-Ok-clause-ran : goal.returns-in-Ok-clause-ran
-returns-in-Ok-clause-ran g c = at_ok c.complete_all.result (ap is_ok c.in-Ok.is)
+returns-in-Ok-clause-ran g c = λ none. ap is_ok c.in-Ok.is
 
 pub returns-in-Ok-clause-begun : goal.returns-in-Ok-clause-begun
 returns-in-Ok-clause-begun g c = λ none. c.complete_all.ensures.begun none
@@ -78,3 +78,13 @@ pub returns-in_err-compare_all-2-clause-refused : goal.returns-in_err-compare_al
 returns-in_err-compare_all-2-clause-refused g c =
     let p = err_from_is_err_and c.from_residual-in_err-compare_all-2.result c.from_residual-in_err-compare_all-2.ensures.1 in
     rw (p.1, p.2) (OfGroup c.in_ok-compare_all.ensures.same c.in_err-compare_all-2.ensures.differs)
+
+pub returns-in_err-compare_all-clause-ran : goal.returns-in_err-compare_all-clause-ran
+returns-in_err-compare_all-clause-ran g c =
+    let p = err_from_is_err_and c.from_residual.result c.from_residual.ensures.1 in
+    rw (p.1, p.2) (λ none. absurd (none (opening_foreign _ (mismatch_is_opening Tag IsCellDifference _ _ c.in_err-compare_all.field-0.0 c.in_err-compare_all.ensures.differs))))
+
+pub returns-in_err-compare_all-2-clause-ran : goal.returns-in_err-compare_all-2-clause-ran
+returns-in_err-compare_all-2-clause-ran g c =
+    let p = err_from_is_err_and c.from_residual-in_err-compare_all-2.result c.from_residual-in_err-compare_all-2.ensures.1 in
+    rw (p.1, p.2) (λ none. absurd (none (opening_foreign _ (mismatch_is_opening Group IsBookDifference _ _ c.in_err-compare_all-2.field-0.0 c.in_err-compare_all-2.ensures.differs))))
