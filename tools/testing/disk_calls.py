@@ -19,7 +19,7 @@ FOLDER = {"openat": 2, "flock": 1, "fsync": 4, "getdents64": 2, "mkdir": 1}  # t
 DEVICE = ("openat", "statx", "fsync", "fdatasync", "pread64", "pwrite64")
 INTERRUPTED = [(kind, "historian.d/T1.tag") for kind in DEVICE] + [
     ("mkdir", "historian.d"), ("statx", "historian.d"), ("openat", "historian.d"),
-    ("openat", "base.toml"), ("read", "base.toml"), ("read", "plan.toml"), ("read", "c1.csv"), ("read", "asks.csv"), ("write", "")]
+    ("getdents64", "historian.d"), ("openat", "base.toml"), ("read", "base.toml"), ("read", "plan.toml"), ("read", "c1.csv"), ("read", "asks.csv"), ("write", "")]
 
 
 def injected(plant, verb, errors, paths=()):
@@ -118,8 +118,7 @@ def failing_calls_of_log(folder, program, settings):
 
 
 def interrupted_calls(folder, program, settings):
-    """`run` makes a call again if a signal interrupts it, and leaves the whole plant, with old devices and with new ones. An interrupted
-    read of the folder's names is a fault, and is not tried here."""
+    """`run` makes a call again if a signal interrupts it, and leaves the whole plant, with old devices and with new ones."""
     if not shutil.which("strace"):
         return "no strace here: not tried"
     count, refused = 0, []
