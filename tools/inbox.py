@@ -96,14 +96,15 @@ def read_inbox(plant, names, tags):
             break
         with open(plant.path(plant.settings.inbox, name), "rb") as file:
             data = file.read()
-        sha, count = hashlib.sha256(data).hexdigest(), values.count
+        sha, count, rounded = hashlib.sha256(data).hexdigest(), values.count, values.rounded
         twice = sha in before
         if not twice:
             refused[name] = read_values(data, scales, plant.settings, latest, values)
             if values.count > count:
                 before[sha] = last + 1, name
         files.append({"name": name, "sha256": sha, "rows": values.count - count, "refused": len(refused.get(name, ())),
-                      "goes": "refused" if twice else "done", "twice": "%s, which was fed in turn %d" % before[sha][::-1] if twice else ""})
+                      "rounded": values.rounded - rounded, "goes": "refused" if twice else "done",
+                      "twice": "%s, which was fed in turn %d" % before[sha][::-1] if twice else ""})
     return last + 1, values, files, refused
 
 

@@ -1,0 +1,93 @@
+"""told.py: tests of what the tools print of rare things: late and rounded values."""
+import json
+import os
+import re
+
+import rows
+from trial import Trial, two_blocks
+
+
+def folder_of(folder, name):
+    """A folder for a plant of its own."""
+    place = os.path.join(folder, name)
+    os.makedirs(place)
+    return place
+
+
+def turn_line(text):
+    """The line of a turn."""
+    return next(line for line in text.splitlines() if line.startswith("turn ") and " files, " in line)
+
+
+def late_by_program(trial):
+    """How many late values the program counts."""
+    return sum(int(count) for count in re.findall(r" late=(\d+) ", trial.by_hand("check", "base.toml")))
+
+
+def late_values_are_counted(folder, program, settings):
+    """The line of a turn says how many values came late, and only then; so does that of a turn that was stopped before, within or after
+    the storing. A value is late too if the newer one before it was set aside."""
+    for how in (None, "before", "half", "after"):
+        trial = Trial(folder_of(folder, str(how)), program)
+        trial.write("inbox/1.csv", "LIC4.PV,1000,5\nLIC4.PV,2000,60\nFIC1.PV,2000,1\nLIC4.PV,3000,5\n")
+        assert turn_line(trial.fed()) == "turn 1: 1 files, 4 values of 2 tags stored, 0 refused"
+        trial.write("inbox/2.csv", "LIC4.PV,3500,8\nLIC4.PV,3200,6\nFIC1.PV,2000,2\nFIC1.PV,1000,2\nLIC4.PV,4000,90\nXV7.ZSO,5,1\n")
+        if how:
+            assert trial.feed(how=how)[0] == 137
+        line = turn_line(trial.fed())
+        assert line == "turn 2: 1 files, 6 values of 3 tags stored, 0 refused, 3 late" and late_by_program(trial) == 3, line
+        trial.write("inbox/3.csv", "LIC4.PV,3999,1\nLIC4.PV,soon,1\n")
+        assert turn_line(trial.fed()) == "turn 3: 1 files, 1 values of 1 tags stored, 1 refused, 1 late"
+    two, _ = two_blocks(folder, program)
+    before = late_by_program(two)
+    assert turn_line(two.fed()).endswith(" refused, %d late" % (late_by_program(two) - before)) and late_by_program(two) > before
+
+
+def turn_of_an_older_feeder(folder, program, settings):
+    """A turn that an older feeder began, which noted no late values, is finished without a word of them."""
+    trial = Trial(os.path.join(folder, "a"), program)
+    trial.write("inbox/1.csv", "LIC4.PV,2000,5\nLIC4.PV,1000,60\n")
+    assert trial.feed(how="half")[0] == 137
+    turn = json.loads(trial.read("feed.d/turn.json"))
+    for tag in turn["tags"].values():
+        tag.pop("late")
+    for file in turn["files"]:
+        del file["rounded"]
+    trial.write("feed.d/turn.json", json.dumps(turn))
+    assert turn_line(trial.fed()) == "turn 1: 1 files, 2 values of 1 tags stored, 0 refused" and late_by_program(trial) == 1
+
+
+def rounded_values_are_counted(folder, program, settings):
+    """Zeros behind the point change nothing, also without a scale. What is rounded is counted, also if the turn is stopped; without a
+    scale it is refused."""
+    for how in (None, "half", "after"):
+        trial = Trial(folder_of(folder, str(how)), program)
+        trial.write("feed.toml", 'settle_seconds = 0\n[tag."FIC1.PV"]\nscale = 100\n')
+        trial.write("inbox/1.csv", "LIC4.PV,1,4.0\nLIC4.PV,2,7.00\nLIC4.PV,3,1.25E2\nFIC1.PV,1,1.5000\n")
+        assert turn_line(trial.fed()) == "turn 1: 1 files, 4 values of 2 tags stored, 0 refused"
+        assert "held=3,125\n" in trial.by_hand("check", "base.toml") and "held=1,150\n" in trial.by_hand("check", "base.toml")
+        trial.write("inbox/2.csv", "FIC1.PV,2,48.705\nFIC1.PV,3,48.70\nFIC1.PV,4,-2.345\nLIC4.PV,4,7.5\nFIC1.PV,1,1.2300\n")
+        if how:
+            assert trial.feed(how=how)[0] == 137
+        text = trial.fed()
+        assert turn_line(text) == "turn 2: 1 files, 4 values of 1 tags stored, 1 refused, 1 late, 2 rounded", text
+        assert "2.csv row 4: LIC4.PV: a decimal, and no scale for this tag in feed.toml: '7.5'" in text, text
+        assert "held=4,-235\n" in trial.by_hand("check", "base.toml")
+
+
+def exact_or_rounded(folder, program, settings):
+    """Each text as it is stored, and whether it was rounded; or why it is refused."""
+    for text, scale, wanted in [
+            ("4.0", None, (4, False)), ("7.00", None, (7, False)), ("-0.000", None, (0, False)), ("1.25E2", None, (125, False)),
+            ("70e-1", None, (7, False)), ("4.0", 1, (4, False)), ("4.10", 10, (41, False)), ("4.1000", 10, (41, False)),
+            ("4.11", 10, (41, True)), ("4.15", 10, (42, True)), ("-4.15", 10, (-42, True)), ("0.001", 100, (0, True)),
+            ("0.5", 3, (2, True)), ("1.5", 2, (3, False))]:
+        assert rows.value_and_rest(text, scale) == wanted, (text, rows.value_and_rest(text, scale))
+    for text in ("7.5", "7.000000000000000000001", "5e-1"):
+        try:
+            raise AssertionError("%s is taken as %r" % (text, rows.value_and_rest(text, None)))
+        except rows.BadField as why:
+            assert "a decimal, and no scale for this tag in feed.toml" in str(why), why
+
+
+CASES = [late_values_are_counted, turn_of_an_older_feeder, rounded_values_are_counted, exact_or_rounded]
