@@ -10,7 +10,7 @@ def say(text):
 
 
 def tell(plant, turn, state, without_room):
-    """One line for the turn, a line for each file that was fed before, and the first refused rows of each file."""
+    """One line for the turn, a line for each file without values or that was fed before, and the first refused rows of each file."""
     refused = {file["name"]: file["refused"] for file in turn.files if file["refused"]}
     name, count = without_room
     if count:
@@ -37,10 +37,12 @@ def late_and_rounded(turn, state):
 
 
 def tell_file(turn, file):
-    """A line for a file that was fed before."""
+    """A line for a file of which nothing is stored, and why."""
     if file.get("twice"):
         say("  %s has the bytes of %s: none of its rows is stored again, and it goes to %s" % (
             file["name"], file["twice"], turn.folder("refused")))
+    if file.get("nothing"):
+        say("  %s has %s: nothing of it is stored, and it goes to %s" % (file["name"], file["nothing"], turn.folder(file["goes"])))
 
 
 def tell_refused(plant, place, name, count):

@@ -1,4 +1,5 @@
-"""told.py: tests of what the tools print of rare things: late and rounded values."""
+"""told.py: tests of what the tools print of rare things: late and rounded values, files without values, and
+copies that were stopped."""
 import json
 import os
 import re
@@ -52,7 +53,7 @@ def turn_of_an_older_feeder(folder, program, settings):
     for tag in turn["tags"].values():
         tag.pop("late")
     for file in turn["files"]:
-        del file["rounded"]
+        del file["rounded"], file["nothing"]
     trial.write("feed.d/turn.json", json.dumps(turn))
     assert turn_line(trial.fed()) == "turn 1: 1 files, 2 values of 1 tags stored, 0 refused" and late_by_program(trial) == 1
 
@@ -90,4 +91,47 @@ def exact_or_rounded(folder, program, settings):
             assert "a decimal, and no scale for this tag in feed.toml" in str(why), why
 
 
-CASES = [late_values_are_counted, turn_of_an_older_feeder, rounded_values_are_counted, exact_or_rounded]
+EMPTY = "stays in the inbox: it is empty, so its first row is still to come, or was cut off. If nothing writes to it any more, remove it"
+NOTHING = {"b.csv": ("tag,time,value\n", "a header, and no row"), "c.csv": ("time,LIC4.PV\r\n", "a header, and no row"),
+           "e.csv": ("\n\r\n", "blank lines alone"), "f.csv": ("time,LIC4.PV\n1000,\n2000,\n", "rows, and no value in any")}
+
+
+def files_without_values(folder, program, settings):
+    """An empty file stays in the inbox. One with a header alone goes to done/ as it is. Each is said in exact words, and an empty file
+    is fed once it has rows."""
+    trial = Trial(os.path.join(folder, "a"), program)
+    for name, text in {"a.csv": "", "d.csv": "\ufeff"}.items() | {name: text for name, (text, _) in NOTHING.items()}.items():
+        trial.write("inbox/" + name, text)
+    text = trial.fed()
+    for name in ("a.csv", "d.csv"):
+        assert "inbox/%s %s\n" % (name, EMPTY) in text, text
+    assert turn_line(text) == "turn 1: 4 files, 0 values of 0 tags stored, 0 refused", text
+    for name, (held, what) in NOTHING.items():
+        assert "  %s has %s: nothing of it is stored, and it goes to done/000001\n" % (name, what) in text, text
+        with open(trial.path("done/000001", name), newline="") as kept:
+            assert kept.read() == held, name
+    assert sorted(os.listdir(trial.path("inbox"))) == ["a.csv", "d.csv"]
+    trial.write("inbox/a.csv", "tag,time,value\nLIC4.PV,1000,5\n")
+    trial.write("inbox/b.csv", NOTHING["b.csv"][0])  # the same header again, as the next day brings it
+    text = trial.fed()
+    assert "turn 2: 2 files, 1 values of 1 tags stored, 0 refused\n  b.csv has a header, and no row" in text, text
+
+
+def part_in_the_inbox(folder, program, settings):
+    """A file *.part is left alone. If it is an hour old, that is said, each time."""
+    trial = Trial(os.path.join(folder, "a"), program)
+    for name in ("x.csv.part", "y.csv.part"):
+        trial.write("inbox/" + name, "LIC4.PV,1000,5\n")
+    assert trial.fed() == ""
+    old = os.path.getmtime(trial.path("inbox/y.csv.part")) - 3_601
+    os.utime(trial.path("inbox/y.csv.part"), (old, old))
+    for _ in range(2):
+        text = trial.fed()
+        assert text == ("inbox/y.csv.part stays in the inbox: its name ends in .part, so copying it was stopped. Copy it again, or take"
+                        " .part off its name if it is whole\n"), text
+    os.rename(trial.path("inbox/y.csv.part"), trial.path("inbox/y.csv"))
+    assert turn_line(trial.fed()) == "turn 1: 1 files, 1 values of 1 tags stored, 0 refused"
+
+
+CASES = [late_values_are_counted, turn_of_an_older_feeder, rounded_values_are_counted, exact_or_rounded, files_without_values,
+         part_in_the_inbox]
