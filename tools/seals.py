@@ -11,6 +11,7 @@ import json
 import os
 import re
 import shutil
+import sys
 import time
 
 from devices import events_on, log_end, sha256_of_first
@@ -212,11 +213,30 @@ def backups(plant):
 
 
 def remove_unfinished(plant):
-    """Removes the copies of this tool that a stop left unfinished. Nobody else makes one now, because the lock is held."""
+    """Removes the copies of this tool that a stop left unfinished, and says so. Nobody else makes one now, because the lock is held. What
+    has such a name and is no folder was made by somebody else, and stays."""
     folder = plant.path("backup")
-    for name in os.listdir(folder) if os.path.isdir(folder) else ():
-        if UNFINISHED.fullmatch(name):
-            shutil.rmtree(os.path.join(folder, name))
+    for name in sorted(os.listdir(folder)) if os.path.isdir(folder) else ():
+        path = os.path.join(folder, name)
+        if UNFINISHED.fullmatch(name) and os.path.isdir(path) and not os.path.islink(path):
+            shutil.rmtree(path)
+            note("backup/%s, a copy that was stopped, is removed" % name)
+        elif UNFINISHED.fullmatch(name):
+            note("backup/%s is no folder, so feed.py did not make it: it stays as it is" % name)
+
+
+def note(text):
+    """Says something besides the answer."""
+    print(text, file=sys.stderr, flush=True)
+
+
+def free_name(plant):
+    """The time now as the name of a copy. If another copy has that name, it waits for the next second."""
+    while True:
+        name = time.strftime("%Y-%m-%dT%H%M%SZ", time.gmtime())
+        if not any(os.path.lexists(plant.path("backup", name + end)) for end in ("", ".part")):
+            return name
+        time.sleep(0.05)
 
 
 def back_up(plant):
@@ -227,7 +247,7 @@ def back_up(plant):
         seal(plant)
     put_seals(plant, ["%s  %s\n" % (what, name) for what, name in seal_lines(plant) if name != LOG])
     remove_unfinished(plant)
-    name = time.strftime("%Y-%m-%dT%H%M%SZ", time.gmtime())
+    name = free_name(plant)
     part = plant.path("backup", name + ".part")
     texts = ["base.toml", "feed.toml", "feed.d/base.toml", "feed.d/seals", "feed.d/fed", "feed.d/scales"]
     kept, log = sealed(plant), sealed_log(plant)

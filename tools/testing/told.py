@@ -1,10 +1,13 @@
-"""told.py: tests of what the tools print of rare things: late and rounded values, files without values, and
-copies that were stopped."""
+"""told.py: tests of what the tools print of rare things: late and rounded values, files without values, backups within a second and
+backups that were stopped."""
 import json
 import os
 import re
+import shutil
 
 import rows
+import seals
+from plant import Plant
 from trial import Trial, two_blocks
 
 
@@ -133,5 +136,38 @@ def part_in_the_inbox(folder, program, settings):
     assert turn_line(trial.fed()) == "turn 1: 1 files, 1 values of 1 tags stored, 0 refused"
 
 
+def backups_within_a_second(folder, program, settings):
+    """Each of several backups within a second is whole, and has a name of its own."""
+    trial, _ = two_blocks(folder, program)
+    plant, names = Plant(trial.folder, program), []
+    with plant.locked("test", 5):
+        for _ in range(3):
+            names.append(seals.back_up(plant))
+    assert sorted(os.listdir(trial.path("backup"))) == sorted({os.path.basename(name) for name in names}) and len(set(names)) == 3, names
+    for name in names:
+        assert sorted(os.listdir(trial.path(name, "historian.d"))) == sorted(set(os.listdir(trial.path("historian.d"))) - {"feed.lock"})
+        assert trial.read(os.path.join(name, "feed.d/seals")) == trial.read("feed.d/seals")
+
+
+def backups_that_were_stopped(folder, program, settings):
+    """What stops left of two backups is removed, and that is said. A file of such a name is left alone, and the backup is made."""
+    trial, _ = two_blocks(folder, program)
+    first = trial.fed("--backup").strip()
+    for name in ("2020-01-01T000000Z.part", "2020-01-02T000000Z.part"):
+        shutil.copytree(trial.path(first, "feed.d"), trial.path("backup", name, "feed.d"))
+    for name in ("2020-01-03T000000Z.part", "mine.part"):
+        trial.write("backup/" + name, "mine")
+    os.symlink(trial.path(first), trial.path("backup/2020-01-04T000000Z.part"))
+    text = trial.fed("--backup")
+    for name in ("2020-01-01T000000Z.part", "2020-01-02T000000Z.part"):
+        assert "backup/%s, a copy that was stopped, is removed\n" % name in text, text
+    for name in ("2020-01-03T000000Z.part", "2020-01-04T000000Z.part"):
+        assert "backup/%s is no folder, so feed.py did not make it: it stays as it is\n" % name in text, text
+    second = re.search(r"^backup/\S+Z$", text, re.M)[0]
+    assert sorted(os.listdir(trial.path("backup"))) == sorted([os.path.basename(first), os.path.basename(second), "mine.part"] + [
+        "2020-01-03T000000Z.part", "2020-01-04T000000Z.part"]), os.listdir(trial.path("backup"))
+    assert trial.read("backup/2020-01-03T000000Z.part") == "mine" and os.path.exists(trial.path(first, "feed.d/seals"))
+
+
 CASES = [late_values_are_counted, turn_of_an_older_feeder, rounded_values_are_counted, exact_or_rounded, files_without_values,
-         part_in_the_inbox]
+         part_in_the_inbox, backups_within_a_second, backups_that_were_stopped]
