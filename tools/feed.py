@@ -13,6 +13,7 @@ import argparse
 import os
 import time
 
+import accept
 import seals
 import turns
 from devices import retuned
@@ -259,9 +260,11 @@ def main():
     one.add_argument("--verify", action="store_true", help="feed nothing: compare the devices with the seals of the last turn")
     one.add_argument("--backup", action="store_true", help="feed nothing: copy texts, devices and seals to backup/")
     one.add_argument("--seal", action="store_true", help="feed nothing: accept the devices as they stand, after a change that you know")
+    one.add_argument("--anew", action="append", metavar="TAG", help="feed nothing: begin a tag anew, empty, whose device is missing")
     given = parser.parse_args()
     plant = Plant(given.plant, given.program)
-    for asked, do in ((given.verify, seals.verified), (given.backup, seals.back_up), (given.seal, seals.sealed_anew)):
+    for asked, do in ((given.verify, seals.verified), (given.backup, seals.back_up), (given.seal, accept.sealed_anew),
+                      (given.anew, lambda plant: accept.begun_anew(plant, given.anew))):
         if asked:
             return at_rest(plant, do, given.wait)
     return init(plant) if given.init else feed(plant, given.every, given.wait)

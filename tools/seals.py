@@ -14,7 +14,7 @@ import shutil
 import sys
 import time
 
-from devices import events_on, log_end, sha256_of_first
+from devices import begins, events_on, log_end, sha256_of_first
 from plant import CHANGED, Refusal, copied, sha256_of, sync_folder, write_whole
 
 LINE = re.compile(r"([0-9a-f]{64}|# \d+ events|# [0-9a-f]{64} of the first \d+ bytes)  (historian\.d/.+)\n")
@@ -135,23 +135,6 @@ def verified(plant):
     return "%s, each as the last turn left it" % counted(plant)
 
 
-def sealed_anew(plant):
-    """Seals the devices as they stand. Says what is not as it was sealed, and how many values were stored meanwhile."""
-    os.makedirs(plant.path("feed.d"), exist_ok=True)
-    lines = []
-    try:
-        found, before = differences(plant), sealed_events(plant)
-    except Refusal:  # the seals are damaged themselves
-        found, before = {}, {}
-    seal(plant)
-    after = sealed_events(plant)
-    for name, what in found.items():
-        lines.append("%s %s" % (name, what))
-        if name in after:
-            lines.append("  it has %d events now, and had %d" % (after[name], before.get(name, 0)))
-    return "\n".join(lines + ["%s are sealed as they stand" % counted(plant)])
-
-
 def counted(plant):
     """How many devices are sealed, in words."""
     return "%d devices" % len(sealed(plant)) + (" and the first %d bytes of the log" % sealed_log(plant)[1] if sealed_log(plant) else "")
@@ -196,12 +179,7 @@ def copy_of(plant, name, sha):
 def require_begun(plant, names):
     """Ends with a refusal if one of these devices of tags no longer begins as one: the program would refuse it, or begin it anew."""
     for name in names:
-        path = plant.path("historian.d", name + ".tag")
-        start = b""
-        if os.path.isfile(path):
-            with open(path, "rb") as device:
-                start = device.read(5)
-        if start != b"\xa5PHT1":
+        if not begins(plant.path("historian.d", name + ".tag")):
             raise Refusal(CHANGED, "historian.d/%s.tag is missing or does not begin as a device: nothing was done, and no file was"
                           " changed. Put the plant back from a backup (docs/RUNNING.md, Backup)." % name)
 

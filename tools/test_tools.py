@@ -24,6 +24,7 @@ import daily  # noqa: E402
 import drawn  # noqa: E402
 import keeping  # noqa: E402
 import kills  # noqa: E402
+import lost  # noqa: E402
 import stops  # noqa: E402
 import told  # noqa: E402
 
@@ -56,7 +57,7 @@ def main():
     parser.add_argument("--only", nargs="+", default=[], metavar="NAME", help="the cases whose names begin so")
     settings = parser.parse_args()
     settings.kills = settings.kills or (300 if settings.long else 20)
-    cases = [case for cases in (kills, cuts, stops, daily, keeping, told, drawn) for case in cases.CASES]
+    cases = [case for cases in (kills, cuts, stops, daily, keeping, told, lost, drawn) for case in cases.CASES]
     return run_cases(cases, settings)
 
 
