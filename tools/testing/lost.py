@@ -35,7 +35,7 @@ def missing_device_is_not_sealed(folder, program, settings):
     os.remove(device)
     text = refused(trial, "--seal")
     assert "historian.d/LIC4.PV.tag is missing, and had 60 events when it was sealed.\n" in text, text
-    assert "If you have it elsewhere, put it back. The bytes of the last turn stand in %s/historian.d/LIC4.PV.tag: copy" % copy in text, text
+    assert "If you have it elsewhere, put it back. The bytes of the last turn stand in %s/historian.d/LIC4.PV.tag" % copy in text, text
     assert "If the tag is to begin anew, empty: feed.py --anew LIC4.PV.\n" in text and text.count("historian.d/") == 2, text
     for data in (b"", b"\xa5", b"\0" * 600):
         with open(device, "wb") as out:
@@ -48,8 +48,8 @@ def missing_device_is_not_sealed(folder, program, settings):
 
 
 def missing_device_without_seals(folder, program, settings):
-    """Without seals, or with damaged ones, feed.d/scales says which tags had values. A tag that had none, and one that is no longer in
-    the base, may go."""
+    """Without seals, or with damaged ones, feed.d/scales says which tags had values; of values that were stored by hand the seals alone do.
+    The device of a tag that had none may go."""
     trial = Trial(os.path.join(folder, "a"), program)
     trial.write("inbox/x.csv", "LIC4.PV,1000,5\nFIC1.PV,1000,5\n")
     trial.fed()
@@ -65,11 +65,30 @@ def missing_device_without_seals(folder, program, settings):
     assert "8 devices are sealed" in trial.fed("--seal")
     trial.write("inbox/y.csv", "LIC4.PV,2000,5\n")
     assert "1 values of 1 tags stored, 0 refused" in trial.fed() and "taken=2" in trial.tool("ask.py", "snap,LIC4.PV")[1]
-    trial.write("base.toml", base_text(names=("FIC1.PV", "TIC3.PV", "FIC2.PV")))
+    hand = Trial(os.path.join(folder, "hand"), program)
+    hand.store_by_hand([(1000, "LIC4.PV", 5)])
+    hand.fed("--seal")
+    os.remove(hand.path("historian.d/LIC4.PV.tag"))
+    assert "LIC4.PV.tag is missing, and had 1 events when it was sealed" in refused(hand, "--seal")
+
+
+def tags_of_either_base(folder, program, settings):
+    """A missing device is refused if its tag is in the base of the last feed or in base.toml. That of a tag in neither may go, and is
+    refused once base.toml has the tag again."""
+    trial = Trial(os.path.join(folder, "a"), program)
+    trial.write("inbox/x.csv", "LIC4.PV,1000,5\nFIC1.PV,1000,5\n")
     trial.fed()
-    os.rename(trial.path("historian.d/LIC4.PV.tag"), trial.path("moved.tag"))
+    device, moved = trial.path("historian.d/LIC4.PV.tag"), trial.path("moved.tag")
+    trial.write("base.toml", base_text(names=("FIC1.PV", "TIC3.PV", "FIC2.PV")))
+    os.rename(device, moved)
+    assert "LIC4.PV.tag is missing, and had 1 events when it was sealed" in refused(trial, "--seal")
+    os.rename(moved, device)
+    assert "the edited base.toml is taken over" in trial.fed()
+    os.rename(device, moved)
     text = trial.fed("--seal")
     assert "historian.d/LIC4.PV.tag is missing\n" in text and "devices are sealed" in text, text
+    trial.write("base.toml", base_text())
+    assert "LIC4.PV.tag is missing, and by feed.d/scales values were stored in it" in refused(trial, "--seal")
 
 
 def tags_begin_anew(folder, program, settings):
@@ -87,6 +106,13 @@ def tags_begin_anew(folder, program, settings):
     text = refused(trial, "--anew", "LIC4.PV")
     assert "missing as well: historian.d/FIC1.PV.tag. Put them back; or," in text and "--anew FIC1.PV --anew LIC4.PV" in text, text
     os.remove(group)
+    with open(trial.path("historian.d/XV7.ZSO.tag"), "r+b") as out:
+        good = out.read(402)
+        out.seek(401)
+        out.write(b"Q")
+    assert "XV7.ZSO.tag is not as the last turn left it" in refused(trial, "--anew", "LIC4.PV", "--anew", "FIC1.PV")
+    with open(trial.path("historian.d/XV7.ZSO.tag"), "r+b") as out:
+        out.write(good)
     others = lines_of(trial, "FIC2.PV", "XV7.ZSO")
     text = trial.fed("--anew", "LIC4.PV", "--anew", "FIC1.PV")
     assert "LIC4.PV, FIC1.PV: begun anew, empty; 8 devices are sealed" in text, text
@@ -109,4 +135,4 @@ def lines_of(trial, *names):
     return {name: [line for line in text.splitlines() if line.endswith("/%s.tag" % name)] for name in names}
 
 
-CASES = [missing_device_is_not_sealed, missing_device_without_seals, tags_begin_anew]
+CASES = [missing_device_is_not_sealed, missing_device_without_seals, tags_of_either_base, tags_begin_anew]

@@ -155,7 +155,8 @@ def backups_that_were_stopped(folder, program, settings):
     first = trial.fed("--backup").strip()
     for name in ("2020-01-01T000000Z.part", "2020-01-02T000000Z.part"):
         shutil.copytree(trial.path(first, "feed.d"), trial.path("backup", name, "feed.d"))
-    for name in ("2020-01-03T000000Z.part", "mine.part"):
+    os.makedirs(trial.path("backup/mine.part"))
+    for name in ("2020-01-03T000000Z.part", "mine.part/mine"):
         trial.write("backup/" + name, "mine")
     os.symlink(trial.path(first), trial.path("backup/2020-01-04T000000Z.part"))
     text = trial.fed("--backup")
@@ -166,7 +167,8 @@ def backups_that_were_stopped(folder, program, settings):
     second = re.search(r"^backup/\S+Z$", text, re.M)[0]
     assert sorted(os.listdir(trial.path("backup"))) == sorted([os.path.basename(first), os.path.basename(second), "mine.part"] + [
         "2020-01-03T000000Z.part", "2020-01-04T000000Z.part"]), os.listdir(trial.path("backup"))
-    assert trial.read("backup/2020-01-03T000000Z.part") == "mine" and os.path.exists(trial.path(first, "feed.d/seals"))
+    assert trial.read("backup/2020-01-03T000000Z.part") == trial.read("backup/mine.part/mine") == "mine"
+    assert os.path.exists(trial.path(first, "feed.d/seals"))
 
 
 CASES = [late_values_are_counted, turn_of_an_older_feeder, rounded_values_are_counted, exact_or_rounded, files_without_values,
