@@ -127,15 +127,17 @@ def time_axis(scale, zone):
         moment, x = local(t, zone), scale.x(t)
         out.append('<path d="M%.1f,%dv4" stroke="#444"/>' % (x, TOP + HEIGHT))
         if step < DAY:
-            hour = moment.strftime("%H:%M:%S" if step < MINUTE else "%H:%M")
-            out.append('<text x="%.1f" y="%d" text-anchor="middle">%s</text>' % (x, TOP + HEIGHT + 16, hour))
+            out.append(axis_text(placed(x, moment.strftime("%H:%M:%S" if step < MINUTE else "%H:%M")), 16, ""))
         if step >= DAY or place == 0 or (t + offset(t, zone)) % DAY < step:
             days.append((x, moment))
-    for left, right, text in dates(days):
-        x, anchor = (WIDTH - EDGE, "end") if right == WIDTH - EDGE else ((left + right) / 2, "middle")
-        out.append('<text x="%.1f" y="%d" text-anchor="%s" fill="#666">%s</text>' % (
-            x, TOP + HEIGHT + (16 if step >= DAY else 30), anchor, text))
-    return out
+    return out + [axis_text(date, 16 if step >= DAY else 30, ' fill="#666"') for date in dates(days)]
+
+
+def axis_text(place, below, colour):
+    """A text below the time axis."""
+    left, right, text = place
+    x, anchor = (WIDTH - EDGE, "end") if right == WIDTH - EDGE else ((left + right) / 2, "middle")
+    return '<text x="%.1f" y="%d" text-anchor="%s"%s>%s</text>' % (x, TOP + HEIGHT + below, anchor, colour, text)
 
 
 def dates(days):

@@ -58,20 +58,24 @@ def raw_values_show(folder, program, settings):
     assert "raw values" in texts and "raw values" not in [text.text for text in drawn(steep, [], LATE_EVENING, end)[1].iter(SVG + "text")]
 
 
-def dates_of(svg):
-    """The dates below the axis: from where to where each goes, and its text."""
+def texts_of(svg, form):
+    """The texts of a form below the axis: from where to where each goes, and what it says."""
     found = []
     for node in svg.iter(SVG + "text"):
-        if re.fullmatch(r"(\d{4}-)?\d\d-\d\d", node.text or ""):
+        if re.fullmatch(form, node.text or ""):
             x, wide = float(node.get("x")), DIGIT * len(node.text)
             left = x - wide / 2 if node.get("text-anchor") == "middle" else x - wide
             found.append((left, left + wide, node.text))
     return found
 
 
+def dates_of(svg):
+    return texts_of(svg, r"(\d{4}-)?\d\d-\d\d")
+
+
 def dates_have_room(folder, program, settings):
     """No two dates overlap, and none leaves the picture, however long the time is that is drawn and wherever midnight lies. The first one
-    has its year. Where there is room, each has."""
+    has its year. Where there is room, each has. Nor do clock times with seconds."""
     points = [(0, 0), (2 * LATE_EVENING, 100)]
     for first in (LATE_EVENING, LATE_EVENING + HOUR, LATE_EVENING + HOUR + 50 * MINUTE, LATE_EVENING - 90 * DAY):
         for hours in (*range(1, 40), *range(41, 200, 9), 240, 300, 312, 400, 600, 1_000, 3_000, 9_000):
@@ -81,6 +85,8 @@ def dates_have_room(folder, program, settings):
             assert not dates or len(dates[0][2]) == 10, (first, hours, dates)
     assert [text for *_, text in dates_of(drawn(points, [], LATE_EVENING, LATE_EVENING + 26 * HOUR)[1])] == ["2024-03-29", "03-30", "03-31"]
     assert [text for *_, text in dates_of(drawn(points, [], LATE_EVENING, LATE_EVENING + 7 * HOUR)[1])] == ["2024-03-29", "2024-03-30"]
+    hours = texts_of(drawn(points, [], LATE_EVENING, LATE_EVENING + 12_000)[1], r"\d\d:\d\d:\d\d")
+    assert len(hours) == 13 and hours[-1][1] <= picture.WIDTH and all(a[1] < b[0] for a, b in zip(hours, hours[1:])), hours
     days = [text for *_, text in dates_of(drawn(points, [], LATE_EVENING - 95 * DAY, LATE_EVENING - 82 * DAY)[1])]
     assert days[0] == "2023-12-26" and "12-31" in days and "2024-01-01" in days and days[-1] == "01-07", days
 
