@@ -2,7 +2,7 @@
 gone.
 
 A device that is missing is never accepted if its tag is in the base and had events: the next question or feed would have the program
-make it anew, empty, and nothing would show that there had been values."""
+make it anew, empty, and nothing would show that there had been values. Nor is one that does not begin as a device."""
 import json
 import os
 
@@ -14,8 +14,8 @@ from turns import stored_scales
 
 def sealed_anew(plant):
     """Seals the devices as they stand. Says what is not as it was sealed, and how many values were stored meanwhile."""
-    os.makedirs(plant.path("feed.d"), exist_ok=True)
     require_none_lost(plant)
+    os.makedirs(plant.path("feed.d"), exist_ok=True)
     lines, before = [], known_events(plant)
     try:
         found = differences(plant)
@@ -70,7 +70,8 @@ def require_none_lost(plant):
             device_of(name), what, where_to_find(plant, device_of(name)), name))
     if lines:
         lines[SHOWN:] = ["and %d more" % (len(lines) - SHOWN)] if len(lines) > SHOWN else []
-        raise Refusal(CHANGED, "nothing was sealed, because the program would begin these devices anew, empty:\n  " + "\n  ".join(lines))
+        why = "nothing was sealed, because the program would begin these devices anew, empty, or refuse them:"
+        raise Refusal(CHANGED, "\n  ".join([why] + lines))
 
 
 def where_to_find(plant, device):
@@ -104,8 +105,8 @@ def require_gone(plant, names, tags, groups):
                                                    if set(names) & set(made["tags"])]
     there = [file for file in files if os.path.lexists(plant.path(file))]
     if there:
-        raise Refusal(CHANGED, "nothing was done: to begin %s anew, first move away what stands there, and keep it: %s. (The rows of a group"
-                      " are made anew.)" % (", ".join(names), ", ".join(there)))
+        raise Refusal(CHANGED, "nothing was done: to begin %s anew, first move away what stands there, and keep it: %s. (The rows of a"
+                      " group are made anew.)" % (", ".join(names), ", ".join(there)))
     gone = lost(plant)
     unused = [name for name in names if name not in gone]
     if unused:
