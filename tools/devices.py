@@ -19,6 +19,15 @@ def sha256_of_first(path, size):
     return sha.hexdigest()
 
 
+def begins(path):
+    """Whether a file is there and begins as the device of a tag. Any other the program refuses or begins anew."""
+    try:
+        with open(path, "rb") as device:
+            return device.read(5) == bytes([OPEN]) + b"PHT1"
+    except (FileNotFoundError, IsADirectoryError):
+        return False
+
+
 def number(data, at, width):
     return int.from_bytes(data[at:at + width], "big")
 

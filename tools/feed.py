@@ -10,26 +10,22 @@ Exit status: 0 all is stored; 2 wrong words; 3 to 16 the program's own (docs/TOU
 is unfinished; 21 the devices are not as the last turn left them; 22 a text or a file cannot be read or written; 127 no program; above
 that, the program was killed."""
 import argparse
-import csv
 import os
 import time
 
+import accept
 import seals
 import turns
 from devices import retuned
 from inbox import note_fed, put_file, read_inbox, whole_files
 from plant import BUSY, CHANGED, UNREADABLE, Plant, Refusal, ended, step_of, sync_folder, write_whole
 from rows import decimal_text, iso_text
+from telling import say, tell
 from turns import Turn, end, note_scales, put_refused, require_scales, unfinished, write_down, write_plan, write_refused
 
 RECORDS, ALL_RECORDS = 1_048_560, 8_380_000  # of a tag, of all tags: a little below the limits, so that a retuning still has room
 BASE, NEW_BASE = "feed.d/base.toml", "feed.d/base.new.toml"
 NO_ROOM = "no-room.csv"  # the file of the rows for which there is no room, if no file of the turn has that name
-SHOWN = 5  # refused rows of a file that are printed
-
-
-def say(text):
-    print(text, flush=True)
 
 
 # A turn begins
@@ -42,7 +38,7 @@ def begin(plant, names):
     tags = plant.base(BASE)[0]
     require_scales(plant, tags)
     number, values, files, refused = read_inbox(plant, names, tags)
-    wanted = {name: {"taken": state[name].taken, "held": state[name].held, "rows": len(values.of(name)[0]),
+    wanted = {name: {"taken": state[name].taken, "late": state[name].late, "held": state[name].held, "rows": len(values.of(name)[0]),
                      "scale": plant.scale(name, tags[name]) or 1} for name in tags if name in values.tags}
     turn = Turn(number, files, wanted, values)
     write_down(plant, turn, refused)
@@ -161,7 +157,7 @@ def put_away(plant, turn, state):
     for file in turn.files:
         put_file(plant, turn, file)
     end(plant, turn)
-    tell(plant, turn, without_room)
+    tell(plant, turn, state, without_room)
 
 
 def refuse_rest(plant, turn, state):
@@ -178,30 +174,6 @@ def refuse_rest(plant, turn, state):
     if rows:
         write_refused(plant, name, rows)
     return name, len(rows)
-
-
-def tell(plant, turn, without_room):
-    """One line for the turn, a line for each file that was fed before, and the first refused rows of each file."""
-    refused = {file["name"]: file["refused"] for file in turn.files if file["refused"]}
-    name, count = without_room
-    if count:
-        refused[name] = count
-    if not turn.files:
-        say("the edited base.toml is taken over")
-        return
-    say("turn %d: %d files, %d values of %d tags stored, %d refused" % (
-        turn.number, len(turn.files), turn.values.count - count, len(turn.tags), sum(refused.values())))
-    for file in turn.files:
-        if file.get("twice"):
-            say("  %s has the bytes of %s: none of its rows is stored again, and it goes to %s" % (
-                file["name"], file["twice"], turn.folder("refused")))
-    for name, count in refused.items():
-        place = os.path.join(turn.folder("refused"), name)
-        with open(plant.path(place), newline="", errors="replace") as text:
-            reader = csv.reader(text, delimiter=plant.settings.separator)
-            for tag, _, _, number, reason in [row for row, _ in zip(reader, range(SHOWN + 1))][1:]:
-                say("  %s%s: %s: %s" % (name, number and " row " + number, tag[:80], reason))
-        say("  all %d are in %s; correct them there and move that file to the inbox" % (count, place))
 
 
 # What the tool is asked for
@@ -288,9 +260,11 @@ def main():
     one.add_argument("--verify", action="store_true", help="feed nothing: compare the devices with the seals of the last turn")
     one.add_argument("--backup", action="store_true", help="feed nothing: copy texts, devices and seals to backup/")
     one.add_argument("--seal", action="store_true", help="feed nothing: accept the devices as they stand, after a change that you know")
+    one.add_argument("--anew", action="append", metavar="TAG", help="feed nothing: begin a tag anew, empty, whose device is missing")
     given = parser.parse_args()
     plant = Plant(given.plant, given.program)
-    for asked, do in ((given.verify, seals.verified), (given.backup, seals.back_up), (given.seal, seals.sealed_anew)):
+    for asked, do in ((given.verify, seals.verified), (given.backup, seals.back_up), (given.seal, accept.sealed_anew),
+                      (given.anew, lambda plant: accept.begun_anew(plant, given.anew))):
         if asked:
             return at_rest(plant, do, given.wait)
     return init(plant) if given.init else feed(plant, given.every, given.wait)

@@ -12,24 +12,29 @@ from plant import UNREADABLE, Refusal, copied, sha256_of, sync_folder
 from rows import Values, read_values
 
 AGAIN = 3_600  # seconds after which a file that stays in the inbox is told of again
+PART = "its name ends in .part, so copying it was stopped. Copy it again, or take .part off its name if it is whole"
 
 
 def whole_files(plant, said):
     """The files of the inbox that are whole, in order of name, and whether another one was changed just now.
 
-    A file whose last line has no end is still being written, or was cut off: it stays where it is. Each call of feed.py says so, and
-    with --every it is said again each hour; `said` has when it was said last."""
+    An empty file and one whose last line has no end are still being written, or were cut off: they stay where they are. So does a file
+    *.part, which another program copies; if it is an hour old, that was stopped. Each call of feed.py says so, and with --every it is
+    said again each hour; `said` has when it was said last."""
     folder, names, waiting = plant.path(plant.settings.inbox), [], False
     if not os.path.isdir(folder):
         raise Refusal(UNREADABLE, "there is no folder %s: make it, or look at `inbox` in feed.toml" % folder)
     for name in sorted(os.listdir(folder)):
         path = os.path.join(folder, name)
-        if name.startswith(".") or not name.lower().endswith(".csv") or not os.path.isfile(path):
+        if name.startswith(".") or not name.lower().endswith((".csv", ".part")) or not os.path.isfile(path):
             continue
-        if abs(time.time() - os.path.getmtime(path)) < plant.settings.settle_seconds:
-            waiting = True
+        age, is_part = time.time() - os.path.getmtime(path), name.lower().endswith(".part")
+        if abs(age) < plant.settings.settle_seconds:
+            waiting = waiting or not is_part
             continue
-        why = why_not_whole(path)
+        if is_part and age < AGAIN:
+            continue
+        why = PART if is_part else why_not_whole(path)
         if why is None:
             names.append(name)
         elif name not in said or time.monotonic() > said[name] + AGAIN:
@@ -44,7 +49,11 @@ def why_not_whole(path):
         with open(path, "rb") as data:
             if data.read(2) in (codecs.BOM_UTF16_LE, codecs.BOM_UTF16_BE):
                 return "it is UTF-16: save it as UTF-8"
-            data.seek(max(0, data.seek(0, os.SEEK_END) - 1))
+            size = data.seek(0, os.SEEK_END)
+            data.seek(0)
+            if size <= len(codecs.BOM_UTF8) and data.read() in (b"", codecs.BOM_UTF8):
+                return "it is empty, so its first row is still to come, or was cut off. If nothing writes to it any more, remove it"
+            data.seek(size - 1)
             if data.read(1) != b"\n":
                 return ("its last line has no end, so it is still being written, or was cut off. If nothing writes to it any more, complete"
                         " or remove that line, and end the file with a line end")
@@ -96,15 +105,23 @@ def read_inbox(plant, names, tags):
             break
         with open(plant.path(plant.settings.inbox, name), "rb") as file:
             data = file.read()
-        sha, count = hashlib.sha256(data).hexdigest(), values.count
+        sha, count, rounded = hashlib.sha256(data).hexdigest(), values.count, values.rounded
         twice = sha in before
         if not twice:
             refused[name] = read_values(data, scales, plant.settings, latest, values)
             if values.count > count:
                 before[sha] = last + 1, name
+        nothing = "" if twice or values.count > count or refused[name] else kind_of_nothing(data)
         files.append({"name": name, "sha256": sha, "rows": values.count - count, "refused": len(refused.get(name, ())),
-                      "goes": "refused" if twice else "done", "twice": "%s, which was fed in turn %d" % before[sha][::-1] if twice else ""})
+                      "rounded": values.rounded - rounded, "nothing": nothing, "goes": "refused" if twice else "done",
+                      "twice": "%s, which was fed in turn %d" % before[sha][::-1] if twice else ""})
     return last + 1, values, files, refused
+
+
+def kind_of_nothing(data):
+    """What a file has that has neither values nor refused rows."""
+    lines = sum(bool(line.strip()) for line in data.removeprefix(codecs.BOM_UTF8).split(b"\n"))
+    return ("blank lines alone", "a header, and no row", "rows, and no value in any")[min(lines, 2)]
 
 
 def put_file(plant, turn, file):

@@ -7,10 +7,12 @@ import zoneinfo
 from xml.sax.saxutils import escape
 
 WIDTH, HEIGHT, LEFT, RIGHT, TOP, BAR = 900, 300, 84, 24, 58, 14
+EDGE, CHARACTER = 4, 7  # of texts: room at the right edge; how wide a character is, or a little less than that
+NEAR, ARM, RAW_WIDTH = 9, 5, 3.5  # of raw values: a column so near has another one beside it; half a cross; how wide a bar is
 MINUTE, HOUR, DAY = 60_000, 3_600_000, 86_400_000
 TIME_STEPS = [n * 1000 for n in (1, 2, 5, 10, 15, 30)] + [n * MINUTE for n in (1, 2, 5, 10, 15, 30)] + [
     n * HOUR for n in (1, 2, 3, 6, 12)] + [n * DAY for n in (1, 2, 5, 10, 20, 50, 100, 200, 500)]
-LINE, BAND, WIDE_BAND, RAW, AMBER, LIMIT, GRID = "#b03020", "#b5d0ea", "#dbe9f6", "#999", "#e8c66a", "#7a3fa0", "#e4e4e4"
+LINE, BAND, WIDE_BAND, RAW, CROSS, AMBER, LIMIT, GRID = "#b03020", "#b5d0ea", "#dbe9f6", "#909090", "#444", "#e8c66a", "#7a3fa0", "#e4e4e4"
 
 
 class Scale:
@@ -58,15 +60,24 @@ def band(scale, trend, deviation):
     return "".join(out)
 
 
-def columns(scale, rows):
-    """The raw values of each column of the picture, from the lowest to the highest."""
+def raw_paths(scale, rows):
+    """The raw values, as two paths: of a column with others near it a bar from its lowest to its highest value, and else a cross.
+
+    The line is drawn over them. So bars have to be wider than the line, and crosses longer than the mark of a point is wide."""
     spans = {}
     for t, v in rows:
         if scale.shows(t):
             x = round(scale.x(t))
             low, high = spans.get(x, (v, v))
             spans[x] = (min(low, v), max(high, v))
-    return "".join("M%d,%.1fV%.1f" % (x, scale.y(low) + 1, scale.y(high) - 1) for x, (low, high) in sorted(spans.items()))
+    bars, crosses, places = [], [], sorted(spans)
+    for before, x, after in zip([-NEAR] + places, places, places[1:] + [WIDTH + NEAR]):
+        low, high = (scale.y(v) for v in spans[x])
+        if x - before < NEAR or after - x < NEAR:
+            bars.append("M%d,%.1fV%.1f" % (x, low, high - 0.1))
+        else:
+            crosses.append("M%d,%.1fV%.1fM%d,%.1fh%d" % (x, low + ARM, high - ARM, x - ARM, (low + high) / 2, 2 * ARM))
+    return "".join(bars), "".join(crosses)
 
 
 def value_ticks(low, high):
@@ -105,18 +116,54 @@ def axes(scale, trend, zone):
         out.append('<path d="M%d,%.1fH%d" stroke="%s"/>' % (LEFT, y, WIDTH - RIGHT, GRID))
         out.append('<text x="%d" y="%.1f" text-anchor="end">%.*f</text>' % (LEFT - 6, y + 4, decimals, tick))
     out.append('<text x="%d" y="%d" text-anchor="end">%s</text>' % (LEFT - 6, TOP - 8, escape(trend.unit)))
+    return out + time_axis(scale, zone)
+
+
+def time_axis(scale, zone):
+    """The ticks of the time axis with their clock times, and the dates below."""
+    out, days = [], []
     times, step = time_ticks(scale.first, scale.last, zone)
     for place, t in enumerate(times):
         moment, x = local(t, zone), scale.x(t)
         out.append('<path d="M%.1f,%dv4" stroke="#444"/>' % (x, TOP + HEIGHT))
         if step < DAY:
-            hour = moment.strftime("%H:%M:%S" if step < MINUTE else "%H:%M")
-            out.append('<text x="%.1f" y="%d" text-anchor="middle">%s</text>' % (x, TOP + HEIGHT + 16, hour))
+            out.append(axis_text(placed(x, moment.strftime("%H:%M:%S" if step < MINUTE else "%H:%M")), 16, ""))
         if step >= DAY or place == 0 or (t + offset(t, zone)) % DAY < step:
-            x, anchor = (WIDTH - 4, "end") if x > WIDTH - 40 else (x, "middle")
-            out.append('<text x="%.1f" y="%d" text-anchor="%s" fill="#666">%s</text>' % (
-                x, TOP + HEIGHT + (16 if step >= DAY else 30), anchor, moment.strftime("%Y-%m-%d")))
-    return out
+            days.append((x, moment))
+    return out + [axis_text(date, 16 if step >= DAY else 30, ' fill="#666"') for date in dates(days)]
+
+
+def axis_text(place, below, colour):
+    """A text below the time axis."""
+    left, right, text = place
+    x, anchor = (WIDTH - EDGE, "end") if right == WIDTH - EDGE else ((left + right) / 2, "middle")
+    return '<text x="%.1f" y="%d" text-anchor="%s"%s>%s</text>' % (x, TOP + HEIGHT + below, anchor, colour, text)
+
+
+def dates(days):
+    """The dates of the axis: from where to where each goes, and its text. If two would overlap, each but the first of a year loses its
+    year. One that has no room even so is left out."""
+    full = [placed(x, moment.strftime("%Y-%m-%d")) for x, moment in days]
+    if not any(overlap(left, right) for left, right in zip(full, full[1:])):
+        return full
+    years = [None] + [moment.year for _, moment in days]
+    kept = []
+    for year, (x, moment) in zip(years, days):
+        date = placed(x, moment.strftime("%m-%d" if moment.year == year else "%Y-%m-%d"))
+        if not kept or not overlap(kept[-1], date):
+            kept.append(date)
+    return kept
+
+
+def placed(x, text):
+    """From where to where a text below a place of the axis goes, at the right edge moved into the picture; and the text."""
+    right = min(x + CHARACTER * len(text) / 2, WIDTH - EDGE)
+    return right - CHARACTER * len(text), right, text
+
+
+def overlap(left, right):
+    """Whether two texts have less than a blank between them."""
+    return right[0] - left[1] < CHARACTER / 2
 
 
 def legend(trend, drawn, limit):
@@ -128,7 +175,8 @@ def legend(trend, drawn, limit):
     names = {"point": "point of the archive", "kept": "kept", "late": "came late", "held": "held (the newest)"}
     entries += [(mark(kind, 4, -4), 8, name) for kind, name in names.items() if kind in drawn]
     if trend.raw:
-        entries.append(('<path d="M3,-10v12" stroke="%s" stroke-width="2"/>' % RAW, 6, "raw values"))
+        entries.append(('<path d="M4,-9v10M-1,-4h10" stroke="%s"/><path d="M15,-8v8" stroke="%s" stroke-width="%s" stroke-linecap="round"/>'
+                        % (CROSS, RAW, RAW_WIDTH), 17, "raw values"))
     if limit is not None:
         entries.append(('<path d="M0,-4h16" stroke="%s" stroke-dasharray="5 3"/>' % LIMIT, 16, "limit " + limit[1]))
     out, x = [], LEFT
@@ -171,7 +219,7 @@ def bar_lines(scale, bars, top):
 
 def picture(trend, scale, bars, limit, zone):
     """The whole picture as a text; the limit is a value and how it is written."""
-    shown = kinds_of(scale, trend)
+    shown, (ranges, crosses) = kinds_of(scale, trend), raw_paths(scale, trend.raw)
     tall, clock = TOP + HEIGHT + 40 + (BAR + 6) * len(bars), zone or "UTC"
     title = ": ".join(part for part in (trend.tag, trend.definition.get("descriptor", "")) if part)
     out = ['<svg xmlns="http://www.w3.org/2000/svg" viewBox="0 0 %d %d" font-family="sans-serif" font-size="12">' % (WIDTH, tall),
@@ -184,7 +232,8 @@ def picture(trend, scale, bars, limit, zone):
         LEFT, TOP, WIDTH - LEFT - RIGHT, HEIGHT))
     out += ['<path d="%s" fill="%s" fill-opacity="0.8"/>' % (band(scale, trend, trend.wide), WIDE_BAND),
             '<path d="%s" fill="%s" fill-opacity="0.8"/>' % (band(scale, trend, trend.narrow), BAND),
-            '<path d="%s" stroke="%s"/>' % (columns(scale, trend.raw), RAW)]
+            '<path d="%s" stroke="%s" stroke-width="%s" stroke-linecap="round"/>' % (ranges, RAW, RAW_WIDTH),
+            '<path d="%s" stroke="%s"/>' % (crosses, CROSS)]
     if limit is not None:
         out.append('<path d="M%d,%.1fH%d" stroke="%s" stroke-dasharray="5 3"/>' % (LEFT, scale.y(limit[0]), WIDTH - RIGHT, LIMIT))
     corners = corners_of(trend.line, trend.step)

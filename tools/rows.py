@@ -54,8 +54,13 @@ def within_time(t, text):
 
 
 def whole_value(text, scale, decimal="."):
-    """A decimal times the scale, rounded half away from zero. Without a scale (None) only whole numbers are taken, and not 7.00: where such
-    a value comes there will be others, and a scale cannot be given any more once there are values."""
+    """A decimal times the scale, rounded half away from zero."""
+    return value_and_rest(text, scale, decimal)[0]
+
+
+def value_and_rest(text, scale, decimal="."):
+    """A decimal times the scale, rounded half away from zero, and whether it was rounded: 7.00 is 7 exactly. Without a scale (None) what
+    would have to be rounded is refused: a scale cannot be given any more once there are values."""
     plain = text if decimal == "." else text.replace(".", "?").replace(decimal, ".")
     match = NUMBER.fullmatch(plain) if len(plain) <= 64 else None
     sign, whole, fraction, exponent = match.groups() if match else ("", "", "", "")
@@ -63,12 +68,13 @@ def whole_value(text, scale, decimal="."):
     if not whole and not fraction:
         raise BadField("no number: %r" % text[:64])
     over, under = int(whole + fraction) * (scale or 1) * 10 ** max(power, 0), 10 ** (len(fraction) + max(-power, 0))
-    if scale is None and (fraction or over % under):
+    rounded = over % under != 0
+    if scale is None and rounded:
         raise BadField("a decimal, and no scale for this tag in feed.toml: %r" % text)
     value = (2 * over + under) // (2 * under)
     if value > MOST_VALUE:
         raise BadField("too large: %r times its scale is more than 10^15" % text)
-    return -value if sign == "-" else value
+    return -value if sign == "-" else value, rounded
 
 
 def decimal_text(value, scale):
@@ -143,11 +149,11 @@ def wide_cells(number, line, names, fields):
 
 
 class Values:
-    """The values of many tags: of each tag its times and its values, in the order in which they came."""
+    """The values of many tags: of each tag its times and its values, in the order in which they came; and how many were rounded."""
 
     def __init__(self):
         self.tags = {}
-        self.count = 0
+        self.count = self.rounded = 0
 
     def add(self, tag, t, v):
         if tag not in self.tags:
@@ -180,7 +186,9 @@ def read_values(data, scales, settings, latest, values):
                 raise BadField("later than the clock by more than %d ms: %r" % (settings.future_ms, time))
             if t < settings.not_before:
                 raise BadField("earlier than not_before in feed.toml: %r (a whole number is milliseconds)" % time)
-            values.add(tag, t, whole_value(value, scales[tag], settings.decimal))
+            whole, rounded = value_and_rest(value, scales[tag], settings.decimal)
+            values.add(tag, t, whole)
+            values.rounded += rounded
         except BadField as why:
             refused.append((tag, time, value, number, str(why)))
     return refused

@@ -11,9 +11,10 @@ import json
 import os
 import re
 import shutil
+import sys
 import time
 
-from devices import events_on, log_end, sha256_of_first
+from devices import begins, events_on, log_end, sha256_of_first
 from plant import CHANGED, Refusal, copied, sha256_of, sync_folder, write_whole
 
 LINE = re.compile(r"([0-9a-f]{64}|# \d+ events|# [0-9a-f]{64} of the first \d+ bytes)  (historian\.d/.+)\n")
@@ -134,23 +135,6 @@ def verified(plant):
     return "%s, each as the last turn left it" % counted(plant)
 
 
-def sealed_anew(plant):
-    """Seals the devices as they stand. Says what is not as it was sealed, and how many values were stored meanwhile."""
-    os.makedirs(plant.path("feed.d"), exist_ok=True)
-    lines = []
-    try:
-        found, before = differences(plant), sealed_events(plant)
-    except Refusal:  # the seals are damaged themselves
-        found, before = {}, {}
-    seal(plant)
-    after = sealed_events(plant)
-    for name, what in found.items():
-        lines.append("%s %s" % (name, what))
-        if name in after:
-            lines.append("  it has %d events now, and had %d" % (after[name], before.get(name, 0)))
-    return "\n".join(lines + ["%s are sealed as they stand" % counted(plant)])
-
-
 def counted(plant):
     """How many devices are sealed, in words."""
     return "%d devices" % len(sealed(plant)) + (" and the first %d bytes of the log" % sealed_log(plant)[1] if sealed_log(plant) else "")
@@ -195,12 +179,7 @@ def copy_of(plant, name, sha):
 def require_begun(plant, names):
     """Ends with a refusal if one of these devices of tags no longer begins as one: the program would refuse it, or begin it anew."""
     for name in names:
-        path = plant.path("historian.d", name + ".tag")
-        start = b""
-        if os.path.isfile(path):
-            with open(path, "rb") as device:
-                start = device.read(5)
-        if start != b"\xa5PHT1":
+        if not begins(plant.path("historian.d", name + ".tag")):
             raise Refusal(CHANGED, "historian.d/%s.tag is missing or does not begin as a device: nothing was done, and no file was"
                           " changed. Put the plant back from a backup (docs/RUNNING.md, Backup)." % name)
 
@@ -212,11 +191,30 @@ def backups(plant):
 
 
 def remove_unfinished(plant):
-    """Removes the copies of this tool that a stop left unfinished. Nobody else makes one now, because the lock is held."""
+    """Removes the copies of this tool that a stop left unfinished, and says so. Nobody else makes one now, because the lock is held. What
+    has such a name and is no folder was made by somebody else, and stays."""
     folder = plant.path("backup")
-    for name in os.listdir(folder) if os.path.isdir(folder) else ():
-        if UNFINISHED.fullmatch(name):
-            shutil.rmtree(os.path.join(folder, name))
+    for name in sorted(os.listdir(folder)) if os.path.isdir(folder) else ():
+        path = os.path.join(folder, name)
+        if UNFINISHED.fullmatch(name) and os.path.isdir(path) and not os.path.islink(path):
+            shutil.rmtree(path)
+            note("backup/%s, a copy that was stopped, is removed" % name)
+        elif UNFINISHED.fullmatch(name):
+            note("backup/%s is no folder, so feed.py did not make it: it stays as it is" % name)
+
+
+def note(text):
+    """Says something besides the answer."""
+    print(text, file=sys.stderr, flush=True)
+
+
+def free_name(plant):
+    """The time now as the name of a copy. If another copy has that name, it waits for the next second."""
+    while True:
+        name = time.strftime("%Y-%m-%dT%H%M%SZ", time.gmtime())
+        if not any(os.path.lexists(plant.path("backup", name + end)) for end in ("", ".part")):
+            return name
+        time.sleep(0.05)
 
 
 def back_up(plant):
@@ -227,7 +225,7 @@ def back_up(plant):
         seal(plant)
     put_seals(plant, ["%s  %s\n" % (what, name) for what, name in seal_lines(plant) if name != LOG])
     remove_unfinished(plant)
-    name = time.strftime("%Y-%m-%dT%H%M%SZ", time.gmtime())
+    name = free_name(plant)
     part = plant.path("backup", name + ".part")
     texts = ["base.toml", "feed.toml", "feed.d/base.toml", "feed.d/seals", "feed.d/fed", "feed.d/scales"]
     kept, log = sealed(plant), sealed_log(plant)

@@ -24,9 +24,12 @@ HERE = os.path.dirname(os.path.abspath(__file__))
 sys.path[:0] = [HERE, os.path.join(HERE, "testing")]
 import cuts  # noqa: E402
 import daily  # noqa: E402
+import drawn  # noqa: E402
 import keeping  # noqa: E402
 import kills  # noqa: E402
+import lost  # noqa: E402
 import stops  # noqa: E402
+import told  # noqa: E402
 
 
 def program_of(text):
@@ -57,7 +60,8 @@ def main():
     parser.add_argument("--only", nargs="+", default=[], metavar="NAME", help="only the cases whose names begin so")
     settings = parser.parse_args()
     settings.kills = settings.kills or (300 if settings.long else 20)
-    return run_cases(kills.CASES + cuts.CASES + stops.CASES + daily.CASES + keeping.CASES, settings)
+    cases = [case for cases in (kills, cuts, stops, daily, keeping, told, lost, drawn) for case in cases.CASES]
+    return run_cases(cases, settings)
 
 
 def run_cases(cases, settings):

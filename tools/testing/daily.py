@@ -43,10 +43,10 @@ def times_and_decimals(folder, program, settings):
             ("1969-12-31T23:59:59Z", None, "before 1970"), ("9" * 30, None, "after 9999"), ("", None, "no ISO time")]:
         assert zone and zone not in zones or why in refused(rows.milliseconds, text, zone), text
     for text, scale, wanted in [("48.703", 100, 4870), ("48.705", 100, 4871), ("-48.705", 100, -4871), ("0.004", 100, 0), (".5", 10, 5),
-                                ("7", None, 7), ("7.", None, 7), ("7.00", 1, 7), ("1.25E2", 1, 125), ("5e-1", 1, 1),
+                                ("7", None, 7), ("7.", None, 7), ("7.00", None, 7), ("7.00", 1, 7), ("1.25E2", 1, 125), ("5e-1", 1, 1),
                                 ("-0.5", 1, -1), ("+3.", 1, 3)]:
         assert rows.whole_value(text, scale) == wanted, (text, rows.whole_value(text, scale))
-    for text, scale, why in [("7.5", None, "no scale"), ("7.00", None, "no scale"), ("Bad", 1, "no number"), ("", 1, "no number"),
+    for text, scale, why in [("7.5", None, "no scale"), ("7.01", None, "no scale"), ("Bad", 1, "no number"), ("", 1, "no number"),
                              ("1,5", 1, "no number"),
                              ("nan", 1, "no number"), ("1e16", 1, "too large"), ("9" * 400, 1, "no number")]:
         assert why in refused(rows.whole_value, text, scale), (text, refused(rows.whole_value, text, scale))
