@@ -46,15 +46,17 @@ def durations(folder, program):
 
 def killed_at_random(folder, program, settings):
     """Feeder, program or both are killed at random moments, again and again; at last the feed ends by itself. Half of the delays begin
-    once the program stores rows, because a fast program does so for a small part of a turn."""
-    draw, kills, met, plants = random.Random(settings.seed), 0, 0, 0
+    once the program stores rows, because a fast program does so for a small part of a turn. If too few kills met the program, there are
+    more kills."""
+    draw, kills, met, plants, least = random.Random(settings.seed), 0, 0, 0, max(1, settings.kills // 10)
     idle, turn = durations(os.path.join(folder, "timed"), program)
-    while kills < settings.kills:
+    while kills < settings.kills or met < least:
         trial, plants = three_days(os.path.join(folder, "fed%d" % plants), program), plants + 1
         wanted = expected(os.path.join(folder, "hand"), program, trial.rows)
-        while kills < settings.kills and os.listdir(trial.path("inbox")):
+        while (kills < settings.kills or met < least) and os.listdir(trial.path("inbox")):
+            assert kills < 10 * settings.kills, "only %d of %d kills met the program" % (met, kills)
             waits, whom = draw.random() < 0.5, draw.choice(("feeder", "program", "both"))
-            delay = turn * draw.random() ** 2 if waits else draw.uniform(0.05, idle + 1.5 * turn)
+            delay = turn * draw.random() ** 4 if waits else draw.uniform(0.05, idle + 1.5 * turn)
             was_killed, has_met = feed_and_kill(trial, delay, whom, waits)
             kills, met = kills + was_killed, met + has_met
         wait_for_orphans(trial)
@@ -62,7 +64,6 @@ def killed_at_random(folder, program, settings):
         check_same(trial.answers(), wanted, "after %d kills (seed %d)" % (kills, settings.seed))
         check_put_away(trial, 2 * BLOCKS)
         shutil.rmtree(trial.folder)
-    assert met >= kills // 10, "only %d of %d kills met the program" % (met, kills)
     return "%d kills over %d plants, %d while the program stored rows" % (kills, plants, met)
 
 
