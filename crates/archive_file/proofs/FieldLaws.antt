@@ -33,13 +33,12 @@ spells_both c at mid end xs ys first second = record {
 
 -- ---- all are kept
 
--- six fields that are kept
-pub all_six : (c : List ℕ) (f g h i j k : Field) → Keeps c f → Keeps c g → Keeps c h → Keeps c i → Keeps c j → Keeps c k
-    → All (Keeps c) (f ∷ g ∷ h ∷ i ∷ j ∷ k ∷ [])
-all_six c f g h i j k kf kg kh ki kj kk =
-    All-cons (Keeps c) f (g ∷ h ∷ i ∷ j ∷ k ∷ []) kf (All-cons (Keeps c) g (h ∷ i ∷ j ∷ k ∷ []) kg
-    (All-cons (Keeps c) h (i ∷ j ∷ k ∷ []) kh (All-cons (Keeps c) i (j ∷ k ∷ []) ki
-    (All-cons (Keeps c) j (k ∷ []) kj (All-cons (Keeps c) k [] kk (All-nil (Keeps c)))))))
+-- six fields, each with P
+pub all_six : (P : Field → Type 0) (f g h i j k : Field) → P f → P g → P h → P i → P j → P k → All P (f ∷ g ∷ h ∷ i ∷ j ∷ k ∷ [])
+all_six P f g h i j k pf pg ph pi pj pk =
+    All-cons P f (g ∷ h ∷ i ∷ j ∷ k ∷ []) pf (All-cons P g (h ∷ i ∷ j ∷ k ∷ []) pg
+    (All-cons P h (i ∷ j ∷ k ∷ []) ph (All-cons P i (j ∷ k ∷ []) pi
+    (All-cons P j (k ∷ []) pj (All-cons P k [] pk (All-nil P))))))
 
 -- ---- the first field that breaks
 

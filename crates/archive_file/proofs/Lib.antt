@@ -9,4 +9,5 @@ pub mod FieldLaws
 pub mod PlacedBytes
 pub mod ReadImages
 pub mod LayoutSpellings
+pub mod Pieces
 pub mod TextHeads

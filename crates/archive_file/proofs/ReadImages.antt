@@ -10,10 +10,15 @@ use Rattle.disk_model.proofs.Moments.{goes_on, started}
 
 -- ---- what a read gives
 
--- what is read of all bytes holds of what a read gives
-pub shows_at : (o : Option Trace) (bytes : List ℕ) (P : List ℕ → Type 0) → Shows o (λ c. bytes ≡ c) → P bytes → Shows o P
-shows_at None bytes P all p = tt
-shows_at (Some t) bytes P all p = subst P all p
+-- what follows from what is read
+pub shows_so : (o : Option Trace) (P Q : List ℕ → Type 0) → ((c : List ℕ) → P c → Q c) → Shows o P → Shows o Q
+shows_so None P Q then is = tt
+shows_so (Some t) P Q then is = then (seen (Some t)) is
+
+-- from two facts
+pub shows_both : (o : Option Trace) (P Q R : List ℕ → Type 0) → ((c : List ℕ) → P c → Q c → R c) → Shows o P → Shows o Q → Shows o R
+shows_both None P Q R then first second = tt
+shows_both (Some t) P Q R then first second = then (seen (Some t)) first second
 
 -- bytes written after a gate begin after it
 pub shut_reached : (o : Option Trace) (at : ℕ) → Now o (IsShut at) → Reaches o (at + 1)

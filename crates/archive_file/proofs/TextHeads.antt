@@ -82,7 +82,7 @@ head_is letters text c four small opened holds = record {
 
     fields : All (Keeps c) (head_fields letters c)
     fields =
-        all_six c (letter_field c 1 (get_or letters 0 0)) (letter_field c 2 (get_or letters 1 0)) (letter_field c 3 (get_or letters 2 0))
+        all_six (Keeps c) (letter_field c 1 (get_or letters 0 0)) (letter_field c 2 (get_or letters 1 0)) (letter_field c 3 (get_or letters 2 0))
         (letter_field c 4 (get_or letters 3 0)) (field_of 5 4 true) (field_of 9 (short_at c 5 + 1) true)
         (kept 1 (get_or letters 0 0) (lit< tt) (letter 0 (lit< tt))) (kept 2 (get_or letters 1 0) (lit< tt) (letter 1 (lit< tt)))
         (kept 3 (get_or letters 2 0) (lit< tt) (letter 2 (lit< tt))) (kept 4 (get_or letters 3 0) (lit< tt) (letter 3 (lit< tt)))
@@ -122,7 +122,7 @@ head_same letters text d c n is front far long = record {
 
     fields : All (Keeps c) (head_fields letters c)
     fields =
-        all_six c (letter_field c 1 (get_or letters 0 0)) (letter_field c 2 (get_or letters 1 0)) (letter_field c 3 (get_or letters 2 0))
+        all_six (Keeps c) (letter_field c 1 (get_or letters 0 0)) (letter_field c 2 (get_or letters 1 0)) (letter_field c 3 (get_or letters 2 0))
         (letter_field c 4 (get_or letters 3 0)) (field_of 5 4 true) (field_of 9 (short_at c 5 + 1) true)
         (letter 1 (get_or letters 0 0) (lit< tt) (was 0 (lit< tt))) (letter 2 (get_or letters 1 0) (lit< tt) (was 1 (lit< tt)))
         (letter 3 (get_or letters 2 0) (lit< tt) (was 2 (lit< tt))) (letter 4 (get_or letters 3 0) (lit< tt) (was 3 (lit< tt)))

@@ -1,4 +1,7 @@
 // Errors of reading and writing on a device.
+ghost use Rattle.std.specs.Prelude.{◌≡◌, ℕ, ◌+◌, ◌^◌, ◌<◌, Option};
+ghost use Rattle.archive_file.specs.declared.failure.ScanNo.TheVariants.{Damaged, DeviceFault as Fault};
+
 use thiserror::Error;
 
 /// A call of a device failed.
@@ -19,6 +22,26 @@ pub enum ScanNo {
     /// Memory could not be allocated.
     #[error("out of memory")]
     WantOfMemory,
+}
+
+impl ScanNo {
+    /// Returns the refusal of a device for the refusal of a piece of it. The piece begins at the place `from`, from
+    /// which the place of the damage counts.
+    pub fn behind(self, from: u64) -> ScanNo
+        requires { (a : ℕ) (byte : Option ℕ) → self ≡ Damaged a byte → from + a < 2 ^ 64 }
+        ensures damaged { (a : ℕ) (byte : Option ℕ) → result ≡ Damaged a byte
+            → (b : ℕ) × (self ≡ Damaged b byte) × (a ≡ from + b) }
+        ensures fault { result ≡ Fault → self ≡ Fault }
+    {
+        match self {
+            ScanNo::Damaged { at, byte } => ScanNo::Damaged {
+                at: from + at,
+                byte,
+            },
+            ScanNo::DeviceFault => ScanNo::DeviceFault,
+            ScanNo::WantOfMemory => ScanNo::WantOfMemory,
+        }
+    }
 }
 
 /// Why something was not written to a device.

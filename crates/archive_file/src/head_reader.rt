@@ -1,5 +1,5 @@
-// The head of a layout with a text, read from an image in memory.
-ghost use Rattle.std.specs.Prelude.{◌≡◌, ℕ, ◌+◌, ◌^◌, ◌<◌, ◌≤◌, All, Option, IfNone, IfOk, IfSome, IsErrOf, OnOk, length};
+// The head of a layout with a text.
+ghost use Rattle.std.specs.Prelude.{◌≡◌, ℕ, ◌+◌, ◌^◌, ◌<◌, ◌≤◌, ◌↔◌, All, Option, IfNone, IfOk, IfSome, IsErrOf, IsTrue, OnOk, length};
 ghost use Rattle.disk_model.specs.Calls.{CountsFault, Shows};
 ghost use Rattle.disk_model.specs.Gates.{IsBegun, IsNew};
 ghost use Rattle.archive_file.specs.declared.failure.ScanNo.TheVariants.{Damaged, DeviceFault};
@@ -8,15 +8,27 @@ ghost use Rattle.archive_file.specs.TextHeads.{IsOfText, head_fields, letter_fie
 
 use crate::failure::ScanNo;
 use crate::layout_field::{Field, byte_at, check, short_at};
-use crate::log::read_bytes;
+use crate::piece::read_piece;
 use disk_model::{Disk, OPEN};
 use std::alloc::Global;
 
-/// Returns all bytes of a device. Returns `DeviceFault` if a call of the device fails, and `WantOfMemory` if the memory
-/// cannot be allocated.
-pub fn read_all<D: Disk>(alloc: Global, dev: &mut D) -> Result<Vec<u8>, ScanNo>
-    ensures all { IfOk result (λ v. Shows (D.trace dev.old) (λ c. v.items ≡ c)) }
-    ensures undamaged { (a : ℕ) (byte : Option ℕ) → IsErrOf result (Damaged a byte) → ⊥ }
+// The place of the text.
+const TEXT_AT: u64 = 9;
+
+/// Returns the text of the layout on a device that begins with these letters, or `None` if the device has no finished
+/// layout. It reads the head alone. Returns `Damaged` for the first field of the head that is not there or that breaks
+/// its rule. Returns `DeviceFault` if a call of the device fails, and `WantOfMemory` if the memory cannot be allocated.
+pub fn read_text<D: Disk>(
+    alloc: Global,
+    dev: &mut D,
+    letters: [u8; 4],
+) -> Result<Option<Vec<u8>>, ScanNo>
+    ensures new { IfOk result (λ found. IfNone found (Shows (D.trace dev.old) IsNew)) }
+    ensures text { IfOk result (λ found. IfSome found (λ text. Shows (D.trace dev.old) (IsOfText letters text.items))) }
+    ensures small { IfOk result (λ found. IfSome found (λ text. length text.items < 2 ^ 32)) }
+    ensures begun { (a : ℕ) (byte : Option ℕ) → IsErrOf result (Damaged a byte) → Shows (D.trace dev.old) IsBegun }
+    ensures damaged { (a : ℕ) (byte : Option ℕ) → IsErrOf result (Damaged a byte)
+        → Shows (D.trace dev.old) (λ c. BreaksFirst c (head_fields letters c) a byte) }
     ensures cause { CountsFault result DeviceFault (D.fault_count dev.old) (D.fault_count dev.new) }
     ensures same { D.trace dev.new ≡ D.trace dev.old }
     ensures untimed { D.ticks dev.new ≡ D.ticks dev.old }
@@ -24,12 +36,24 @@ pub fn read_all<D: Disk>(alloc: Global, dev: &mut D) -> Result<Vec<u8>, ScanNo>
     let Ok(len) = dev.len() else {
         return Err(ScanNo::DeviceFault);
     };
-    read_bytes(alloc, dev, 0, len as usize)
+    let front = read_piece(alloc, dev, len, 0, TEXT_AT)?;
+    if is_new(&front) {
+        return Ok(None);
+    }
+    let size = short_at(&front, 5);
+    let head = read_piece(alloc, dev, len, 0, TEXT_AT + u64::from(size) + 1)?;
+    let Some(text) = read_head(&head, letters)? else {
+        return Ok(None);
+    };
+    let Ok(text) = Vec::from_slice(alloc, text) else {
+        return Err(ScanNo::WantOfMemory);
+    };
+    Ok(Some(text))
 }
 
-/// Returns the text of a layout that begins with these letters, or `None` if the image has no finished layout. Returns
-/// `Damaged` for the first field of the head that is not there or that breaks its rule.
-pub fn read_head(c: &[u8], letters: [u8; 4]) -> Result<Option<&[u8]>, ScanNo>
+// Returns the text of a layout that begins with these letters, or `None` if the image has no finished layout. Returns
+// `Damaged` for the first field of the head that is not there or that breaks its rule.
+fn read_head(c: &[u8], letters: [u8; 4]) -> Result<Option<&[u8]>, ScanNo>
     ensures new { IfOk result (λ found. IfNone found (IsNew c.now)) }
     ensures text { IfOk result (λ found. IfSome found (λ text. IsOfText letters text.now c.now)) }
     ensures room { IfOk result (λ found. IfSome found (λ text. 9 + length text.now < length c.now)) }
@@ -39,12 +63,19 @@ pub fn read_head(c: &[u8], letters: [u8; 4]) -> Result<Option<&[u8]>, ScanNo>
         → BreaksFirst c.now (head_fields letters c.now) a byte }
     ensures no_fault { IsErrOf result DeviceFault → ⊥ }
 {
-    if c.len() <= 1 || byte_at(c, 0) != OPEN {
+    if is_new(c) {
         return Ok(None);
     }
     let size = short_at(c, 5);
     check_head(c, letters, size)?;
     Ok(Some(text_in(c, size as usize)))
+}
+
+// Whether an image has no finished layout.
+fn is_new(c: &[u8]) -> bool
+    ensures { IsTrue result ↔ IsNew c.now }
+{
+    c.len() <= 1 || byte_at(c, 0) != OPEN
 }
 
 // Refuses the head of a layout whose text has `size` bytes, in the first field that is not there or that breaks its

@@ -6,6 +6,10 @@
 //! first byte of the first field that breaks the layout. Other layouts share [`read_bytes`], [`put`], [`put_point`],
 //! [`take_number`] and [`take_point`].
 //!
+//! **Pieces of a device.** [`read_piece`] returns the bytes from a place on, as many as are asked for or as are there.
+//! So a reader may have one piece of a device at a time in memory. What holds of a piece holds of the device at the
+//! piece's place, and [`ScanNo::behind`] makes a refusal of the piece one of the device.
+//!
 //! **Fields of a layout in memory.** A layout is a list of fields, one after the other. A [`Field`] is its place, its
 //! number of bytes, and whether these bytes keep the rule of the field. [`check`] refuses the first field that is not
 //! there or that breaks its rule (`specs/LayoutFields.antt`). If the image ends before the field does, the error has
@@ -13,8 +17,9 @@
 //! [`long_at`] read numbers with the most significant byte first. Bytes that are not there count as zeros.
 //!
 //! **Heads with a text.** A layout may begin with four letters and a text (`specs/TextHeads.antt`). [`begin_layout`]
-//! begins such a layout on a device, and [`read_head`] reads its text. If a crash comes meanwhile, the device has what
-//! a crash might have left before, no finished layout, or this layout without blocks.
+//! begins such a layout on a device, and [`read_text`] reads its text, and no more of the device than the head. If a
+//! crash comes while a layout is begun, the device has what a crash might have left before, no finished layout, or this
+//! layout without blocks.
 #![tactic(auto)]
 
 mod failure;
@@ -23,15 +28,17 @@ mod head_reader;
 mod head_writer;
 mod layout_field;
 mod log;
+mod piece;
 mod record;
 mod summary;
 
 pub use failure::{DeviceFault, PutNo, ScanNo};
 pub use field::{put, put_point, take_number, take_point};
-pub use head_reader::{read_all, read_head};
+pub use head_reader::read_text;
 pub use head_writer::begin_layout;
 pub use layout_field::{Field, byte_at, check, long_at, short_at};
 pub use log::{put_records, read_bytes, read_records};
+pub use piece::read_piece;
 pub use record::{REC_LEN, rec_bytes, rec_of};
 pub use summary::{SUMMARY_LEN, summary_bytes, summary_of};
 pub use trend_num::{Kind, Point, Rec, Summary, Tuning};

@@ -1,8 +1,8 @@
 -- A log while it is opened.
-use Rattle.std.proofs.Common.{◌≡◌, inl, inr, ℕ, ◌+◌, All, List, [], ◌∷◌, length, Option, None, Some, IfSome, refl, sym, ◌∙◌, subst, arith}
+use Rattle.std.proofs.Common.{◌≡◌, inl, inr, ℕ, ◌+◌, ◌≤◌, true, All, List, [], ◌∷◌, length, drop, Option, None, Some, IfSome, refl, sym, ap, ◌∙◌, subst, arith, lit<, length-take}
 use Rattle.std.proofs.lemmas.List.Elements.{All-append, All-nil}
-use Rattle.disk_model.specs.Calls.{Shows}
-use Rattle.disk_model.specs.Gates.{IsNew}
+use Rattle.disk_model.specs.Calls.{Reaches, Shows}
+use Rattle.disk_model.specs.Gates.{IsBegun, IsNew}
 use Rattle.disk_model.specs.Images.{IsSettled}
 use Rattle.disk_model.specs.Moments.{During}
 use Rattle.disk_model.specs.Traces.{Synced, Trace, noted, seen}
@@ -10,9 +10,11 @@ use Rattle.disk_model.proofs.Images.{settled}
 use Rattle.disk_model.proofs.Moments.{in_turn, weaker}
 use Rattle.commit_log.specs.declared.block_reader.Stored.{Stored}
 use Rattle.commit_log.specs.declared.row.LogRow.{LogRow}
-use Rattle.commit_log.specs.Blocks.{HasBlocks, IsLogRow, log_block_size, rows_of}
-use Rattle.archive_file.specs.TextHeads.{IsEmpty, blocks_at}
-use Rattle.commit_log.specs.Images.{ByBlocks, ByNothing, LogsNothing, StandsForRows, letters}
+use Rattle.commit_log.specs.Blocks.{HasBlocks, IsBlockDamage, IsLogRow, log_block_size, rows_of}
+use Rattle.archive_file.specs.LayoutFields.{BreaksFirst, short_at}
+use Rattle.archive_file.specs.TextHeads.{IsEmpty, IsOfText, blocks_at, head_fields}
+use Rattle.archive_file.proofs.FieldLaws.{field_of}
+use Rattle.commit_log.specs.Images.{BadBlock, BadHead, ByBlocks, ByNothing, IsLogDamage, LogsNothing, StandsForRows, letters}
 use Rattle.commit_log.specs.Openings.{IsFound, IsLogLeftOrSame, IsLeftOrStands, IsTooMany, ListsRows}
 use Rattle.commit_log.specs.Told.{IsReady}
 use Rattle.commit_log.proofs.Commits.{stores_stand}
@@ -58,6 +60,30 @@ blocks_rows c tags number at (b ∷ bs) has =
 pub lists_rows : (c : List ℕ) (tags at : ℕ) (rows : List LogRow) (end : ℕ) → ListsRows c tags at rows end → All (IsLogRow tags) rows
 lists_rows c tags at rows end lists =
     subst (All (IsLogRow tags)) (sym lists.rows_are) (blocks_rows c tags 0 at lists.blocks lists.are.blocks)
+
+-- after the text there is the gate of the first block
+text_room : (text c : List ℕ) → IsOfText letters text c → 9 + length text + 1 ≤ length c
+text_room text c is =
+    let last : 9 + (short_at c 5 + 1) ≤ length c = (is.head.fields 5 (field_of 0 0 true) (lit< tt)).there in
+    omega (arith, last, ap length is.same, length-take (short_at c 5) (drop 9 c))
+
+pub gate_reached : (o : Option Trace) (text : List ℕ) (at : ℕ) → at ≡ 9 + length text → Shows o (IsOfText letters text) → Reaches o (at + 1)
+gate_reached None text at place is = tt
+gate_reached (Some t) text at place is = omega (arith, place, text_room text (seen (Some t)) is)
+
+-- a head or a block breaks a rule
+pub head_damage : (plant : List ℕ) (tags : ℕ) (o : Option Trace) (a : ℕ) (byte : Option ℕ) → Shows o IsBegun
+    → Shows o (λ c. BreaksFirst c (head_fields letters c) a byte) → Shows o (λ c. IsLogDamage plant tags c a byte)
+head_damage plant tags None a byte begun breaks = tt
+head_damage plant tags (Some t) a byte begun breaks = BadHead begun breaks
+
+pub block_damage : (plant text : List ℕ) (tags at : ℕ) (o : Option Trace) (a : ℕ) (byte : Option ℕ) → text ≡ plant → at ≡ 9 + length text
+    → Shows o (IsOfText letters text) → Shows o (λ c. IsBlockDamage c tags at a byte) → Shows o (λ c. IsLogDamage plant tags c a byte)
+block_damage plant text tags at None a byte same place is damage = tt
+block_damage plant text tags at (Some t) a byte same place is damage =
+    let c : List ℕ = seen (Some t) in
+    let begin : at ≡ blocks_at (length plant) = omega (arith, place, ap length same) in
+    BadBlock (subst (λ x. IsOfText letters x c) same is) (subst (λ n. IsBlockDamage c tags n a byte) begin damage)
 
 -- ---- a new device
 

@@ -1,10 +1,12 @@
 -- What opening a log returns, and what its type keeps at first.
-use Rattle.std.proofs.Common.{◌≡◌, ℕ, ◌+◌, ◌<◌, ◌≤◌, false, All, List, [], length, Option, Result, Ok, Err, IfErr, IfOk, IfSome, IsErrOf, OnErr, refl, sym, subst, arith}
+use Rattle.std.proofs.Common.{◌≡◌, ℕ, ◌+◌, ◌<◌, ◌≤◌, false, All, List, [], length, Option, Result, Ok, Err, IfErr, IfOk, IfSome, IsErrOf, OnErr, refl, sym, ◌∙◌, subst, arith}
 use Rattle.std.proofs.lemmas.List.{append-nil}
 use Rattle.disk_model.specs.Calls.{Shows}
 use Rattle.disk_model.specs.Moments.{LeftSince}
 use Rattle.disk_model.specs.Traces.{Synced, Trace, noted}
 use Rattle.disk_model.proofs.Moments.{only_since}
+use Rattle.archive_file.specs.declared.failure.ScanNo.{ScanNo}
+use Rattle.archive_file.specs.declared.failure.ScanNo.TheVariants as scan
 use Rattle.commit_log.specs.declared.history.LogTurn.{LogTurn}
 use Rattle.commit_log.specs.declared.opening.Parts.{Parts}
 use Rattle.commit_log.specs.declared.refusal.LogNo.{LogNo}
@@ -12,7 +14,7 @@ use Rattle.commit_log.specs.declared.refusal.LogNo.TheVariants.{DeviceFault, Dam
 use Rattle.commit_log.specs.declared.row.LogRow.{LogRow}
 use Rattle.commit_log.specs.Blocks.{IsLogRow}
 use Rattle.commit_log.specs.Images.{IsLogDamage, IsOfOther, StandsForRows}
-use Rattle.commit_log.specs.Openings.{IsLogCause, IsTooMany, most_rows}
+use Rattle.commit_log.specs.Openings.{IsLogCause, IsTooMany, most_rows, refusal_of}
 use Rattle.commit_log.specs.Histories.{IsLogLegal, IsLogSafe}
 use Rattle.commit_log.specs.Told.{HasRoomForPuts, IsKept, IsReady, Waits}
 use Rattle.commit_log.proofs.Commits.{ready_stands}
@@ -72,6 +74,23 @@ parts_cause plant tags room o (Err (TooMany n)) together many undamaged same sho
     let is = many n refl in
     (is.1, shows n is.0)
 parts_cause plant tags room o (Err WantOfMemory) together many undamaged same shows = tt
+
+-- ---- through a `?`
+
+-- only damage that was read is damage of a log
+refused_as : (why : ScanNo) (a : ℕ) (byte : Option ℕ) → refusal_of why ≡ Damaged a byte → why ≡ scan.Damaged a byte
+refused_as scan.DeviceFault a byte e = absurd (cc (e))
+refused_as (scan.Damaged b other) a byte e =
+    let place : b ≡ a = cc (e) in
+    let same : other ≡ byte = cc (e) in
+    λ i. scan.Damaged (place i) (same i)
+refused_as scan.WantOfMemory a byte e = absurd (cc (e))
+
+pub damage_read : {T : Type 0} (r : Result T LogNo) (out : LogNo) (why : ScanNo) (a : ℕ) (byte : Option ℕ) → r ≡ Err out → out ≡ refusal_of why
+    → IsErrOf r (Damaged a byte) → why ≡ scan.Damaged a byte
+damage_read r out why a byte is same told =
+    let inner : out ≡ Damaged a byte = cc in
+    refused_as why a byte (sym same ∙ inner)
 
 -- ---- at first
 

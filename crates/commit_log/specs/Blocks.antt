@@ -96,15 +96,21 @@ abbrev pub rows_fields : List ℕ → ℕ → ℕ → ℕ → List Field
 rows_fields c tags at zero = []
 rows_fields c tags at (suc n) = row_fields tags (row_at c at) at ++ rows_fields c tags (at + 32) n
 
+-- the fields in front of a block's rows: the number of its first row, which has to be this one, and how many rows it has
+abbrev pub front_fields : List ℕ → ℕ → ℕ → List Field
+front_fields c number gate =
+    record { place = gate + 1; size = 8; is_kept = nat_eq (long_at c (gate + 1)) number }
+    ∷ record { place = gate + 9; size = 4; is_kept = nat_le 1 (short_at c (gate + 9)) && nat_le (short_at c (gate + 9)) most_in_block }
+    ∷ []
+
+-- the fields of n rows from a place on, and the next gate
+abbrev pub body_fields : List ℕ → ℕ → ℕ → ℕ → List Field
+body_fields c tags at n = rows_fields c tags at n ++ record { place = at + 32 * n; size = 1; is_kept = true } ∷ []
+
 -- The fields of the block after the gate at a place, whose first row has this number: that number, how many rows there
 -- are, the rows, and the next gate.
 abbrev pub block_fields : List ℕ → ℕ → ℕ → ℕ → List Field
-block_fields c tags number gate =
-    let count = short_at c (gate + 9) in
-    record { place = gate + 1; size = 8; is_kept = nat_eq (long_at c (gate + 1)) number }
-    ∷ record { place = gate + 9; size = 4; is_kept = nat_le 1 count && nat_le count most_in_block }
-    ∷ (rows_fields c tags (gate + 13) count
-    ++ record { place = gate + 13 + 32 * count; size = 1; is_kept = true } ∷ [])
+block_fields c tags number gate = front_fields c number gate ++ body_fields c tags (gate + 13) (short_at c (gate + 9))
 
 -- after whole blocks there is one that breaks a rule
 pub record IsBlockDamage (c : List ℕ) (tags at a : ℕ) (byte : Option ℕ) : Type 0 where

@@ -1,18 +1,19 @@
 -- What is read from a log's device, what it is opened as, and why it is not opened.
-use Rattle.std.specs.Prelude.{◌≡◌, ◌⊎◌, ℕ, ◌+◌, ◌*◌, ◌<◌, List, ◌++◌, All, length, Option, None, Some, Err}
+use Rattle.std.specs.Prelude.{◌≡◌, ◌≢◌, ◌⊎◌, ℕ, ◌+◌, ◌*◌, ◌<◌, List, ◌++◌, All, length, Option, None, Some, Err}
 use Rattle.archive_file.specs.declared.failure.ScanNo.{ScanNo}
 use Rattle.archive_file.specs.declared.failure.ScanNo.TheVariants as scan
 use Rattle.disk_model.specs.Calls.{CountsFault, Shows}
-use Rattle.disk_model.specs.Gates.{IsNew}
+use Rattle.disk_model.specs.Gates.{IsNew, IsOpen}
 use Rattle.disk_model.specs.Images.{MayLeave}
-use Rattle.disk_model.specs.Traces.{Trace, seen}
+use Rattle.disk_model.specs.Traces.{Synced, Trace, moment, noted, seen}
 use Rattle.commit_log.specs.declared.block_reader.Stored.{Stored}
 use Rattle.commit_log.specs.declared.refusal.LogNo.{LogNo}
 use Rattle.commit_log.specs.declared.refusal.LogNo.TheVariants.{DeviceFault, Damaged, OtherPlant, TooMany, WantOfMemory}
 use Rattle.commit_log.specs.declared.row.LogRow.{LogRow}
-use Rattle.archive_file.specs.LayoutFields.{Spells}
+use Rattle.archive_file.specs.Fields.{number_bytes}
+use Rattle.archive_file.specs.LayoutFields.{Keeps, Spells, short_at}
 use Rattle.archive_file.specs.TextHeads.{IsOfText, blocks_at}
-use Rattle.commit_log.specs.Blocks.{AreBlockRows, AreBlocks, IsLogRow, log_block_image, log_block_size, log_end_of, rows_image, rows_of}
+use Rattle.commit_log.specs.Blocks.{AreBlockRows, AreBlocks, IsLogRow, front_fields, log_block_image, log_block_size, log_end_of, rows_image, rows_of}
 use Rattle.commit_log.specs.Images.{IsLogDamage, IsOfOther, StandsForRows, letters}
 
 -- how many rows a log has at most, together with those that it has room for
@@ -28,6 +29,14 @@ pub record AddsRows (c : List ℕ) (tags at count : ℕ) (old new : List LogRow)
   pub long : length more ≡ count
   pub each : All (IsLogRow tags) more
   pub spelled : Spells c at (rows_image more) (at + 32 * count)
+
+-- the gate at a place is open, and the block after it begins with this number and has so many rows
+pub record HasFront (c : List ℕ) (number gate count : ℕ) : Type 0 where
+  pub opened : IsOpen gate c
+  pub kept : All (Keeps c) (front_fields c number gate)
+  pub count_is : count ≡ short_at c (gate + 9)
+  pub number_spelled : Spells c (gate + 1) (number_bytes 8 number) (gate + 9)
+  pub count_spelled : Spells c (gate + 9) (number_bytes 4 count) (gate + 13)
 
 -- the rows of the block after a gate were added; their numbers follow those of the list
 pub record AddsBlock (c : List ℕ) (tags gate : ℕ) (old new : List LogRow) (next : ℕ) : Type 0 where
@@ -74,6 +83,18 @@ pub record StandsSame (plant : List ℕ) (tags : ℕ) (before c : List ℕ) : Ty
 -- a crash might have left this image before, or it stands for the same rows as the device before
 abbrev pub IsLogLeftOrSame : List ℕ → ℕ → Option Trace → List ℕ → Type 0
 IsLogLeftOrSame plant tags o c = MayLeave o c ⊎ StandsSame plant tags (seen o) c
+
+-- a device that is not new gains one sync, and nothing else
+abbrev pub GainsLogSync : Option Trace → Option Trace → Type 0
+GainsLogSync old new = Shows old (λ c. (IsNew c → ⊥) → new ≡ noted Synced old)
+
+-- then the moment at the end of the opening is the number of the device's calls before, and one more
+abbrev pub IsNextMoment : Option Trace → ℕ → Type 0
+IsNextMoment old t = Shows old (λ c. (IsNew c → ⊥) → t ≡ moment old + 1)
+
+-- a device that is refused gains one sync, and nothing else, whether it is new or not; or a call of it has failed
+abbrev pub GainsSyncOnly : LogNo → Option Trace → Option Trace → Type 0
+GainsSyncOnly why old new = why ≢ DeviceFault → new ≡ noted Synced old
 
 -- ---- why a device is not opened
 

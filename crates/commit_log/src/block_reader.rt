@@ -1,15 +1,18 @@
-// Reading the blocks of an image in memory.
-ghost use Rattle.std.specs.Prelude.{◌≡◌, ℕ, ◌+◌, ◌^◌, ◌<◌, ◌&&◌, Option, IfOk, IsErrOf, length, nat_le};
+// Reading the blocks of a device, one after the other.
+ghost use Rattle.std.specs.Prelude.{◌≡◌, ◌≢◌, ℕ, ◌+◌, ◌*◌, ◌<◌, ◌≤◌, All, Option, IfNone, IfOk, IfSome, IsErrOf, OnOk, length};
+ghost use Rattle.disk_model.specs.Calls.{CountsFault, HasLength, Reaches, Shows};
+ghost use Rattle.disk_model.specs.Gates.{IsOpen};
 ghost use Rattle.archive_file.specs.declared.failure.ScanNo.TheVariants.{Damaged, DeviceFault};
 ghost use Rattle.archive_file.specs.LayoutFields.{BreaksFirst};
-ghost use Rattle.commit_log.specs.Blocks.{IsBlockDamage, block_fields, most_in_block};
-ghost use Rattle.commit_log.specs.Openings.{AddsBlock, ListsRows};
+ghost use Rattle.commit_log.specs.Blocks.{IsBlockDamage, IsLogRow, block_fields, body_fields, front_fields, most_in_block};
+ghost use Rattle.commit_log.specs.Openings.{AddsBlock, AddsRows, HasFront, ListsRows};
 
+use crate::body_reader::add_body;
+use crate::front_reader::check_front;
 use crate::row::LogRow;
-use crate::row_reader::read_rows;
-use crate::writer::{HEAD_LEN, MOST_IN_BLOCK, ROW_LEN};
-use archive_file::{Field, ScanNo, byte_at, check, long_at, short_at};
-use disk_model::OPEN;
+use crate::writer::{HEAD_LEN, ROW_LEN};
+use archive_file::{ScanNo, byte_at, read_piece};
+use disk_model::{Disk, OPEN};
 use std::alloc::Global;
 
 /// The rows that a device stores.
@@ -21,57 +24,129 @@ pub struct Stored {
     pub end: u64,
 }
 
-// Reads the blocks from the gate at this place on, of a plant with so many tags.
-pub(crate) fn parse_blocks(alloc: Global, c: &[u8], at: usize, tags: u32) -> Result<Stored, ScanNo>
-    requires gate { at < length c.now }
-    requires small { length c.now < 2 ^ 63 }
-    ensures stored { IfOk result (λ s. ListsRows c.now tags at s.rows.items s.end) }
-    ensures damaged { (a : ℕ) (byte : Option ℕ) → IsErrOf result (Damaged a byte) → IsBlockDamage c.now tags at a byte }
-    ensures no_fault { IsErrOf result DeviceFault → ⊥ }
+// Reads the blocks from the gate at this place on, of a plant with so many tags. At no time are the bytes of more than
+// one block in memory.
+pub(crate) fn read_blocks<D: Disk>(
+    alloc: Global,
+    dev: &mut D,
+    at: u64,
+    tags: u32,
+) -> Result<Stored, ScanNo>
+    requires gate { Reaches (D.trace dev.old) (at + 1) }
+    ensures stored { IfOk result (λ s. Shows (D.trace dev.old) (λ c. ListsRows c tags at s.rows.items s.end)) }
+    ensures rows { IfOk result (λ s. All (IsLogRow tags) s.rows.items) }
+    ensures damaged { (a : ℕ) (byte : Option ℕ) → IsErrOf result (Damaged a byte)
+        → Shows (D.trace dev.old) (λ c. IsBlockDamage c tags at a byte) }
+    ensures cause { CountsFault result DeviceFault (D.fault_count dev.old) (D.fault_count dev.new) }
+    ensures same { D.trace dev.new ≡ D.trace dev.old }
+    ensures untimed { D.ticks dev.new ≡ D.ticks dev.old }
 {
-    let Ok(mut rows) = Vec::with_capacity(alloc, c.len() / ROW_LEN) else {
+    let Ok(len) = dev.len() else {
+        return Err(ScanNo::DeviceFault);
+    };
+    let Ok(mut rows) = Vec::with_capacity(alloc, (len / ROW_LEN as u64) as usize) else {
         return Err(ScanNo::WantOfMemory);
     };
     let mut next = at;
-    'walk: while byte_at(c, next) == OPEN {
-        next = read_block(c, next, tags, &mut rows)?;
+    'walk: while let Some(end) = read_block(alloc, dev, len, next, tags, &mut rows)? {
+        next = end;
     }
-    Ok(Stored {
-        rows,
-        end: next as u64,
-    })
+    Ok(Stored { rows, end: next })
 }
 
-// Adds the rows of the block after this gate to `rows`, and returns the place of the next gate. The block's first row
-// has the number that comes after those in `rows`.
-fn read_block(c: &[u8], gate: usize, tags: u32, rows: &mut Vec<LogRow>) -> Result<usize, ScanNo>
-    requires gate { gate < length c.now }
-    requires small { length c.now < 2 ^ 63 }
-    ensures added { IfOk result (AddsBlock c.now tags gate rows.old.items rows.new.items) }
-    ensures next { IfOk result (λ next. next < length c.now) }
-    ensures further { IfOk result (λ next. gate < next) }
+// Adds the rows of the block after this gate, if the gate is open, and returns the place of the next gate. The block's
+// first row has the number that comes after those in `rows`. The device has `len` bytes.
+fn read_block<D: Disk>(
+    alloc: Global,
+    dev: &mut D,
+    len: u64,
+    gate: u64,
+    tags: u32,
+    rows: &mut Vec<LogRow>,
+) -> Result<Option<u64>, ScanNo>
+    requires length { HasLength (D.trace dev.old) len }
+    requires rows { All (IsLogRow tags) rows.old.items }
+    ensures closed { IfOk result (λ next. IfNone next (Shows (D.trace dev.old) (λ c. IsOpen gate c → ⊥))) }
+    ensures kept { IfOk result (λ next. IfNone next (rows.new.items ≡ rows.old.items)) }
+    ensures opened { IfOk result (λ next. IfSome next (λ end. Shows (D.trace dev.old) (IsOpen gate))) }
+    ensures added { IfOk result (λ next. IfSome next (λ end. Shows (D.trace dev.old)
+        (λ c. AddsBlock c tags gate rows.old.items rows.new.items end))) }
+    ensures further { IfOk result (λ next. IfSome next (λ end. gate < end)) }
+    ensures within { IfOk result (λ next. IfSome next (λ end. end < len)) }
+    ensures rows { OnOk result (All (IsLogRow tags) rows.new.items) }
+    ensures damaged_open { (a : ℕ) (byte : Option ℕ) → IsErrOf result (Damaged a byte) → Shows (D.trace dev.old) (IsOpen gate) }
     ensures damaged { (a : ℕ) (byte : Option ℕ) → IsErrOf result (Damaged a byte)
-        → BreaksFirst c.now (block_fields c.now tags (length rows.old.items) gate) a byte }
-    ensures no_fault { IsErrOf result DeviceFault → ⊥ }
+        → Shows (D.trace dev.old) (λ c. BreaksFirst c (block_fields c tags (length rows.old.items) gate) a byte) }
+    ensures cause { CountsFault result DeviceFault (D.fault_count dev.old) (D.fault_count dev.new) }
+    ensures same { D.trace dev.new ≡ D.trace dev.old }
+    ensures untimed { D.ticks dev.new ≡ D.ticks dev.old }
 {
-    let number = long_at(c, gate + 1);
-    let count = short_at(c, gate + 9);
-    check(
-        c,
-        &[
-            Field::new(gate + 1, 8, number == rows.len() as u64),
-            Field::new(gate + 9, 4, is_count_ok(count)),
-        ],
-    )?;
-    read_rows(c, gate + HEAD_LEN, count, tags, rows)?;
-    let next = gate + HEAD_LEN + ROW_LEN * count as usize;
-    check(c, &[Field::new(next, 1, true)])?;
-    Ok(next)
+    let Some(count) = read_front(alloc, dev, len, gate, rows.len() as u64)? else {
+        return Ok(None);
+    };
+    let from = gate + HEAD_LEN as u64;
+    read_body(alloc, dev, len, from, count, tags, rows)?;
+    Ok(Some(from + ROW_LEN as u64 * u64::from(count)))
 }
 
-// Whether a block may have so many rows.
-fn is_count_ok(count: u32) -> bool
-    ensures { result ≡ (nat_le 1 count && nat_le count most_in_block) }
+// Returns how many rows the block after this gate has, if the gate is open. The block's first row has this number.
+fn read_front<D: Disk>(
+    alloc: Global,
+    dev: &mut D,
+    len: u64,
+    gate: u64,
+    number: u64,
+) -> Result<Option<u32>, ScanNo>
+    requires length { HasLength (D.trace dev.old) len }
+    ensures closed { IfOk result (λ found. IfNone found (Shows (D.trace dev.old) (λ c. IsOpen gate c → ⊥))) }
+    ensures front { IfOk result (λ found. IfSome found (λ count. Shows (D.trace dev.old) (λ c. HasFront c number gate count))) }
+    ensures some { IfOk result (λ found. IfSome found (λ count. 1 ≤ count)) }
+    ensures few { IfOk result (λ found. IfSome found (λ count. count ≤ most_in_block)) }
+    ensures within { IfOk result (λ found. IfSome found (λ count. gate + 13 ≤ len)) }
+    ensures damaged_open { (a : ℕ) (byte : Option ℕ) → IsErrOf result (Damaged a byte) → Shows (D.trace dev.old) (IsOpen gate) }
+    ensures damaged { (a : ℕ) (byte : Option ℕ) → IsErrOf result (Damaged a byte)
+        → Shows (D.trace dev.old) (λ c. BreaksFirst c (front_fields c number gate) a byte) }
+    ensures cause { CountsFault result DeviceFault (D.fault_count dev.old) (D.fault_count dev.new) }
+    ensures same { D.trace dev.new ≡ D.trace dev.old }
+    ensures untimed { D.ticks dev.new ≡ D.ticks dev.old }
 {
-    1 <= count && count <= MOST_IN_BLOCK
+    let front = read_piece(alloc, dev, len, gate, HEAD_LEN as u64)?;
+    if byte_at(&front, 0) != OPEN {
+        return Ok(None);
+    }
+    match check_front(&front, number) {
+        Ok(count) => Ok(Some(count)),
+        Err(why) => Err(why.behind(gate)),
+    }
+}
+
+// Adds the rows of a block whose front ends at this place, and which has so many rows.
+fn read_body<D: Disk>(
+    alloc: Global,
+    dev: &mut D,
+    len: u64,
+    from: u64,
+    count: u32,
+    tags: u32,
+    rows: &mut Vec<LogRow>,
+) -> Result<(), ScanNo>
+    requires length { HasLength (D.trace dev.old) len }
+    requires start { from ≤ len }
+    requires few { count ≤ most_in_block }
+    requires rows { All (IsLogRow tags) rows.old.items }
+    ensures added { OnOk result (Shows (D.trace dev.old) (λ c. AddsRows c tags from count rows.old.items rows.new.items)) }
+    ensures within { OnOk result (from + 32 * count < len) }
+    ensures rows { OnOk result (All (IsLogRow tags) rows.new.items) }
+    ensures damaged { (a : ℕ) (byte : Option ℕ) → IsErrOf result (Damaged a byte)
+        → Shows (D.trace dev.old) (λ c. BreaksFirst c (body_fields c tags from count) a byte) }
+    ensures cause { CountsFault result DeviceFault (D.fault_count dev.old) (D.fault_count dev.new) }
+    ensures same { D.trace dev.new ≡ D.trace dev.old }
+    ensures untimed { D.ticks dev.new ≡ D.ticks dev.old }
+{
+    let size = ROW_LEN as u64 * u64::from(count) + 1;
+    let body = read_piece(alloc, dev, len, from, size)?;
+    match add_body(&body, count, tags, rows) {
+        Ok(()) => Ok(()),
+        Err(why) => Err(why.behind(from)),
+    }
 }

@@ -1,14 +1,14 @@
 // Reading a log's device.
-ghost use Rattle.std.specs.Prelude.{◌≡◌, ℕ, ◌+◌, ◌^◌, ◌<◌, Option, IfOk, IsErrOf, length};
+ghost use Rattle.std.specs.Prelude.{◌≡◌, ℕ, Option, IfOk, IsErrOf};
 ghost use Rattle.disk_model.specs.Calls.{CountsFault, Shows};
 ghost use Rattle.commit_log.specs.declared.refusal.LogNo.TheVariants.{Damaged, DeviceFault, OtherPlant, TooMany};
 ghost use Rattle.commit_log.specs.Images.{IsLogDamage, IsOfOther};
 ghost use Rattle.commit_log.specs.Openings.{HasRowsOf, IsFound};
 
-use crate::block_reader::{Stored, parse_blocks};
+use crate::block_reader::{Stored, read_blocks};
 use crate::difference::first_difference;
 use crate::refusal::LogNo;
-use archive_file::{read_all, read_head};
+use archive_file::read_text;
 use disk_model::Disk;
 use std::alloc::Global;
 
@@ -33,26 +33,12 @@ pub(crate) fn read_log<D: Disk>(
     ensures same { D.trace dev.new ≡ D.trace dev.old }
     ensures untimed { D.ticks dev.new ≡ D.ticks dev.old }
 {
-    let bytes = read_all(alloc, dev)?;
-    parse_log(alloc, &bytes, plant, tags)
-}
-
-// Reads a log from an image.
-fn parse_log(alloc: Global, c: &[u8], plant: &[u8], tags: u32) -> Result<Option<Stored>, LogNo>
-    requires { length c.now < 2 ^ 63 }
-    ensures found { IfOk result (λ f. IsFound plant.now tags f c.now) }
-    ensures rows { IfOk result (HasRowsOf tags) }
-    ensures damaged { (a : ℕ) (byte : Option ℕ) → IsErrOf result (Damaged a byte) → IsLogDamage plant.now tags c.now a byte }
-    ensures other { (at : ℕ) → IsErrOf result (OtherPlant at) → IsOfOther plant.now c.now at }
-    ensures not_many { (n : ℕ) → IsErrOf result (TooMany n) → ⊥ }
-    ensures no_fault { IsErrOf result DeviceFault → ⊥ }
-{
-    let Some(text) = read_head(c, LETTERS)? else {
+    let Some(text) = read_text(alloc, dev, LETTERS)? else {
         return Ok(None);
     };
-    if let Some(at) = first_difference(text, plant) {
+    if let Some(at) = first_difference(&text, plant) {
         return Err(LogNo::OtherPlant { at: at as u32 });
     }
-    let stored = parse_blocks(alloc, c, 9 + text.len(), tags)?;
+    let stored = read_blocks(alloc, dev, 9 + text.len() as u64, tags)?;
     Ok(Some(stored))
 }

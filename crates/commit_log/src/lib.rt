@@ -18,14 +18,18 @@
 //! So after a crash each tag keeps the first of its own values, and all acknowledged ones among them
 //! ([`each_tag_keeps_a_prefix`]).
 //!
-//! [`open_log`] syncs a device, and then reads it, or begins it if it is new. [`Log::put`] appends one row and takes no
-//! memory. [`Log::commit`] writes the oldest rows that wait as one block, after a closed gate, and then opens the gate.
-//! If a call of the device fails in a commit, the log is broken. [`Log::into_history`] returns all that the type keeps.
+//! [`open_log`] syncs a device, and then reads it, or begins it if it is new. A device that is not new gains that sync
+//! alone. Its blocks are read one after the other: at no time are the bytes of more than one block in memory.
+//! [`Log::put`] appends one row and takes no memory. [`Log::commit`] writes the oldest rows that wait as one block, after
+//! a closed gate, and then opens the gate. If a call of the device fails in a commit, the log is broken.
+//! [`Log::into_history`] returns all that the type keeps.
 #![tactic(auto)]
 
 mod block_reader;
+mod body_reader;
 mod commit;
 mod difference;
+mod front_reader;
 mod history;
 mod law;
 mod layout_reader;

@@ -1,5 +1,6 @@
 // A log: the raw values of a plant, with all that is under its lock.
-ghost use Rattle.std.specs.Prelude.{◌≡◌};
+ghost use Rattle.std.specs.Prelude.{◌≡◌, false, true};
+ghost use Rattle.disk_model.specs.Calls.{Rose};
 ghost use Rattle.commit_log.specs.Told.{HasHistory, IsHandedOut};
 
 use crate::history::{LogHistory, LogTurn};
@@ -123,6 +124,10 @@ impl<D: Disk> Log<D> {
         ensures tape { result.1.tape.items ≡ self.tape }
         ensures acked { result.1.acked ≡ self.acked }
         ensures history { IsHandedOut result.1 (D.trace result.0) (D.ticks result.0) (D.fault_count result.0) }
+
+        // One fault was counted since the opening if a commit failed, and none otherwise.
+        ensures rose { self.failed ≡ true → Rose self.faults (D.fault_count result.0) }
+        ensures faultless { self.failed ≡ false → D.fault_count result.0 ≡ self.faults }
     {
         let Log {
             plant,

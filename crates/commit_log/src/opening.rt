@@ -1,5 +1,5 @@
 // Opening a log.
-ghost use Rattle.std.specs.Prelude.{◌≡◌, ℕ, ◌+◌, ◌<◌, ◌≤◌, [], All, Option, IfErr, IfOk, IfSome, IsErrOf, OnErr, OnOk, false, length, vec_capacity};
+ghost use Rattle.std.specs.Prelude.{◌≡◌, ◌≢◌, ℕ, ◌+◌, ◌<◌, ◌≤◌, [], All, Option, IfErr, IfOk, IfSome, IsErrOf, OnErr, OnOk, false, length, vec_capacity};
 ghost use Rattle.disk_model.specs.Calls.{CountsFault, Shows};
 ghost use Rattle.disk_model.specs.Gates.{IsNew};
 ghost use Rattle.disk_model.specs.Images.{IsSettled};
@@ -7,7 +7,7 @@ ghost use Rattle.disk_model.specs.Moments.{During};
 ghost use Rattle.commit_log.specs.declared.refusal.LogNo.TheVariants.{Damaged, DeviceFault, OtherPlant, TooMany};
 ghost use Rattle.commit_log.specs.Blocks.{IsLogRow};
 ghost use Rattle.commit_log.specs.Images.{LogsNothing, StandsForRows};
-ghost use Rattle.commit_log.specs.Openings.{CountsLogRefusal, IsLogCause, IsLogLeftOrSame, IsLeftOrStands, most_rows};
+ghost use Rattle.commit_log.specs.Openings.{CountsLogRefusal, GainsLogSync, GainsSyncOnly, IsLogCause, IsLogLeftOrSame, IsLeftOrStands, IsNextMoment, most_rows};
 ghost use Rattle.commit_log.specs.Told.{IsReady};
 
 use crate::block_reader::Stored;
@@ -26,9 +26,10 @@ const MOST_ROWS: u64 = 4_000_000;
 /// Opens the log of a plant on a device, with room for so many puts. `plant` is the names of its `tags` tags in base
 /// order, with a line feed between two.
 ///
-/// It syncs the device first. Then it reads the device, or begins it if it is new. A crash at any moment leaves what a
-/// crash might have left before, or an image that stands for the same rows. If the log is not opened, the device is
-/// returned with the reason.
+/// It syncs the device first. Then it reads the device, or begins it if it is new. So a device that is not new gains one
+/// sync, and nothing else. So does a device that is refused, new or not, unless a call of it failed. A crash at any
+/// moment leaves what a crash might have left before, or an image that stands for the same rows. If the log is not
+/// opened, the device is returned with the reason.
 ///
 /// DeviceFault: a call of the device failed. Damaged: its layout is damaged. OtherPlant: it is that of another plant.
 /// TooMany: its rows and the room together are more than 4,000,000. WantOfMemory: there was no memory.
@@ -43,6 +44,11 @@ pub fn open_log<D: Disk>(
     ensures opened { IfOk result (λ l. Shows (D.trace dev) (λ c. StandsForRows plant.now tags c l.opening)) }
     ensures any_moment { IfOk result (λ l. During (D.trace dev) (D.trace l.dev) (IsLeftOrStands plant.now tags l.opening (D.trace dev))) }
     ensures any_moment_refused { IfErr result (λ e. During (D.trace dev) (D.trace e.dev) (IsLogLeftOrSame plant.now tags (D.trace dev))) }
+
+    // A device that is not new gains only a sync. A refused one gains only a sync too, unless a call of it failed.
+    ensures synced { IfOk result (λ l. GainsLogSync (D.trace dev) (D.trace l.dev)) }
+    ensures next_moment { IfOk result (λ l. IsNextMoment (D.trace dev) l.moment) }
+    ensures synced_refused { IfErr result (λ e. GainsSyncOnly e.why (D.trace dev) (D.trace e.dev)) }
 
     ensures plant { IfOk result (λ l. l.plant ≡ plant.now) }
     ensures tags { IfOk result (λ l. l.tags ≡ tags) }
@@ -131,6 +137,8 @@ fn open_parts<D: Disk>(
     ensures any_moment { IfOk result (λ p. During (D.trace dev.old) (D.trace dev.new)
         (IsLeftOrStands plant.now tags p.rows.items (D.trace dev.old))) }
     ensures any_moment_refused { OnErr result (During (D.trace dev.old) (D.trace dev.new) (IsLogLeftOrSame plant.now tags (D.trace dev.old))) }
+    ensures synced { OnOk result (GainsLogSync (D.trace dev.old) (D.trace dev.new)) }
+    ensures synced_refused { IfErr result (λ why. GainsSyncOnly why (D.trace dev.old) (D.trace dev.new)) }
     ensures rows { IfOk result (λ p. All (IsLogRow tags) p.rows.items) }
     ensures plant { IfOk result (λ p. p.plant.items ≡ plant.now) }
     ensures tape { IfOk result (λ p. p.tape.items ≡ []) }
@@ -179,7 +187,8 @@ fn parts_of(alloc: Global, stored: Stored, plant: &[u8], room: u32) -> Result<Pa
     })
 }
 
-// Begins a new device. A crash at any moment leaves a device without rows.
+// Begins a new device. A crash at any moment leaves a device without rows. A refusal leaves the device unchanged, unless
+// a call of it failed.
 fn begin<D: Disk>(
     alloc: Global,
     dev: &mut D,
@@ -192,6 +201,7 @@ fn begin<D: Disk>(
     ensures rows { IfOk result (λ p. p.rows.items ≡ []) }
     ensures ready { IfOk result (λ p. IfSome (D.trace dev.new) (IsReady plant.now tags [] p.end)) }
     ensures any_moment { During (D.trace dev.old) (D.trace dev.new) (LogsNothing plant.now) }
+    ensures unwritten { IfErr result (λ why. why ≢ DeviceFault → D.trace dev.new ≡ D.trace dev.old) }
     ensures plant { IfOk result (λ p. p.plant.items ≡ plant.now) }
     ensures tape { IfOk result (λ p. p.tape.items ≡ []) }
     ensures capacity { IfOk result (λ p. room ≤ vec_capacity p.tape) }

@@ -1,9 +1,11 @@
 pub mod RowLaws
 pub mod VersionLaws
 pub mod BlockLaws
+pub mod BlockPieces
 pub mod Walks
 pub mod SavedRows
 pub mod Beginnings
 pub mod BlockAdded
 pub mod RowsAdded
 pub mod Openings
+pub mod Damages

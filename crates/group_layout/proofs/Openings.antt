@@ -1,5 +1,5 @@
 -- A group's device while it is opened.
-use Rattle.std.proofs.Common.{◌≡◌, ◌⊎◌, inl, inr, ℕ, zero, suc, ◌+◌, All, List, [], ◌∷◌, length, map, replicate, Option, None, Some, Result, Ok, Err, IfOk, refl, sym, ap, ◌∙◌, subst, arith}
+use Rattle.std.proofs.Common.{◌≡◌, ◌⊎◌, inl, inr, ℕ, zero, suc, All, List, [], ◌∷◌, length, map, replicate, Option, None, Some, Result, Ok, Err, IfOk, refl, sym, ap, ◌∙◌, subst, arith}
 use Rattle.std.proofs.lemmas.List.{length-map, length-replicate}
 use Rattle.std.proofs.lemmas.List.Elements.{All-head, All-tail}
 use Rattle.trend_num.specs.declared.value.CalcValue.{CalcValue}
@@ -11,10 +11,10 @@ use Rattle.group_layout.specs.declared.block.Block.{Block}
 use Rattle.group_layout.specs.declared.layout_reader.Found.{Found}
 use Rattle.group_layout.specs.declared.layout_reader.Found.TheVariants.{New, Other, Saved}
 use Rattle.group_layout.specs.declared.layout_reader.SavedGroup.{SavedGroup}
-use Rattle.group_layout.specs.Blocks.{HasBlocks, BlockParts, block_size, last_of, parts_of, unsaved}
-use Rattle.archive_file.specs.TextHeads.{IsEmpty, blocks_at}
+use Rattle.group_layout.specs.Blocks.{last_of, parts_of, unsaved}
+use Rattle.archive_file.specs.TextHeads.{IsEmpty}
 use Rattle.group_layout.specs.Images.{ByBlocks, ByNothing, HasSaved, IsUnsaved, StandsFor, letters}
-use Rattle.group_layout.specs.Readings.{HasShape, IsFound, IsLeftOrSame, IsReadOf, IsShaped, SavesNothing, StandsSame}
+use Rattle.group_layout.specs.Readings.{GainsGroupSync, HasShape, IsFound, IsLeftOrSame, IsReadOf, SavesNothing, StandsSame}
 use Rattle.group_layout.specs.Rows.{AreRowsOf, block_lists_of}
 
 -- no blocks give rows without values
@@ -105,31 +105,19 @@ unsaved_stands text inputs calcs o (Err e) is versions rows = tt
 unsaved_stands text inputs calcs None (Ok g) is versions rows = tt
 unsaved_stands text inputs calcs (Some t) (Ok g) is versions rows = ByNothing is versions rows
 
+-- ---- a sync and nothing else
+
+-- a device that was synced and read gained a sync
+pub gains_sync : (text : List ℕ) (o new : Option Trace) → new ≡ noted Synced o → GainsGroupSync text o new
+gains_sync text None new synced = tt
+gains_sync text (Some t) new synced = λ saved. synced
+
+-- nothing is said of a device with nothing saved
+pub gains_nothing : (text : List ℕ) (o new : Option Trace) → Shows o (IsUnsaved text) → GainsGroupSync text o new
+gains_nothing text None new is = tt
+gains_nothing text (Some t) new is = λ saved. absurd (saved is)
+
 -- ---- how long what was read is
-
--- the last block has as many versions as there are inputs
-last_inputs : (c : List ℕ) (calcs : ℕ) (before : BlockParts) (at : ℕ) (bs : List BlockParts) → HasBlocks c calcs before at bs
-    → length (last_of before bs).versions ≡ length before.versions
-last_inputs c calcs before at [] has = refl
-last_inputs c calcs before at (b ∷ bs) has = last_inputs c calcs b (at + block_size b) bs has.1 ∙ has.0.follows.inputs
-
-read_shape : (text : List ℕ) (inputs calcs : ℕ) (c : List ℕ) (g : SavedGroup) → IsReadOf text inputs calcs c g → HasShape inputs calcs g
-read_shape text inputs calcs c g read = record {
-  versions_are = ap length read.versions
-      ∙ last_inputs c calcs (unsaved inputs) (blocks_at (length text)) read.blocks read.has.blocks.blocks ∙ length-replicate inputs 0;
-  calcs_are = sym (length-map g.rows.items (λ v. v.items)) ∙ read.has.rows_are.calcs_are;
-  windows_are = subst (λ n. All (λ row. length row ≡ n) (block_lists_of g.rows.items)) (sym read.windows) read.has.rows_are.windows_are;
-}
-
-pub found_shape : (text : List ℕ) (inputs calcs : ℕ) (c : List ℕ) (f : Found) → IsFound text inputs calcs f c → IsShaped inputs calcs f
-found_shape text inputs calcs c New found = tt
-found_shape text inputs calcs c Other found = tt
-found_shape text inputs calcs c (Saved g) found = read_shape text inputs calcs c g found
-
-pub found_shapes : {E : Type 0} (text : List ℕ) (inputs calcs : ℕ) (c : List ℕ) (r : Result Found E)
-    → IfOk r (λ f. IsFound text inputs calcs f c) → IfOk r (IsShaped inputs calcs)
-found_shapes text inputs calcs c (Err e) found = tt
-found_shapes text inputs calcs c (Ok f) found = found_shape text inputs calcs c f found
 
 -- where there are no blocks
 pub none_shape : (inputs calcs : ℕ) (bs : List Block) (g : SavedGroup) → bs ≡ []

@@ -1,9 +1,12 @@
 -- Blocks one after the other, and one more.
-use Rattle.std.proofs.Common.{◌≡◌, inr, ℕ, suc, ◌+◌, ◌-◌, ◌<◌, ◌≤◌, List, [], ◌∷◌, ◌++◌, map, length, get_or, Option, refl, sym, ap, ◌∙◌, subst, arith}
+use Rattle.std.proofs.Common.{◌≡◌, inr, ℕ, suc, ◌+◌, ◌-◌, ◌<◌, ◌≤◌, List, [], ◌∷◌, ◌++◌, map, length, get_or, Option, None, Some, refl, sym, ap, ◌∙◌, subst, arith}
+use Rattle.disk_model.specs.Calls.{Shows}
 use Rattle.disk_model.specs.Gates.{IsOpen}
+use Rattle.disk_model.specs.Traces.{Trace, seen}
+use Rattle.archive_file.proofs.ReadImages.{shows_both}
 use Rattle.group_layout.specs.declared.block.Block.{Block}
-use Rattle.archive_file.specs.LayoutFields.{BreaksFirst, Spells}
-use Rattle.group_layout.specs.Blocks.{BlockParts, AreDamaged, HasBlock, HasBlocks, MayFollow, block_fields, block_image, block_size, end_of, last_of, parts_of, unsaved}
+use Rattle.archive_file.specs.LayoutFields.{BreaksFirst}
+use Rattle.group_layout.specs.Blocks.{BlockParts, AreDamaged, HasBlock, HasBlocks, MayFollow, block_fields, block_size, end_of, last_of, parts_of, unsaved}
 
 -- the last of blocks and one more is that one
 pub last_of-push : (b : BlockParts) (bs : List BlockParts) (x : BlockParts) → last_of b (bs ++ x ∷ []) ≡ x
@@ -26,21 +29,19 @@ pub parts-push : (bs : List Block) (x : Block) → map parts_of (bs ++ x ∷ [])
 parts-push [] x = refl
 parts-push (y ∷ bs) x = ap (λ l. parts_of y ∷ l) (parts-push bs x)
 
--- the blocks that were read, and one more after an open gate
-pub walk_on : (c : List ℕ) (calcs inputs at next : ℕ) (bs : List Block) (x : Block) (before : BlockParts)
+-- the blocks that were read, and one more
+walk_on : (c : List ℕ) (calcs inputs at next : ℕ) (bs : List Block) (x : Block) (before : BlockParts)
     → before ≡ last_of (unsaved inputs) (map parts_of bs) → next ≡ end_of at (map parts_of bs)
-    → HasBlocks c calcs (unsaved inputs) at (map parts_of bs) → IsOpen next c → MayFollow calcs before (parts_of x)
-    → Spells c (next + 1) (block_image (parts_of x)) (next + block_size (parts_of x))
+    → HasBlocks c calcs (unsaved inputs) at (map parts_of bs) → HasBlock c calcs before (parts_of x) next
     → HasBlocks c calcs (unsaved inputs) at (map parts_of (bs ++ x ∷ []))
-walk_on c calcs inputs at next bs x before last end has opened follows spelled =
+walk_on c calcs inputs at next bs x before last end has one =
     subst (HasBlocks c calcs (unsaved inputs) at) (sym (parts-push bs x))
     (has_push c calcs (unsaved inputs) at (map parts_of bs) (parts_of x) has
     (subst (λ b. HasBlock c calcs b (parts_of x) (end_of at (map parts_of bs))) last
-    (subst (HasBlock c calcs before (parts_of x)) end
-    (record { opened = opened; spelled = spelled.spelled; follows = follows }))))
+    (subst (HasBlock c calcs before (parts_of x)) end one)))
 
 -- the next block breaks a rule
-pub walk_breaks : (c : List ℕ) (calcs inputs at next : ℕ) (bs : List Block) (before : BlockParts) (a : ℕ) (byte : Option ℕ)
+walk_breaks : (c : List ℕ) (calcs inputs at next : ℕ) (bs : List Block) (before : BlockParts) (a : ℕ) (byte : Option ℕ)
     → before ≡ last_of (unsaved inputs) (map parts_of bs) → next ≡ end_of at (map parts_of bs)
     → HasBlocks c calcs (unsaved inputs) at (map parts_of bs) → IsOpen next c
     → BreaksFirst c (block_fields c calcs before next) a byte → AreDamaged c calcs inputs at a byte
@@ -51,6 +52,34 @@ walk_breaks c calcs inputs at next bs before a byte last end has opened breaks =
   breaks = subst (λ n. BreaksFirst c (block_fields c calcs (last_of (unsaved inputs) (map parts_of bs)) n) a byte) end
       (subst (λ b. BreaksFirst c (block_fields c calcs b next) a byte) last breaks);
 })
+
+-- ---- of a device
+
+pub walk_on_shown : (o : Option Trace) (calcs inputs at next : ℕ) (bs : List Block) (x : Block) (before : BlockParts)
+    → before ≡ last_of (unsaved inputs) (map parts_of bs) → next ≡ end_of at (map parts_of bs)
+    → Shows o (λ c. HasBlocks c calcs (unsaved inputs) at (map parts_of bs)) → Shows o (λ c. HasBlock c calcs before (parts_of x) next)
+    → Shows o (λ c. HasBlocks c calcs (unsaved inputs) at (map parts_of (bs ++ x ∷ [])))
+walk_on_shown o calcs inputs at next bs x before last end has one =
+    shows_both o (λ c. HasBlocks c calcs (unsaved inputs) at (map parts_of bs)) (λ c. HasBlock c calcs before (parts_of x) next)
+    (λ c. HasBlocks c calcs (unsaved inputs) at (map parts_of (bs ++ x ∷ [])))
+    (λ c first second. walk_on c calcs inputs at next bs x before last end first second) has one
+
+pub walk_breaks_shown : (o : Option Trace) (calcs inputs at next : ℕ) (bs : List Block) (before : BlockParts) (a : ℕ) (byte : Option ℕ)
+    → before ≡ last_of (unsaved inputs) (map parts_of bs) → next ≡ end_of at (map parts_of bs)
+    → Shows o (λ c. HasBlocks c calcs (unsaved inputs) at (map parts_of bs)) → Shows o (IsOpen next)
+    → Shows o (λ c. BreaksFirst c (block_fields c calcs before next) a byte) → Shows o (λ c. AreDamaged c calcs inputs at a byte)
+walk_breaks_shown None calcs inputs at next bs before a byte last end has opened breaks = tt
+walk_breaks_shown (Some t) calcs inputs at next bs before a byte last end has opened breaks =
+    walk_breaks (seen (Some t)) calcs inputs at next bs before a byte last end has opened breaks
+
+-- the last block that was read has as many versions as there are inputs
+pub walk_versions : (calcs inputs : ℕ) (bs : List Block) (x : Block) (before : BlockParts) → before ≡ last_of (unsaved inputs) (map parts_of bs)
+    → length (last_of (unsaved inputs) (map parts_of bs)).versions ≡ inputs → MayFollow calcs before (parts_of x)
+    → length (last_of (unsaved inputs) (map parts_of (bs ++ x ∷ []))).versions ≡ inputs
+walk_versions calcs inputs bs x before last so_far follows =
+    ap (λ l. length (last_of (unsaved inputs) l).versions) (parts-push bs x)
+    ∙ ap (λ b. length b.versions) (last_of-push (unsaved inputs) (map parts_of bs) (parts_of x))
+    ∙ follows.inputs ∙ ap (λ b. length b.versions) last ∙ so_far
 
 -- the last in memory
 pub last_is : (b : BlockParts) (bs : List Block) (x : Block) → 1 ≤ length bs → x ≡ get_or bs (length bs - 1) x

@@ -3,7 +3,8 @@ use Rattle.std.specs.Prelude.{◌≡◌, ◌⊎◌, ℕ, ◌^◌, ◌<◌, All, 
 use Rattle.trend_num.specs.declared.value.CalcValue.{CalcValue}
 use Rattle.disk_model.specs.Gates.{IsNew}
 use Rattle.disk_model.specs.Images.{MayLeave}
-use Rattle.disk_model.specs.Traces.{Trace, seen}
+use Rattle.disk_model.specs.Calls.{Shows}
+use Rattle.disk_model.specs.Traces.{Synced, Trace, noted, seen}
 use Rattle.archive_file.specs.TextHeads.{IsEmpty, blocks_at}
 use Rattle.group_layout.specs.declared.layout_reader.Found.{Found}
 use Rattle.group_layout.specs.declared.layout_reader.Found.TheVariants.{New, Other, Saved}
@@ -63,3 +64,7 @@ pub record StandsSame (text : List ℕ) (inputs calcs : ℕ) (before c : List �
 -- an image is one that a crash might have left before, or stands for the same
 abbrev pub IsLeftOrSame : List ℕ → ℕ → ℕ → Option Trace → List ℕ → Type 0
 IsLeftOrSame text inputs calcs o c = MayLeave o c ⊎ StandsSame text inputs calcs (seen o) c
+
+-- a device that has a finished layout of this text, or a damaged one, gains one sync and nothing else
+abbrev pub GainsGroupSync : List ℕ → Option Trace → Option Trace → Type 0
+GainsGroupSync text old new = Shows old (λ c. (IsUnsaved text c → ⊥) → new ≡ noted Synced old)

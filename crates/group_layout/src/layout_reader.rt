@@ -2,16 +2,18 @@
 ghost use Rattle.std.specs.Prelude.{◌≡◌, ℕ, ◌+◌, ◌^◌, ◌<◌, Option, IfOk, IsErrOf, length, map};
 ghost use Rattle.disk_model.specs.Calls.{CountsFault, Shows};
 ghost use Rattle.archive_file.specs.declared.failure.ScanNo.TheVariants.{Damaged, DeviceFault};
-ghost use Rattle.group_layout.specs.Blocks.{AreBlocks, AreDamaged, end_of, last_of, parts_of, unsaved};
+ghost use Rattle.archive_file.specs.TextHeads.{IsOfText};
+ghost use Rattle.group_layout.specs.Blocks.{end_of, last_of, parts_of, unsaved};
 ghost use Rattle.group_layout.specs.Rows.{AreRowsOf, IsIncomplete, block_lists_of};
-ghost use Rattle.group_layout.specs.Images.{IsGroupDamage};
-ghost use Rattle.group_layout.specs.Readings.{HasFewWindows, IsFound, IsShaped};
+ghost use Rattle.group_layout.specs.Images.{IsGroupDamage, letters};
+ghost use Rattle.group_layout.specs.Readings.{HasFewWindows, HasShape, IsFound, IsReadOf, IsShaped};
 
 use crate::block::Blocks;
+use crate::block_reader::read_blocks;
 use crate::making::LETTERS;
-use crate::reader::{last_or, parse_blocks, size_of_block, unsaved_block};
+use crate::reader::{last_or, size_of_block, unsaved_block};
 use crate::saved::rows_of;
-use archive_file::{ScanNo, read_all, read_head};
+use archive_file::{ScanNo, read_text};
 use disk_model::{Disk, OPEN};
 use std::alloc::Global;
 use trend_num::CalcValue;
@@ -42,9 +44,10 @@ pub enum Found {
     Saved(SavedGroup),
 }
 
-/// Reads the device of a group with this definition text and with so many inputs and calculations. If the device breaks
-/// the layout, the function returns `Damaged` with the first byte of the first field that does. Returns `DeviceFault`
-/// if a call of the device fails, and `WantOfMemory` if no memory is found.
+/// Reads the device of a group with this definition text and with so many inputs and calculations. It reads the text
+/// and then the blocks, and has the bytes of at most one block in memory. If the device breaks the layout, the function
+/// returns `Damaged` with the first byte of the first field that does. Returns `DeviceFault` if a call of the device
+/// fails, and `WantOfMemory` if no memory is found.
 pub fn read_group<D: Disk>(
     alloc: Global,
     dev: &mut D,
@@ -61,57 +64,37 @@ pub fn read_group<D: Disk>(
     ensures same { D.trace dev.new ≡ D.trace dev.old }
     ensures untimed { D.ticks dev.new ≡ D.ticks dev.old }
 {
-    let bytes = read_all(alloc, dev)?;
-    parse_group(alloc, &bytes, text, inputs, calcs)
+    let Some(found) = read_text(alloc, dev, LETTERS)? else {
+        return Ok(Found::New);
+    };
+    if *found != *text {
+        return Ok(Found::Other);
+    }
+    let saved = read_saved(alloc, dev, text, inputs, calcs)?;
+    Ok(Found::Saved(saved))
 }
 
-/// Reads the blocks that begin with the gate at `at`, of a group with so many inputs and calculations. If they break a
-/// rule of blocks, the function returns `Damaged` with the first byte of the first field that does. It does not test
-/// whether the blocks give a value of each calculation in each window. Returns `DeviceFault` if a call of the device
-/// fails, and `WantOfMemory` if no memory is found.
-pub fn read_blocks<D: Disk>(
+// Reads what the saves of a group with this text left on a device that has its layout.
+fn read_saved<D: Disk>(
     alloc: Global,
     dev: &mut D,
-    at: u64,
+    text: &[u8],
     inputs: u32,
     calcs: u32,
-) -> Result<Blocks, ScanNo>
-    ensures blocks { IfOk result (λ b. Shows (D.trace dev.old) (λ c. AreBlocks c calcs inputs at (map parts_of b.list.items))) }
-    ensures end { IfOk result (λ b. b.end ≡ end_of at (map parts_of b.list.items)) }
+) -> Result<SavedGroup, ScanNo>
+    requires { Shows (D.trace dev.old) (IsOfText letters text.now) }
+    ensures saved { IfOk result (λ g. Shows (D.trace dev.old) (λ c. IsReadOf text.now inputs calcs c g)) }
+    ensures shape { IfOk result (HasShape inputs calcs) }
+    ensures few { IfOk result (λ g. g.windows < 2 ^ 32) }
     ensures damaged { (a : ℕ) (byte : Option ℕ) → IsErrOf result (Damaged a byte)
-        → Shows (D.trace dev.old) (λ c. AreDamaged c calcs inputs at a byte) }
+        → Shows (D.trace dev.old) (λ c. IsGroupDamage text.now inputs calcs c a byte) }
     ensures cause { CountsFault result DeviceFault (D.fault_count dev.old) (D.fault_count dev.new) }
     ensures same { D.trace dev.new ≡ D.trace dev.old }
     ensures untimed { D.ticks dev.new ≡ D.ticks dev.old }
 {
-    let bytes = read_all(alloc, dev)?;
-    parse_blocks(alloc, &bytes, at as usize, inputs, calcs)
-}
-
-// Returns what an image holds.
-fn parse_group(
-    alloc: Global,
-    c: &[u8],
-    text: &[u8],
-    inputs: u32,
-    calcs: u32,
-) -> Result<Found, ScanNo>
-    requires { length c.now < 2 ^ 63 }
-    ensures found { IfOk result (λ f. IsFound text.now inputs calcs f c.now) }
-    ensures few { IfOk result HasFewWindows }
-    ensures damaged { (a : ℕ) (byte : Option ℕ) → IsErrOf result (Damaged a byte) → IsGroupDamage text.now inputs calcs c.now a byte }
-    ensures no_fault { IsErrOf result DeviceFault → ⊥ }
-{
-    let Some(found) = read_head(c, LETTERS)? else {
-        return Ok(Found::New);
-    };
-    if found != text {
-        return Ok(Found::Other);
-    }
     let at = 9 + text.len();
-    let blocks = parse_blocks(alloc, c, at, inputs, calcs)?;
-    let saved = gather(alloc, &blocks, at, inputs, calcs)?;
-    Ok(Found::Saved(saved))
+    let blocks = read_blocks(alloc, dev, at as u64, inputs, calcs)?;
+    gather(alloc, &blocks, at, inputs, calcs)
 }
 
 // Gathers what the blocks that begin at a place give. Refuses blocks that lack a value.

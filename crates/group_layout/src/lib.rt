@@ -10,15 +10,19 @@
 //! * [`read_group`] distinguishes three cases: a new device, a device with another text, and a device with the wanted
 //!   text, whose rows it gathers.
 //! * [`make_group`] begins a device anew. A crash at any moment leaves a device that has nothing saved for this text.
-//! * [`open_group`] reads a device, and begins it anew if nothing is saved for this text. A crash at any moment leaves
-//!   what stands for the same versions and rows.
+//! * [`open_group`] syncs and reads a device, and begins it anew if nothing is saved for this text. Any other device
+//!   gains one sync and nothing else. A crash at any moment leaves what stands for the same versions and rows.
 //! * [`put_block`] adds a block. A crash at any moment leaves the block whole after its open gate, or leaves the gate
 //!   closed.
 //! * [`block_bytes`] returns the bytes of one block, and [`read_blocks`] reads blocks alone, without the layout before
 //!   them.
+//!
+//! A reader has the bytes of one block at a time in memory. It reads the front of a block, which tells how many rows
+//! the block has, and then the block with the gate behind it.
 #![tactic(auto)]
 
 mod block;
+mod block_reader;
 mod definition;
 mod layout_reader;
 mod making;
@@ -29,8 +33,9 @@ mod saved;
 mod writer;
 
 pub use block::{Block, BlockRow, Blocks};
+pub use block_reader::read_blocks;
 pub use definition::definition_text;
-pub use layout_reader::{Found, SavedGroup, read_blocks, read_group};
+pub use layout_reader::{Found, SavedGroup, read_group};
 pub use making::{make_group, put_block};
 pub use opening::open_group;
 pub use writer::block_bytes;

@@ -6,7 +6,7 @@ ghost use Rattle.disk_model.specs.Calls.{CountsFault, Shows};
 ghost use Rattle.disk_model.specs.Gates.{IsShut};
 ghost use Rattle.archive_file.specs.declared.failure.ScanNo.TheVariants.{Damaged, DeviceFault};
 ghost use Rattle.group_layout.specs.Images.{IsGroupDamage, IsUnsaved, StandsFor};
-ghost use Rattle.group_layout.specs.Readings.{HasShape, IsLeftOrSame, IsReadOf, SavesNothing};
+ghost use Rattle.group_layout.specs.Readings.{GainsGroupSync, HasShape, IsLeftOrSame, IsReadOf, SavesNothing};
 ghost use Rattle.group_layout.specs.Rows.{block_lists_of};
 
 use crate::block::Blocks;
@@ -18,7 +18,7 @@ use std::alloc::Global;
 
 /// Opens the device of a group with this definition text and with so many inputs and calculations. The function syncs
 /// the device and reads it. If the device has no finished layout, or that of another text, the function begins it anew.
-/// A crash at any moment leaves what it might have left before, or what stands for the same versions and rows. If the
+/// Any other device gains one sync and nothing else, unless a call of it fails. A crash at any moment leaves what it might have left before, or what stands for the same versions and rows. If the
 /// device breaks the layout, the function returns `Damaged` with the first byte of the first field that does. Returns
 /// `DeviceFault` if a call of the device fails, and `WantOfMemory` if no memory is found.
 pub fn open_group<D: Disk>(
@@ -35,6 +35,7 @@ pub fn open_group<D: Disk>(
     ensures few { IfOk result (λ g. g.windows < 2 ^ 32) }
     ensures ready { IfOk result (λ g. Now (D.trace dev.new) (IsShut g.end)) }
     ensures settled { OnOk result (IsSettled (D.trace dev.new)) }
+    ensures synced { (IsErrOf result DeviceFault → ⊥) → GainsGroupSync text.now (D.trace dev.old) (D.trace dev.new) }
     ensures any_moment { During (D.trace dev.old) (D.trace dev.new) (IsLeftOrSame text.now inputs calcs (D.trace dev.old)) }
     ensures damaged { (a : ℕ) (byte : Option ℕ) → IsErrOf result (Damaged a byte)
         → Shows (D.trace dev.old) (λ c. IsGroupDamage text.now inputs calcs c a byte) }

@@ -1,46 +1,14 @@
-// Reading the blocks of an image that is in memory.
+// Reading a block that is in memory.
 ghost use Rattle.std.specs.Prelude.{◌≡◌, ℕ, ◌+◌, ◌*◌, ◌^◌, ◌<◌, ◌≤◌, All, Option, IfOk, IsErrOf, OnOk, length, map, slice_index, nat_eq, vec_len};
 ghost use Rattle.archive_file.specs.declared.failure.ScanNo.TheVariants.{Damaged, DeviceFault};
 ghost use Rattle.archive_file.specs.LayoutFields.{BreaksFirst, Keeps, Spells};
-ghost use Rattle.group_layout.specs.Blocks.{AreBlocks, AreDamaged, MayFollow, block_fields, block_image, block_size, end_of, last_of, parts_of, unsaved, version_fields, versions_image};
+ghost use Rattle.group_layout.specs.Blocks.{MayFollow, block_fields, block_image, block_size, last_of, parts_of, unsaved, version_fields, versions_image};
 
-use crate::block::{Block, Blocks};
+use crate::block::Block;
 use crate::row_reader::read_rows;
 use crate::writer::ROW_LEN;
-use archive_file::{Field, ScanNo, byte_at, check, long_at, short_at};
-use disk_model::OPEN;
+use archive_file::{Field, ScanNo, check, long_at, short_at};
 use std::alloc::Global;
-
-// Reads the blocks that begin with the gate at `at`, of a group with so many inputs and calculations.
-pub(crate) fn parse_blocks(
-    alloc: Global,
-    c: &[u8],
-    at: usize,
-    inputs: u32,
-    calcs: u32,
-) -> Result<Blocks, ScanNo>
-    requires { length c.now < 2 ^ 63 }
-    ensures blocks { IfOk result (λ blocks. AreBlocks c.now calcs inputs at (map parts_of blocks.list.items)) }
-    ensures end { IfOk result (λ blocks. blocks.end ≡ end_of at (map parts_of blocks.list.items)) }
-    ensures damaged { (a : ℕ) (byte : Option ℕ) → IsErrOf result (Damaged a byte) → AreDamaged c.now calcs inputs at a byte }
-    ensures no_fault { IsErrOf result DeviceFault → ⊥ }
-{
-    let unsaved = unsaved_block(alloc, inputs)?;
-    check(c, &[Field::new(at, 1, true)])?;
-    let mut list = Vec::new(alloc);
-    let mut next = at;
-    'walk: while byte_at(c, next) == OPEN {
-        let block = read_block(alloc, c, next, calcs, last_or(&list, &unsaved))?;
-        next += size_of_block(&block);
-        let Ok(()) = list.push(block) else {
-            return Err(ScanNo::WantOfMemory);
-        };
-    }
-    Ok(Blocks {
-        list,
-        end: next as u64,
-    })
-}
 
 // Returns what counts before the first save: so many inputs at version 0.
 pub(crate) fn unsaved_block(alloc: Global, inputs: u32) -> Result<Block, ScanNo>
@@ -78,7 +46,7 @@ pub(crate) fn size_of_block(b: &Block) -> usize
 }
 
 // Reads the block after the gate at a place, which follows the block `before`.
-fn read_block(
+pub(crate) fn read_block(
     alloc: Global,
     c: &[u8],
     gate: usize,

@@ -1,71 +1,63 @@
-use Rattle.std.proofs.Common.{◌≡◌, ◌+◌, ◌*◌, ◌≤◌, ◌∷◌, [], true, All, length, nat_eq, refl, ap, ◌∙◌, subst, arith, lit<}
+use Rattle.std.proofs.Common.{◌≡◌, ℕ, ◌+◌, ◌*◌, ◌≤◌, List, length, subst, arith}
 use Rattle.std.proofs.lemmas.Result.{err_from_is_err_and}
-use Rattle.archive_file.specs.LayoutFields.{BreaksFirst, Keeps, long_at}
-use Rattle.archive_file.proofs.FieldLaws.{breaks_part, field_of, told_through}
-use Rattle.commit_log.proofs.BlockLaws.{at_first, at_gate, at_rows, block_added, first_fields}
+use Rattle.disk_model.specs.Calls.{Shows}
+use Rattle.archive_file.specs.LayoutFields.{BreaksFirst}
+use Rattle.archive_file.proofs.FieldLaws.{told_through}
+use Rattle.archive_file.proofs.ReadImages.{shows_both, shows_so}
+use Rattle.commit_log.specs.Blocks.{block_fields, body_fields, front_fields, most_in_block}
+use Rattle.commit_log.specs.Openings.{AddsBlock, AddsRows, HasFront}
+use Rattle.commit_log.proofs.BlockLaws.{block_added, block_body, block_front}
+use Rattle.commit_log.proofs.Walks.{if_some}
+use Rattle.commit_log.proofs.block_reader.read_block.Given as given
 use Rattle.commit_log.proofs.block_reader.read_block.Goals as goal
-use Rattle.commit_log.proofs.block_reader.read_block.Goals.{After-check, After-read_rows}
+use Rattle.commit_log.proofs.block_reader.read_block.Goals.{After-read_body}
 
--- the first fields are those of a block after the rows so far
-heads : (c : After-check)
-    → c.new.result ∷ c.new-2.result ∷ []
-    ≡ first_fields c.args.c.now c.args.tags c.args.gate (length c.args.rows.now.items) c.short_at-count.result c.short_at-count.ensures
-heads c =
-    let s = c.args.c.now in
-    let gate = c.args.gate in
-    let n = length c.args.rows.now.items in
-    let len : c.len.result ≡ n = omega (arith, c.len.ensures) in
-    let first = c.new.ensures ∙ ap (λ k. field_of (gate + 1) 8 (nat_eq k c.len.result)) c.long_at-number.ensures
-    ∙ ap (λ k. field_of (gate + 1) 8 (nat_eq (long_at s (gate + 1)) k)) len in
-    let second = c.new-2.ensures ∙ ap (field_of (gate + 9) 4) c.is_count_ok.ensures in
-    λ i. first i ∷ second i ∷ []
+-- the front that was read is that of the next block
+front : (g : given.Over) (c : After-read_body g)
+    → Shows (g.D.Disk.trace c.args.dev.now) (λ i. HasFront i (length c.args.rows.now.items) c.args.gate c.in-Some.count)
+front g c =
+    let number : c.len.result ≡ length c.args.rows.now.items = omega (arith, c.len.ensures) in
+    subst (λ n. Shows (g.D.Disk.trace c.args.dev.now) (λ i. HasFront i n c.args.gate c.in-Some.count)) number
+    (if_some c.in_ok-count.field-0 c.in-Some.count (λ (k : ℕ). Shows (g.D.Disk.trace c.args.dev.now) (λ i. HasFront i c.len.result c.args.gate k))
+    c.in-Some.is c.in_ok-count.ensures.front)
 
--- so they keep what they have to
-kept : (c : After-read_rows)
-    → c.new.result ∷ c.new-2.result ∷ []
-    ≡ first_fields c.args.c.now c.args.tags c.args.gate (length c.args.rows.now.items) c.short_at-count.result c.short_at-count.ensures
-    → All (Keeps c.args.c.now)
-    (first_fields c.args.c.now c.args.tags c.args.gate (length c.args.rows.now.items) c.short_at-count.result c.short_at-count.ensures)
-kept c are = subst (All (Keeps c.args.c.now)) are c.in_ok-check.ensures.kept
-
-pub returns-in_err-check-clause-damaged : goal.returns-in_err-check-clause-damaged
-returns-in_err-check-clause-damaged c = λ a byte told.
-    let s = c.args.c.now in
+pub returns-in_err-count-clause-damaged : goal.returns-in_err-count-clause-damaged
+returns-in_err-count-clause-damaged g c = λ a byte told.
+    let x = c.args in
     let out = err_from_is_err_and c.from_residual.result c.from_residual.ensures.1 in
-    breaks_part s _ _ _ a byte
-    (at_first s c.args.tags c.args.gate (length c.args.rows.now.items) c.short_at-count.result c.short_at-count.ensures)
-    (subst (λ fs. BreaksFirst s fs a byte) (heads (goal.at.returns-in_err-check-clause-damaged c).After-check)
-    (c.in_err-check.ensures.damaged a byte (told_through c.from_residual.result out.0 _ a byte out.1 out.2 told)))
+    let number : c.len.result ≡ length x.rows.now.items = omega (arith, c.len.ensures) in
+    subst (λ n. Shows (g.D.Disk.trace x.dev.now) (λ i. BreaksFirst i (block_fields i x.tags n x.gate) a byte)) number
+    (shows_so (g.D.Disk.trace x.dev.now) (λ i. BreaksFirst i (front_fields i c.len.result x.gate) a byte)
+    (λ i. BreaksFirst i (block_fields i x.tags c.len.result x.gate) a byte) (λ i breaks. block_front i x.tags c.len.result x.gate a byte breaks)
+    (c.in_err-count.ensures.damaged a byte (told_through c.from_residual.result out.0 _ a byte out.1 out.2 told)))
 
-pub returns-in_err-read_rows-clause-damaged : goal.returns-in_err-read_rows-clause-damaged
-returns-in_err-read_rows-clause-damaged c = λ a byte told.
-    let at = goal.at.returns-in_err-read_rows-clause-damaged c in
-    let out = err_from_is_err_and c.from_residual-in_err-read_rows.result c.from_residual-in_err-read_rows.ensures.1 in
-    breaks_part _ _ _ _ a byte
-    (at_rows _ c.args.tags _ _ _ c.short_at-count.ensures (kept at.After-read_rows (heads at.After-check)))
-    (c.in_err-read_rows.ensures.damaged a byte
-    (told_through c.from_residual-in_err-read_rows.result out.0 _ a byte out.1 out.2 told))
-
-pub returns-in_err-check-2-clause-damaged : goal.returns-in_err-check-2-clause-damaged
-returns-in_err-check-2-clause-damaged c = λ a byte told.
-    let at = goal.at.returns-in_err-check-2-clause-damaged c in
-    let last = c.new-3.ensures in
-    let out = err_from_is_err_and c.from_residual-in_err-check-2.result c.from_residual-in_err-check-2.ensures.1 in
-    breaks_part _ _ _ _ a byte
-    (at_gate _ c.args.tags _ _ _ c.short_at-count.ensures (kept at.After-read_rows (heads at.After-check)) c.in_ok-read_rows.ensures.kept)
-    (subst (λ f. BreaksFirst c.args.c.now (f ∷ []) a byte) last
-    (c.in_err-check-2.ensures.damaged a byte
-    (told_through c.from_residual-in_err-check-2.result out.0 _ a byte out.1 out.2 told)))
+pub returns-in_err-read_body-clause-damaged : goal.returns-in_err-read_body-clause-damaged
+returns-in_err-read_body-clause-damaged g c = λ a byte told.
+    let x = c.args in
+    let o = g.D.Disk.trace x.dev.now in
+    let here = (goal.at.returns-in_err-read_body-clause-damaged g c).After-read_body in
+    let out = err_from_is_err_and c.from_residual-in_err-read_body.result c.from_residual-in_err-read_body.ensures.1 in
+    let in_body = λ (i : List ℕ). BreaksFirst i (body_fields i x.tags (x.gate + 13) c.in-Some.count) a byte in
+    shows_both o (λ i. HasFront i (length x.rows.now.items) x.gate c.in-Some.count) in_body
+    (λ i. BreaksFirst i (block_fields i x.tags (length x.rows.now.items) x.gate) a byte)
+    (λ i has breaks. block_body i x.tags (length x.rows.now.items) x.gate c.in-Some.count a byte has breaks) (front g here)
+    (subst (λ t. Shows t in_body) c.in_ok-count.ensures.same
+    (c.in_err-read_body.ensures.damaged a byte
+    (told_through c.from_residual-in_err-read_body.result out.0 _ a byte out.1 out.2 told)))
 
 pub returns-clause-added : goal.returns-clause-added
-returns-clause-added c =
-    let at = goal.at.returns-clause-added c in
-    block_added _ c.args.tags _ _ _ c.args.rows.now.items _ c.short_at-count.ensures (λ i. omega (arith, c.type_inv.c i))
-    (kept at.After-read_rows (heads at.After-check)) c.in_ok-read_rows.ensures.added refl
-
-pub returns-clause-next : goal.returns-clause-next
-returns-clause-next c =
-    let last = c.new-3.ensures in
-    let kept = subst (λ f. All (Keeps c.args.c.now) (f ∷ [])) last c.in_ok-check-2.ensures.kept in
-    let there : c.args.gate + 13 + 32 * c.short_at-count.result + 1 ≤ length c.args.c.now = (kept 0 (field_of 0 0 true) (lit< tt)).there in
-    omega (arith, there)
+returns-clause-added g c =
+    let x = c.args in
+    let o = g.D.Disk.trace x.dev.now in
+    let here = (goal.at.returns-clause-added g c).After-read_body in
+    let count = c.in-Some.count in
+    let old = x.rows.now.items in
+    let new = c.read_body.new.rows.items in
+    let next = x.gate + 13 + 32 * c.from.result in
+    let some_of = λ (P : ℕ → Type 0). if_some c.in_ok-count.field-0 count P c.in-Some.is in
+    shows_both o (λ i. HasFront i (length old) x.gate count) (λ i. AddsRows i x.tags (x.gate + 13) count old new)
+    (λ i. AddsBlock i x.tags x.gate old new next)
+    (λ i has added. block_added i x.tags x.gate count next old new has (some_of (λ k. 1 ≤ k) c.in_ok-count.ensures.some)
+    (some_of (λ k. k ≤ most_in_block) c.in_ok-count.ensures.few) added
+    (omega (arith, c.from.ensures))) (front g here)
+    (subst (λ t. Shows t (λ i. AddsRows i x.tags (x.gate + 13) count old new)) c.in_ok-count.ensures.same c.in_ok-read_body.ensures.added)

@@ -1,4 +1,4 @@
-use Rattle.std.proofs.Common.{subst}
+use Rattle.std.proofs.Common.{◌∙◌, subst}
 use Rattle.std.proofs.lemmas.Result.{err_from_is_err_and}
 use Rattle.disk_model.specs.Moments.{During}
 use Rattle.disk_model.specs.Traces.{seen}
@@ -7,7 +7,7 @@ use Rattle.group_layout.specs.Readings.{IsLeftOrSame, SavesNothing, StandsSame}
 use Rattle.group_layout.specs.Rows.{block_lists_of}
 use Rattle.archive_file.proofs.FieldLaws.{told_through}
 use Rattle.archive_file.proofs.ReadImages.{during_same, left_synced, shown_before}
-use Rattle.group_layout.proofs.Openings.{found_unsaved, left_begun, read_stands, unsaved_stands}
+use Rattle.group_layout.proofs.Openings.{found_unsaved, gains_nothing, gains_sync, left_begun, read_stands, unsaved_stands}
 use Rattle.group_layout.proofs.opening.open_group.Goals as goal
 
 pub returns-in_default-clause-any_moment : goal.returns-in_default-clause-any_moment
@@ -56,3 +56,17 @@ returns-clause-any_moment g c =
     (found_unsaved x.text.now x.inputs x.calcs mid c.in_ok-saved.field-0 c.in-New.is c.in_ok-saved.ensures.found)
     (left_synced (StandsSame x.text.now x.inputs x.calcs (seen (g.D.Disk.trace x.dev.now))) c.sync.result _ _ c.sync.ensures.noted)
     (subst (λ o. During o (g.D.Disk.trace c.begin.new.dev) (SavesNothing x.text.now)) c.read_group.ensures.same c.begin.ensures.any_moment)
+
+pub returns-in_err-saved-clause-synced : goal.returns-in_err-saved-clause-synced
+returns-in_err-saved-clause-synced g c = λ unfailed.
+    gains_sync c.args.text.now _ _ (c.read_group.ensures.same ∙ c.in-Ok.ensures.noted)
+
+pub returns-in-Saved-clause-synced : goal.returns-in-Saved-clause-synced
+returns-in-Saved-clause-synced g c = λ unfailed.
+    gains_sync c.args.text.now _ _ (c.read_group.ensures.same ∙ c.in-Ok.ensures.noted)
+
+pub returns-clause-synced : goal.returns-clause-synced
+returns-clause-synced g c = λ unfailed.
+    let x = c.args in
+    gains_nothing x.text.now _ _ (shown_before _ _ (IsUnsaved x.text.now) c.in-Ok.ensures.noted
+    (found_unsaved x.text.now x.inputs x.calcs _ c.in_ok-saved.field-0 c.in-New.is c.in_ok-saved.ensures.found))

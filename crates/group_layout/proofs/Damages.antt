@@ -1,0 +1,35 @@
+-- Where a group's device is damaged, from what was read of it.
+use Rattle.std.proofs.Common.{ℕ, List, length, Option}
+use Rattle.disk_model.specs.Calls.{Shows}
+use Rattle.disk_model.specs.Gates.{IsBegun}
+use Rattle.disk_model.specs.Traces.{Trace}
+use Rattle.archive_file.specs.LayoutFields.{BreaksFirst}
+use Rattle.archive_file.specs.TextHeads.{IsOfText, blocks_at, head_fields}
+use Rattle.archive_file.proofs.ReadImages.{shows_both}
+use Rattle.group_layout.specs.Blocks.{AreBlocks, AreDamaged, BlockParts}
+use Rattle.group_layout.specs.Images.{IsGroupDamage, letters}
+use Rattle.group_layout.specs.Images.IsGroupDamage.{BadBlock, BadHead, BadRows}
+use Rattle.group_layout.specs.Rows.{IsIncomplete}
+
+module _ (o : Option Trace) (text : List ℕ) (inputs calcs a : ℕ) (byte : Option ℕ) where
+  -- in its head
+  pub head_damage : Shows o IsBegun → Shows o (λ c. BreaksFirst c (head_fields letters c) a byte)
+      → Shows o (λ c. IsGroupDamage text inputs calcs c a byte)
+  head_damage begun breaks =
+      shows_both o IsBegun (λ c. BreaksFirst c (head_fields letters c) a byte) (λ c. IsGroupDamage text inputs calcs c a byte)
+      (λ c first second. BadHead first second) begun breaks
+
+  -- in a block
+  pub block_damage : Shows o (IsOfText letters text) → Shows o (λ c. AreDamaged c calcs inputs (blocks_at (length text)) a byte)
+      → Shows o (λ c. IsGroupDamage text inputs calcs c a byte)
+  block_damage is breaks =
+      shows_both o (IsOfText letters text) (λ c. AreDamaged c calcs inputs (blocks_at (length text)) a byte)
+      (λ c. IsGroupDamage text inputs calcs c a byte) (λ c first second. BadBlock first second) is breaks
+
+  -- in what the blocks give
+  pub rows_damage : (bs : List BlockParts) → Shows o (IsOfText letters text)
+      → Shows o (λ c. AreBlocks c calcs inputs (blocks_at (length text)) bs) → IsIncomplete calcs inputs (blocks_at (length text)) bs a byte
+      → Shows o (λ c. IsGroupDamage text inputs calcs c a byte)
+  rows_damage bs is blocks missing =
+      shows_both o (IsOfText letters text) (λ c. AreBlocks c calcs inputs (blocks_at (length text)) bs)
+      (λ c. IsGroupDamage text inputs calcs c a byte) (λ c first second. BadRows bs first second missing) is blocks
