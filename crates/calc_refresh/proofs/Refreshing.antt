@@ -154,6 +154,9 @@ pub swept : (g : Group) (w : Grid) (copies mores : List (List Rec)) (rows wider 
 swept g w [] mores rows wider after contents marks due s = absurd (omega (arith, s.input))
 swept g w (rs ∷ rss) mores rows wider after contents marks due s = record {
   copied = refl;
+  due_are = λ k within due_now.
+      let inside : k < length marks = omega (arith, within, s.windows) in
+      s.filled k inside (s.marked k inside ∙ due_now) ∙ ap (map Some) (at k);
   scratch = λ was. record {
     calcs = length-map after (λ v. v.items) ∙ s.calcs;
     windows = subst (λ n. All (λ row. length row ≡ n) (lists_of after)) s.windows (long_lists after (length marks) s.long);

@@ -1,5 +1,5 @@
 -- What more records do to a sheet, and when the sheet refuses them.
-use Rattle.std.specs.Prelude.{◌≡◌, ℕ, ◌+◌, ◌-◌, ◌*◌, ◌^◌, ◌<◌, ◌≤◌, min, false, not, ◌==◌, List, length, map, find, Option, None, Some, nat_lt, if◌then◌else◌, All, Vec, vec_len, vec_capacity, slice_index_or}
+use Rattle.std.specs.Prelude.{◌≡◌, ℕ, ◌+◌, ◌-◌, ◌*◌, ◌^◌, ◌<◌, ◌≤◌, min, true, false, not, ◌==◌, List, length, map, find, Option, None, Some, nat_lt, if◌then◌else◌, All, Vec, vec_len, vec_capacity, slice_index_or}
 use Rattle.std.specs.Option.{option_map}
 use Rattle.std.specs.declared.alloc.Global.{Global}
 use Rattle.trend_num.specs.declared.archive.Rec.{Rec}
@@ -9,11 +9,11 @@ use Rattle.calc_check.specs.Group.{Group}
 use Rattle.sheet_law.specs.declared.grid.Grid.{Grid}
 use Rattle.sheet_law.specs.Windows.{complete_windows, window_from, window_to}
 use Rattle.sheet_law.specs.Touched.{any_touched, longer}
-use Rattle.sheet_law.specs.Scratch.{IsScratch, column, due_below}
+use Rattle.sheet_law.specs.Scratch.{IsScratch, column, due_below, is_due, values_at}
 use Rattle.calc_refresh.specs.declared.refusal.SheetNo.{SheetNo}
 use Rattle.calc_refresh.specs.declared.refusal.SheetNo.TheVariants.{Shape, CellLimit, CopyLimit, WantOfMemory}
 use Rattle.calc_refresh.specs.Lists.{total_length}
-use Rattle.calc_refresh.specs.Sheet.{SheetState}
+use Rattle.calc_refresh.specs.Sheet.{AreRowsWhole, SheetState}
 
 -- how many cells a sheet may have, and how many copied records
 abbrev pub most_cells : ℕ
@@ -35,6 +35,10 @@ abbrev pub limit_fault : ℕ → ℕ → Option SheetNo
 limit_fault cells records =
     if nat_lt most_cells cells then Some (CellLimit cells)
     else (if nat_lt most_copies records then Some (CopyLimit records) else None)
+
+-- why a sheet is too large, if it is
+abbrev pub fault_of : SheetState → Option SheetNo
+fault_of s = limit_fault (complete_windows s.grid s.copies * length s.group.calcs) (total_length s.copies)
 
 -- how many cells a sheet has with more records
 abbrev pub cells_after : SheetState → List (List Rec) → ℕ
@@ -61,6 +65,11 @@ pub record IsRefreshed (s t : SheetState) (mores : List (List Rec)) : Type 0 whe
   pub group : t.group ≡ s.group
   pub grid : t.grid ≡ s.grid
   pub copies : t.copies ≡ longer s.copies mores
+  pub within : fault_of t ≡ None
+  pub whole : AreRowsWhole t
+  -- a window that is due has its values from scratch, whatever the rows were before
+  pub due_are : (k : ℕ) → k < complete_windows t.grid t.copies → is_due s.grid s.copies mores k ≡ true
+      → column k t.rows ≡ map Some (values_at t.group t.grid t.copies k)
   -- rows that were from scratch are still so
   pub scratch : IsScratch s.group s.grid s.copies s.rows → IsScratch t.group t.grid t.copies t.rows
   -- a window that was complete and is not touched keeps its values
@@ -73,6 +82,8 @@ pub record IsRefreshed (s t : SheetState) (mores : List (List Rec)) : Type 0 whe
 pub record IsSheetAfter (g : Group) (w : Grid) (copies : List (List Rec)) (rows : List (List CalcValue))
     (copies_after : List (List Rec)) (rows_after : List (List CalcValue)) (mores : List (List Rec)) (due : ℕ) : Type 0 where
   pub copied : copies_after ≡ longer copies mores
+  pub due_are : (k : ℕ) → k < complete_windows w copies_after → is_due w copies mores k ≡ true
+      → column k rows_after ≡ map Some (values_at g w copies_after k)
   pub scratch : IsScratch g w copies rows → IsScratch g w copies_after rows_after
   pub others : (k : ℕ) → k < complete_windows w copies
       → any_touched copies mores (window_from w k) (window_to w k) ≡ false

@@ -17,6 +17,11 @@ pub record SheetState : Type 0 where
   pub rows : List (List CalcValue)
   pub evals : ℕ
 
+-- there is a row for each calculation, with one value for each complete window
+pub record AreRowsWhole (s : SheetState) : Type 0 where
+  pub calcs : length s.rows ≡ length s.group.calcs
+  pub windows : All (λ row. length row ≡ complete_windows s.grid s.copies) s.rows
+
 -- the grid whose first window starts at `start`, and whose windows are `period` milliseconds long
 abbrev pub grid_of : ℕ → ℕ → Grid
 grid_of start period = record { start = start; period = period }

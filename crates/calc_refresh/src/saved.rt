@@ -6,7 +6,7 @@ ghost use Rattle.sheet_law.specs.Windows.{complete_windows, kept_end};
 ghost use Rattle.calc_refresh.specs.declared.refusal.SheetNo.{SheetNo};
 ghost use Rattle.calc_refresh.specs.Lists.{lists_of};
 ghost use Rattle.calc_refresh.specs.Refreshed.{IsRefreshToldOf, fresh, shape_fault};
-ghost use Rattle.calc_refresh.specs.Sheet.{IsCopy, IsGrid, IsGroup, grid_of};
+ghost use Rattle.calc_refresh.specs.Sheet.{AreRowsWhole, IsCopy, IsGrid, IsGroup, grid_of};
 
 use crate::definition::GroupDefParts;
 use crate::limit::kept_end_after;
@@ -36,6 +36,7 @@ pub fn from_saved(
     requires short { All (λ row. vec_len row < 2 ^ 32) rows.items }
     ensures saved { IfOk result (λ s. s ≡ fresh def.now.calcs (grid_of def.now.start def.now.period)
         (lists_of copies.items) (lists_of rows.items)) }
+    ensures whole { IfOk result AreRowsWhole }
 
     // A row of another length is reported whether there is memory or not.
     ensures shape { let grid = grid_of def.now.start def.now.period in (why : SheetNo)
@@ -67,8 +68,9 @@ pub(crate) fn restored(
     requires shape { let grid = grid_of def.now.start def.now.period in
         All (λ row. length row ≡ complete_windows grid (lists_of copies.items)) (lists_of rows.items) }
     requires few { complete_windows (grid_of def.now.start def.now.period) (lists_of copies.items) < 2 ^ 32 }
-    ensures { IfOk result (λ s. s ≡ fresh def.now.calcs (grid_of def.now.start def.now.period)
+    ensures restored { IfOk result (λ s. s ≡ fresh def.now.calcs (grid_of def.now.start def.now.period)
         (lists_of copies.items) (lists_of rows.items)) }
+    ensures whole { IfOk result AreRowsWhole }
 {
     let contents = contents_of(alloc, &copies)?;
     let ends = ends_of(alloc, &copies)?;

@@ -7,7 +7,7 @@ ghost use Rattle.sheet_law.specs.Scratch.{IsScratch};
 ghost use Rattle.calc_refresh.specs.declared.refusal.SheetNo.{SheetNo};
 ghost use Rattle.calc_refresh.specs.Lists.{lists_of};
 ghost use Rattle.calc_refresh.specs.Refreshed.{IsRefreshed, IsRefreshToldOf, evaluated, fault_after, fresh};
-ghost use Rattle.calc_refresh.specs.Sheet.{IsCopy, IsGrid, IsGroup, grid_of};
+ghost use Rattle.calc_refresh.specs.Sheet.{AreRowsWhole, IsCopy, IsGrid, IsGroup, grid_of};
 
 use crate::definition::GroupDefParts;
 use crate::limit::{records_after, windows_after, within_limits};
@@ -75,6 +75,7 @@ pub fn new_sheet(alloc: Global, def: &GroupDefParts) -> Result<Sheet, WantOfMemo
     ensures empty { IfOk result (λ s. s ≡ fresh def.now.calcs (grid_of def.now.start def.now.period)
         (replicate def.now.inputs []) (replicate (length def.now.calcs.calcs) [])) }
     ensures scratch { IfOk result (λ s. IsScratch s.group s.grid s.copies s.rows) }
+    ensures whole { IfOk result AreRowsWhole }
 {
     let copies = empty_copies(alloc, def.inputs as usize)?;
     let rows = empty_rows(alloc, def.calcs.defs().len())?;

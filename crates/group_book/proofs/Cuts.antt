@@ -19,7 +19,7 @@ never_trans a b c ab bc = record {
 }
 
 -- after the first one
-tail_rises : (v u : ℕ) (vs us : List ℕ) → NeverFall (v ∷ vs) (u ∷ us) → NeverFall vs us
+pub tail_rises : (v u : ℕ) (vs us : List ℕ) → NeverFall (v ∷ vs) (u ∷ us) → NeverFall vs us
 tail_rises v u vs us never = record {
   inputs = let same = never.inputs in omega arith;
   rises = λ i low. never.rises (suc i) (omega arith);

@@ -1,19 +1,22 @@
 -- A book that was just made.
-use Rattle.std.proofs.Common.{◌≡◌, ℕ, zero, suc, ◌≤◌, false, List, [], ◌∷◌, length, map, replicate, None, refl, sym, ap, ◌∙◌, subst}
+use Rattle.std.proofs.Common.{◌≡◌, ℕ, zero, suc, ◌≤◌, All, false, List, [], ◌∷◌, length, map, replicate, None, refl, sym, ap, ◌∙◌, subst}
 use Rattle.std.proofs.lemmas.List.{length-replicate}
 use Rattle.trend_num.specs.declared.archive.Rec.{Rec}
 use Rattle.disk_model.specs.Moments.{LeftSince}
 use Rattle.calc_refresh.specs.declared.definition.GroupDefParts.{GroupDefParts}
 use Rattle.calc_refresh.specs.Lists.{lists_of}
 use Rattle.calc_refresh.specs.Refreshed.{fresh}
-use Rattle.calc_refresh.specs.Sheet.{IsGrid, IsGroup, SheetState, grid_of}
+use Rattle.calc_refresh.specs.Sheet.{AreRowsWhole, IsGrid, IsGroup, SheetState, grid_of}
 use Rattle.sheet_law.specs.Scratch.{IsScratch}
 use Rattle.group_book.specs.declared.history.GroupOpening.{GroupOpening}
 use Rattle.group_book.specs.Crashes.{IsBookSafe}
-use Rattle.group_book.specs.Histories.{IsBookLegal}
+use Rattle.group_book.specs.Histories.{AreRowsEvaluated, IsBookLegal}
 use Rattle.group_book.specs.Tapes.{cut}
 use Rattle.group_book.specs.Told.{IsDefined, IsKept, Saved}
+use Rattle.sheet_law.specs.declared.grid.Grid.{Grid}
+use Rattle.sheet_law.specs.Windows.{complete_windows}
 use Rattle.group_book.proofs.Cuts.{cut-all}
+use Rattle.group_book.proofs.Evaluations.{evaluated_first}
 
 -- so many empty copies have version 0
 empty_versions : (n : ℕ) → map length (replicate {A = List Rec} n []) ≡ replicate n 0
@@ -60,6 +63,14 @@ module _ (def made : GroupDefParts) (same : made ≡ def) (o : GroupOpening) (s 
     copied = vs_are ∙ sym copied;
     scratch = λ right. from_scratch;
   }
+
+  pub fresh_evaluated : AreRowsWhole s → AreRowsEvaluated made.calcs (grid_of made.start made.period) o [] s.copies s.rows s.evals
+  fresh_evaluated whole =
+      subst (λ d. AreRowsEvaluated d.calcs (grid_of d.start d.period) o [] s.copies s.rows s.evals) (sym same)
+      (evaluated_first def.calcs (grid_of def.start def.period) o s.copies s.rows s.evals (opened ∙ sym copied)
+      (whole.calcs ∙ ap (λ x. length x.group.calcs) is)
+      (subst (λ (w : Grid). All (λ row. length row ≡ complete_windows w s.copies) s.rows) (ap (λ x. x.grid) is) whole.windows)
+      (ap (λ x. x.evals) is))
 
   pub fresh_kept : (text : List ℕ) (ticks faults : ℕ) → o.moment ≤ ticks → faults ≡ o.faults
       → IsKept text made o [] s.copies saved false None ticks faults

@@ -1,5 +1,5 @@
 -- A book's history after a question, and after a refresh.
-use Rattle.std.proofs.Common.{◌≡◌, ℕ, ◌≤◌, Bool, true, false, List, [], ◌∷◌, ◌++◌, Contains, length, map, get_or, slice_get, Vec, Option, None, Some, IfSome, option_and_then, nat_lt, ltb-true, ltb-false, refl, sym, ap, ◌∙◌, subst, if◌then◌else◌}
+use Rattle.std.proofs.Common.{◌≡◌, ◌↔◌, ℕ, ◌<◌, ◌≤◌, Bool, true, false, List, [], ◌∷◌, ◌++◌, Contains, length, map, get_or, slice_get, Vec, Option, None, Some, IfSome, IsSome, option_and_then, nat_lt, ltb-true, ltb-false, refl, sym, ap, ◌∙◌, subst, if◌then◌else◌}
 use Rattle.std.specs.Option.{option_map}
 use Rattle.std.specs.declared.alloc.Global.{Global}
 use Rattle.std.proofs.lemmas.List.Elements.{All-cons, All-nil}
@@ -66,11 +66,15 @@ module _ (g : Group) (grid : Grid) (o : GroupOpening) (tape : List Turn) (versio
   pub opened_low : NeverFall o.versions.items (map length copies)
   opened_low = subst (NeverFall o.versions.items) at_end (walk_rises g grid o copies (book_start o) tape legal.turns)
 
-  pub legal_asked : (reader row calc k : ℕ) → IsBookLegal g grid o (tape ++ Ask reader row calc k (cell_of rows calc k) ∷ []) versions copies rows
-  legal_asked reader row calc k = record {
-    turns = fit_push g grid o copies (book_start o) tape (Ask reader row calc k (cell_of rows calc k)) legal.turns
-        (λ right. cell_scratch g grid copies rows calc k (legal.scratch right)
-        ∙ ap (λ rss. scratch_at g grid rss calc k) (sym cut_here));
+  pub legal_asked : (reader row calc k : ℕ)
+      → IsSome (cell_of rows calc k) ↔ ((calc < length g.calcs) × (k < complete_windows grid copies))
+      → IsBookLegal g grid o (tape ++ Ask reader row calc k (cell_of rows calc k) ∷ []) versions copies rows
+  legal_asked reader row calc k there = record {
+    turns = fit_push g grid o copies (book_start o) tape (Ask reader row calc k (cell_of rows calc k)) legal.turns (record {
+      there = subst (λ rss. IsSome (cell_of rows calc k) ↔ ((calc < length g.calcs) × (k < complete_windows grid rss))) (sym cut_here) there;
+      value = λ right. cell_scratch g grid copies rows calc k (legal.scratch right)
+          ∙ ap (λ rss. scratch_at g grid rss calc k) (sym cut_here);
+    });
     last = legal.last ∙ ap (λ w. w.versions) (sym (walked-push (book_start o) tape (Ask reader row calc k (cell_of rows calc k))));
     copied = legal.copied;
     scratch = legal.scratch;

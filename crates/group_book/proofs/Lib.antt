@@ -8,3 +8,4 @@ pub mod Causes
 pub mod Saving
 pub mod Loaded
 pub mod InputLists
+pub mod Evaluations

@@ -219,7 +219,7 @@ refused_cause text def recovered versions rows (Some t) (Ahead input version rec
     record { versions = versions; rows = rows; stands = stood; ahead = refused }
 refused_cause text def recovered versions rows None (Shape windows size) stood refused = tt
 refused_cause text def recovered versions rows (Some t) (Shape windows size) stood refused =
-    record { versions = versions; rows = rows; stands = stood; shape = refused }
+    record { versions = versions; rows = rows; stands = stood; misshapen = refused }
 refused_cause text def recovered versions rows o WantOfMemory stood refused = tt
 
 -- a device could not be read

@@ -1,5 +1,5 @@
 -- Tapes with one more turn, and over copies that grew.
-use Rattle.std.proofs.Common.{◌≡◌, ℕ, Bool, true, false, All, List, [], ◌∷◌, ◌++◌, Contains, length, length-append, map, get_or, nat_le, refl, sym, ap, ◌∙◌, subst, arith, if◌then◌else◌}
+use Rattle.std.proofs.Common.{◌≡◌, ◌↔◌, ℕ, ◌<◌, Bool, true, false, All, List, [], ◌∷◌, ◌++◌, Contains, IsSome, length, length-append, map, get_or, nat_le, refl, sym, ap, ◌∙◌, subst, arith, if◌then◌else◌}
 use Rattle.std.proofs.Math.ListN.{get_or-append}
 use Rattle.std.proofs.Math.Seq.{get_or-append_seam}
 use Rattle.std.proofs.lemmas.List.Elements.{All-cons, All-nil, All-push}
@@ -8,11 +8,12 @@ use Rattle.calc_check.specs.Group.{Group}
 use Rattle.calc_refresh.specs.Lists.{lists_of}
 use Rattle.sheet_law.specs.declared.grid.Grid.{Grid}
 use Rattle.sheet_law.specs.Scratch.{IsScratch}
+use Rattle.sheet_law.specs.Windows.{complete_windows}
 use Rattle.sheet_law.specs.Touched.{longer}
 use Rattle.group_book.specs.declared.turn.Turn.{Turn}
 use Rattle.group_book.specs.declared.turn.Turn.TheVariants.{Refresh, Ask, Save}
 use Rattle.group_book.specs.declared.history.GroupOpening.{GroupOpening}
-use Rattle.group_book.specs.Tapes.{BookWalk, after_turn, saved_at, versions_since, book_walked}
+use Rattle.group_book.specs.Tapes.{BookWalk, after_turn, cut, saved_at, versions_since, book_walked}
 use Rattle.group_book.specs.Histories.{BookTurnsFit, BookTurnFits, IsRight, NeverFall, scratch_at}
 use Rattle.group_book.proofs.Cuts.{cut-longer, never_refl, never_trans}
 
@@ -126,10 +127,15 @@ fit_longer g grid o copies mores w [] opened low fits = tt
 fit_longer g grid o copies mores w (Refresh versions ∷ es) opened low fits =
     (fits.0, fit_longer g grid o copies mores (after_turn w (Refresh versions)) es opened low fits.1)
 fit_longer g grid o copies mores w (Ask reader row calc k reply ∷ es) opened low fits = (
-  λ right. fits.0 (right_back g grid o copies mores opened right)
-      ∙ ap (λ rss. scratch_at g grid rss calc k) (sym (cut-longer w.versions copies mores
-      (never_trans w.versions (book_walked w es).versions (map length copies) (walk_rises g grid o copies w es fits.1) low))),
+  record {
+    there = subst (λ rss. IsSome reply ↔ ((calc < length g.calcs) × (k < complete_windows grid rss))) (sym same) fits.0.there;
+    value = λ right. fits.0.value (right_back g grid o copies mores opened right) ∙ ap (λ rss. scratch_at g grid rss calc k) (sym same);
+  },
   fit_longer g grid o copies mores w es opened low fits.1,
 )
+  where
+    same : cut w.versions (longer copies mores) ≡ cut w.versions copies
+    same = cut-longer w.versions copies mores
+        (never_trans w.versions (book_walked w es).versions (map length copies) (walk_rises g grid o copies w es fits.1) low)
 fit_longer g grid o copies mores w (Save number moment ∷ es) opened low fits =
     (fits.0, fit_longer g grid o copies mores (after_turn w (Save number moment)) es opened low fits.1)

@@ -1,16 +1,16 @@
 -- Legal group histories: each turn on the tape is true.
-use Rattle.std.specs.Prelude.{◌≡◌, ℕ, ◌+◌, ◌<◌, ◌≤◌, List, [], ◌∷◌, length, map, slice_index, slice_get, Option, None, IfSome, nat_lt, if◌then◌else◌}
+use Rattle.std.specs.Prelude.{◌≡◌, ◌↔◌, ℕ, ◌+◌, ◌-◌, ◌*◌, ◌^◌, ◌<◌, ◌≤◌, min, true, List, [], ◌∷◌, All, length, map, slice_index, slice_get, Option, None, Some, IfSome, IsSome, nat_lt, if◌then◌else◌}
 use Rattle.trend_num.specs.declared.archive.Rec.{Rec}
 use Rattle.trend_num.specs.declared.value.CalcValue.{CalcValue}
 use Rattle.calc_check.specs.Group.{Group}
 use Rattle.sheet_law.specs.declared.grid.Grid.{Grid}
 use Rattle.sheet_law.specs.Windows.{complete_windows}
-use Rattle.sheet_law.specs.Scratch.{IsScratch, values_at}
+use Rattle.sheet_law.specs.Scratch.{IsScratch, column, due_below, is_due, values_at}
 use Rattle.calc_refresh.specs.Lists.{lists_of}
 use Rattle.group_book.specs.declared.turn.Turn.{Turn}
 use Rattle.group_book.specs.declared.turn.Turn.TheVariants.{Refresh, Ask, Save}
 use Rattle.group_book.specs.declared.history.GroupOpening.{GroupOpening}
-use Rattle.group_book.specs.Tapes.{BookWalk, book_start, after_turn, book_walked, cut}
+use Rattle.group_book.specs.Tapes.{BookWalk, book_start, after_turn, book_walked, cut, uncut}
 
 -- the value of a calculation in a window from scratch, if there are such a calculation and such a complete window
 abbrev pub scratch_at : Group → Grid → List (List Rec) → ℕ → ℕ → Option CalcValue
@@ -30,12 +30,17 @@ pub record IsNextSave (w : BookWalk) (number moment : ℕ) : Type 0 where
   pub next : IfSome w.number (λ last. number ≡ last + 1)
   pub later : w.moment < moment
 
--- a turn is true at its place on the tape. If the opening is right, an answer is the value from scratch at the versions
--- there
+-- The answer to a question at these versions. There is a value exactly where there are such a calculation and such a
+-- complete window. If the opening is right, it is the value from scratch.
+pub record IsTrueReply (g : Group) (grid : Grid) (o : GroupOpening) (copies : List (List Rec)) (versions : List ℕ)
+    (calc k : ℕ) (reply : Option CalcValue) : Type 0 where
+  pub there : IsSome reply ↔ ((calc < length g.calcs) × (k < complete_windows grid (cut versions copies)))
+  pub value : IsRight g grid o copies → reply ≡ scratch_at g grid (cut versions copies) calc k
+
+-- a turn is true at its place on the tape
 abbrev pub BookTurnFits : Group → Grid → GroupOpening → List (List Rec) → BookWalk → Turn → Type 0
 BookTurnFits g grid o copies w (Refresh versions) = NeverFall w.versions versions.items
-BookTurnFits g grid o copies w (Ask reader row calc k reply) =
-    IsRight g grid o copies → reply ≡ scratch_at g grid (cut w.versions copies) calc k
+BookTurnFits g grid o copies w (Ask reader row calc k reply) = IsTrueReply g grid o copies w.versions calc k reply
 BookTurnFits g grid o copies w (Save number moment) = IsNextSave w number moment
 
 -- each of these turns is true at its place
@@ -51,3 +56,30 @@ pub record IsBookLegal (g : Group) (grid : Grid) (o : GroupOpening) (tape : List
   pub last : versions ≡ (book_walked (book_start o) tape).versions
   pub copied : versions ≡ map length copies
   pub scratch : IsRight g grid o copies → IsScratch g grid copies rows
+
+-- how many values a refresh from one of these versions to the other evaluates: one for each calculation in each window
+-- that is due
+abbrev pub evaluated_between : Group → Grid → List (List Rec) → List ℕ → List ℕ → ℕ
+evaluated_between g w copies from to =
+    due_below w (cut from copies) (uncut from (cut to copies)) (complete_windows w (cut to copies)) * length g.calcs
+
+-- How many values the refreshes on a tape evaluate, and `count` before them. `now` has the versions so far. The count
+-- stays at 2^64 - 1.
+abbrev pub evaluated_on : Group → Grid → List (List Rec) → List ℕ → ℕ → List Turn → ℕ
+evaluated_on g w copies now count [] = count
+evaluated_on g w copies now count (Refresh versions ∷ es) =
+    evaluated_on g w copies versions.items (min (count + evaluated_between g w copies now versions.items) (2 ^ 64 - 1)) es
+evaluated_on g w copies now count (Ask reader row calc k reply ∷ es) = evaluated_on g w copies now count es
+evaluated_on g w copies now count (Save number moment ∷ es) = evaluated_on g w copies now count es
+
+-- What holds of a group's rows, whether or not the opening is right. There is a row for each calculation, with one value
+-- for each complete window. A window that the records since the opening made due has its values from scratch. As many
+-- values were evaluated as the refreshes on the tape made due.
+pub record AreRowsEvaluated (g : Group) (grid : Grid) (o : GroupOpening) (tape : List Turn) (copies : List (List Rec))
+    (rows : List (List CalcValue)) (evals : ℕ) : Type 0 where
+  pub calcs : length rows ≡ length g.calcs
+  pub windows : All (λ row. length row ≡ complete_windows grid copies) rows
+  pub due : (k : ℕ) → k < complete_windows grid copies
+      → is_due grid (cut o.versions.items copies) (uncut o.versions.items copies) k ≡ true
+      → column k rows ≡ map Some (values_at g grid copies k)
+  pub evals_are : evals ≡ evaluated_on g grid copies o.versions.items 0 tape

@@ -1,5 +1,5 @@
 -- What the opening of a group's device gives, and why a device is not opened.
-use Rattle.std.specs.Prelude.{◌≡◌, ℕ, ◌<◌, ◌≤◌, List, length, slice_index, slice_index_or, Option, Some, Err}
+use Rattle.std.specs.Prelude.{◌≡◌, ℕ, ◌<◌, ◌≤◌, List, length, map, slice_index, slice_index_or, Option, Some, Err}
 use Rattle.trend_num.specs.declared.archive.Rec.{Rec}
 use Rattle.trend_num.specs.declared.value.CalcValue.{CalcValue}
 use Rattle.archive_file.specs.declared.failure.ScanNo.{ScanNo}
@@ -41,13 +41,20 @@ pub record SavesAhead (text : List ℕ) (def : GroupDefParts) (recovered : List 
   pub stands : StandsForGroup text def versions rows c
   pub ahead : IsAhead versions recovered input version records
 
--- these bytes stand for rows, one of which does not have as many values as there are complete windows
+-- no version is above the number of records that were recovered; but a row does not have as many values as there are
+-- complete windows, and this is the first such row
+pub record IsMisshapen (def : GroupDefParts) (recovered : List (List Rec)) (versions : List ℕ) (rows : List (List CalcValue))
+    (windows size : ℕ) : Type 0 where
+  pub within : map length (cut versions recovered) ≡ versions
+  pub shape : shape_fault (complete_windows (grid_of def.start def.period) (cut versions recovered)) rows ≡ Some (sheet.Shape windows size)
+
+-- these bytes stand for such rows
 pub record SavesShape (text : List ℕ) (def : GroupDefParts) (recovered : List (List Rec)) (windows size : ℕ) (c : List ℕ)
     : Type 0 where
   pub versions : List ℕ
   pub rows : List (List CalcValue)
   pub stands : StandsForGroup text def versions rows c
-  pub shape : shape_fault (complete_windows (grid_of def.start def.period) (cut versions recovered)) rows ≡ Some (sheet.Shape windows size)
+  pub misshapen : IsMisshapen def recovered versions rows windows size
 
 -- why a device is not opened, where its trace is known
 abbrev pub IsBookCause : List ℕ → GroupDefParts → List (List Rec) → Option Trace → LoadNo → Type 0
@@ -76,8 +83,7 @@ abbrev pub IsRefused : GroupDefParts → List (List Rec) → List ℕ → List (
 IsRefused def recovered versions rows DeviceFault = ⊥
 IsRefused def recovered versions rows (Damaged a byte) = ⊥
 IsRefused def recovered versions rows (Ahead input version records) = IsAhead versions recovered input version records
-IsRefused def recovered versions rows (Shape windows size) =
-    shape_fault (complete_windows (grid_of def.start def.period) (cut versions recovered)) rows ≡ Some (sheet.Shape windows size)
+IsRefused def recovered versions rows (Shape windows size) = IsMisshapen def recovered versions rows windows size
 IsRefused def recovered versions rows WantOfMemory = Unit {0}
 
 -- the refusal of a book, given the refusal of its device

@@ -23,7 +23,7 @@ use Rattle.group_book.specs.declared.history.GroupOpening.{GroupOpening}
 use Rattle.group_book.specs.declared.turn.Turn.{Turn}
 use Rattle.group_book.specs.declared.turn.Turn.TheVariants.{Refresh, Ask}
 use Rattle.group_book.specs.Tapes.{cut, saved_at, book_start, book_walked}
-use Rattle.group_book.specs.Histories.{IsBookLegal, IsRight}
+use Rattle.group_book.specs.Histories.{AreRowsEvaluated, IsBookLegal, IsRight}
 use Rattle.group_book.specs.Crashes.{IsBookSafe}
 
 -- what the last save left: its number, the versions and the rows, and where the next block goes
@@ -143,6 +143,8 @@ pub record IsBookHistory (h : GroupHistory) (trace : Option Trace) (ticks faults
   pub grid : IsGrid (grid_of h.def.start h.def.period)
   pub legal : IsBookLegal h.def.calcs (grid_of h.def.start h.def.period) h.opening h.tape.items h.versions.items
       (lists_of h.copies.items) (lists_of h.rows.items)
+  pub evaluated : AreRowsEvaluated h.def.calcs (grid_of h.def.start h.def.period) h.opening h.tape.items
+      (lists_of h.copies.items) (lists_of h.rows.items) h.evals
   pub safe : IsBookSafe h.text.items h.def.calcs (grid_of h.def.start h.def.period) h.opening (lists_of h.copies.items) h.tape.items
       (LeftSince trace)
   pub past : (book_walked (book_start h.opening) h.tape.items).moment ≤ ticks

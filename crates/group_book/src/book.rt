@@ -3,6 +3,7 @@ ghost use Rattle.std.specs.Prelude.{◌≡◌, ◌<◌, List, false, length, sli
 ghost use Rattle.disk_model.specs.Calls.{Rose};
 ghost use Rattle.trend_num.specs.declared.archive.Rec.{Rec};
 ghost use Rattle.calc_refresh.specs.Lists.{lists_of};
+ghost use Rattle.calc_refresh.specs.Sheet.{grid_of};
 ghost use Rattle.group_book.specs.Told.{IsBookHistory, IsOnDevice, count_of, trace_of, versions_of};
 
 use crate::history::{GroupHistory, GroupOpening};
@@ -44,7 +45,7 @@ impl<D: Disk> Model for Book<D> {
     ghost use Rattle.disk_model.specs.Moments.{LeftSince};
     ghost use Rattle.calc_refresh.specs.Sheet.{grid_of};
     ghost use Rattle.group_book.specs.Crashes.{IsBookSafe};
-    ghost use Rattle.group_book.specs.Histories.{IsBookLegal};
+    ghost use Rattle.group_book.specs.Histories.{AreRowsEvaluated, IsBookLegal};
     ghost use Rattle.group_book.specs.Told.{ToldBook, Saved, IsDefined, IsKept, IsOnDevice, count_of, trace_of};
 
     ghost Value = { ToldBook D };
@@ -70,7 +71,8 @@ impl<D: Disk> Model for Book<D> {
         (record { number = b.number; versions = b.saved_versions.items; rows = lists_of b.saved_rows.items; end = b.end }) b.failed
         (trace_of D.trace b.dev) (count_of D.ticks b.dev) (count_of D.fault_count b.dev)
         × IsBookSafe b.text.items b.def.calcs (grid_of b.def.start b.def.period) b.opening b.sheet.copies b.tape.items (LeftSince (trace_of D.trace b.dev))
-        × IsOnDevice b.text.items b.dev };
+        × IsOnDevice b.text.items b.dev
+        × AreRowsEvaluated b.def.calcs (grid_of b.def.start b.def.period) b.opening b.tape.items b.sheet.copies b.sheet.rows b.sheet.evals };
 }
 
 impl<D: Disk> Book<D> {
@@ -158,6 +160,11 @@ impl<D: Disk> Book<D> {
         ensures copies { lists_of result.1.copies.items ≡ self.sheet.copies }
         ensures rows { lists_of result.1.rows.items ≡ self.sheet.rows }
         ensures evals { result.1.evals ≡ self.sheet.evals }
+
+        // The sheet is that of the definition.
+        ensures same_group { self.sheet.group ≡ self.def.calcs }
+        ensures same_grid { self.sheet.grid ≡ grid_of self.def.start self.def.period }
+
         ensures history { IsBookHistory result.1 (trace_of D.trace result.0) (count_of D.ticks result.0) (count_of D.fault_count result.0) }
         ensures rose { self.failed ≡ true → Rose self.opening.faults (count_of D.fault_count result.0) }
         ensures faultless { self.failed ≡ false → count_of D.fault_count result.0 ≡ self.opening.faults }

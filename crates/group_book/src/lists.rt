@@ -1,7 +1,7 @@
 // The refresh of a book from lists of records.
 ghost use Rattle.std.specs.Prelude.{◌≡◌, ◌+◌, ◌<◌, ◌≤◌, [], All, IfErr, IfOk, OnErr, OnOk, length, map, slice_index, slice_index_or};
 ghost use Rattle.calc_refresh.specs.Refreshed.{fault_after};
-ghost use Rattle.calc_refresh.specs.Sheet.{IsCopy};
+ghost use Rattle.calc_refresh.specs.Sheet.{IsCopy, grid_of};
 ghost use Rattle.group_book.specs.InputLists.{ArePullsOf, IsListsRefusal, IsPullAhead, IsPullOf, IsPullRefusal, lists_at};
 ghost use Rattle.group_book.specs.Refusals.{IsBookToldOf};
 ghost use Rattle.group_book.specs.Tapes.{uncut};
@@ -29,6 +29,10 @@ impl<D: Disk> Book<D> {
         ensures unchanged { OnErr result (self.new ≡ self.old) }
         ensures refused { IfErr result (IsListsRefusal (lists_at (map (λ r. r.now) records.now) self.old.tags) self.old) }
         ensures inputs { length self.old.tags ≡ length self.old.sheet.copies }
+
+        // The sheet is that of the definition.
+        ensures same_group { self.old.sheet.group ≡ self.old.def.calcs }
+        ensures same_grid { self.old.sheet.grid ≡ grid_of self.old.def.start self.old.def.period }
     {
         match pull_all(self.alloc, records, &self.tags, &self.versions) {
             Ok(pulled) => publish_alone(self, pulled),

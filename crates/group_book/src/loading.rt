@@ -6,8 +6,8 @@ ghost use Rattle.disk_model.specs.Images.{IsSettled, Now};
 ghost use Rattle.disk_model.specs.Moments.{During};
 ghost use Rattle.calc_refresh.specs.Lists.{lists_of};
 ghost use Rattle.calc_refresh.specs.Refreshed.{fresh};
-ghost use Rattle.calc_refresh.specs.Sheet.{IsCopy, IsGrid, IsGroup, grid_of};
-ghost use Rattle.group_layout.specs.Readings.{HasShape, IsReadOf};
+ghost use Rattle.calc_refresh.specs.Sheet.{AreRowsWhole, IsCopy, IsGrid, IsGroup, grid_of};
+ghost use Rattle.group_layout.specs.Readings.{GainsGroupSync, HasShape, IsReadOf};
 ghost use Rattle.group_book.specs.declared.refusal.LoadNo.TheVariants.{Ahead, Damaged, DeviceFault, Shape};
 ghost use Rattle.group_book.specs.Openings.{CountsBookRefusal, IsAheadOrMemory, IsBookCause, IsRefused, StandsForGroup, BookStaysSame, scan_refusal};
 ghost use Rattle.group_book.specs.Tapes.{cut};
@@ -66,6 +66,10 @@ pub fn load<D: Disk>(
     ensures any_moment { IfOk result (λ b. (d : D) → b.dev ≡ Some d
         → During (D.trace dev) (D.trace d) (BookStaysSame text.now def.now (D.trace dev))) }
     ensures any_moment_refused { IfErr result (λ e. During (D.trace dev) (D.trace e.dev) (BookStaysSame text.now def.now (D.trace dev))) }
+
+    // A device that has a finished layout of this text, or a damaged one, gains one sync and nothing else.
+    ensures synced { IfOk result (λ b. (d : D) → b.dev ≡ Some d → GainsGroupSync text.now (D.trace dev) (D.trace d)) }
+    ensures synced_refused { IfErr result (λ e. (e.why ≡ DeviceFault → ⊥) → GainsGroupSync text.now (D.trace dev) (D.trace e.dev)) }
 
     ensures versions { IfOk result (λ b. b.opening.versions.items ≡ versions_of b) }
     ensures copies { IfOk result (λ b. b.sheet.copies ≡ cut b.opening.versions.items (lists_of recovered.now)) }
@@ -166,6 +170,7 @@ fn restore(
     ensures text { IfOk result (λ r. r.text.items ≡ text.now) }
     ensures sheet { IfOk result (λ r. r.sheet ≡ fresh def.now.calcs (grid_of def.now.start def.now.period)
         (cut saved.now.versions.items (lists_of recovered.now)) (lists_of saved.now.rows.items)) }
+    ensures whole { IfOk result (λ r. AreRowsWhole r.sheet) }
     ensures within { OnOk result (map length (cut saved.now.versions.items (lists_of recovered.now)) ≡ saved.now.versions.items) }
     ensures versions { IfOk result (λ r. r.versions.items ≡ saved.now.versions.items) }
     ensures opening_versions { IfOk result (λ r. r.opening_versions.items ≡ saved.now.versions.items) }
@@ -205,6 +210,7 @@ fn rebuild(
     requires few { saved.now.windows < 2 ^ 32 }
     ensures sheet { IfOk result (λ s. s ≡ fresh def.now.calcs (grid_of def.now.start def.now.period)
         (cut saved.now.versions.items (lists_of recovered.now)) (lists_of saved.now.rows.items)) }
+    ensures whole { IfOk result AreRowsWhole }
     ensures within { OnOk result (map length (cut saved.now.versions.items (lists_of recovered.now)) ≡ saved.now.versions.items) }
     ensures refused { IfErr result (IsRefused def.now (lists_of recovered.now) saved.now.versions.items (lists_of saved.now.rows.items)) }
 {

@@ -1,5 +1,5 @@
 // Taking records into account.
-ghost use Rattle.std.specs.Prelude.{◌≡◌, ◌+◌, All, IfErr, IfOk, None, OnErr, OnOk, length, map, vec_len, vec_capacity, ◌<◌};
+ghost use Rattle.std.specs.Prelude.{◌≡◌, ◌+◌, All, IfErr, IfOk, OnErr, OnOk, length, map, vec_len, vec_capacity, ◌<◌};
 ghost use Rattle.calc_refresh.specs.Lists.{lists_of};
 ghost use Rattle.calc_refresh.specs.Refreshed.{evaluated, fault_after};
 ghost use Rattle.calc_refresh.specs.Sheet.{IsCopy};
@@ -60,7 +60,6 @@ impl<D: Disk> Book<D> {
         ensures upto { OnOk result (versions_of self.new ≡ map (λ p. p.upto) pulled.items) }
         ensures place { IfOk result (λ receipt. receipt.place ≡ length self.old.tape) }
         ensures steps { OnOk result (steps.new ≡ steps.old + evaluated self.old.sheet (pulled_records pulled.items)) }
-        ensures within { OnOk result (fault_after self.old.sheet (pulled_records pulled.items) ≡ None) }
         ensures unchanged { OnErr result (self.new ≡ self.old) }
         ensures no_steps { OnErr result (steps.new ≡ steps.old) }
         ensures fault { IfErr result (IsBookToldOf (fault_after self.old.sheet (pulled_records pulled.items))) }

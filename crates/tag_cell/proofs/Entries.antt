@@ -4,6 +4,7 @@ use Rattle.std.proofs.lemmas.List.{append-nil, take-append-le}
 use Rattle.trend_num.specs.declared.point.Point.{Point}
 use Rattle.trend_num.specs.declared.tag_def.TagDef.{TagDef}
 use Rattle.trend_num.specs.declared.query.TagQuery.{TagQuery}
+use Rattle.trend_num.specs.Limits.{most_records}
 use Rattle.trend_model.specs.History.{Raw}
 use Rattle.trend_model.specs.State.{State, after, replay}
 use Rattle.disk_model.specs.Traces.{Trace}
@@ -27,17 +28,21 @@ points-end o tape = points-walked (cell_start o) tape
 
 -- after a take
 pub take_replayed : (def : TagDef) (o : TagOpening) (tape tape' : List Entry) (s s' : State) (acked collector row : ℕ) (p h : Point) (n : ℕ)
-    → IsTapeReplayed def o tape s acked → s' ≡ after def.step s (Raw p) → s'.summary.held ≡ Some h → n ≡ length s'.records
+    → IsTapeReplayed def o tape s acked → length s.records + 2 ≤ most_records
+    → s' ≡ after def.step s (Raw p) → s'.summary.held ≡ Some h → n ≡ length s'.records
     → tape' ≡ tape ++ Take collector row p h n ∷ [] → IsTapeReplayed def o tape' s' acked
-take_replayed def o tape tape' s s' acked collector row p h n is next held count longer =
+take_replayed def o tape tape' s s' acked collector row p h n is room next held count longer =
     let e : Entry = Take collector row p h n in
     let goes : (ps : List Point) → ps ≡ taken tape → state_after def.step o (ps ++ p ∷ []) ≡ s' =
     λ ps same. state_after-push def.step o ps p
     ∙ (ap (λ (x : State). after def.step x (Raw p)) (ap (state_after def.step o) same ∙ sym is.stands) ∙ sym next) in
+    let before : s ≡ state_after def.step o (cell_walked (cell_start o) tape).points =
+    is.stands ∙ ap (state_after def.step o) (sym (points-end o tape)) in
     let here : state_after def.step o ((cell_walked (cell_start o) tape).points ++ p ∷ []) ≡ s' = goes _ (points-end o tape) in
     subst (λ t. IsTapeReplayed def o t s' acked) (sym longer) (record {
       tuning = is.tuning;
       entries = fit-push (replayed def.step o) def.step o (cell_start o) tape e is.entries (record {
+        room = subst (λ (x : State). length x.records + 2 ≤ most_records) before room;
         same_held = ap (λ (x : State). x.summary.held) here ∙ held;
         counted = count ∙ ap (λ (x : State). length x.records) (sym here);
       });

@@ -16,7 +16,8 @@ use Rattle.tag_cell.specs.Replays.{Shown, IsTake, IsAnswer, IsPull, Fits, FitAll
 same_fits : (f g : List Point → Shown) (step : Bool) (o : TagOpening) (w : CellWalk) (e : Entry)
     → ((ps : List Point) → f ps ≡ g ps) → Fits f step o w e → Fits g step o w e
 same_fits f g step o w (Take collector row p h n) same fits =
-    subst (λ (s : Shown). IsTake s h n) (same (w.points ++ p ∷ [])) fits
+    subst (λ (b : Shown). IsTake b (g (w.points ++ p ∷ [])) h n) (same w.points)
+    (subst (λ (s : Shown). IsTake (f w.points) s h n) (same (w.points ++ p ∷ [])) fits)
 same_fits f g step o w (Ask reader row q a) same fits = subst (λ (s : Shown). IsAnswer step s q a) (same w.points) fits
 same_fits f g step o w (Pull group first upto) same fits =
     subst (λ (s : Shown). IsPull s first upto) (same (done o w)) fits

@@ -4,6 +4,7 @@ use Rattle.trend_num.specs.declared.archive.Rec.{Rec}
 use Rattle.trend_num.specs.declared.point.Point.{Point}
 use Rattle.trend_num.specs.declared.query.TagQuery.{TagQuery}
 use Rattle.trend_num.specs.declared.tag_def.TagDef.{TagDef}
+use Rattle.trend_num.specs.Limits.{most_records}
 use Rattle.trend_model.specs.Contents.{closed_points}
 use Rattle.trend_model.specs.History.{Event, Origin, Raw, in_force}
 use Rattle.trend_model.specs.State.{State, Stands, followed}
@@ -22,8 +23,9 @@ pub record Shown : Type 0 where
 
 -- ---- an entry fits what the tag shows
 
--- a take states the held point and the number of records after it
-pub record IsTake (s : Shown) (h : Point) (n : ℕ) : Type 0 where
+-- a take found room for two records more; it states the held point and the number of records after it
+pub record IsTake (before s : Shown) (h : Point) (n : ℕ) : Type 0 where
+  pub room : length before.records + 2 ≤ most_records
   pub same_held : s.held ≡ Some h
   pub counted : n ≡ length s.records
 
@@ -42,9 +44,10 @@ pub record IsCommit (o : TagOpening) (w : CellWalk) (moment acked : ℕ) : Type 
   pub within : acked ≤ o.summary.taken + length w.points
   pub later : w.moment < moment
 
--- an entry fits what the tag shows, which depends on the values taken so far
+-- An entry fits what the tag shows, which depends on the values taken so far. A take fits what the tag shows before it
+-- and after it.
 abbrev pub Fits : (List Point → Shown) → Bool → TagOpening → CellWalk → Entry → Type 0
-Fits show step o w (Take collector row p h n) = IsTake (show (w.points ++ p ∷ [])) h n
+Fits show step o w (Take collector row p h n) = IsTake (show w.points) (show (w.points ++ p ∷ [])) h n
 Fits show step o w (Ask reader row q a) = IsAnswer step (show w.points) q a
 Fits show step o w (Pull group first upto) = IsPull (show (done o w)) first upto
 Fits show step o w (Commit moment acked) = IsCommit o w moment acked

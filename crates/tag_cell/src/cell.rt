@@ -1,5 +1,5 @@
 // A cell: a tag with all that lies under its lock.
-ghost use Rattle.std.specs.Prelude.{◌≡◌, ◌↔◌, IsTrue, true, length};
+ghost use Rattle.std.specs.Prelude.{◌≡◌, ◌↔◌, IsTrue, true, false, length};
 ghost use Rattle.tag_cell.specs.Told.{IsCellHistory};
 
 use crate::entry::Entry;
@@ -123,7 +123,8 @@ impl<D: Disk> Cell<D> {
         self.journal.failed()
     }
 
-    /// Returns the device, and the history of the tag since it was opened.
+    /// Returns the device, and the history of the tag since it was opened. If the cell is broken, its device has counted
+    /// one fault since the opening. Otherwise the device has counted none.
     pub fn into_history(self) -> (D, TagHistory)
         ensures device { result.0 ≡ self.journal.dev }
         ensures def { result.1.def ≡ self.def }
@@ -133,6 +134,8 @@ impl<D: Disk> Cell<D> {
         ensures summary { result.1.summary ≡ self.state.summary }
         ensures acked { result.1.acked ≡ self.journal.acked }
         ensures history { IsCellHistory result.1 (D.trace result.0) (D.ticks result.0) (D.fault_count result.0) }
+        ensures rose { self.journal.failed ≡ true → Rose self.opening.faults (D.fault_count result.0) }
+        ensures faultless { self.journal.failed ≡ false → D.fault_count result.0 ≡ self.opening.faults }
     {
         let Cell {
             def,

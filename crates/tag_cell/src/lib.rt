@@ -8,7 +8,8 @@
 //! Whoever takes the lock knows of the cell only what its type guarantees. So the type keeps all that a session knows
 //! once its workers have ended:
 //!
-//! - The tape replays from the opening (`specs/Replays.antt`).
+//! - The tape replays from the opening (`specs/Replays.antt`). Each take on it found room for its records, so no take
+//!   brings a tag more records than it may have.
 //! - The content is that of the records.
 //! - The last snapshot that the poster posted is the tag's own.
 //! - A crash at any moment since the opening leaves the opening followed by the oldest takes. These include all that a

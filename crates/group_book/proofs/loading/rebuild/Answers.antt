@@ -43,7 +43,10 @@ returns-in-Err-Shape-clause-refused c =
     let are : lists_of copies ≡ cut saved.versions.items recovered
     = c.in_ok-copies.ensures.cut ∙ ap (λ (l : List _). cut l recovered) c.deref.ensures.value in
     let rows = c.in_ok-rows.ensures ∙ ap lists_of c.deref-2.ensures.value in
-    ap (λ l. shape_fault (complete_windows grid l) (lists_of saved.rows.items)) (sym are)
-    ∙ ap (shape_fault (complete_windows grid (lists_of copies))) (sym rows)
-    ∙ subst (IsRefreshToldOf (shape_fault (complete_windows grid (lists_of copies)) (lists_of c.in_ok-rows.rows.items)))
-    c.in-Err-Shape.field-0-is c.in-Err-Shape.ensures.fault
+    record {
+      within = subst (λ (l : List _). map length (cut l recovered) ≡ l) c.deref.ensures.value c.in_ok-copies.ensures.within;
+      shape = ap (λ l. shape_fault (complete_windows grid l) (lists_of saved.rows.items)) (sym are)
+          ∙ ap (shape_fault (complete_windows grid (lists_of copies))) (sym rows)
+          ∙ subst (IsRefreshToldOf (shape_fault (complete_windows grid (lists_of copies)) (lists_of c.in_ok-rows.rows.items)))
+          c.in-Err-Shape.field-0-is c.in-Err-Shape.ensures.fault;
+    }

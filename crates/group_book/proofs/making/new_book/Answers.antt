@@ -5,10 +5,10 @@ use Rattle.calc_refresh.specs.Lists.{lists_of}
 use Rattle.calc_refresh.specs.Sheet.{grid_of}
 use Rattle.disk_model.specs.Moments.{LeftSince}
 use Rattle.group_book.specs.Crashes.{IsBookSafe}
-use Rattle.group_book.specs.Histories.{IsBookLegal}
+use Rattle.group_book.specs.Histories.{AreRowsEvaluated, IsBookLegal}
 use Rattle.group_book.specs.Told.{IsKept, Saved}
 use Rattle.group_book.specs.declared.history.GroupOpening.{GroupOpening}
-use Rattle.group_book.proofs.Fresh.{fresh_defined, fresh_kept, fresh_legal, fresh_safe}
+use Rattle.group_book.proofs.Fresh.{fresh_defined, fresh_evaluated, fresh_kept, fresh_legal, fresh_safe}
 use Rattle.group_book.proofs.making.new_book.Goals as goal
 
 pub invariant_of-result : goal.invariant_of-result
@@ -46,4 +46,7 @@ invariant_of-result g c =
           (fresh_safe def made c.in_ok-def.ensures o s c.in_ok-versions.versions.items saved c.in_ok-sheet.ensures.empty
           c.in_ok-sheet.ensures.scratch versions c.in_ok-zeros.ensures rows saved_versions saved_rows c.new.result.items),
       λ some. absurd (some c.new.ensures.items),
+      subst (λ tape. AreRowsEvaluated made.calcs (grid_of made.start made.period) o tape s.copies s.rows s.evals) empty
+          (fresh_evaluated def made c.in_ok-def.ensures o s c.in_ok-versions.versions.items saved c.in_ok-sheet.ensures.empty
+          c.in_ok-sheet.ensures.scratch versions c.in_ok-zeros.ensures rows saved_versions saved_rows c.in_ok-sheet.ensures.whole),
     )

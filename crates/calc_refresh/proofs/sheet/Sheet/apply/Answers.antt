@@ -1,4 +1,4 @@
-use Rattle.std.proofs.Common.{◌≡◌, ◌+◌, ◌*◌, ◌≤◌, List, Some, None, All, length, subst, sym, ap, ap₂, ◌∙◌, arith}
+use Rattle.std.proofs.Common.{◌≡◌, ℕ, ◌+◌, ◌*◌, ◌<◌, ◌≤◌, true, map, List, Some, None, All, length, subst, sym, ap, ap₂, ◌∙◌, arith}
 use Rattle.std.specs.Prelude.{Vec}
 use Rattle.std.specs.declared.alloc.Global.{Global}
 use Rattle.std.specs.Vec.{with_items}
@@ -7,7 +7,7 @@ use Rattle.trend_num.specs.declared.archive.Rec.{Rec}
 use Rattle.trend_num.specs.declared.value.CalcValue.{CalcValue}
 use Rattle.sheet_law.specs.Windows.{complete_windows}
 use Rattle.sheet_law.specs.Touched.{longer}
-use Rattle.sheet_law.specs.Scratch.{IsScratch, due_below}
+use Rattle.sheet_law.specs.Scratch.{IsScratch, column, due_below, is_due, values_at}
 use Rattle.calc_refresh.specs.Lists.{lists_of, total_length}
 use Rattle.calc_refresh.specs.Refreshed.{IsSheetAfter, cells_after, evaluated, fault_after, limit_fault, most_cells}
 use Rattle.calc_refresh.specs.Sheet.{IsCopy, SheetState}
@@ -84,10 +84,30 @@ returns-clause-refreshed g c =
     let count : c.len-calcs.result ≡ length now.group.calcs = calcs ∙ ap (λ (u : SheetState). length u.group.calcs) c.self.view_is in
     let cells : due * c.len-calcs.result ≡ evaluated now mores = ap₂ (λ a b. a * b) five.counted count in
     let evals = ap (λ (u : SheetState). u.evals) c.self.view_is in
+    let sheet = c.bring.ensures.sheet in
+    let win = c.windows_after-windows.ensures (lists_of s.copies.items) (c.deref.ensures.value ∙ inv.ended) in
+    let held : lists_of copies_new ≡ lists_of copies =
+    ap lists_of (with_items_is s.copies copies (omega (arith, c.bring.auto.copies, c.as_mut_slice.ensures.len))) in
+    let made : lists_of rows_new ≡ lists_of rows =
+    ap lists_of (with_items_is s.rows rows (omega (arith, c.bring.auto.rows, c.as_mut_slice-4.ensures.len))) in
     record {
       group = group;
       grid = grid;
       copies = five.copied;
+      within =
+          ap (λ (l : List (List Rec)). limit_fault (complete_windows s.grid l * length s.calcs.calcs) (total_length l))
+          (five.copied ∙ ap (λ (u : SheetState). longer u.copies mores) (sym c.self.view_is))
+          ∙ sym (ap₂ limit_fault (ap₂ (λ a b. a * b) win calcs)
+          (c.records_after.ensures ∙ ap (λ (vs : List (Vec Rec Global)). total_length (longer (lists_of vs) mores)) c.deref-2.ensures.value))
+          ∙ c.in_ok-within_limits.ensures;
+      whole = record {
+        calcs = ap length made ∙ sheet.calcs;
+        windows = subst (λ (l : List (List Rec)). All (λ row. length row ≡ complete_windows s.grid l) (lists_of rows_new)) (sym held)
+            (subst (All (λ row. length row ≡ complete_windows s.grid (lists_of copies))) (sym made) sheet.windows);
+      };
+      due_are = subst (λ (u : SheetState). (k : ℕ) → k < complete_windows u.grid (lists_of copies_new)
+          → is_due now.grid now.copies mores k ≡ true
+          → column k (lists_of rows_new) ≡ map Some (values_at u.group u.grid (lists_of copies_new) k)) (sym c.self.view_is) five.due_are;
       scratch = λ was. subst (λ (u : SheetState). IsScratch u.group u.grid (lists_of copies_new) (lists_of rows_new))
           (sym c.self.view_is) (five.scratch was);
       others = five.others;

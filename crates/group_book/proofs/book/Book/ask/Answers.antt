@@ -1,12 +1,16 @@
-use Rattle.std.proofs.Common.{◌≡◌, ◌++◌, ◌∷◌, [], sym, ap, ◌∙◌, subst}
+use Rattle.std.proofs.Common.{◌≡◌, ◌↔◌, ◌<◌, ◌++◌, ◌∷◌, [], IsSome, length, sym, ap, ◌∙◌, subst}
 use Rattle.calc_refresh.specs.Lists.{lists_of}
 use Rattle.calc_refresh.specs.Sheet.{grid_of}
 use Rattle.disk_model.specs.Moments.{LeftSince}
 use Rattle.group_layout.specs.Rows.{cell_of}
 use Rattle.group_book.specs.declared.turn.Turn.TheVariants.{Ask}
 use Rattle.group_book.specs.Crashes.{IsBookSafe}
-use Rattle.group_book.specs.Histories.{IsBookLegal}
+use Rattle.group_book.specs.Histories.{AreRowsEvaluated, IsBookLegal}
 use Rattle.group_book.specs.Told.{IsKept, Saved, count_of, trace_of}
+use Rattle.calc_check.specs.Group.{Group}
+use Rattle.sheet_law.specs.declared.grid.Grid.{Grid}
+use Rattle.sheet_law.specs.Windows.{complete_windows}
+use Rattle.group_book.proofs.Evaluations.{evaluated_asked}
 use Rattle.group_book.proofs.LegalTurns.{kept_asked, legal_asked, safe_asked}
 use Rattle.group_book.proofs.book.Book.ask.Goals as goal
 
@@ -25,7 +29,12 @@ invariant_of-self-2 g c =
       c.self.invariant.0,
       subst (λ l. IsBookLegal b.def.calcs grid b.opening l b.versions.items b.sheet.copies b.sheet.rows) (sym told)
           (legal_asked b.def.calcs grid b.opening tape b.versions.items b.sheet.copies b.sheet.rows c.self.invariant.1 a.reader a.row
-          a.calc a.k),
+          a.calc a.k (subst (λ r. IsSome r ↔ ((a.calc < length b.def.calcs.calcs) × (a.k < complete_windows grid b.sheet.copies)))
+          c.row-reply.ensures.value (subst (λ (h : Group). IsSome c.row-reply.result
+          ↔ ((a.calc < length h.calcs) × (a.k < complete_windows grid b.sheet.copies))) c.self.invariant.0.same_group
+          (subst (λ (w : Grid). IsSome c.row-reply.result
+          ↔ ((a.calc < length b.sheet.group.calcs) × (a.k < complete_windows w b.sheet.copies))) c.self.invariant.0.same_grid
+          c.row-reply.ensures.there)))),
       subst (λ l. IsKept b.text.items b.def b.opening l b.sheet.copies saved b.failed (trace_of g.D.Disk.trace b.dev)
           (count_of g.D.Disk.ticks b.dev) (count_of g.D.Disk.fault_count b.dev)) (sym told)
           (kept_asked b.text.items b.def b.opening tape b.sheet.copies saved b.failed (trace_of g.D.Disk.trace b.dev)
@@ -34,4 +43,7 @@ invariant_of-self-2 g c =
           (safe_asked b.text.items b.def.calcs grid b.opening b.sheet.copies tape left a.reader a.row a.calc a.k reply
           c.self.invariant.3),
       c.self.invariant.4,
+      subst (λ l. AreRowsEvaluated b.def.calcs grid b.opening l b.sheet.copies b.sheet.rows b.sheet.evals) (sym told)
+          (evaluated_asked b.def.calcs grid b.opening b.sheet.copies b.sheet.rows b.sheet.evals tape a.reader a.row a.calc a.k reply
+          c.self.invariant.5),
     )

@@ -1,10 +1,13 @@
-use Rattle.std.proofs.Common.{◌≡◌, ℕ, ◌+◌, ◌++◌, ◌∷◌, [], List, map, length, refl, sym, ap, ◌∙◌, subst}
+use Rattle.std.proofs.Common.{◌≡◌, ℕ, ◌+◌, ◌++◌, ◌∷◌, [], List, map, length, refl, sym, ap, ◌∙◌, subst, arith}
 use Rattle.std.proofs.lemmas.List.{length-map}
 use Rattle.calc_refresh.specs.Lists.{lists_of}
 use Rattle.calc_refresh.specs.Refreshed.{IsRefreshed, evaluated}
 use Rattle.group_book.specs.declared.turn.Turn.{Turn}
 use Rattle.group_book.specs.declared.turn.Turn.TheVariants.{Refresh}
 use Rattle.group_book.specs.Told.{GoesOn, ToldBook, pulled_records}
+use Rattle.calc_refresh.specs.Sheet.{grid_of}
+use Rattle.group_book.specs.Histories.{AreRowsEvaluated}
+use Rattle.group_book.proofs.Evaluations.{evaluated_refreshed}
 use Rattle.group_book.proofs.Pulls.{book_refreshed, published_by, versions_reached}
 use Rattle.group_book.proofs.book.Book.publish.Given as given
 use Rattle.group_book.proofs.book.Book.publish.Goals as goal
@@ -52,7 +55,19 @@ invariant_of-self-2 g c =
     c.in_ok-versions.versions.items c.in_ok-entry.entry b.sheet c.apply.new.self (pulled_records c.args.pulled.items)
     (record { number = b.number; versions = b.saved_versions.items; rows = lists_of b.saved_rows.items; end = b.end }) b.failed _ _ _ _
     (was.0, was.1, was.2, was.3) (refreshed g at) entry versions (told g at) in
-    (now.0, now.1, now.2, now.3, was.4)
+    let done = refreshed g at in (
+      now.0,
+      now.1,
+      now.2,
+      now.3,
+      was.4,
+      subst (λ (l : List Turn). AreRowsEvaluated b.def.calcs (grid_of b.def.start b.def.period) b.opening l c.apply.new.self.copies
+          c.apply.new.self.rows c.apply.new.self.evals) (sym (told g at))
+          (evaluated_refreshed b.def.calcs (grid_of b.def.start b.def.period) b.opening b.tape.items b.versions.items b.sheet
+          c.apply.new.self (pulled_records c.args.pulled.items) c.in_ok-entry.entry was.0.same_group was.0.same_grid was.1 was.5 done
+          (length-map c.args.pulled.items (λ p. p.recs.items) ∙ inputs g at) was.0.grid.some
+          (omega (arith, was.0.copies, was.0.group.some_inputs)) (entry ∙ ap (map length) done.copies)),
+    )
 
 pub returns-clause-published : goal.returns-clause-published
 returns-clause-published g c =

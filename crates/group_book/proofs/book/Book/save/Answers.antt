@@ -8,9 +8,10 @@ use Rattle.calc_refresh.specs.Sheet.{grid_of}
 use Rattle.group_layout.specs.Blocks.{block_size, parts_of}
 use Rattle.group_book.specs.declared.turn.Turn.TheVariants.{Save}
 use Rattle.group_book.specs.Crashes.{IsBookSafe}
-use Rattle.group_book.specs.Histories.{IsBookLegal}
+use Rattle.group_book.specs.Histories.{AreRowsEvaluated, IsBookLegal}
 use Rattle.group_book.specs.Saves.{IsSaved, ListsChanges}
 use Rattle.group_book.specs.Told.{IsKept, Saved, ToldBook, trace_of}
+use Rattle.group_book.proofs.Evaluations.{evaluated_saved}
 use Rattle.group_book.proofs.Saving.{IsNextBlock, book_saved, kept_faulted, kept_there, next_block_is, safe_writing}
 use Rattle.group_book.proofs.book.Book.save.Given as given
 use Rattle.group_book.proofs.book.Book.save.Goals as goal
@@ -96,8 +97,15 @@ invariant_of-self-in-Ok g c =
     (subst (λ (n : ℕ). Now (D.trace c.put_block.new.dev) (IsShut n)) end_is c.in-Ok.ensures.ready) (g.met.D.Disk.told c.put_block.new.dev)
     c.push_reserved.new.self.items next s.failed (D.fault_count c.put_block.new.dev) longer
     (λ i. record { number = b.number; versions = versions_are i; rows = rows_are i; end = end_is i }) c.if-self.false
-    c.in-Ok.ensures.cause.passed safe in
-    (was.0, kept'.0, kept'.1, kept'.2, λ some. refl)
+    c.in-Ok.ensures.cause.passed safe in (
+      was.0,
+      kept'.0,
+      kept'.1,
+      kept'.2,
+      λ some. refl,
+      subst (λ l. AreRowsEvaluated s.def.calcs grid s.opening l copies s.sheet.rows s.sheet.evals) (sym longer)
+          (evaluated_saved s.def.calcs grid s.opening copies s.sheet.rows s.sheet.evals tape b.number moment was.5),
+    )
 
 pub returns-in-Ok-clause-saved : goal.returns-in-Ok-clause-saved
 returns-in-Ok-clause-saved g c = λ d there.
@@ -189,4 +197,5 @@ invariant_of-self-in-Err-DeviceFault g c =
           (D.ticks c.in-Some.dev) (D.fault_count c.in-Some.dev) was.0.group was.0.grid was.0.copies was.1 kept b is safe new
           c.put_block.ensures.any_moment),
       λ some. refl,
+      subst (λ l. AreRowsEvaluated s.def.calcs grid s.opening l copies s.sheet.rows s.sheet.evals) (sym same) was.5,
     )

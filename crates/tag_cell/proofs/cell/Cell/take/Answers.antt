@@ -34,7 +34,7 @@ invariant_of-self-2 g c =
     let room : length s.core.state.records + 2 ≤ most_records = few_enough (length s.core.state.records + 2) took.full.1 in
     let places : vec_capacity c.push_reserved.new.self ≡ vec_capacity s.tape = c.push_reserved.ensures.capacity in (
       take_replayed s.def s.opening tape tape' s.core.state core'.state s.journal.acked c.args.collector c.args.row p held n
-          was.0 next took.held c.record_count.ensures.value longer,
+          was.0 room next took.held c.record_count.ensures.value longer,
       take_in_step s.def s.opening tape tape' s.core core' s.content.records c.take_value.new.content.records s.journal.acked p
           was.1 was.0 took.step took.counted took.same c.requires room one,
       subst (λ (k : ℕ). HasRoomForTakes s.opening tape' k (s.takes + 1) s.room core'.spare c.take_value.new.content.spare) (sym places)
