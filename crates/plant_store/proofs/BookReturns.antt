@@ -1,19 +1,25 @@
 -- Books whose devices are given back one after the other.
 use Rattle.std.proofs.Common.{◌≡◌, ◌≢◌, inl, inr, ℕ, zero, suc, ◌+◌, ◌-◌, ◌^◌, ◌<◌, ◌≤◌, List, [], ◌∷◌, ◌++◌, length, length-append, get_or, drop, string_bytes, AllPairs, Option, None, Some, false, true, refl, sym, ◌∙◌, ap, subst, arith}
-use Rattle.std.specs.Prelude.{◌↔◌, String}
+use Rattle.std.specs.Prelude.{◌↔◌, IfSome, String}
 use Rattle.std.specs.declared.alloc.Global.{Global}
 use Rattle.std.proofs.lemmas.Bool.{cases_eq, cases_lt, cases_order}
 use Rattle.std.proofs.lemmas.List.{get_or_append_left, get_or_default, length-drop}
 use Rattle.std.proofs.Math.Seq.{drop-cons, get_or-append_seam}
 use Rattle.disk_model.specs.Traces.{Trace}
 use Rattle.group_book.specs.declared.history.GroupHistory.{GroupHistory}
-use Rattle.group_book.specs.Told.{ToldBook, count_of}
+use Rattle.group_book.specs.Told.{ToldBook, count_of, trace_of}
 use Rattle.plant_store.specs.Groups.{DeviceTraces}
 use Rattle.plant_store.specs.BookEndings.{HasFaultCountRisen, IsHistoryOfBook, count_after, counts_after, trace_after}
 use Rattle.plant_store.specs.BookSteps.{AreOtherNamesSame}
 use Rattle.plant_store.proofs.BookTurns.{one_more_name}
 
 -- ---- books that are taken out of their list in order
+
+-- the clock of a book's device, if it has one, is the number of the device's calls
+pub clock_of : {D : Type 0} (trace : D → Option Trace) (ticks : D → ℕ) → ((d : D) → IfSome (trace d) (λ t. length t.calls ≡ ticks d))
+    → (dev : Option D) → IfSome (trace_of trace dev) (λ t. length t.calls ≡ count_of ticks dev)
+clock_of trace ticks told None = tt
+clock_of trace ticks told (Some d) = told d
 
 -- the next book is that at the place of how many were taken
 pub taken : {A : Type 0} (xs : List A) (k : ℕ) (y : A) (ys : List A) → drop k xs ≡ y ∷ ys → k < length xs

@@ -24,11 +24,16 @@ still g o = started o _ (record { each = λ c may. inl may })
 pub untouched : (g : GroupDef) (old new : Option Trace) → new ≡ old → During old new (BookStaysSame (group_definition_text g) (group_parts_of g) old)
 untouched g old new same = subst (λ o. During old o (BookStaysSame (group_definition_text g) (group_parts_of g) old)) (sym same) (still g old)
 
--- what holds since then of the device of a book that has one
+-- what holds of the trace of the device of a book that has one
+pub held_by : {D : Type 0} (trace : D → Option Trace) (dev : Option D) (P : Option Trace → Type 0) → IsSome dev
+    → ((d : D) → dev ≡ Some d → P (trace d)) → P (trace_of trace dev)
+held_by trace None P there each = absurd (cc (there))
+held_by trace (Some d) P there each = each d refl
+
+-- and since it was given out
 pub same_of : {D : Type 0} (trace : D → Option Trace) (dev : Option D) (o : Option Trace) (P : List ℕ → Type 0) → IsSome dev
     → ((d : D) → dev ≡ Some d → During o (trace d) P) → During o (trace_of trace dev) P
-same_of trace None o P there each = absurd (cc (there))
-same_of trace (Some d) o P there each = each d refl
+same_of trace dev o P = held_by trace dev (λ new. During o new P)
 
 -- the first groups are opened, and no device but theirs has changed
 pub record IsSoFar {D : Type 0} (trace : D → Option Trace) (ticks faults : D → ℕ) (groups : List GroupDef)

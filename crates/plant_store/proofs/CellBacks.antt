@@ -1,6 +1,6 @@
 -- Cells that are given back one after the other.
 use Rattle.std.proofs.Common.{◌≡◌, ◌≢◌, inl, inr, ℕ, ◌+◌, ◌-◌, ◌^◌, ◌<◌, ◌≤◌, true, List, [], ◌∷◌, ◌++◌, length, take, drop, get_or, Option, refl, sym, ◌∙◌, ap, subst, arith}
-use Rattle.std.specs.Prelude.{All}
+use Rattle.std.specs.Prelude.{All, IfSome}
 use Rattle.std.proofs.lemmas.Bool.{cases_lt}
 use Rattle.std.proofs.lemmas.List.{get_or_default, get_or-take, length-take-le, length_push, take_all, take_more}
 use Rattle.std.proofs.lemmas.List.Elements.{All-nil, All-push, All-weaker}
@@ -10,7 +10,7 @@ use Rattle.disk_model.specs.Traces.{Trace}
 use Rattle.tag_cell.specs.declared.history.TagHistory.{TagHistory}
 use Rattle.tag_cell.specs.Told.{ToldCell, IsCellHistory}
 use Rattle.plant_store.proofs.TagTurns.{zip_weaker}
-use Rattle.plant_store.specs.CellClosings.{AreGivenBack, AreHistoriesAt, AreHistoriesOf, CountsCells, HasRisen, IsHistoryOfCell}
+use Rattle.plant_store.specs.CellClosings.{AreGivenBack, AreHistoriesAt, AreHistoriesOf, CountsCells, HasRisen, IsHistoryAt, IsHistoryOfCell}
 use Rattle.plant_store.specs.CellNames.{AreApart}
 use Rattle.plant_store.proofs.CellLists.{all_before, all_last, next_of, zip_joined}
 
@@ -162,11 +162,11 @@ all_closed {D} trace ticks faults names cells rest histories old now before coun
       back,
       zip_joined (λ name (c : ToldCell D). now name ≡ trace c.journal.dev) (λ (c : ToldCell D) (h : TagHistory). IsHistoryOfCell
           (trace c.journal.dev) (ticks c.journal.dev) (faults c.journal.dev) c h)
-          (λ name (h : TagHistory). (t : ℕ) × (n : ℕ) × IsCellHistory h (now name) t n)
-          (λ name c h says is. (
-            ticks c.journal.dev,
-            faults c.journal.dev,
-            subst (λ o. IsCellHistory h o (ticks c.journal.dev)
-                (faults c.journal.dev)) (sym says) is.history,
-          )) names cells histories back.given told,
+          (λ name (h : TagHistory). IsHistoryAt (now name) h)
+          (λ name c h says is. record {
+            ticks = ticks c.journal.dev;
+            faults = faults c.journal.dev;
+            clock = subst (λ o. IfSome o (λ t. length t.calls ≡ ticks c.journal.dev)) (sym says) is.clock;
+            is = subst (λ o. IsCellHistory h o (ticks c.journal.dev) (faults c.journal.dev)) (sym says) is.history;
+          }) names cells histories back.given told,
     )

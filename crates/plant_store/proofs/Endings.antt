@@ -1,8 +1,9 @@
 -- How the opening of a plant ends.
-use Rattle.std.proofs.Common.{◌≡◌, inl, inr, ℕ, ◌^◌, ◌<◌, List, [], ◌∷◌, map, Option, Err, refl, sym, ◌∙◌, ap, subst, arith}
+use Rattle.std.proofs.Common.{◌≡◌, inl, inr, ℕ, ◌^◌, ◌<◌, ◌≤◌, List, [], ◌∷◌, map, Option, Err, refl, sym, ◌∙◌, ap, subst, arith}
 use Rattle.std.specs.Prelude.{String}
 use Rattle.std.specs.declared.alloc.Global.{Global}
 use Rattle.std.specs.List.{AllZip}
+use Rattle.trend_num.specs.Limits.{most_stored}
 use Rattle.trend_num.specs.declared.tag_def.TagDef.{TagDef}
 use Rattle.trend_model.specs.State.{State}
 use Rattle.disk_model.specs.Calls.{Rose}
@@ -16,7 +17,8 @@ use Rattle.plant_store.specs.TagRefusals as tags
 use Rattle.plant_store.specs.Tags as tag
 use Rattle.plant_store.specs.CellClosings.{AreGivenBack, CountsCells}
 use Rattle.plant_store.specs.CellNames.{device_names_of, texts}
-use Rattle.plant_store.specs.CellOpenings.{AreCellsOpened, IsCellOpened, core_of}
+use Rattle.plant_store.specs.CellOpenings.{AreCellsOpened, IsCellOpened, core_of, records_opened}
+use Rattle.plant_store.proofs.CellFronts.{records_are}
 use Rattle.plant_store.proofs.CellHalts.{all_faultless}
 use Rattle.plant_store.proofs.CellLabels.{none_named}
 use Rattle.plant_store.proofs.CellLists.{zip_as, zip_both, zip_seen}
@@ -111,10 +113,12 @@ count_kept trace ticks faults ts old cells before first last now why opened same
 -- it is one of the plant, over the devices before
 pub given_up_refused : {D : Type 0} (trace : D → Option Trace) (ticks faults : D → ℕ) (base : Base) (cells : List (ToldCell D))
     (old mid new : DeviceTraces) (before first last now : ℕ) (why : Status) → AreCellsOpened trace ticks faults base.tags.items old cells
-    → tag.AreOtherTagsSame base.tags.items old mid → first ≡ before → (before < 2 ^ 64 → now ≡ last)
+    → records_opened cells ≤ most_stored → tag.AreOtherTagsSame base.tags.items old mid → first ≡ before
+    → (before < 2 ^ 64 → now ≡ last)
     → groups.IsRefusal base.groups.items (cell_records_in cells) mid first last why → IsPlantRefusal base old new before now why
-given_up_refused trace ticks faults base cells old mid new before first last now why opened others passed kept refused =
+given_up_refused trace ticks faults base cells old mid new before first last now why opened few others passed kept refused =
     OfGroups (map (λ c. core_of c) cells) (cores_opened trace ticks faults base.tags.items old cells opened)
+    (omega (arith, records_are cells, few))
     (subst (λ l. groups.IsRefusal base.groups.items l old before now why)
     (records_same trace ticks faults base.tags.items old cells opened)
     (refusal_before base.groups.items (cell_records_in cells) old mid (groups_same base.tags.items old mid others) before now first last why

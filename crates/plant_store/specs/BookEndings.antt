@@ -1,14 +1,16 @@
 -- Books whose devices are given back, and the histories that they leave.
-use Rattle.std.specs.Prelude.{◌≡◌, ◌⊎◌, ℕ, ◌-◌, ◌^◌, ◌<◌, true, List, [], ◌∷◌, length, slice_index_or, string_bytes, Option, None, Some, String}
+use Rattle.std.specs.Prelude.{◌≡◌, ◌⊎◌, ℕ, ◌-◌, ◌^◌, ◌<◌, true, false, List, [], ◌∷◌, length, slice_index_or, string_bytes, Option, None, Some, IfSome, String}
 use Rattle.std.specs.declared.alloc.Global.{Global}
 use Rattle.disk_model.specs.Calls.{Rose, sum_of_counts}
 use Rattle.disk_model.specs.Traces.{Trace}
 use Rattle.calc_refresh.specs.Lists.{lists_of}
+use Rattle.calc_refresh.specs.Sheet.{grid_of}
 use Rattle.group_book.specs.declared.history.GroupHistory.{GroupHistory}
 use Rattle.group_book.specs.Told.{IsBookHistory, IsOnDevice, ToldBook, count_of, trace_of, versions_of}
 use Rattle.plant_store.specs.Groups.{DeviceTraces}
 
--- this is the history of the group of a book, on the book's device
+-- This is the history of the group of a book, on the book's device, whose clock is the number of its calls, if these are
+-- known. The book's sheet is that of its definition. If the book has failed, the device has counted one fault since the opening. Otherwise it has counted none.
 pub record IsHistoryOfBook {D : Type 0} (trace : D → Option Trace) (ticks faults : D → ℕ) (b : ToldBook D) (h : GroupHistory) : Type 0 where
   pub group : h.group ≡ b.group
   pub def : h.def ≡ b.def
@@ -19,9 +21,13 @@ pub record IsHistoryOfBook {D : Type 0} (trace : D → Option Trace) (ticks faul
   pub copies : lists_of h.copies.items ≡ b.sheet.copies
   pub rows : lists_of h.rows.items ≡ b.sheet.rows
   pub evals : h.evals ≡ b.sheet.evals
+  pub same_group : b.sheet.group ≡ b.def.calcs
+  pub same_grid : b.sheet.grid ≡ grid_of b.def.start b.def.period
   pub history : IsBookHistory h (trace_of trace b.dev) (count_of ticks b.dev) (count_of faults b.dev)
+  pub clock : IfSome (trace_of trace b.dev) (λ t. length t.calls ≡ count_of ticks b.dev)
   pub there : IsOnDevice b.text b.dev
   pub rose : b.failed ≡ true → Rose b.opening.faults (count_of faults b.dev)
+  pub faultless : b.failed ≡ false → count_of faults b.dev ≡ b.opening.faults
 
 -- there is one history for each book, at the same place
 pub record AreHistoriesOf {D : Type 0} (trace : D → Option Trace) (ticks faults : D → ℕ) (books : List (ToldBook D))

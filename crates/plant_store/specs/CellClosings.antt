@@ -1,11 +1,14 @@
 -- Giving back the devices of cells.
-use Rattle.std.specs.Prelude.{◌≡◌, ◌≢◌, ◌⊎◌, ℕ, ◌-◌, ◌^◌, ◌<◌, ◌≤◌, true, List, Option, All}
+use Rattle.std.specs.Prelude.{◌≡◌, ◌≢◌, ◌⊎◌, ℕ, ◌-◌, ◌^◌, ◌<◌, ◌≤◌, true, false, List, length, Option, IfSome, All}
 use Rattle.std.specs.List.{AllZip}
+use Rattle.disk_model.specs.Calls.{Rose}
 use Rattle.disk_model.specs.Traces.{Trace}
 use Rattle.tag_cell.specs.declared.history.TagHistory.{TagHistory}
 use Rattle.tag_cell.specs.Told.{ToldCell, IsCellHistory}
 
--- this is the history of a cell, on a device with this trace, this clock and this number of faults
+-- This is the history of a cell, on a device with this trace, this clock and this number of faults. The clock is the
+-- number of the device's calls, if these are known. If the cell's journal has failed, the device has counted one fault
+-- since the opening. Otherwise it has counted none.
 pub record IsHistoryOfCell {D : Type 0} (trace : Option Trace) (ticks faults : ℕ) (c : ToldCell D) (h : TagHistory) : Type 0 where
   pub def_is : h.def ≡ c.def
   pub opening_is : h.opening ≡ c.opening
@@ -14,16 +17,25 @@ pub record IsHistoryOfCell {D : Type 0} (trace : Option Trace) (ticks faults : �
   pub summary_is : h.summary ≡ c.state.summary
   pub acked_is : h.acked ≡ c.journal.acked
   pub history : IsCellHistory h trace ticks faults
+  pub clock : IfSome trace (λ t. length t.calls ≡ ticks)
+  pub rose : c.journal.failed ≡ true → Rose c.opening.faults faults
+  pub faultless : c.journal.failed ≡ false → faults ≡ c.opening.faults
 
 -- there is one history for each of these cells, at the same place, on the cell's device
 abbrev pub AreHistoriesOf : {D : Type 0} → (D → Option Trace) → (D → ℕ) → (D → ℕ) → List (ToldCell D) → List TagHistory → Type 0
 AreHistoriesOf {D} trace ticks faults cells histories = AllZip (λ (c : ToldCell D) h. IsHistoryOfCell (trace c.journal.dev)
     (ticks c.journal.dev) (faults c.journal.dev) c h) cells histories
 
+-- a history is that of a tag's device, which has made these calls, if they are known; its clock is their number
+pub record IsHistoryAt (trace : Option Trace) (h : TagHistory) : Type 0 where
+  pub ticks : ℕ
+  pub faults : ℕ
+  pub clock : IfSome trace (λ t. length t.calls ≡ ticks)
+  pub is : IsCellHistory h trace ticks faults
+
 -- each history is that of the device that the store has under the name at its place
 abbrev pub AreHistoriesAt : (List ℕ → Option Trace) → List (List ℕ) → List TagHistory → Type 0
-AreHistoriesAt traces names histories =
-    AllZip (λ name h. (ticks : ℕ) × (faults : ℕ) × IsCellHistory h (traces name) ticks faults) names histories
+AreHistoriesAt traces names histories = AllZip (λ name h. IsHistoryAt (traces name) h) names histories
 
 -- the store has the device of each cell under the name at its place, and any other device is unchanged
 pub record AreGivenBack {D : Type 0} (trace : D → Option Trace) (names : List (List ℕ)) (cells : List (ToldCell D))

@@ -7,6 +7,7 @@ use Rattle.disk_model.specs.Moments.{During}
 use Rattle.disk_model.specs.Traces.{Trace}
 use Rattle.calc_refresh.specs.declared.definition.GroupDefParts.{GroupDefParts}
 use Rattle.calc_refresh.specs.Lists.{lists_of}
+use Rattle.group_layout.specs.Readings.{GainsGroupSync}
 use Rattle.group_layout.specs.Texts.{definition_text}
 use Rattle.tag_base.specs.declared.definition.GroupDef.{GroupDef}
 use Rattle.group_book.specs.declared.history.GroupOpening.{GroupOpening}
@@ -60,8 +61,8 @@ AreGroupsOpened many groups records old openings = (k : ℕ) (g : GroupDef) (x :
     (slice_index_or openings k x)
 
 -- The book is that of the group at place i as it is opened. It has what its device stood for, and the first records of
--- its tags. A crash at any moment since left of the device what a crash might have left before, or what stands for the
--- same.
+-- its tags. A device that had a finished layout of this group has gained one sync and nothing else. A crash at any
+-- moment since left of the device what a crash might have left before, or what stands for the same.
 pub record IsBookOpened {D : Type 0} (trace : D → Option Trace) (ticks faults : D → ℕ) (i : ℕ) (g : GroupDef)
     (recovered : List (List Rec)) (o : Option Trace) (b : ToldBook D) : Type 0 where
   pub group : b.group ≡ i
@@ -78,6 +79,7 @@ pub record IsBookOpened {D : Type 0} (trace : D → Option Trace) (ticks faults 
   pub usable : b.failed ≡ false
   pub device : IsSome b.dev
   pub faultless : count_of faults b.dev ≡ 0
+  pub synced : GainsGroupSync (group_definition_text g) o (trace_of trace b.dev)
   pub same : During o (trace_of trace b.dev) (BookStaysSame (group_definition_text g) (group_parts_of g) o)
 
 -- the books are those of the first groups, each at its place

@@ -1,7 +1,8 @@
 -- A base that was read, and whose tags are opened.
-use Rattle.std.specs.Prelude.{◌≡◌, ◌⊎◌, ℕ, List, Result, Ok, Err}
+use Rattle.std.specs.Prelude.{◌≡◌, ◌⊎◌, ℕ, ◌≤◌, List, Result, Ok, Err}
 use Rattle.disk_model.specs.Calls.{Rose}
 use Rattle.trend_num.specs.declared.point.Point.{Point}
+use Rattle.trend_num.specs.Limits.{most_stored}
 use Rattle.trend_model.specs.Contents.{closed_points}
 use Rattle.tag_core.specs.Core.{Core}
 use Rattle.tag_base.specs.declared.definition.Base.{Base}
@@ -11,16 +12,18 @@ use Rattle.plant_status.specs.declared.unit.Unit.{Unit}
 use Rattle.plant_files.specs.RowFiles.{ToldFiles}
 use Rattle.plant_files.specs.Texts.{IsBaseFile}
 use Rattle.plant_store.specs.Groups.{DeviceTraces}
-use Rattle.plant_store.specs.Tags.{AllStaySame, AreLeft, AreTagsOpened, AreOtherTagsSame}
+use Rattle.plant_store.specs.Tags.{AllStaySame, AreLeft, AreTagsOpened, AreOtherTagsSame, tag_records_in}
 
 -- no device has changed
 abbrev pub AreUntouched : DeviceTraces → DeviceTraces → Type 0
 AreUntouched old new = (n : List ℕ) → new n ≡ old n
 
--- the base was read from the file of this name, and its tags are opened as these cores
+-- The base was read from the file of this name, and its tags are opened as these cores. Together they have no more
+-- records than may be stored.
 pub record IsOpenedBase (name : List ℕ) (told : ToldFiles) (old : DeviceTraces) (base : Base) (cores : List Core) : Type 0 where
   pub read : IsBaseFile (told name) base
   pub opened : AreTagsOpened base.tags.items old cores
+  pub few : tag_records_in cores ≤ most_stored
 
 -- the points that a tag reads as, in order of time: those of its records, closed by its held point
 abbrev pub points_recovered : Core → List Point

@@ -1,6 +1,7 @@
 -- What a plant is opened as, and why it is not opened.
-use Rattle.std.specs.Prelude.{◌≡◌, ◌≢◌, ◌⊎◌, ℕ, List, All, map, Result, Ok, Err}
+use Rattle.std.specs.Prelude.{◌≡◌, ◌≢◌, ◌⊎◌, ℕ, ◌≤◌, List, All, map, Result, Ok, Err}
 use Rattle.trend_num.specs.declared.archive.Rec.{Rec}
+use Rattle.trend_num.specs.Limits.{most_stored}
 use Rattle.tag_core.specs.Core.{Core}
 use Rattle.disk_model.specs.Calls.{Rose}
 use Rattle.plant_status.specs.declared.status.Status.{Status}
@@ -23,10 +24,11 @@ abbrev pub opened_records_of : List Core → List (List Rec)
 opened_records_of cores = map (λ (core : Core). core.state.records) cores
 
 -- Why a plant is not opened. The store counted `before` faults before it, and counts `now` after it. Either the tags of
--- its base are refused; or they are opened, and its groups are refused over their records.
+-- its base are refused; or they are opened, with no more records together than may be stored, and its groups are
+-- refused over those records.
 pub data IsPlantRefusal (base : Base) (old new : DeviceTraces) (before now : ℕ) (why : Status) : Type 0 where
   OfTags : tags.IsRefusal base.tags.items old new before now why → IsPlantRefusal base old new before now why
-  OfGroups : (cores : List Core) → tag.AreTagsOpened base.tags.items old cores
+  OfGroups : (cores : List Core) → tag.AreTagsOpened base.tags.items old cores → tag.tag_records_in cores ≤ most_stored
       → groups.IsRefusal base.groups.items (opened_records_of cores) old before now why → IsPlantRefusal base old new before now why
 
 -- each device except those of the base's tags and groups is unchanged

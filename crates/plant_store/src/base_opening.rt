@@ -1,9 +1,10 @@
 // Opening the tags of a base.
-ghost use Rattle.std.specs.Prelude.{◌≡◌, ◌≢◌, ◌^◌, ◌<◌, ℕ, All, AllPairs, length, IfOk, IfErr};
+ghost use Rattle.std.specs.Prelude.{◌≡◌, ◌≢◌, ◌^◌, ◌<◌, ◌≤◌, ℕ, All, AllPairs, length, IfOk, IfErr};
+ghost use Rattle.trend_num.specs.Limits.{most_stored};
 ghost use Rattle.trend_num.specs.Ranges.{TuningInRange};
 ghost use Rattle.plant_files.specs.Reading.{faults_told};
 ghost use Rattle.plant_files.specs.Texts.{tag_names};
-ghost use Rattle.plant_store.specs.Tags.{AllStaySame, AreLeft, AreTagsOpened, AreOtherTagsSame};
+ghost use Rattle.plant_store.specs.Tags.{AllStaySame, AreLeft, AreTagsOpened, AreOtherTagsSame, tag_records_in};
 ghost use Rattle.plant_store.specs.TagRefusals.{CountsStore, IsRefusal};
 
 use crate::tag_opening::open_tags;
@@ -30,6 +31,7 @@ pub fn open_base<S: Store>(
     ensures left { IfOk result (λ cores. AreLeft base.now.tags.items (S.device_at store.old)
         (S.device_at store.new) cores.items) }
     ensures as_many { IfOk result (λ cores. length cores.items ≡ length base.now.tags.items) }
+    ensures few_records { IfOk result (λ cores. tag_records_in cores.items ≤ most_stored) }
     ensures short { IfOk result (λ cores. All (λ core. length core.state.records < 2 ^ 32) cores.items) }
     ensures refused { IfErr result (IsRefusal base.now.tags.items (S.device_at store.old) (S.device_at store.new)
         (S.fault_count store.old) (S.fault_count store.new)) }

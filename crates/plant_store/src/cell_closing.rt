@@ -46,8 +46,6 @@ pub(crate) fn close_cell<S: Store>(store: &mut S, name: &str, cell: Cell<S::Dev>
     ensures counted { S.fault_count store.new ≡ sum_of_counts (S.fault_count store.old) (S.Dev.fault_count cell.journal.dev) }
     ensures faulty { cell.journal.failed ≡ true → 1 ≤ S.Dev.fault_count cell.journal.dev }
 {
-    // For the proof: the device of a broken cell has counted a fault.
-    let _broken = cell.broken();
     let (dev, history) = cell.into_history();
     store.give_back(name, dev);
     history

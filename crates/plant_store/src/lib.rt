@@ -22,6 +22,7 @@
 //!   stands for the same, or, of a tag, one that recovers that state as it is opened. This covers devices with a known
 //!   trace of calls, and fewer than 10^18 events.
 //! - Once the tags are open, a crash leaves what recovers them.
+//! - The device of a group that had a finished layout gains one sync as its book is opened, and nothing else.
 //! - A device that was given back is as its cell or book left it, and its faults are added to the store's.
 //! - No device is both a tag's and a group's.
 #![tactic(auto)]

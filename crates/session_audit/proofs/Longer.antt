@@ -1,6 +1,6 @@
 -- Cells that have gained entries of a kind, one after another.
-use Rattle.std.proofs.Common.{◌≡◌, ◌⊎◌, ℕ, ◌<◌, inl, inr, List, length, get_or, set, Some, true, ap, ◌∙◌, arith}
-use Rattle.std.proofs.lemmas.List.{get_or-set_same, length-set}
+use Rattle.std.proofs.Common.{◌≡◌, ◌⊎◌, ℕ, ◌<◌, inl, inr, List, length, get_or, set, Some, true, sym, ap, subst, ◌∙◌, arith}
+use Rattle.std.proofs.lemmas.List.{get_or-set_other, get_or-set_same, length-set}
 use Rattle.std.proofs.lemmas.Option.{slice_get-get_or}
 use Rattle.tag_cell.specs.declared.entry.Entry.{Entry}
 use Rattle.tag_cell.specs.declared.entry.CommitNo.{CommitNo}
@@ -9,7 +9,7 @@ use Rattle.tag_cell.specs.Told.{ToldCell}
 use Rattle.session_audit.specs.Cells.{AreLonger, IsLonger}
 use Rattle.session_audit.specs.Gains.{longer_refl, longer_trans}
 use Rattle.session_audit.proofs.Each.{each_refl, each_set, each_trans}
-use Rattle.session_audit.specs.CellRefusals.{IsCellRefusal, IsSo, commit_status}
+use Rattle.session_audit.specs.CellRefusals.{IsCellRefusal, IsCommittedCell, IsSo, commit_status}
 
 pub all_longer : {D : Type 0} (IsOf : Entry → Type 0) (cells : List (ToldCell D)) → AreLonger IsOf cells cells
 all_longer IsOf cells = each_refl (IsLonger IsOf) (longer_refl IsOf) cells
@@ -34,11 +34,21 @@ so_here P now tag c within so = record {
   so = so;
 }
 
+-- the cells before it are as they were
+front_stays : {D : Type 0} (now : List (ToldCell D)) (tag : ℕ) (c : ToldCell D)
+    → ((k : ℕ) (d : ToldCell D) → k < tag → IsCommittedCell (get_or now k d))
+    → (k : ℕ) (d : ToldCell D) → k < tag → IsCommittedCell (get_or (set now tag c) k d)
+front_stays now tag c front k d below =
+    subst IsCommittedCell (sym (get_or-set_other now tag k c d (λ same. omega (arith, below, same)))) (front k d below)
+
 -- why a commit of it was refused
 pub commit_refused : {D : Type 0} (now : List (ToldCell D)) (tag : ℕ) (c : ToldCell D) (no : CommitNo) → tag < length now
-    → (no ≡ commit.WantOfMemory) ⊎ (c.journal.failed ≡ true) → IsCellRefusal (set now tag c) (commit_status tag no)
-commit_refused now tag c commit.Broken within (inl is) = absurd (cc)
-commit_refused now tag c commit.Broken within (inr failed) = so_here (λ x. x.journal.failed ≡ true) now tag c within failed
-commit_refused now tag c commit.DeviceFault within (inl is) = absurd (cc)
-commit_refused now tag c commit.DeviceFault within (inr failed) = so_here (λ x. x.journal.failed ≡ true) now tag c within failed
-commit_refused now tag c commit.WantOfMemory within why = tt
+    → (no ≡ commit.WantOfMemory) ⊎ (c.journal.failed ≡ true)
+    → ((k : ℕ) (d : ToldCell D) → k < tag → IsCommittedCell (get_or now k d)) → IsCellRefusal (set now tag c) (commit_status tag no)
+commit_refused now tag c commit.Broken within (inl is) front = absurd (cc)
+commit_refused now tag c commit.Broken within (inr failed) front =
+    (so_here (λ x. x.journal.failed ≡ true) now tag c within failed, front_stays now tag c front)
+commit_refused now tag c commit.DeviceFault within (inl is) front = absurd (cc)
+commit_refused now tag c commit.DeviceFault within (inr failed) front =
+    (so_here (λ x. x.journal.failed ≡ true) now tag c within failed, front_stays now tag c front)
+commit_refused now tag c commit.WantOfMemory within why front = tt

@@ -1,8 +1,9 @@
 -- A book that was saved, or was not.
-use Rattle.std.proofs.Common.{◌≡◌, ◌∙◌, ℕ, zero, suc, ◌+◌, List, [], ◌∷◌, All, length, map, Result, Ok, Err, IfErr, OnOk, true, Option, None, Some, IsSome, refl, sym, ap, subst, arith, append-nil}
+use Rattle.std.proofs.Common.{◌≡◌, ◌∙◌, ℕ, Bool, zero, suc, ◌+◌, List, [], ◌∷◌, All, length, map, Result, Ok, Err, IfErr, OnOk, true, false, Option, None, Some, IsSome, refl, sym, ap, subst, arith, append-nil}
 use Rattle.std.proofs.lemmas.Bool.{false≢true}
 use Rattle.std.proofs.lemmas.List.Elements.{filter_map-append}
 use Rattle.disk_model.specs.Traces.{Trace}
+use Rattle.calc_refresh.specs.Refreshed.{fault_of}
 use Rattle.group_book.specs.declared.refusal.SaveNo.{SaveNo}
 use Rattle.group_book.specs.declared.refusal.SaveNo.TheVariants.{Broken, DeviceFault, WantOfMemory}
 use Rattle.group_book.specs.declared.turn.Turn.TheVariants.{Save}
@@ -16,6 +17,11 @@ use Rattle.session_audit.specs.BookRefusals.{IsBookRefusal, IsSaveCause, IsSaveR
 use Rattle.session_audit.specs.BookRefusals.IsBookRefusal.{OfSave}
 use Rattle.session_audit.specs.GroupTapes.{refreshes, reached_by}
 use Rattle.session_audit.proofs.MoreTurns.{refreshed_refl}
+
+-- what does not hold is false
+pub unfailed : (b : Bool) → (b ≡ true → ⊥) → b ≡ false
+unfailed true h = absurd (h refl)
+unfailed false h = refl
 
 -- a save more on the tape
 saved_more : {D : Type 0} (trace : D → Option Trace) (ticks : D → ℕ) (before : D) (old new : Book D)
@@ -38,12 +44,13 @@ saved_more trace ticks before old new s = record {
 -- a book without a device is as it was, and one with a device has a save more
 pub saved_on : {D : Type 0} (trace : D → Option Trace) (ticks : D → ℕ) (old new : Book D) (dev : Option D) → old.dev ≡ dev
     → (old.dev ≡ None → new ≡ old) → ((d : D) → old.dev ≡ Some d → IsSaved trace ticks d old new)
-    → IsSavedOn old new × IsRefreshedMore old new
-saved_on {D = D} trace ticks old new None is none some =
+    → old.failed ≡ false → IsSavedOn old new × IsRefreshedMore old new
+saved_on {D = D} trace ticks old new None is none some sound =
     let same = none is in (
       record {
         same_refreshes = ap (λ b. refreshes b.tape) same;
         same_sheet = ap (λ b. b.sheet) same;
+        usable = ap (λ b. b.failed) same ∙ sound;
         last = λ there. absurd (nothing new.dev (ap (λ b. b.dev) same ∙ is) there);
       },
       subst (IsRefreshedMore old) (sym same) (refreshed_refl old),
@@ -52,12 +59,13 @@ saved_on {D = D} trace ticks old new None is none some =
     nothing : (o : Option D) → o ≡ None → IsSome o → ⊥
     nothing None e there = false≢true there
     nothing (Some d) e there = cc
-saved_on trace ticks old new (Some d) is none some =
+saved_on trace ticks old new (Some d) is none some sound =
     let s = some d is in (
       record {
         same_refreshes = ap (λ b. refreshes b.tape) s.changed
             ∙ (filter_map-append reached_by old.tape (Save s.block.number (ticks s.after) ∷ []) ∙ append-nil (refreshes old.tape));
         same_sheet = ap (λ b. b.sheet) s.changed;
+        usable = ap (λ b. b.failed) s.changed ∙ sound;
         last = λ there. record {
           before = old.tape;
           number = s.block.number;
@@ -97,14 +105,17 @@ unsaved_cause old new WantOfMemory faulted broken = tt
 
 -- a book with all its turns that was saved
 pub saved_to : {D T E : Type 0} (durables : List (List Rec)) (tags : List ℕ) (turns : ℕ) (old new : Book D) (r : Result T E)
-    → length (refreshes old.tape) ≡ turns + 1 → versions_of old ≡ durable_numbers durables tags → OnOk r (IsSavedOn old new)
+    → length (refreshes old.tape) ≡ turns + 1 → versions_of old ≡ durable_numbers durables tags → fault_of old.sheet ≡ None
+    → OnOk r (IsSavedOn old new)
     → OnOk r (IsRefreshedTo durables tags turns new)
-saved_to durables tags turns old new (Ok x) count versions saved = record {
+saved_to durables tags turns old new (Ok x) count versions within saved = record {
   refreshed = ap length saved.same_refreshes ∙ count;
   versions = ap (λ s. map length s.copies) saved.same_sheet ∙ versions;
+  within = ap fault_of saved.same_sheet ∙ within;
+  usable = saved.usable;
   saved = saved.last;
 }
-saved_to durables tags turns old new (Err e) count versions saved = tt
+saved_to durables tags turns old new (Err e) count versions within saved = tt
 
 -- or was not
 pub save_refused : {D T : Type 0} (durables : List (List Rec)) (tags : List ℕ) (group : ℕ) (b : Book D) (r : Result T Status)

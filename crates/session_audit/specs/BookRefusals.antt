@@ -1,5 +1,5 @@
 -- Why a group is not refreshed.
-use Rattle.std.specs.Prelude.{◌≡◌, ℕ, List, [], slice_get, slice_index_or, Some, true, ⊤}
+use Rattle.std.specs.Prelude.{◌≡◌, ℕ, ◌<◌, List, [], slice_get, slice_index, slice_index_or, Some, true, ⊤}
 use Rattle.trend_num.specs.declared.archive.Rec.{Rec}
 use Rattle.trend_num.specs.declared.refusal.What.TheVariants.{Cells, Copies}
 use Rattle.plant_status.specs.declared.unit.Unit.TheVariants.{Group}
@@ -15,6 +15,7 @@ use Rattle.group_book.specs.declared.refusal.SaveNo.{SaveNo}
 use Rattle.group_book.specs.declared.refusal.SaveNo.TheVariants as save
 use Rattle.group_book.specs.InputLists.{IsListsRefusal, lists_at}
 use Rattle.group_book.specs.Told.{ToldBook as Book}
+use Rattle.session_audit.specs.Refreshing.{IsRefreshedTo}
 
 -- the refusal of a refresh whose pull of an input was refused
 abbrev pub pull_refusal : ℕ → PullNo → RefreshNo
@@ -53,10 +54,12 @@ pub data IsBookRefusal {D : Type 0} (durables : List (List Rec)) (tags : List �
       → IsBookRefusal durables tags group book s
   OfSave : IsSaveRefusal group book s → IsBookRefusal durables tags group book s
 
--- the refusal is that of one group
-pub record IsRefreshRefusal {D : Type 0} (durables : List (List Rec)) (inputs : List (List ℕ)) (books : List (Book D))
-    (s : Status) : Type 0 where
+-- the refusal is that of one group; those before it are refreshed and saved
+pub record IsRefreshRefusal {D : Type 0} (durables : List (List Rec)) (inputs : List (List ℕ)) (turns : List ℕ)
+    (books : List (Book D)) (s : Status) : Type 0 where
   pub group : ℕ
   pub book : Book D
   pub there : slice_get books group ≡ Some book
+  pub front : (k : ℕ) (b : Book D) → k < group
+      → IsRefreshedTo durables (slice_index_or inputs k []) (slice_index turns k) (slice_index_or books k b)
   pub refused : IsBookRefusal durables (slice_index_or inputs group []) group book s

@@ -1,5 +1,5 @@
 -- Why a step of a session is refused.
-use Rattle.std.specs.Prelude.{◌≡◌, ℕ, ◌+◌, ◌<◌, ◌≤◌, List, [], ◌∷◌, length, slice_get, slice_index, Option, Some, true, nat_eq, ⊤}
+use Rattle.std.specs.Prelude.{◌≡◌, ℕ, ◌+◌, ◌<◌, ◌≤◌, List, [], ◌∷◌, length, slice_get, slice_index, slice_index_or, Option, Some, true, false, nat_eq, ⊤}
 use Rattle.trend_num.specs.Limits.{most_records}
 use Rattle.trend_num.specs.declared.refusal.What.TheVariants.{Records}
 use Rattle.std.specs.List.{count_by}
@@ -13,7 +13,7 @@ use Rattle.tag_cell.specs.declared.entry.CommitNo.{CommitNo}
 use Rattle.tag_cell.specs.declared.entry.CommitNo.TheVariants as commit
 use Rattle.tag_cell.specs.declared.entry.TakeNo.{TakeNo}
 use Rattle.tag_cell.specs.declared.entry.TakeNo.TheVariants as take_no
-use Rattle.tag_cell.specs.Told.{ToldCell}
+use Rattle.tag_cell.specs.Told.{ToldCell, takes_waiting}
 use Rattle.tag_cell.specs.Tapes.{taken}
 use Rattle.session_audit.specs.declared.agenda.Item.{Item}
 use Rattle.session_audit.specs.Tapes.{take_of}
@@ -48,9 +48,15 @@ take_status tag takes rows take_no.Broken = DeviceFault (Tag tag)
 take_status tag takes rows (take_no.RoomFull room) = Mismatch (Takes tag) (Number takes) (Number rows)
 take_status tag takes rows (take_no.Full records) = Limit Records records
 
--- why a commit is refused: the tag's device has failed, or memory is wanting
+-- no value waits on this cell, and its device has not failed
+pub record IsCommittedCell {D : Type 0} (c : ToldCell D) : Type 0 where
+  pub none_waits : takes_waiting c ≡ 0
+  pub usable : c.journal.failed ≡ false
+
+-- why a commit is refused: the device of the tag has failed, and the tags before it are committed; or memory is wanting
 abbrev pub IsCellRefusal : {D : Type 0} → List (ToldCell D) → Status → Type 0
-IsCellRefusal cells (DeviceFault (Tag tag)) = IsSo cells tag (λ c. c.journal.failed ≡ true)
+IsCellRefusal {D} cells (DeviceFault (Tag tag)) = IsSo cells tag (λ c. c.journal.failed ≡ true)
+    × ((k : ℕ) (d : ToldCell D) → k < tag → IsCommittedCell (slice_index_or cells k d))
 IsCellRefusal cells WantOfMemory = ⊤
 IsCellRefusal cells other = ⊥
 

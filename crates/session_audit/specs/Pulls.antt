@@ -31,30 +31,32 @@ pub record ArePulled {C D : Type 0} (inputs : List (List ℕ)) (cells : List (Ce
 
 -- ---- the first difference
 
--- a pull ended elsewhere than the refresh with its number, or only one of the two exists; or the records of the copy
--- are not the start of the tag's records
+-- A pull ended elsewhere than the refresh with its number, or only one of the two exists. Or all pulls ended where the
+-- refreshes did, but the records of the copy are not the start of the tag's records.
 abbrev pub IsInputMismatch : {C D : Type 0} → ℕ → ℕ → Cell C → Book D → Status → Type 0
 IsInputMismatch group input cell book (Mismatch (Pull its_group its_input turn) kept told) = (its_group ≡ group)
     × (its_input ≡ input) × AreApart turn (pulled group cell.tape) (reached input book.tape) kept told
 IsInputMismatch group input cell book (Mismatch (Version its_group its_input) kept told) = (its_group ≡ group)
-    × (its_input ≡ input) × RecordsDiffer cell.state.records (slice_index_or book.sheet.copies input []) kept told
+    × (its_input ≡ input) × (pulled group cell.tape ≡ reached input book.tape) × RecordsDiffer cell.state.records (slice_index_or book.sheet.copies input []) kept told
 IsInputMismatch group input cell book other = ⊥
 
--- the mismatch is at one input of a group
+-- the mismatch is at one input of a group; of those before it the book has what its group pulled
 pub record IsMismatchOf {C D : Type 0} (group : ℕ) (tags : List ℕ) (cells : List (Cell C)) (book : Book D) (s : Status)
     : Type 0 where
   pub input : ℕ
   pub cell : Cell C
   pub within : input < length tags
+  pub front : (k : ℕ) (c : Cell C) → k < input → IsPulledFrom group k (slice_index_or cells (slice_index tags k) c) book
   pub there : slice_get cells (slice_index tags input) ≡ Some cell
   pub differs : IsInputMismatch group input cell book s
 
--- the mismatch is of one group
+-- the mismatch is of one group; those before it have what they pulled
 pub record IsPullMismatch {C D : Type 0} (inputs : List (List ℕ)) (cells : List (Cell C)) (books : List (Book D)) (s : Status)
     : Type 0 where
   pub group : ℕ
   pub book : Book D
   pub there : slice_get books group ≡ Some book
+  pub front : (k : ℕ) (b : Book D) → k < group → AreInputsPulled k (slice_index_or inputs k []) cells (slice_index_or books k b)
   pub differs : IsMismatchOf group (slice_index_or inputs group []) cells book s
 
 -- ---- from a place of a tape on

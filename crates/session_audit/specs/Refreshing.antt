@@ -1,6 +1,7 @@
 -- Groups that are refreshed from the cells of their inputs.
-use Rattle.std.specs.Prelude.{◌≡◌, ℕ, ◌+◌, ◌<◌, List, [], ◌∷◌, ◌++◌, All, IsSome, length, map, slice_index, slice_index_or, ⊤}
+use Rattle.std.specs.Prelude.{◌≡◌, ℕ, ◌+◌, ◌<◌, List, [], ◌∷◌, ◌++◌, All, IsSome, None, false, length, map, slice_index, slice_index_or, ⊤}
 use Rattle.trend_num.specs.declared.archive.Rec.{Rec}
+use Rattle.calc_refresh.specs.Refreshed.{fault_of}
 use Rattle.tag_cell.specs.declared.entry.Entry.{Entry}
 use Rattle.tag_cell.specs.declared.entry.Entry.TheVariants.{Pull}
 use Rattle.tag_cell.specs.Told.{ToldCell as Cell, durable_records}
@@ -39,17 +40,21 @@ pub record EndsInSave (tape : List Turn) : Type 0 where
   pub moment : ℕ
   pub is : tape ≡ before ++ Save number moment ∷ []
 
--- a book was saved: its refreshes and its sheet have not changed, and if it has a device, its tape ends in a save
+-- a book was saved: its refreshes and its sheet have not changed, its device has not failed, and if it has a device, its
+-- tape ends in a save
 pub record IsSavedOn {D : Type 0} (old new : Book D) : Type 0 where
   pub same_refreshes : refreshes new.tape ≡ refreshes old.tape
   pub same_sheet : new.sheet ≡ old.sheet
+  pub usable : new.failed ≡ false
   pub last : IsSome new.dev → EndsInSave new.tape
 
--- a book has made its turns and one more, and has as many records of each input as no crash takes away of the tag; if
--- it has a device, it was saved after that
+-- a book has made its turns and one more, and has as many records of each input as no crash takes away of the tag; its
+-- sheet is within the limits; if it has a device, it was saved after that, and the device has not failed
 pub record IsRefreshedTo {D : Type 0} (durables : List (List Rec)) (tags : List ℕ) (turns : ℕ) (book : Book D) : Type 0 where
   pub refreshed : length (refreshes book.tape) ≡ turns + 1
   pub versions : versions_of book ≡ durable_numbers durables tags
+  pub within : fault_of book.sheet ≡ None
+  pub usable : book.failed ≡ false
   pub saved : IsSome book.dev → EndsInSave book.tape
 
 -- each book is like that

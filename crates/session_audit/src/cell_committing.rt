@@ -5,9 +5,8 @@ ghost use Rattle.value_rows.specs.declared.raw.RawRow.{RawRow};
 ghost use Rattle.session_audit.specs.Agendas.{ask_item, phase_item};
 ghost use Rattle.session_audit.specs.Tapes.{ask_of, take_of};
 ghost use Rattle.tag_cell.specs.declared.entry.CommitNo.TheVariants.{WantOfMemory as NoMemory};
-ghost use Rattle.tag_cell.specs.Told.{takes_waiting};
 ghost use Rattle.session_audit.specs.Cells.{AreAllShown, AreLonger, IsCommitEntry, IsLonger};
-ghost use Rattle.session_audit.specs.CellRefusals.{IsCellRefusal, commit_status};
+ghost use Rattle.session_audit.specs.CellRefusals.{IsCellRefusal, IsCommittedCell, commit_status};
 
 use disk_model::Disk;
 use plant_status::{Status, Unit};
@@ -17,7 +16,7 @@ use tag_cell::{Cell, CommitNo};
 /// wanting.
 pub fn commit_cells<D: Disk>(cells: &mut [Cell<D>]) -> Result<(), Status>
     requires few { length cells.old < 2 ^ 32 }
-    ensures none_waits { OnOk result (All (λ c. takes_waiting c ≡ 0) cells.new) }
+    ensures committed { OnOk result (All IsCommittedCell cells.new) }
     ensures takes { (earlier : ℕ) (taken : List (List RawRow)) → AreAllShown take_of (phase_item earlier) taken cells.old
         → AreAllShown take_of (phase_item earlier) taken cells.new }
     ensures asks { (asked : List (List Query)) → AreAllShown ask_of ask_item asked cells.old
@@ -35,7 +34,7 @@ pub fn commit_cells<D: Disk>(cells: &mut [Cell<D>]) -> Result<(), Status>
 
 // Commits on a cell until no value waits.
 fn commit_cell<D: Disk>(cell: &mut Cell<D>) -> Result<(), CommitNo>
-    ensures none_waits { OnOk result (takes_waiting cell.new ≡ 0) }
+    ensures committed { OnOk result (IsCommittedCell cell.new) }
     ensures longer { IsLonger IsCommitEntry cell.old cell.new }
     ensures failed { IfErr result (λ no. (no ≡ NoMemory) ⊎ (cell.new.journal.failed ≡ true)) }
 {

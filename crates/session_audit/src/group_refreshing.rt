@@ -52,7 +52,7 @@ pub fn refresh_missing<C: Disk, D: Disk, L: Ledger>(
     ensures gained { AreEach IsRefreshedMore books.old books.new }
     ensures questions { (asked : List (List Query)) → AreTapesWhole book_tape row_ask_of row_item asked books.old
         → AreTapesWhole book_tape row_ask_of row_item asked books.new }
-    ensures refused { IfErr result (IsRefreshRefusal (durable_lists cells.new) (lists_of inputs.now) books.new) }
+    ensures refused { IfErr result (IsRefreshRefusal (durable_lists cells.new) (lists_of inputs.now) turns.now books.new) }
 {
     for group in 0..books.len() {
         let (tags, due) = (&inputs[group], turns[group]);

@@ -168,6 +168,7 @@ returns-clause-refused g c =
     let opened = subst (λ l. AreCellsOpened D.trace D.ticks D.fault_count l old cells) c.deref.ensures.value
     c.in_ok-cells.ensures.opened in
     given_up_refused D.trace D.ticks D.fault_count c.args.base.now cells old mid new before first last now why opened
+    c.in_ok-cells.ensures.few_records
     (subst (λ l. tag.AreOtherTagsSame l old mid) c.deref.ensures.value c.open_cells.ensures.others) passed
     (count_kept D.trace D.ticks D.fault_count ts old cells before first last now why opened passed c.in-Err.ensures.counts
     c.close_cells.ensures.counts)

@@ -4,11 +4,12 @@ use Rattle.disk_model.specs.Moments.{During}
 use Rattle.disk_model.specs.Traces.{Trace}
 use Rattle.calc_refresh.specs.declared.definition.GroupDefParts.{GroupDefParts}
 use Rattle.calc_refresh.specs.Lists.{lists_of}
+use Rattle.group_layout.specs.Readings.{GainsGroupSync}
 use Rattle.group_book.specs.Openings.{StandsForGroup, BookStaysSame}
 use Rattle.group_book.specs.Tapes.{cut}
 use Rattle.group_book.specs.Told.{trace_of}
 use Rattle.plant_store.specs.Groups.{group_parts_of, input_records_of, group_definition_text}
-use Rattle.plant_store.proofs.BookTurns.{same_of, still, untouched}
+use Rattle.plant_store.proofs.BookTurns.{held_by, same_of, still, untouched}
 use Rattle.plant_store.proofs.single_book.open_book.Goals as goal
 
 pub returns-in_default-clause-same : goal.returns-in_default-clause-same
@@ -53,6 +54,10 @@ returns-in-Ok-load-clause-opened g c =
       usable = is.usable;
       device = is.device;
       faultless = is.faultless ∙ told.faultless;
+      synced = subst (λ (o : Option Trace). GainsGroupSync (group_definition_text group) o (trace_of D.trace b.dev)) told.told
+          (subst (λ (t : List ℕ). GainsGroupSync t (D.trace c.in-Ok-device.dev) (trace_of D.trace b.dev)) text
+          (held_by D.trace b.dev (λ (new : Option Trace). GainsGroupSync c.deref.result.now (D.trace c.in-Ok-device.dev) new)
+          is.device is.synced));
       same = subst (λ (o : Option Trace). During o (trace_of D.trace b.dev) (BookStaysSame (group_definition_text group) (group_parts_of group) o)) told.told
           (subst (λ (t : List ℕ). During (D.trace c.in-Ok-device.dev) (trace_of D.trace b.dev) (BookStaysSame t (group_parts_of group) (D.trace c.in-Ok-device.dev))) text
           (subst (λ (d : GroupDefParts). During (D.trace c.in-Ok-device.dev) (trace_of D.trace b.dev)

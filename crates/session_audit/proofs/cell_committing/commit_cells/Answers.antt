@@ -1,9 +1,8 @@
 use Rattle.std.proofs.Common.{◌<◌, ◌∙◌, length, ap, sym, subst, inl, inr, arith, get_or, set}
 use Rattle.std.proofs.lemmas.Bool.{cases_eq}
 use Rattle.std.proofs.lemmas.List.{get_or-set_same, get_or-set_other}
-use Rattle.tag_cell.specs.Told.{takes_waiting}
 use Rattle.session_audit.specs.Cells.{IsCommitEntry}
-use Rattle.session_audit.specs.CellRefusals.{IsCellRefusal}
+use Rattle.session_audit.specs.CellRefusals.{IsCellRefusal, IsCommittedCell}
 use Rattle.session_audit.specs.Agendas.{ask_item, phase_item}
 use Rattle.session_audit.specs.Tapes.{ask_of, take_of}
 use Rattle.session_audit.proofs.EntryKinds.{committed_asks, committed_takes, longer_shown}
@@ -20,7 +19,7 @@ pub returns-in-Err-clause-refused : goal.returns-in-Err-clause-refused
 returns-in-Err-clause-refused g c =
     subst (IsCellRefusal _) (sym c.commit_status.ensures) (commit_refused c.loop-tag.cells c.loop-tag.tag
     c.commit_cell.new.cell c.in-Err.no (omega (arith, c.loop-tag-test.true, c.loop-tag.invariant.longer.as_many))
-    c.in-Err.ensures.failed)
+    c.in-Err.ensures.failed c.loop-tag.invariant.committed)
 
 pub loop-tag-preserved : goal.loop-tag-preserved
 loop-tag-preserved g c =
@@ -29,19 +28,19 @@ loop-tag-preserved g c =
     let new = c.commit_cell.new.cell in
     let within : tag < length cells = omega (arith, c.loop-tag-test.true, c.loop-tag.invariant.longer.as_many) in
     record {
-      none_waits = λ i d below. elim (cases_eq i tag) [
-        | inl same ↦ ap (λ n. takes_waiting (get_or (set cells tag new) n d)) same
-            ∙ (ap takes_waiting (get_or-set_same cells tag new d within) ∙ c.in_default.ensures.none_waits)
-        | inr differ ↦ ap takes_waiting (get_or-set_other cells tag i new d differ)
-            ∙ c.loop-tag.invariant.none_waits i d (omega (arith, below, differ))
+      committed = λ i d below. elim (cases_eq i tag) [
+        | inl same ↦ subst (λ n. IsCommittedCell (get_or (set cells tag new) n d)) (sym same)
+            (subst IsCommittedCell (sym (get_or-set_same cells tag new d within)) c.in_default.ensures.committed)
+        | inr differ ↦ subst IsCommittedCell (sym (get_or-set_other cells tag i new d differ))
+            (c.loop-tag.invariant.committed i d (omega (arith, below, differ)))
       ];
       longer = longer_set IsCommitEntry c.args.cells.now cells tag new c.index-cells-tag.result within
           c.in_default.ensures.longer c.loop-tag.invariant.longer;
     }
 
-pub returns-clause-none_waits : goal.returns-clause-none_waits
-returns-clause-none_waits g c = λ k d below.
-    c.loop-tag.invariant.none_waits k d (omega (arith, below, c.loop-tag-test.false, c.loop-tag.invariant.longer.as_many))
+pub returns-clause-committed : goal.returns-clause-committed
+returns-clause-committed g c = λ k d below.
+    c.loop-tag.invariant.committed k d (omega (arith, below, c.loop-tag-test.false, c.loop-tag.invariant.longer.as_many))
 
 pub returns-in-Err-clause-takes : goal.returns-in-Err-clause-takes
 returns-in-Err-clause-takes g c = λ earlier files.

@@ -1,10 +1,11 @@
-use Rattle.std.proofs.Common.{◌≡◌, ◌<◌, ℕ, get_or}
-use Rattle.tag_cell.specs.Told.{ToldCell, takes_waiting}
+use Rattle.std.proofs.Common.{◌<◌, ℕ, get_or}
+use Rattle.tag_cell.specs.Told.{ToldCell}
+use Rattle.session_audit.specs.CellRefusals.{IsCommittedCell}
 use Rattle.session_audit.specs.Cells.{AreLonger, IsCommitEntry}
 use Rattle.session_audit.proofs.cell_committing.commit_cells.Given as goal
 
 abbrev pub invariant-loop-tag : goal.invariant-loop-tag
 invariant-loop-tag g l = record {
-  none_waits : (i : ℕ) (d : ToldCell g.row.D.Denot) → i < l.tag → takes_waiting (get_or l.cells i d) ≡ 0;
+  committed : (i : ℕ) (d : ToldCell g.row.D.Denot) → i < l.tag → IsCommittedCell (get_or l.cells i d);
   longer : AreLonger IsCommitEntry l.initial.cells l.cells;
 }

@@ -18,6 +18,7 @@ returns-in_err-compare_input-clause-differs g c =
       input = at;
       cell = cell;
       within = c.loop-input-test.true;
+      front = c.loop-input.invariant;
       there = slice_get-get_or cells (get_or c.args.tags.now at 0) cell known ∙ ap Some (sym c.index-cells-tags.is);
       differs = c.in_err-compare_input.ensures.differs;
     })

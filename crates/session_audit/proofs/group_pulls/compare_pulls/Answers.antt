@@ -29,6 +29,7 @@ returns-in_err-compare_inputs-clause-differs g c =
       group = at;
       book = book;
       there = slice_get-get_or c.args.books.now at book c.loop-group-test.true ∙ ap Some (sym c.index-books-group.is);
+      front = c.loop-group.invariant;
       differs = subst (λ l. IsMismatchOf at l c.args.cells.now book c.in_err-compare_inputs.field-0.0) tags c.in_err-compare_inputs.ensures.differs;
     })
 

@@ -20,6 +20,7 @@ loop-turn-init g c =
       gained = refreshed_refl c.args.book.now;
       count = sym made;
       versions = λ below. absurd (omega (arith, below, made));
+      within = λ below. absurd (omega (arith, below, made));
     }
 
 pub returns-in-Err-clause-pulled : goal.returns-in-Err-clause-pulled
@@ -52,6 +53,7 @@ loop-turn-preserved g c =
       versions = λ below. c.in_default.ensures.versions
           ∙ ap (λ l. durable_numbers l c.args.tags.now)
           (sym (lists_same c.loop-turn.cells c.refresh_once.new.cells c.refresh_once.ensures.pulled));
+      within = λ below. step.refreshed.within;
     }
 
 pub returns-clause-refreshed : goal.returns-clause-refreshed
@@ -68,7 +70,8 @@ returns-clause-refreshed g c =
       c.count_refreshes-made.ensures.count,
       ap (λ t. length (refreshes t)) c.tape.ensures,
     ))
-    (end.versions (omega (arith, c.loop-turn-test.false, c.requires.within))) c.save_group.ensures.saved
+    (end.versions (omega (arith, c.loop-turn-test.false, c.requires.within)))
+    (end.within (omega (arith, c.loop-turn-test.false, c.requires.within))) c.save_group.ensures.saved
 
 pub returns-clause-gained : goal.returns-clause-gained
 returns-clause-gained g c =

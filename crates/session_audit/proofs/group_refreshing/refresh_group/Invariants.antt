@@ -1,4 +1,5 @@
-use Rattle.std.proofs.Common.{◌≡◌, ◌<◌, length}
+use Rattle.std.proofs.Common.{◌≡◌, ◌<◌, None, length}
+use Rattle.calc_refresh.specs.Refreshed.{fault_of}
 use Rattle.group_book.specs.Told.{versions_of}
 use Rattle.session_audit.specs.Each.{AreEach}
 use Rattle.session_audit.specs.Books.{IsRefreshedMore}
@@ -15,4 +16,5 @@ invariant-loop-turn g l = record {
   count : length (refreshes l.book.tape) ≡ l.turn;
   versions : length (refreshes l.initial.book.tape) < l.turn
       → versions_of l.book ≡ durable_numbers (durable_lists l.cells) l.tags;
+  within : length (refreshes l.initial.book.tape) < l.turn → fault_of l.book.sheet ≡ None;
 }

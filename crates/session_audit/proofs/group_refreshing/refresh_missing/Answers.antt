@@ -83,6 +83,12 @@ returns-in_err-refresh_group-clause-refused g c =
       book = new;
       there = slice_get-get_or (set books at new) at new (omega (arith, there, length-set books at new))
           ∙ ap Some (get_or-set_same books at new new there);
+      front = λ k d below.
+          subst (λ x. IsRefreshedTo (durable_lists c.refresh_group.new.cells) (get_or (lists_of c.args.inputs.now) k []) (get_or c.args.turns.now k 0) x)
+          (sym (get_or-set_other books at k new d (λ same. omega (arith, below, same))))
+          (subst (λ l. IsRefreshedTo l (get_or (lists_of c.args.inputs.now) k []) (get_or c.args.turns.now k 0) (get_or books k d))
+          (sym (lists_same c.loop-group.cells c.refresh_group.new.cells c.refresh_group.ensures.pulled))
+          (c.loop-group.invariant.done k d below));
       refused = subst (λ l. IsBookRefusal (durable_lists c.refresh_group.new.cells) l at new c.in_err-refresh_group.field-0.0) tags c.in_err-refresh_group.ensures.refused;
     })
 

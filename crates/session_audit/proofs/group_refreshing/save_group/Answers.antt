@@ -1,16 +1,16 @@
 use Rattle.std.proofs.Common.{Err, ap, refl}
-use Rattle.session_audit.proofs.Saves.{saved_on, unsaved_cause, unsaved_more}
+use Rattle.session_audit.proofs.Saves.{saved_on, unfailed, unsaved_cause, unsaved_more}
 use Rattle.session_audit.proofs.group_refreshing.save_group.Goals as goal
 
 pub returns-in-Ok-clause-saved : goal.returns-in-Ok-clause-saved
 returns-in-Ok-clause-saved g c =
     (saved_on _ _ c.args.book.now c.save.new.self c.args.book.now.dev refl (λ none. (c.save.ensures.none none).1)
-    c.in-Ok.ensures.saved).0
+    c.in-Ok.ensures.saved (unfailed c.args.book.now.failed (λ down. absurd (cc (c.in-Ok.ensures.broken.1 down))))).0
 
 pub returns-in-Ok-clause-gained : goal.returns-in-Ok-clause-gained
 returns-in-Ok-clause-gained g c =
     (saved_on _ _ c.args.book.now c.save.new.self c.args.book.now.dev refl (λ none. (c.save.ensures.none none).1)
-    c.in-Ok.ensures.saved).1
+    c.in-Ok.ensures.saved (unfailed c.args.book.now.failed (λ down. absurd (cc (c.in-Ok.ensures.broken.1 down))))).1
 
 pub returns-in-Err-clause-gained : goal.returns-in-Err-clause-gained
 returns-in-Err-clause-gained g c =

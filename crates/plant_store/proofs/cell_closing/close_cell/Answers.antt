@@ -1,0 +1,23 @@
+use Rattle.std.proofs.Common.{◌≡◌, subst}
+use Rattle.disk_model.specs.Calls.{Rose}
+use Rattle.tag_cell.specs.Told.{IsCellHistory}
+use Rattle.plant_store.proofs.cell_closing.close_cell.Goals as goal
+
+pub returns-clause-history : goal.returns-clause-history
+returns-clause-history g c =
+    let D = g.S.Dev.Disk in
+    let is = c.into_history-dev.ensures in
+    let history = c.into_history-dev.result.1 in
+    let faults = c.args.cell.opening.faults in
+    record {
+      def_is = is.def;
+      opening_is = is.opening;
+      tape_is = is.tape;
+      records_are = is.records;
+      summary_is = is.summary;
+      acked_is = is.acked;
+      history = subst (λ d. IsCellHistory history (D.trace d) (D.ticks d) (D.fault_count d)) is.device is.history;
+      clock = (g.met.S.Dev.Disk g.world.𝓛 g.world.𝓜 g.world.𝓡 ((λ s x. x), (λ x. x), (λ x. x), λ x. x)).told c.args.cell.journal.dev;
+      rose = λ failed. subst (λ d. Rose faults (D.fault_count d)) is.device (is.rose failed);
+      faultless = λ usable. subst (λ d. D.fault_count d ≡ faults) is.device (is.faultless usable);
+    }
