@@ -91,21 +91,23 @@ err_is_not : {A : Type 0} (r : Result A LogCommitNo) (a : A) → r ≡ Ok a → 
 err_is_not r a is was = cc
 
 -- after a commit that succeeds the tape is longer by commits, and `a.waiting` rows wait; if any wait, they are fewer
--- than before
+-- than before. The log is not broken.
 pub record Goes {D : Type 0} (a : LogAcked) (first old new : ToldLog D) : Type 0 where
   pub committed : IsCommitted first new
+  pub usable : new.failed ≡ false
   pub waiting : rows_waiting new ≡ a.waiting
   pub fewer : 0 < a.waiting → rows_waiting new < rows_waiting old
 
 pub goes : {D : Type 0} (trace : D → Option Trace) (ticks : D → ℕ) (a : LogAcked) (first old new : ToldLog D) → IsCommitted first old
-    → (rows_waiting old ≡ 0 → (a.waiting ≡ 0) × (new ≡ old)) → (0 < rows_waiting old → AreRowsAcknowledged trace ticks a old new) → Goes a first old new
-goes {D} trace ticks a first old new before idle busy = by_waits (rows_waiting old) refl
+    → old.failed ≡ false → (rows_waiting old ≡ 0 → (a.waiting ≡ 0) × (new ≡ old)) → (0 < rows_waiting old → AreRowsAcknowledged trace ticks a old new) → Goes a first old new
+goes {D} trace ticks a first old new before usable idle busy = by_waits (rows_waiting old) refl
   where
     by_waits : (n : ℕ) → rows_waiting old ≡ n → Goes a first old new
     by_waits zero none =
         let is = idle none in
         record {
           committed = committed_on first old new before (none_committed old new is.1);
+          usable = ap (λ (l : ToldLog D). l.failed) is.1 ∙ usable;
           waiting = ap (λ (l : ToldLog D). rows_waiting l) is.1 ∙ (none ∙ sym is.0);
           fewer = λ some. absurd (omega (arith, some, is.0));
         }
@@ -114,6 +116,7 @@ goes {D} trace ticks a first old new before idle busy = by_waits (rows_waiting o
         let left : rows_waiting new ≡ a.waiting = one_waits trace ticks a old new is in
         record {
           committed = committed_on first old new before (one_committed trace ticks a old new is);
+          usable = ap (λ (l : ToldLog D). l.failed) is.changed ∙ usable;
           waiting = left;
           fewer = λ more. omega (arith, left, is.waiting_are, some, more);
         }
@@ -127,7 +130,7 @@ goes_of {D} trace ticks r a first old new before was broken idle busy = by_faile
   where
     by_failed : (b : Bool) → old.failed ≡ b → Goes a first old new
     by_failed true is = absurd (err_is_not r a was (broken is))
-    by_failed false is = goes trace ticks a first old new before (λ none. let same = idle is none in (ap (λ (r : LogAcked). r.waiting) (ok_is r a _ was same.0), same.1)) busy
+    by_failed false is = goes trace ticks a first old new before is (λ none. let same = idle is none in (ap (λ (r : LogAcked). r.waiting) (ok_is r a _ was same.0), same.1)) busy
 
 -- a commit that fails changes no turn
 pub faulted_committed : {D : Type 0} (old new : ToldLog D) → IsLogFaulted old new → IsCommitted old new

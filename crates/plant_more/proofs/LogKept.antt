@@ -2,16 +2,16 @@
 use Rattle.std.proofs.Common.{◌≡◌, ◌∙◌, ℕ, List, length, Option, None, Some, refl, sym, subst, inl, inr}
 use Rattle.disk_model.specs.Calls.{Shows}
 use Rattle.disk_model.specs.Moments.{During}
-use Rattle.disk_model.specs.Traces.{Trace}
+use Rattle.disk_model.specs.Traces.{Synced, Trace, noted}
 use Rattle.disk_model.proofs.Moments.{started}
 use Rattle.commit_log.specs.declared.row.LogRow.{LogRow}
 use Rattle.commit_log.specs.Images.{StandsForRows}
-use Rattle.commit_log.specs.Openings.{IsLogLeftOrSame, IsLeftOrStands}
+use Rattle.commit_log.specs.Openings.{GainsLogSync, IsLogLeftOrSame, IsLeftOrStands}
 use Rattle.tag_base.specs.declared.definition.Base.{Base}
 use Rattle.plant_status.specs.declared.status.Status.TheVariants.{WantOfMemory}
 use Rattle.commit_log.specs.Told.{ToldLog}
 use Rattle.plant_more.specs.LogHeadline.{IsUnopened}
-use Rattle.plant_more.specs.LogOpenings.{AreOthersSame, TracesByName, IsGivenBack, IsLogKept, IsLogOpened}
+use Rattle.plant_more.specs.LogOpenings.{AreOthersSame, GainsSyncAtMost, TracesByName, IsGivenBack, IsLogKept, IsLogOpened}
 use Rattle.plant_more.specs.LogTexts.{log_name, plant_text}
 
 -- nothing was called
@@ -26,7 +26,26 @@ untouched text tags old new same = record {
   others = λ n differs. same n;
 }
 
--- a log that was opened stands for the same
+-- ---- a device that gains a sync at most
+
+-- none
+pub gains_none : (o new : Option Trace) → new ≡ o → GainsSyncAtMost o new
+gains_none None new same = tt
+gains_none (Some t) new same = λ begun. inl same
+
+-- one
+pub gains_one : (o new : Option Trace) → new ≡ noted Synced o → GainsSyncAtMost o new
+gains_one None new synced = tt
+gains_one (Some t) new synced = λ begun. inr synced
+
+-- that of an opening
+gains_opened : (o mid new : Option Trace) → new ≡ mid → GainsLogSync o mid → GainsSyncAtMost o new
+gains_opened None mid new same gains = tt
+gains_opened (Some t) mid new same gains = λ begun. inr (same ∙ gains begun)
+
+-- ---- a log that was opened
+
+-- it stands for the same
 pub stands_same : (text : List ℕ) (tags : ℕ) (rows : List LogRow) (o new : Option Trace) → Shows o (λ c. StandsForRows text tags c rows)
     → During o new (IsLeftOrStands text tags rows o) → During o new (IsLogLeftOrSame text tags o)
 stands_same text tags rows None None stood is = record { later = is.later; each = λ c left. absurd left.image }
@@ -38,23 +57,32 @@ stands_same text tags rows (Some t) new stood is = record { later = is.later; ea
     by_image c (inr stands) = inr (record { rows = rows; stood = stood; stands = stands })
 
 -- the device of a log to which no collector put a row
-pub kept_ready : {D : Type 0} (trace : D → Option Trace) (ticks faults : D → ℕ) (text : List ℕ) (tags : ℕ) (old mid new : TracesByName)
-    (before now : ℕ) (l : ToldLog D) → IsLogOpened trace ticks faults text tags (old log_name) l → AreOthersSame old mid
+pub kept_ready : {D : Type 0} (trace : D → Option Trace) (ticks faults : D → ℕ) (text : List ℕ) (tags room : ℕ) (old mid new : TracesByName)
+    (before now : ℕ) (l : ToldLog D) → IsLogOpened trace ticks faults text tags room (old log_name) l → AreOthersSame old mid
     → IsGivenBack trace faults l mid new before now → IsLogKept text tags old new
-kept_ready trace ticks faults text tags old mid new before now l opened others back = record {
+kept_ready trace ticks faults text tags room old mid new before now l opened others back = record {
   any_moment = subst (λ (o : Option Trace). During (old log_name) o (IsLogLeftOrSame text tags (old log_name))) (sym back.device)
       (stands_same text tags l.opening (old log_name) (trace l.dev) opened.rows opened.any_moment);
   others = λ n differs. back.others n differs ∙ others n differs;
 }
 
+pub synced_ready : {D : Type 0} (trace : D → Option Trace) (ticks faults : D → ℕ) (text : List ℕ) (tags room : ℕ) (old mid new : TracesByName)
+    (before now : ℕ) (l : ToldLog D) → IsLogOpened trace ticks faults text tags room (old log_name) l
+    → IsGivenBack trace faults l mid new before now → GainsSyncAtMost (old log_name) (new log_name)
+synced_ready trace ticks faults text tags room old mid new before now l opened back =
+    gains_opened (old log_name) (trace l.dev) (new log_name) back.device opened.synced
+
 -- a log that is opened for a text is opened for the plant that has it
-pub opened_for : {D : Type 0} (trace : D → Option Trace) (ticks faults : D → ℕ) (text text' : List ℕ) (tags tags' : ℕ) (o : Option Trace)
-    (l : ToldLog D) → text ≡ text' → tags ≡ tags' → IsLogOpened trace ticks faults text tags o l → IsLogOpened trace ticks faults text' tags' o l
-opened_for trace ticks faults text text' tags tags' o l text_is tags_are opened =
-    subst (λ (t : List ℕ). IsLogOpened trace ticks faults t tags' o l) text_is
-    (subst (λ (n : ℕ). IsLogOpened trace ticks faults text n o l) tags_are opened)
+pub opened_for : {D : Type 0} (trace : D → Option Trace) (ticks faults : D → ℕ) (text text' : List ℕ) (tags tags' room room' : ℕ) (o : Option Trace)
+    (l : ToldLog D) → text ≡ text' → tags ≡ tags' → room ≡ room' → IsLogOpened trace ticks faults text tags room o l
+    → IsLogOpened trace ticks faults text' tags' room' o l
+opened_for trace ticks faults text text' tags tags' room room' o l text_is tags_are room_is opened =
+    subst (λ (t : List ℕ). IsLogOpened trace ticks faults t tags' room' o l) text_is
+    (subst (λ (n : ℕ). IsLogOpened trace ticks faults text n room' o l) tags_are
+    (subst (λ (n : ℕ). IsLogOpened trace ticks faults text tags n o l) room_is opened))
 
 -- and one for which no memory is found
 pub unready_for : (base : Base) (rows : ℕ) (old new : TracesByName) (before now : ℕ)
-    → IsLogKept (plant_text base.tags.items) (length base.tags.items) old new → IsUnopened base rows old new before now WantOfMemory
-unready_for base rows old new before now kept = record { cause = inr refl; kept = kept }
+    → IsLogKept (plant_text base.tags.items) (length base.tags.items) old new → GainsSyncAtMost (old log_name) (new log_name)
+    → IsUnopened base rows old new before now WantOfMemory
+unready_for base rows old new before now kept synced = record { cause = inr refl; kept = kept; synced = λ other. synced }

@@ -17,6 +17,7 @@ use Rattle.commit_log.specs.declared.history.LogTurn.{LogTurn}
 use Rattle.commit_log.specs.declared.row.LogRow.{LogRow}
 use Rattle.commit_log.specs.Blocks.{IsLogRow}
 use Rattle.commit_log.specs.Images.{StandsForRows}
+use Rattle.commit_log.specs.Openings.{IsNextMoment}
 use Rattle.commit_log.specs.Tapes.{puts, log_begin}
 use Rattle.commit_log.specs.Told.{IsHandedOut, ToldLog}
 use Rattle.commit_log.proofs.Tapes.{fit_rows}
@@ -26,6 +27,7 @@ use Rattle.plant_more.specs.declared.log_session.EndedLog.{EndedLog}
 use Rattle.plant_more.specs.LogFinding.{ArePutsBegun, AreWhole}
 use Rattle.plant_more.specs.LogHeadline.{HasLogCountRisen, IsDone, IsEnded, IsHistoryOfLog, IsLogOpenedAs, IsRun, IsLogReported, IsUndone, OfReport, OfSettling}
 use Rattle.plant_more.specs.LogKnown.{IsAsKnown}
+use Rattle.plant_more.specs.LogMaking.{total_rows}
 use Rattle.plant_more.specs.LogOpenings.{AreOthersSame, TracesByName, IsLogOpened}
 use Rattle.plant_more.specs.LogRefusals.{AdmitsForeignPut, ArePutsMade, AreUnstopped, IsOfOpening, IsSettlingRefusal, OfCommit, OfFinding, OfMemory, OfOpening, OfPut, OfRest, OfStop}
 use Rattle.plant_more.specs.LogReports.{log_rows}
@@ -144,7 +146,7 @@ counted_once before faults now small (inr one) is = inr (omega arith)
 pub is_run : {D : Type 0} (trace : D → Option Trace) (ticks faults : D → ℕ) (base : Base) (rows : List (List RawRow)) (known : KnownLog)
     (first : ToldLog D) (e : EndedLog D) (old mid new : TracesByName) (before now stops_before stops_now : ℕ) (answer : Result (String Global) Status)
     → IsEnded trace ticks faults rows known stops_before stops_now e
-    → IsLogOpened trace ticks faults (plant_text base.tags.items) (length base.tags.items) (old log_name) first
+    → IsLogOpened trace ticks faults (plant_text base.tags.items) (length base.tags.items) (total_rows rows) (old log_name) first
     → IsAsKnown first known → known.plant.items ≡ plant_text base.tags.items → known.tags ≡ length base.tags.items
     → AreOthersSame old mid → AreOthersSame mid new → new log_name ≡ trace e.dev → now ≡ sum_of_counts before (faults e.dev)
     → IsLogReported base e.history e.answer answer
@@ -173,6 +175,7 @@ is_run {D} trace ticks faults base rows known first e old mid new before now sto
         later = omega (arith, total, small);
         told = faults_told base e.history rows ended.log faults ended.notes known answer before now undone small total;
         once = λ other. counted_once before (faults ended.log.dev) now small (one_fault other) total;
+        faultless = text_told base e.history (now ≡ before) e.answer answer told (unrisen small e.answer refl);
       };
     }
   where
@@ -194,6 +197,7 @@ is_run {D} trace ticks faults base rows known first e old mid new before now sto
         record {
           plant = is.plant ∙ (found.plant ∙ plant);
           tags = is.tags ∙ (found.tags ∙ tags);
+          next_moment = subst (IsNextMoment (old log_name)) (kept.moment ∙ (sym found.moment ∙ sym is.moment)) opened.next_moment;
           opening = subst (λ (l : List LogRow). Shows (old log_name) (λ c. StandsForRows (plant_text base.tags.items) (length base.tags.items) c l))
               (kept.rows ∙ (sym found.rows ∙ sym is.opening)) opened.rows;
         }
@@ -204,3 +208,11 @@ is_run {D} trace ticks faults base rows known first e old mid new before now sto
         let none : e.history.faults ≡ 0 = is.faults ∙ (found.faults ∙ (sym kept.faults ∙ opened.faults_are)) in
         subst (λ (n : ℕ). (n ≡ 0) ⊎ Rose 0 n) (ap faults ended.device)
         (subst (λ (n : ℕ). (faults e.dev ≡ n) ⊎ Rose n (faults e.dev)) none ended.history.faults_since)
+
+    unrisen : before < 2 ^ 64 → (came : Result Unit Status) → e.answer ≡ came → OnOk came (now ≡ before)
+    unrisen small (Err why) answer_is = tt
+    unrisen small (Ok x) answer_is =
+        let found : IsAsKnown ended.log known = ended.as_known (λ of. subst (λ (r : Result Unit Status). IsOfOpening r) answer_is of) in
+        let none : faults e.dev ≡ ended.log.faults = subst (λ (r : Result Unit Status). OnOk r (faults e.dev ≡ ended.log.faults)) answer_is ended.faultless in
+        let opened_none : ended.log.faults ≡ 0 = found.faults ∙ (sym kept.faults ∙ opened.faults_are) in
+        omega (arith, counted, small, none, opened_none)

@@ -78,6 +78,11 @@ pub at_ok : {A E P : Type 0} (r : Result A E) → P → OnOk r P
 at_ok (Ok x) p = p
 at_ok (Err why) p = tt
 
+-- what follows from it holds at a success too
+pub ok_then : {A E P Q : Type 0} (r : Result A E) → OnOk r P → (P → Q) → OnOk r Q
+ok_then (Ok x) p then = then p
+ok_then (Err why) p then = tt
+
 -- a log of which all rows were put, once none rows_waiting
 pub made_on : {D E : Type 0} (files : List (List RawRow)) (old new : ToldLog D) (r : Result Unit E) → IsCommitted old new → AreWhole files old.tape
     → OnOk r (rows_waiting new ≡ 0) → OnOk r (ArePutsMade files new)

@@ -1,5 +1,5 @@
 -- What `log` results in: the history of the log, or why no log was opened.
-use Rattle.std.specs.Prelude.{◌≡◌, ◌⊎◌, ℕ, ◌+◌, ◌-◌, ◌^◌, ◌<◌, ◌≤◌, List, length, Option, Result, Err, IfErr, IfOk, OnOk, String, string_bytes}
+use Rattle.std.specs.Prelude.{◌≡◌, ◌≢◌, ◌⊎◌, ℕ, ◌+◌, ◌-◌, ◌^◌, ◌<◌, ◌≤◌, List, length, Option, Result, Err, IfErr, IfOk, OnOk, String, string_bytes}
 use Rattle.std.specs.declared.alloc.Global.{Global}
 use Rattle.disk_model.specs.Calls.{Rose, Shows}
 use Rattle.disk_model.specs.Traces.{Trace}
@@ -9,10 +9,12 @@ use Rattle.value_rows.specs.declared.raw.RawRow.{RawRow}
 use Rattle.plant_status.specs.declared.status.Status.{Status}
 use Rattle.plant_status.specs.declared.status.Status.TheVariants.{BadWords, DeviceFault, Done, WantOfMemory, WriteFault}
 use Rattle.plant_status.specs.declared.unit.Unit.{Unit as Device}
+use Rattle.plant_status.specs.declared.unit.Unit.TheVariants.{Log as LogUnit}
 use Rattle.plant_files.specs.RowFiles.{ToldFiles}
 use Rattle.plant_files.specs.PlanRows.{IsCollected, IsCollectingRefusal}
 use Rattle.commit_log.specs.declared.history.LogHistory.{LogHistory}
 use Rattle.commit_log.specs.Images.{StandsForRows}
+use Rattle.commit_log.specs.Openings.{IsNextMoment}
 use Rattle.commit_log.specs.Tapes.{puts}
 use Rattle.commit_log.specs.Told.{IsHandedOut, ToldLog}
 use Rattle.plant_more.specs.declared.log_note.LogNote.{LogNote}
@@ -21,7 +23,7 @@ use Rattle.plant_more.specs.declared.log_session.EndedLog.{EndedLog}
 use Rattle.plant_more.specs.LogFinding.{ArePutsBegun, AreWhole}
 use Rattle.plant_more.specs.LogKnown.{IsAsKnown}
 use Rattle.plant_more.specs.LogMaking.{total_rows}
-use Rattle.plant_more.specs.LogOpenings.{AreOthersSame, TracesByName, IsLogKept, IsLogOpened, IsOpeningRefusal}
+use Rattle.plant_more.specs.LogOpenings.{AreOthersSame, GainsSyncAtMost, TracesByName, IsLogKept, IsLogOpened, IsOpeningRefusal}
 use Rattle.plant_more.specs.LogRefusals.{AdmitsForeignPut, AreNotes, ArePutsMade, AreUnstopped, IsOfOpening, IsSettlingRefusal}
 use Rattle.plant_more.specs.LogReports.{IsReportRefusal, IsLineToldOf, log_rows}
 use Rattle.plant_more.specs.LogTexts.{log_name, plant_text}
@@ -52,6 +54,7 @@ pub record IsEnded {D : Type 0} (trace : D → Option Trace) (ticks faults : D �
   pub notes_are : AreNotes D files before now notes
   pub ended : OnOk e.answer (AreUnstopped notes)
   pub made : OnOk e.answer (ArePutsMade files log)
+  pub faultless : OnOk e.answer (faults e.dev ≡ log.faults)
   pub begun : (AdmitsForeignPut e.answer → ⊥) → ArePutsBegun files log.tape
   pub as_known : (IsOfOpening e.answer → ⊥) → IsAsKnown log known
   pub refused : IfErr e.answer (IsSettlingRefusal faults files notes known log)
@@ -60,11 +63,13 @@ pub record IsEnded {D : Type 0} (trace : D → Option Trace) (ticks faults : D �
 
 -- Why the log of a base is not opened with room for so many rows: opening its device failed, or there was no memory.
 -- Only the log's device may have changed. A crash at any moment since leaves of it an image that a crash might have
--- left before, or one that stands for the same rows.
+-- left before, or one that stands for the same rows. If it was not new, it has gained a sync at most, unless the status
+-- reports a device fault.
 pub record IsUnopened (base : Base) (rows : ℕ) (old new : TracesByName) (before now : ℕ) (why : Status) : Type 0 where
   pub cause : IsOpeningRefusal (plant_text base.tags.items) (length base.tags.items) rows (old log_name) before now why
       ⊎ (why ≡ WantOfMemory)
   pub kept : IsLogKept (plant_text base.tags.items) (length base.tags.items) old new
+  pub synced : why ≢ DeviceFault LogUnit → GainsSyncAtMost (old log_name) (new log_name)
 
 -- Why no collector began. Either a file is refused, and no device has changed; or the log is not opened.
 pub data IsUnlogged (name plan_name : List ℕ) (told : ToldFiles) (old new : TracesByName) (before now : ℕ) (why : Status) : Type 0 where
@@ -82,10 +87,12 @@ pub record IsDone (base : Base) (rows : List (List RawRow)) (h : LogHistory) (te
   pub acknowledged : length h.opening.items + length (puts h.tape.items) ≤ h.acked
   pub told : IsLineToldOf base.tags.items (log_rows h) text
 
--- the log is that of the base, and its opening has the rows for which its device stood before
+-- The log is that of the base, and its opening has the rows for which its device stood before. If the device was not
+-- new, the moment of the opening is the number of its calls before, and one more.
 pub record IsLogOpenedAs (base : Base) (before : Option Trace) (h : LogHistory) : Type 0 where
   pub plant : h.plant.items ≡ plant_text base.tags.items
   pub tags : h.tags ≡ length base.tags.items
+  pub next_moment : IsNextMoment before h.moment
   pub opening : Shows before (λ c. StandsForRows (plant_text base.tags.items) (length base.tags.items) c h.opening.items)
 
 -- Why a log is not done. Either it was refused after its workers had ended. Or only its report is missing: there was no
@@ -102,14 +109,17 @@ HasLogCountRisen before now = (before < now) ⊎ (now ≡ 2 ^ 64 - 1)
 
 -- The store's fault count before a log is opened, and after its device is given back. It never falls. It has risen, or
 -- is the largest value of its type, if the answer reports a device fault. Unless the answer is a mismatch of the
--- opening, it rises by one at most.
+-- opening, it rises by one at most. If there is a text, it has not risen.
 pub record CountsLog (answer : Result (String Global) Status) (before now : ℕ) : Type 0 where
   pub later : before ≤ now
   pub told : IfErr answer (λ why. (unit : Device) → why ≡ DeviceFault unit → HasLogCountRisen before now)
   pub once : (IsOfOpening answer → ⊥) → (now ≡ before) ⊎ Rose before now
+  pub faultless : OnOk answer (now ≡ before)
 
 -- A log of a base, into which collectors put these rows, and what came of it.
--- It was opened on the device of its name, and given back there. No other device has changed. Its history is legal. A
+-- It was opened on the device of its name, with room for all the rows, and given back there. No other device has
+-- changed. If the device was not new, its opening added one sync to the device's calls, and nothing else. `known` is the
+-- copy of that opening, to which a mismatch of the opening is told. The log's history is legal. A
 -- crash at any moment since its opening leaves of the device the opening's rows followed by the oldest puts, with all
 -- acknowledged rows among them.
 -- Unless the answer is a mismatch of the opening, its opening has the rows for which the device stood. Unless the answer
@@ -120,7 +130,7 @@ pub record IsRun {D : Type 0} (trace : D → Option Trace) (ticks faults : D →
     (old new : TracesByName) (before now : ℕ) (stops_before stops_now : ℕ) (answer : Result (String Global) Status) (h : LogHistory)
     : Type 0 where
   pub first : ToldLog D
-  pub opened : IsLogOpened trace ticks faults (plant_text base.tags.items) (length base.tags.items) (old log_name) first
+  pub opened : IsLogOpened trace ticks faults (plant_text base.tags.items) (length base.tags.items) (total_rows rows) (old log_name) first
   pub known : KnownLog
   pub kept : IsAsKnown first known
   pub log : ToldLog D

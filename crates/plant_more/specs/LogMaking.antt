@@ -29,12 +29,12 @@ AreRowsFor tags files = All (All (IsRowFor tags)) files
 abbrev pub IsRowPut : {D : Type 0} → LogRow → ToldLog D → ToldLog D → Type 0
 IsRowPut row old new = new ≡ record old { tape = old.tape ++ Put row ∷ [] }
 
--- Why a row is not put. Either the device of the log has counted a fault; or the log has room for no more rows than
--- were put already, fewer than have to be put in all. The status reports both numbers.
+-- Why a row is not put. Either the device of the log has counted a fault; or the log has no room any more. Then as many
+-- rows were put as it had room for, and they are fewer than have to be put in all. The status reports both numbers.
 abbrev pub IsPutRefusal : {D : Type 0} → (D → ℕ) → ℕ → ToldLog D → Status → Type 0
 IsPutRefusal faults total l (DeviceFault LogUnit) = 0 < faults l.dev
 IsPutRefusal faults total l (Mismatch (LogPlace place) (Number kept) (Number told)) =
-    (place ≡ length l.tape) × (kept ≡ length (puts l.tape)) × (told ≡ total) × (kept < told)
+    (place ≡ length l.tape) × (kept ≡ length (puts l.tape)) × (kept ≡ l.room) × (told ≡ total) × (kept < told)
 IsPutRefusal faults total l other = ⊥
 
 -- why rows are not acknowledged: the device of the log has counted a fault, or there was no memory

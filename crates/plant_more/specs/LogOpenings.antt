@@ -2,7 +2,8 @@
 use Rattle.std.specs.Prelude.{◌≡◌, ◌≢◌, ◌⊎◌, ℕ, ◌^◌, ◌<◌, List, [], false, Option, Result, Ok, Err}
 use Rattle.disk_model.specs.Calls.{Rose, Shows, sum_of_counts}
 use Rattle.disk_model.specs.Moments.{During}
-use Rattle.disk_model.specs.Traces.{Trace}
+use Rattle.disk_model.specs.Gates.{IsNew}
+use Rattle.disk_model.specs.Traces.{Synced, Trace, noted}
 use Rattle.trend_num.specs.declared.refusal.What.TheVariants.{Rows}
 use Rattle.plant_status.specs.declared.unit.Unit.TheVariants.{Log as LogUnit}
 use Rattle.plant_status.specs.declared.status.Status.{Status}
@@ -10,7 +11,7 @@ use Rattle.plant_status.specs.declared.status.Status.TheVariants.{Damaged, Devic
 use Rattle.commit_log.specs.declared.refusal.LogNo.{LogNo}
 use Rattle.commit_log.specs.declared.refusal.LogNo.TheVariants as no
 use Rattle.commit_log.specs.Images.{StandsForRows}
-use Rattle.commit_log.specs.Openings.{IsLogCause, IsLogLeftOrSame, IsLeftOrStands}
+use Rattle.commit_log.specs.Openings.{GainsLogSync, IsLogCause, IsLogLeftOrSame, IsLeftOrStands, IsNextMoment}
 use Rattle.commit_log.specs.Told.{ToldLog}
 use Rattle.plant_more.specs.LogTexts.{log_name}
 
@@ -22,16 +23,20 @@ TracesByName = List ℕ → Option Trace
 abbrev pub AreOthersSame : TracesByName → TracesByName → Type 0
 AreOthersSame old new = (n : List ℕ) → n ≢ log_name → new n ≡ old n
 
--- The log of a plant with this text and so many tags is opened on a device with this trace. It has the rows for which
--- the device's bytes stood. A crash at any moment since left an image that a crash might have left before, or one that
--- stands for the same rows.
-pub record IsLogOpened {D : Type 0} (trace : D → Option Trace) (ticks faults : D → ℕ) (text : List ℕ) (tags : ℕ) (before : Option Trace)
+-- The log of a plant with this text and so many tags is opened on a device with this trace, with room for so many puts.
+-- It has the rows for which the device's bytes stood. A crash at any moment since left an image that a crash might have
+-- left before, or one that stands for the same rows. If the device was not new, it has gained one sync, and nothing
+-- else: so the moment of the opening is the number of its calls before, and one more.
+pub record IsLogOpened {D : Type 0} (trace : D → Option Trace) (ticks faults : D → ℕ) (text : List ℕ) (tags room : ℕ) (before : Option Trace)
     (l : ToldLog D) : Type 0 where
   pub plant : l.plant ≡ text
   pub tags_are : l.tags ≡ tags
+  pub room_is : l.room ≡ room
   pub rows : Shows before (λ c. StandsForRows text tags c l.opening)
   pub any_moment : During before (trace l.dev) (IsLeftOrStands text tags l.opening before)
+  pub synced : GainsLogSync before (trace l.dev)
   pub moment : l.moment ≡ ticks l.dev
+  pub next_moment : IsNextMoment before l.moment
   pub faults_are : l.faults ≡ 0
   pub faultless : faults l.dev ≡ 0
   pub tape : l.tape ≡ []
@@ -42,6 +47,10 @@ pub record IsLogOpened {D : Type 0} (trace : D → Option Trace) (ticks faults :
 pub record IsLogKept (text : List ℕ) (tags : ℕ) (old new : TracesByName) : Type 0 where
   pub any_moment : During (old log_name) (new log_name) (IsLogLeftOrSame text tags (old log_name))
   pub others : AreOthersSame old new
+
+-- a device that is not new is unchanged, or has gained one sync and nothing else
+abbrev pub GainsSyncAtMost : Option Trace → Option Trace → Type 0
+GainsSyncAtMost old new = Shows old (λ c. (IsNew c → ⊥) → (new ≡ old) ⊎ (new ≡ noted Synced old))
 
 -- the store has the log's device back under its name, has added the device's faults to its own, and no other device has
 -- changed

@@ -34,12 +34,6 @@ pub record AreStanding (tags : List TagDef) (rows : List LogRow) (cores : List C
   pub stand : (tag : ℕ) (def : TagDef) (core : Core) → tag < length tags
       → Stands (log_origin_of (slice_index_or tags tag def)) (log_history_of tag rows) (slice_index_or cores tag core).state
 
--- the text has one line for each tag, of an archive that stands for its points of these rows
-pub record IsLineToldOf (tags : List TagDef) (rows : List LogRow) (text : List ℕ) : Type 0 where
-  pub cores : List Core
-  pub standing : AreStanding tags rows cores
-  pub same : text ≡ check_text tags cores
-
 -- The row at this place can be taken. An archive that stands for its tag's points in the rows before it has room for two
 -- more records.
 pub record HasRoomAt (tags : List TagDef) (rows : List LogRow) (place : ℕ) : Type 0 where
@@ -52,6 +46,14 @@ pub record HasRoomAt (tags : List TagDef) (rows : List LogRow) (place : ℕ) : T
 -- each row before this place can be taken
 abbrev pub HasRoomBelow : List TagDef → List LogRow → ℕ → Type 0
 HasRoomBelow tags rows end = (place : ℕ) → place < end → HasRoomAt tags rows place
+
+-- The text has one line for each tag, of an archive that stands for its points of these rows. Each row could be taken: no
+-- tag can get too many records by it.
+pub record IsLineToldOf (tags : List TagDef) (rows : List LogRow) (text : List ℕ) : Type 0 where
+  pub cores : List Core
+  pub standing : AreStanding tags rows cores
+  pub room : HasRoomBelow tags rows (length rows)
+  pub same : text ≡ check_text tags cores
 
 -- The row at place `count` is the first that cannot be taken. An archive stands for its tag's points in the rows before
 -- it, and has so many records. One point more could bring too many.

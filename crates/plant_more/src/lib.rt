@@ -20,9 +20,13 @@
 //! workers that were halted. Notes do not record what happened to the log under its lock, nor which worker came first:
 //! the log's own tape does. `EndsOfLog` states what was read and printed. It also states that the command returns the
 //! log's history exactly if collectors were started. If the command has its lines to print, no pass stopped a worker,
-//! and each worker found memory. After most refusals, the log has of each collector only its first rows, in order, and
-//! no other put. Three refusals are exceptions: the opening has changed; a put is not its collector's next row; and want
-//! of memory.
+//! each worker found memory, the store counted no fault, and no row could bring a tag too many records. After most
+//! refusals, the log has of each collector only its first rows, in order, and no other put. Three refusals are
+//! exceptions: the opening has changed; a put is not its collector's next row; and want of memory.
+//!
+//! A device that is not new gains one sync by the opening, and nothing else. So the moment of the opening is the number
+//! of the device's calls before, and one more. If the command is refused before collectors were started, that sync is
+//! all that such a device gains, unless a call of it failed.
 //!
 //! **`shifts BASE CALENDAR DAY DAYS`** prints one figure for each shift of a range of days and each tag of a calendar.
 //! The figure is the measure of the shift's window over the stored records of the tag, closed by its held point. If the

@@ -1,5 +1,5 @@
 // Acknowledging what waits on a log.
-ghost use Rattle.std.specs.Prelude.{◌≡◌, ◌≢◌, ◌<◌, IfErr, OnOk, true};
+ghost use Rattle.std.specs.Prelude.{◌≡◌, ◌≢◌, ◌<◌, IfErr, OnOk, false, true};
 ghost use Rattle.commit_log.specs.declared.refusal.LogCommitNo.TheVariants.{WantOfMemory as NoMemory};
 ghost use Rattle.commit_log.specs.Told.{rows_waiting};
 ghost use Rattle.plant_more.specs.LogTurns.{IsCommitted};
@@ -11,6 +11,7 @@ use disk_model::Disk;
 // that is WantOfMemory, the log is broken, and its device has counted a fault.
 pub(crate) fn commit_waiting<D: Disk>(log: &mut Log<D>) -> Result<(), LogCommitNo>
     ensures none_waits { OnOk result (rows_waiting log.new ≡ 0) }
+    ensures usable { OnOk result (log.new.failed ≡ false) }
     ensures committed { IsCommitted log.old log.new }
     ensures broken { IfErr result (λ no. no ≢ NoMemory → log.new.failed ≡ true) }
     ensures cause { IfErr result (λ no. no ≢ NoMemory → 0 < D.fault_count log.new.dev) }

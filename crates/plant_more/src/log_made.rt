@@ -1,5 +1,5 @@
 // Doing what the workers of a log left undone: rows are put, and acknowledged.
-ghost use Rattle.std.specs.Prelude.{◌≡◌, ◌+◌, ◌^◌, ◌<◌, IfErr, OnErr, OnOk, length, slice_index, slice_set};
+ghost use Rattle.std.specs.Prelude.{◌≡◌, ◌+◌, ◌^◌, ◌<◌, IfErr, OnErr, OnOk, false, length, slice_index, slice_set};
 ghost use Rattle.trend_num.specs.Ranges.{InRange};
 ghost use Rattle.commit_log.specs.Tapes.{puts};
 ghost use Rattle.commit_log.specs.Told.{rows_waiting};
@@ -128,6 +128,7 @@ fn put_row<D: Disk>(log: &mut Log<D>, row: LogRow, total: u64) -> Result<(), Sta
 // Acknowledges all rows that wait, and returns a refusal as a status.
 pub(crate) fn commit_rest<D: Disk>(log: &mut Log<D>) -> Result<(), Status>
     ensures none_waits { OnOk result (rows_waiting log.new ≡ 0) }
+    ensures usable { OnOk result (log.new.failed ≡ false) }
     ensures committed { IsCommitted log.old log.new }
     ensures refused { IfErr result (IsCommitRefusal D.fault_count log.new) }
 {

@@ -1,5 +1,8 @@
 // Opening the log of a plant on its device.
 ghost use Rattle.std.specs.Prelude.{◌≡◌, ◌≢◌, ◌^◌, ◌<◌, IfErr, IfOk, IsTrue, OnErr, OnOk, ℕ, List};
+ghost use Rattle.disk_model.specs.Traces.{Synced, noted};
+ghost use Rattle.plant_status.specs.declared.status.Status.TheVariants.{DeviceFault as Fault};
+ghost use Rattle.plant_status.specs.declared.unit.Unit.TheVariants.{Log as LogUnit};
 ghost use Rattle.plant_more.specs.LogOpenings.{IsLogOpened, IsLogKept, IsOpeningRefusal, CountsOpening, status_of};
 ghost use Rattle.plant_more.specs.LogTexts.{log_name};
 
@@ -12,7 +15,8 @@ use std::alloc::Global;
 pub(crate) const LOG_NAME: &str = "plant.log";
 
 // Takes the device of the log out of a store, and opens it with room for so many puts. The plant has this text and so
-// many tags. If it is not opened, the device is given back.
+// many tags. If it is not opened, the device is given back. Unless a call of it failed, it has then gained one sync, and
+// nothing else.
 pub(crate) fn take_log<S: Store>(
     alloc: Global,
     store: &mut S,
@@ -20,11 +24,13 @@ pub(crate) fn take_log<S: Store>(
     tags: u32,
     room: u32,
 ) -> Result<Log<S::Dev>, Status>
-    ensures opened { IfOk result (IsLogOpened S.Dev.trace S.Dev.ticks S.Dev.fault_count plant.now tags (S.device_at store.old log_name)) }
+    ensures opened { IfOk result (IsLogOpened S.Dev.trace S.Dev.ticks S.Dev.fault_count plant.now tags room (S.device_at store.old log_name)) }
     ensures place { OnOk result (IsTrue (S.has_place store.new log_name)) }
     ensures refused { IfErr result (IsOpeningRefusal plant.now tags room (S.device_at store.old log_name)
         (S.fault_count store.old) (S.fault_count store.new)) }
     ensures kept { OnErr result (IsLogKept plant.now tags (S.device_at store.old) (S.device_at store.new)) }
+    ensures synced { IfErr result (λ why. why ≢ Fault LogUnit
+        → S.device_at store.new log_name ≡ noted Synced (S.device_at store.old log_name)) }
     ensures others { (n : List ℕ) → n ≢ log_name → S.device_at store.new n ≡ S.device_at store.old n }
     ensures faultless { OnOk result (S.fault_count store.new ≡ S.fault_count store.old) }
     ensures counts { S.fault_count store.old < 2 ^ 64 → CountsOpening result (S.fault_count store.old) (S.fault_count store.new) }

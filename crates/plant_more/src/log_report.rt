@@ -91,6 +91,7 @@ fn take_all(cores: &mut [TagCore], tags: &[TagDef], rows: &[LogRow]) -> Result<(
     requires rows { All (IsLogRow (length tags.now)) rows.now }
     requires standing { AreStanding tags.now [] cores.old }
     ensures standing { OnOk result (AreStanding tags.now rows.now cores.new) }
+    ensures room { OnOk result (HasRoomBelow tags.now rows.now (length rows.now)) }
     ensures refused { IfErr result (IsReportRefusal tags.now rows.now) }
 {
     take_on::<Brand>(cores, tags, rows, Blank::new(1))
@@ -109,6 +110,7 @@ fn take_on<L: Ledger>(
     requires rows { All (IsLogRow (length tags.now)) rows.now }
     requires standing { AreStanding tags.now [] cores.old }
     ensures standing { OnOk result (AreStanding tags.now rows.now cores.new) }
+    ensures room { OnOk result (HasRoomBelow tags.now rows.now (length rows.now)) }
     ensures refused { IfErr result (IsReportRefusal tags.now rows.now) }
 {
     let mut steps = Steps::<L>::new(blank);

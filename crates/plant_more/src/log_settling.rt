@@ -1,5 +1,5 @@
 // Bringing a log to its end after its workers have ended.
-ghost use Rattle.std.specs.Prelude.{◌≡◌, ◌^◌, ◌<◌, IfErr, OnOk, length};
+ghost use Rattle.std.specs.Prelude.{◌≡◌, ◌^◌, ◌<◌, IfErr, OnOk, false, length};
 ghost use Rattle.plant_more.specs.LogNotes.{row_lists_of};
 ghost use Rattle.plant_more.specs.LogTurns.{IsSameLog};
 ghost use Rattle.plant_more.specs.LogFinding.{AreFound, ArePutsBegun};
@@ -33,6 +33,7 @@ pub(crate) fn settle<D: Disk>(
     requires small { total_rows (row_lists_of files.now) < 2 ^ 64 }
     ensures ended { OnOk result (AreUnstopped notes.now) }
     ensures made { OnOk result (ArePutsMade (row_lists_of files.now) log.new) }
+    ensures usable { OnOk result (log.new.failed ≡ false) }
     ensures begun { (AdmitsForeignPut result → ⊥) → ArePutsBegun (row_lists_of files.now) log.new.tape }
     ensures known { (IsOfOpening result → ⊥) → IsAsKnown log.new known.now }
     ensures refused { IfErr result (IsSettlingRefusal D.fault_count (row_lists_of files.now) notes.now known.now log.new) }
@@ -58,6 +59,7 @@ fn complete<D: Disk>(
     requires found { AreFound (row_lists_of files.now) log.old.tape next.old }
     ensures ended { OnOk result (AreUnstopped notes.now) }
     ensures made { OnOk result (ArePutsMade (row_lists_of files.now) log.new) }
+    ensures usable { OnOk result (log.new.failed ≡ false) }
     ensures begun { ArePutsBegun (row_lists_of files.now) log.new.tape }
     ensures same { IsSameLog log.old log.new }
     ensures refused { IfErr result (IsRestRefusal D.fault_count (row_lists_of files.now) notes.now log.new) }

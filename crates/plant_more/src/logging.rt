@@ -188,7 +188,8 @@ fn log_open<S: Store, P: Passes, R: Threads + Wait + Sync>(
     requires tags { known.now.tags ≡ length base.now.tags.items }
     requires place { IsTrue (S.has_place store.old log_name) }
     ensures run { (old : TracesByName) → AreOthersSame old (S.device_at store.old)
-        → IsLogOpened S.Dev.trace S.Dev.ticks S.Dev.fault_count (plant_text base.now.tags.items) (length base.now.tags.items) (old log_name) log
+        → IsLogOpened S.Dev.trace S.Dev.ticks S.Dev.fault_count (plant_text base.now.tags.items) (length base.now.tags.items)
+        (total_rows (row_lists_of rows.now)) (old log_name) log
         → IfSome result.log (IsRun S.Dev.trace S.Dev.ticks S.Dev.fault_count base.now (row_lists_of rows.now)
         old (S.device_at store.new) (S.fault_count store.old) (S.fault_count store.new)
         (P.stops passes.old) (P.stops passes.new) result.answer) }

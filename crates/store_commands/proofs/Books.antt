@@ -1,18 +1,21 @@
 -- Books that are opened, refreshed once, and closed.
 use Rattle.std.proofs.Common.{◌≡◌, inl, inr, ℕ, ◌+◌, ◌<◌, ◌≤◌, List, [], ◌∷◌, All, length, map, get_or, set, string_bytes, Option, Result, Ok, Err, refl, sym, ap, ap₂, subst, ◌∙◌, arith}
-use Rattle.std.specs.Prelude.{IfErr, IfOk, OnOk, String}
+use Rattle.std.specs.Prelude.{IfErr, IfOk, OnOk, Some, String, true}
 use Rattle.std.specs.Result.{result_and}
 use Rattle.std.specs.declared.alloc.Global.{Global}
 use Rattle.std.proofs.lemmas.Bool.{cases_eq}
 use Rattle.std.proofs.lemmas.List.{get_or-map, get_or-set_other, get_or-set_same, get_or_default, length-map, length-set}
 use Rattle.trend_num.specs.declared.archive.Rec.{Rec}
+use Rattle.trend_num.specs.declared.value.CalcValue.{CalcValue}
 use Rattle.disk_model.specs.Moments.{During}
 use Rattle.disk_model.specs.Traces.{Trace}
 use Rattle.calc_refresh.specs.declared.definition.GroupDefParts.{GroupDefParts}
 use Rattle.calc_refresh.specs.Lists.{lists_of}
 use Rattle.calc_refresh.specs.Sheet.{grid_of}
-use Rattle.sheet_law.specs.Scratch.{IsScratch}
+use Rattle.sheet_law.specs.Scratch.{IsScratch, column, is_due, values_at}
+use Rattle.sheet_law.specs.Windows.{complete_windows}
 use Rattle.tag_base.specs.declared.definition.GroupDef.{GroupDef}
+use Rattle.group_layout.specs.Readings.{GainsGroupSync}
 use Rattle.plant_status.specs.declared.status.Status.{Status}
 use Rattle.group_book.specs.declared.history.GroupHistory.{GroupHistory}
 use Rattle.group_book.specs.declared.history.GroupOpening.{GroupOpening}
@@ -22,15 +25,15 @@ use Rattle.group_book.specs.Histories.{IsRight}
 use Rattle.group_book.specs.Openings.{BookStaysSame}
 use Rattle.group_book.specs.Told.{ToldBook, count_of, trace_of}
 use Rattle.group_book.specs.InputLists.{lists_at}
-use Rattle.group_book.specs.Tapes.{cut}
+use Rattle.group_book.specs.Tapes.{cut, uncut}
 use Rattle.plant_store.specs.BookEndings.{AreGivenBack, AreHistoriesOf, IsHistoryOfBook, trace_after}
 use Rattle.plant_store.specs.Groups.{AllStaySame, AreBooksOpened, AreNamesOf, DeviceTraces, IsBookOpened, group_parts_of, input_records_of, group_definition_text, group_trace_at}
 use Rattle.plant_store.specs.BookRefusals.{CountsStore}
 use Rattle.plant_store.proofs.BookCauses.{back_is, front_of}
 use Rattle.plant_store.proofs.BookNames.{as_many, named_at}
 use Rattle.store_commands.specs.Replies.{Rows, rows_in}
-use Rattle.store_commands.specs.GroupRows.{AreGroupsTold, IsGroupTold, IsGroupRowsRefusal, IsTooMuchAt, OfCells, OfCopies, OfWant}
-use Rattle.store_commands.specs.Refreshing.{AreCutBooks, AreRefreshedOnce, HaveDevicesOf, IsOverIn, IsOverSome, IsRefreshedOnce, refresh_status}
+use Rattle.store_commands.specs.GroupRows.{AllGainSync, AreGroupsTold, cells_of, IsGroupTold, IsGroupRowsRefusal, IsTooMuchAt, OfCells, OfCopies, OfWant}
+use Rattle.store_commands.specs.Refreshing.{AreCutBooks, AreRefreshedOnce, AreWithinLimits, HaveDevicesOf, IsOverIn, IsOverSome, IsRefreshedOnce, book_cells, refresh_status}
 
 -- books that were opened have the first records of their tags
 pub cut_books : {D : Type 0} (trace : D → Option Trace) (ticks faults : D → ℕ) (groups : List GroupDef) (records : List (List Rec))
@@ -91,14 +94,26 @@ one_refreshed records at old now b d within is_book one before = record {
 
 -- ---- what they come to
 
+-- what these rows of a group are, over these records, whether or not the opening was right
+abbrev AreWhole : List (List CalcValue) → GroupDefParts → GroupOpening → List (List Rec) → Type 0
+AreWhole rows d x l = (length rows ≡ length d.calcs.calcs)
+    × All (λ row. length row ≡ complete_windows (grid_of d.start d.period) l) rows
+    × ((k : ℕ) → k < complete_windows (grid_of d.start d.period) l
+    → is_due (grid_of d.start d.period) (cut x.versions.items l) (uncut x.versions.items l) k ≡ true
+    → column k rows ≡ map Some (values_at d.calcs (grid_of d.start d.period) l k))
+
 -- one group
 group_told : {D : Type 0} (trace : D → Option Trace) (ticks faults : D → ℕ) (i : ℕ) (g : GroupDef) (recovered : List (List Rec))
     (o : Option Trace) (b c : ToldBook D) (h : GroupHistory) → IsBookOpened trace ticks faults i g recovered o b → c.sheet.copies ≡ recovered
-    → c ≡ record b { tape = c.tape; sheet = c.sheet }
+    → AreWithinLimits (book_cells b.def recovered) recovered → c ≡ record b { tape = c.tape; sheet = c.sheet }
     → IsHistoryOfBook trace ticks faults c h → IsGroupTold g recovered o (lists_of h.rows.items)
-group_told trace ticks faults i g recovered o b c h book copies changed told = record {
+group_told trace ticks faults i g recovered o b c h book copies within changed told = record {
   opening = b.opening;
   opened = book.opening;
+  within = subst (λ d. AreWithinLimits (book_cells d recovered) recovered) book.def within;
+  calcs = rows.0;
+  windows = rows.1;
+  due = rows.2;
   scratch = subst (λ (d : GroupDefParts). IsRight d.calcs (grid_of d.start d.period) b.opening recovered
       → IsScratch d.calcs (grid_of d.start d.period) recovered (lists_of h.rows.items))
       (told.def ∙ ap (λ x. x.def) changed ∙ book.def)
@@ -109,6 +124,13 @@ group_told trace ticks faults i g recovered o b c h book copies changed told = r
       → IsScratch h.def.calcs (grid_of h.def.start h.def.period) l (lists_of h.rows.items))
       (told.copies ∙ copies) told.history.legal.scratch));
 }
+  where
+    rows : AreWhole (lists_of h.rows.items) (group_parts_of g) b.opening recovered
+    rows =
+        subst (λ d. AreWhole (lists_of h.rows.items) d b.opening recovered) (told.def ∙ ap (λ x. x.def) changed ∙ book.def)
+        (subst (λ x. AreWhole (lists_of h.rows.items) h.def x recovered) (told.opening ∙ ap (λ x. x.opening) changed)
+        (subst (λ l. AreWhole (lists_of h.rows.items) h.def h.opening l) (told.copies ∙ copies)
+        (told.history.evaluated.calcs, told.history.evaluated.windows, told.history.evaluated.due)))
 
 -- all groups
 pub all_told : {D : Type 0} (trace : D → Option Trace) (ticks faults : D → ℕ) (groups : List GroupDef) (records : List (List Rec))
@@ -134,7 +156,9 @@ all_told {D} trace ticks faults groups records old books closed hs many opened d
         subst (λ x. IsGroupTold (get_or groups i g) (input_records_of records (get_or groups i g)) (group_trace_at old (get_or groups i g)) x)
         (sym (get_or-map rows_of hs i h r (omega (arith, below, many, devices.as_many, told.as_many))))
         (group_told trace ticks faults i (get_or groups i g) (input_records_of records (get_or groups i g)) (group_trace_at old (get_or groups i g))
-        (get_or books i b) (get_or closed i b) (get_or hs i h) book (one.copies ∙ ap (lists_at records) book.tags) one.changed
+        (get_or books i b) (get_or closed i b) (get_or hs i h) book (one.copies ∙ ap (lists_at records) book.tags)
+        (subst (λ (l : List (List Rec)). AreWithinLimits (book_cells (get_or books i b).def l) l) (ap (lists_at records) book.tags) one.within)
+        one.changed
         (told.each i b h (omega (arith, below, many, devices.as_many))))
 
 -- the device of each is back, and stays the same
@@ -154,6 +178,23 @@ all_back trace ticks faults groups (s ∷ ss) records old mid new (b ∷ bs) clo
     ∙ back_is trace (get_or (b ∷ bs) i b).dev _ book.device in
     subst (λ o. During (group_trace_at old (get_or groups i g)) o
     (BookStaysSame (group_definition_text (get_or groups i g)) (group_parts_of (get_or groups i g)) (group_trace_at old (get_or groups i g)))) (sym is) book.same
+
+-- and gained a sync alone, if it was whole
+pub all_synced : {D : Type 0} (trace : D → Option Trace) (ticks faults : D → ℕ) (groups : List GroupDef) (names : List (String Global))
+    (records : List (List Rec)) (old mid new : DeviceTraces) (books closed : List (ToldBook D)) → AreNamesOf groups names
+    → length books ≡ length groups → AreBooksOpened trace ticks faults groups records old books → HaveDevicesOf books closed
+    → AreGivenBack trace names closed mid new → AllGainSync groups old new
+all_synced trace ticks faults groups names records old mid new [] closed are many opened devices given i g below =
+    absurd (omega (arith, below, many))
+all_synced trace ticks faults groups [] records old mid new (b ∷ bs) closed are many opened devices given i g below =
+    absurd (omega (arith, below, as_many groups [] are))
+all_synced trace ticks faults groups (s ∷ ss) records old mid new (b ∷ bs) closed are many opened devices given i g below =
+    let book = opened.each i g b (omega (arith, below, many)) in
+    let is : group_trace_at new (get_or groups i g) ≡ trace_of trace (get_or (b ∷ bs) i b).dev =
+    ap new (sym (named_at groups (s ∷ ss) i g s are below)) ∙ given i b s (omega (arith, below, many, devices.as_many))
+    ∙ ap (λ dev. trace_after trace dev (mid (string_bytes (get_or (s ∷ ss) i s)))) (devices.each i b)
+    ∙ back_is trace (get_or (b ∷ bs) i b).dev _ book.device in
+    subst (λ o. GainsGroupSync (group_definition_text (get_or groups i g)) (group_trace_at old (get_or groups i g)) o) (sym is) book.synced
 
 -- none has counted a fault
 pub none_counted : {D : Type 0} (trace : D → Option Trace) (ticks faults : D → ℕ) (groups : List GroupDef) (records : List (List Rec))
@@ -176,6 +217,10 @@ pub ok_and : {T U E A : Type 0} (P : U → Type 0) (r : Result T E) (x : U) (s :
 ok_and P (Ok t) x s same follows a = subst (λ v. IfOk v P) (sym same) (follows a)
 ok_and P (Err e) x s same follows a = subst (λ v. IfOk v P) (sym same) tt
 
+pub ok_always : {T E A : Type 0} (r : Result T E) → A → OnOk r A
+ok_always (Ok t) a = a
+ok_always (Err e) a = tt
+
 pub err_and : {T U E : Type 0} (P Q : E → Type 0) (r : Result T E) (x : U) (s : Result U E) → s ≡ result_and r (Ok x)
     → ((e : E) → P e → Q e) → IfErr r P → IfErr s Q
 err_and P Q (Ok t) x s same follows p = subst (λ v. IfErr v Q) (sym same) tt
@@ -184,26 +229,44 @@ err_and P Q (Err e) x s same follows p = subst (λ v. IfErr v Q) (sym same) (fol
 -- ---- a group that comes to too much
 
 pub over_some : {D : Type 0} (trace : D → Option Trace) (ticks faults : D → ℕ) (groups : List GroupDef) (records : List (List Rec))
-    (old : DeviceTraces) (books : List (ToldBook D)) (before now : ℕ) (s : Status) → length books ≡ length groups
-    → AreBooksOpened trace ticks faults groups records old books → IsOverSome records books s
-    → IsGroupRowsRefusal groups records old before now s
-over_some trace ticks faults [] records old books before now s many opened over = absurd (omega (arith, over.there, many))
-over_some trace ticks faults (g ∷ gs) records old [] before now s many opened over = absurd (omega (arith, many))
-over_some {D} trace ticks faults (g ∷ gs) records old (b ∷ bs) before now s many opened over =
-    by over.why (subst (λ l. IsOverIn (lists_at records l) over.why) (opened.each over.i g b over.there).tags (over.over b)) over.told
+    (old new : DeviceTraces) (books : List (ToldBook D)) (before now : ℕ) (s : Status) → length books ≡ length groups
+    → AreBooksOpened trace ticks faults groups records old books → AllGainSync groups old new → IsOverSome records books s
+    → IsGroupRowsRefusal groups records old new before now s
+over_some trace ticks faults [] records old new books before now s many opened synced over = absurd (omega (arith, over.there, many))
+over_some trace ticks faults (g ∷ gs) records old new [] before now s many opened synced over = absurd (omega (arith, many))
+over_some {D} trace ticks faults (g ∷ gs) records old new (b ∷ bs) before now s many opened synced over =
+    by over.why
+    (subst (λ d. IsOverIn (book_cells d (input_records_of records (get_or (g ∷ gs) over.i g))) (input_records_of records (get_or (g ∷ gs) over.i g)) over.why)
+    (opened.each over.i g b over.there).def
+    (subst (λ l. IsOverIn (book_cells (get_or (b ∷ bs) over.i b).def (lists_at records l)) (lists_at records l) over.why)
+    (opened.each over.i g b over.there).tags (over.over b))) over.told
   where
-    much : (P : List (List Rec) → Type 0) → P (input_records_of records (get_or (g ∷ gs) over.i g)) → IsTooMuchAt (g ∷ gs) records old over.i P
+    before_it : (k : ℕ) (d : GroupDef) → k < over.i
+        → AreWithinLimits (cells_of (get_or (g ∷ gs) k d) (input_records_of records (get_or (g ∷ gs) k d)))
+        (input_records_of records (get_or (g ∷ gs) k d))
+    before_it k d low =
+        let book = opened.each k d b (omega (arith, low, over.there)) in
+        subst (λ x. AreWithinLimits (book_cells x (input_records_of records (get_or (g ∷ gs) k d))) (input_records_of records (get_or (g ∷ gs) k d)))
+        book.def
+        (subst (λ l. AreWithinLimits (book_cells (get_or (b ∷ bs) k b).def (lists_at records l)) (lists_at records l)) book.tags
+        (over.front k b low))
+
+    much : (P : GroupDef → List (List Rec) → Type 0) → P (get_or (g ∷ gs) over.i g) (input_records_of records (get_or (g ∷ gs) over.i g))
+        → IsTooMuchAt (g ∷ gs) records old new over.i P
     much P p = record {
       g = get_or (g ∷ gs) over.i g;
       openings = map (λ b. b.opening) (b ∷ bs);
       there = omega (arith, over.there, many);
       is_group = get_or_default (g ∷ gs) over.i (get_or (g ∷ gs) over.i g) g (omega (arith, over.there, many));
       opened = λ k d x below. front_of trace ticks faults (g ∷ gs) records old (b ∷ bs) opened k d x (omega (arith, below, many));
+      front = before_it;
       over = p;
+      synced = synced;
     }
 
-    by : (why : RefreshNo) → IsOverIn (input_records_of records (get_or (g ∷ gs) over.i g)) why
-        → s ≡ refresh_status why → IsGroupRowsRefusal (g ∷ gs) records old before now s
+    by : (why : RefreshNo) → IsOverIn (cells_of (get_or (g ∷ gs) over.i g) (input_records_of records (get_or (g ∷ gs) over.i g)))
+        (input_records_of records (get_or (g ∷ gs) over.i g)) why
+        → s ≡ refresh_status why → IsGroupRowsRefusal (g ∷ gs) records old new before now s
     by (Ahead input version found) is told = absurd is
     by (CellLimit n) is told = OfCells over.i n told (much _ is)
     by (CopyLimit n) is told = OfCopies over.i n told (much _ is)

@@ -36,16 +36,16 @@ asked_lists base n m lists tags groups all =
     (λ qs each. All-weaker (IsQueryOfBase base) (IsAsked n m) (asked_one base n m tags groups) qs each) lists all
 
 -- the refusal of a group is no fault of a file
-pub rows_no_fault : (groups : List GroupDef) (records : List (List Rec)) (old : List ℕ → Option Trace) (before now : ℕ) (why : Status)
-    → IsGroupRowsRefusal groups records old before now why → (n : ℕ) → faults_told why n ≡ n
-rows_no_fault groups records old before now why (OfOpening (OfFault i is at)) n = ap (λ s. faults_told s n) is
-rows_no_fault groups records old before now why (OfOpening (OfDamage i a byte is at)) n = ap (λ s. faults_told s n) is
-rows_no_fault groups records old before now why (OfOpening (OfVersion i input found version is at)) n = ap (λ s. faults_told s n) is
-rows_no_fault groups records old before now why (OfOpening (OfWindows i windows rows is at)) n = ap (λ s. faults_told s n) is
-rows_no_fault groups records old before now why (OfOpening (OfMemory is)) n = ap (λ s. faults_told s n) is
-rows_no_fault groups records old before now why (OfCells i number is at) n = ap (λ s. faults_told s n) is
-rows_no_fault groups records old before now why (OfCopies i number is at) n = ap (λ s. faults_told s n) is
-rows_no_fault groups records old before now why (OfWant is) n = ap (λ s. faults_told s n) is
+pub rows_no_fault : (groups : List GroupDef) (records : List (List Rec)) (old new : List ℕ → Option Trace) (before now : ℕ) (why : Status)
+    → IsGroupRowsRefusal groups records old new before now why → (n : ℕ) → faults_told why n ≡ n
+rows_no_fault groups records old new before now why (OfOpening (OfFault i is at)) n = ap (λ s. faults_told s n) is
+rows_no_fault groups records old new before now why (OfOpening (OfDamage i a byte is at)) n = ap (λ s. faults_told s n) is
+rows_no_fault groups records old new before now why (OfOpening (OfVersion i input found version is at)) n = ap (λ s. faults_told s n) is
+rows_no_fault groups records old new before now why (OfOpening (OfWindows i windows rows is at)) n = ap (λ s. faults_told s n) is
+rows_no_fault groups records old new before now why (OfOpening (OfMemory is)) n = ap (λ s. faults_told s n) is
+rows_no_fault groups records old new before now why (OfCells i number is at) n = ap (λ s. faults_told s n) is
+rows_no_fault groups records old new before now why (OfCopies i number is at) n = ap (λ s. faults_told s n) is
+rows_no_fault groups records old new before now why (OfWant is) n = ap (λ s. faults_told s n) is
 
 -- there is one list of queries for each file
 pub as_many_lists : (tags : List (List ℕ)) (groups : List GroupNames) (told : ToldFiles) (files : List (List ℕ))

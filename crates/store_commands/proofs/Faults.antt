@@ -11,13 +11,13 @@ use Rattle.plant_store.specs.BookRefusals.{OfDamage, OfFault, OfMemory, OfVersio
 use Rattle.store_commands.specs.GroupRows.{IsGroupRowsRefusal, OfCells, OfCopies, OfOpening, OfWant}
 
 -- the refusal of a group is no read fault
-pub group_is_no_fault : (groups : List GroupDef) (records : List (List Rec)) (old : List ℕ → Option Trace) (before now : ℕ) (why : Status)
-    → IsGroupRowsRefusal groups records old before now why → (which : FileId) → why ≢ ReadFault which
-group_is_no_fault groups records old before now why (OfOpening (OfFault i is at)) which same = cc
-group_is_no_fault groups records old before now why (OfOpening (OfDamage i a byte is at)) which same = cc
-group_is_no_fault groups records old before now why (OfOpening (OfVersion i input found version is at)) which same = cc
-group_is_no_fault groups records old before now why (OfOpening (OfWindows i windows rows is at)) which same = cc
-group_is_no_fault groups records old before now why (OfOpening (OfMemory is)) which same = cc
-group_is_no_fault groups records old before now why (OfCells i number is at) which same = cc
-group_is_no_fault groups records old before now why (OfCopies i number is at) which same = cc
-group_is_no_fault groups records old before now why (OfWant is) which same = cc
+pub group_is_no_fault : (groups : List GroupDef) (records : List (List Rec)) (old new : List ℕ → Option Trace) (before now : ℕ) (why : Status)
+    → IsGroupRowsRefusal groups records old new before now why → (which : FileId) → why ≢ ReadFault which
+group_is_no_fault groups records old new before now why (OfOpening (OfFault i is at)) which same = cc
+group_is_no_fault groups records old new before now why (OfOpening (OfDamage i a byte is at)) which same = cc
+group_is_no_fault groups records old new before now why (OfOpening (OfVersion i input found version is at)) which same = cc
+group_is_no_fault groups records old new before now why (OfOpening (OfWindows i windows rows is at)) which same = cc
+group_is_no_fault groups records old new before now why (OfOpening (OfMemory is)) which same = cc
+group_is_no_fault groups records old new before now why (OfCells i number is at) which same = cc
+group_is_no_fault groups records old new before now why (OfCopies i number is at) which same = cc
+group_is_no_fault groups records old new before now why (OfWant is) which same = cc

@@ -67,17 +67,17 @@ pub rows_before : (g : GroupDef) (k : ℕ) (recovered : List (List Rec)) (o p : 
 rows_before g k recovered o p saved refreshed same rows = subst (λ x. AreFrameRows g k recovered x saved refreshed) same rows
 
 -- and of a refusal, where no fault was counted until then
-pub refusal_before : (i : ℕ) (g : GroupDef) (recovered : List (List Rec)) (o p : Option Trace) (before mid now : ℕ) (why : Status) → p ≡ o
-    → (before < 2 ^ 64 → mid ≡ before) → IsFrameRowsRefusal i g recovered p mid now why → IsFrameRowsRefusal i g recovered o before now why
-refusal_before i g recovered o p before mid now why same first is = subst (λ x. IsFrameRowsRefusal i g recovered x before now why) same (by is)
+pub refusal_before : (i : ℕ) (g : GroupDef) (recovered : List (List Rec)) (o p q : Option Trace) (before mid now : ℕ) (why : Status) → p ≡ o
+    → (before < 2 ^ 64 → mid ≡ before) → IsFrameRowsRefusal i g recovered p q mid now why → IsFrameRowsRefusal i g recovered o q before now why
+refusal_before i g recovered o p q before mid now why same first is = subst (λ x. IsFrameRowsRefusal i g recovered x q before now why) same (by is)
   where
-    by : IsFrameRowsRefusal i g recovered p mid now why → IsFrameRowsRefusal i g recovered p before now why
+    by : IsFrameRowsRefusal i g recovered p q mid now why → IsFrameRowsRefusal i g recovered p q before now why
     by (OfFault told rose) = OfFault told (λ small. subst (λ n. Rose n now) (first small) (rose (subst (λ n. n < 2 ^ 64) (sym (first small)) small)))
     by (OfDamage at byte told shows) = OfDamage at byte told shows
     by (OfVersion input found version told shows) = OfVersion input found version told shows
     by (OfWindows windows rows told shows) = OfWindows windows rows told shows
-    by (OfCells number told is above) = OfCells number told is above
-    by (OfCopies number told is above) = OfCopies number told is above
+    by (OfCells number told stood over) = OfCells number told stood over
+    by (OfCopies number told stood over) = OfCopies number told stood over
     by (OfMemory told) = OfMemory told
 
 -- ---- faults
@@ -94,15 +94,15 @@ names_no_read groups group_name calc_name why (NoGroup told none) which same = c
 names_no_read groups group_name calc_name why (NoCalculation g told there named none) which same = cc
 
 -- nor is the refusal of a group
-pub rows_no_read : (i : ℕ) (g : GroupDef) (recovered : List (List Rec)) (o : Option Trace) (before now : ℕ) (why : Status)
-    → IsFrameRowsRefusal i g recovered o before now why → (which : FileId) → why ≢ ReadFault which
-rows_no_read i g recovered o before now why (OfFault told rose) which same = cc
-rows_no_read i g recovered o before now why (OfDamage at byte told shows) which same = cc
-rows_no_read i g recovered o before now why (OfVersion input found version told shows) which same = cc
-rows_no_read i g recovered o before now why (OfWindows windows rows told shows) which same = cc
-rows_no_read i g recovered o before now why (OfCells number told is above) which same = cc
-rows_no_read i g recovered o before now why (OfCopies number told is above) which same = cc
-rows_no_read i g recovered o before now why (OfMemory told) which same = cc
+pub rows_no_read : (i : ℕ) (g : GroupDef) (recovered : List (List Rec)) (o p : Option Trace) (before now : ℕ) (why : Status)
+    → IsFrameRowsRefusal i g recovered o p before now why → (which : FileId) → why ≢ ReadFault which
+rows_no_read i g recovered o p before now why (OfFault told rose) which same = cc
+rows_no_read i g recovered o p before now why (OfDamage at byte told shows) which same = cc
+rows_no_read i g recovered o p before now why (OfVersion input found version told shows) which same = cc
+rows_no_read i g recovered o p before now why (OfWindows windows rows told shows) which same = cc
+rows_no_read i g recovered o p before now why (OfCells number told is above) which same = cc
+rows_no_read i g recovered o p before now why (OfCopies number told is above) which same = cc
+rows_no_read i g recovered o p before now why (OfMemory told) which same = cc
 
 -- a fault of a group's device is one of a device
 pub of_group : {T : Type 0} (r : Result T Status) (before now : ℕ) → groups.CountsStore r before now → CountsDevices r before now

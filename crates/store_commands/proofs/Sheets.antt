@@ -1,12 +1,17 @@
 -- Books that get all records of their tags.
-use Rattle.std.proofs.Common.{◌≡◌, ℕ, zero, suc, ◌<◌, ◌≤◌, Bool, true, false, List, [], ◌∷◌, length, get_or, Some, None, sym, ap, ◌∙◌, arith}
-use Rattle.std.specs.Prelude.{nat_lt, if◌then◌else◌}
+use Rattle.std.proofs.Common.{◌≡◌, ℕ, zero, suc, ◌<◌, ◌≤◌, Bool, true, false, List, [], ◌∷◌, length, get_or, Option, Some, None, refl, sym, ap, ap₂, subst, ltb-true, ltb-false, ◌∙◌, arith}
+use Rattle.std.specs.Prelude.{◌*◌, nat_lt, if◌then◌else◌}
 use Rattle.std.proofs.lemmas.List.{get_or-map, length-map, length-take}
 use Rattle.trend_num.specs.declared.archive.Rec.{Rec}
+use Rattle.calc_check.specs.Group.{Group}
+use Rattle.calc_refresh.specs.declared.refusal.SheetNo.{SheetNo}
 use Rattle.calc_refresh.specs.declared.refusal.SheetNo.TheVariants as sheet
 use Rattle.calc_refresh.specs.Lists.{total_length}
-use Rattle.calc_refresh.specs.Refreshed.{cells_after, limit_fault, most_cells, most_copies}
+use Rattle.calc_refresh.specs.Refreshed.{fault_after, limit_fault, most_cells, most_copies}
+use Rattle.calc_refresh.specs.Sheet.{grid_of}
+use Rattle.calc_refresh.proofs.Applying.{limits_hold}
 use Rattle.sheet_law.specs.Touched.{longer}
+use Rattle.sheet_law.specs.Windows.{complete_windows}
 use Rattle.group_book.specs.declared.refusal.RefreshNo.{RefreshNo}
 use Rattle.group_book.specs.declared.refusal.RefreshNo.TheVariants.{Ahead, CellLimit, CopyLimit, WantOfMemory}
 use Rattle.group_book.specs.declared.turn.Turn.{Turn}
@@ -14,9 +19,8 @@ use Rattle.group_book.specs.InputLists.{IsListsRefusal, lists_at}
 use Rattle.group_book.specs.Refusals.{IsBookToldOf}
 use Rattle.group_book.specs.Tapes.{cut, uncut}
 use Rattle.group_book.specs.Told.{IsPublished, ToldBook, versions_of}
-use Rattle.group_book.proofs.Causes.{sheet_refused}
 use Rattle.group_book.proofs.InputLists.{longer-uncut}
-use Rattle.store_commands.specs.Refreshing.{IsCutBook, IsOverIn, IsRefreshedOnce}
+use Rattle.store_commands.specs.Refreshing.{IsCutBook, IsOverIn, IsRefreshedOnce, book_cells}
 
 -- the first records of lists, and those after them, are the lists
 whole_book : {D : Type 0} (records : List (List Rec)) (b : ToldBook D) → IsCutBook records b → length b.tags ≡ length b.sheet.copies
@@ -28,13 +32,26 @@ whole_book records b so inputs =
 
 -- a book into which all was taken
 pub refreshed_once : {D : Type 0} (records : List (List Rec)) (old new : ToldBook D) → IsCutBook records old
+    → old.sheet.group ≡ old.def.calcs → old.sheet.grid ≡ grid_of old.def.start old.def.period
     → length old.tags ≡ length old.sheet.copies → IsPublished (uncut (versions_of old) (lists_at records old.tags)) old new
     → IsRefreshedOnce records old new
-refreshed_once records old new so inputs published = record {
-  copies = published.refreshed.copies ∙ whole_book records old so inputs;
+refreshed_once records old new so group grid inputs published = record {
+  copies = copies;
+  within =
+      let fits = limits_hold (complete_windows new.sheet.grid new.sheet.copies * length new.sheet.group.calcs)
+      (total_length new.sheet.copies) published.refreshed.within in
+      let cells : complete_windows new.sheet.grid new.sheet.copies * length new.sheet.group.calcs
+      ≡ book_cells old.def (lists_at records old.tags)
+      = ap₂ (λ w (x : Group). complete_windows w new.sheet.copies * length x.calcs) (published.refreshed.grid ∙ grid)
+      (published.refreshed.group ∙ group)
+      ∙ ap (λ l. complete_windows (grid_of old.def.start old.def.period) l * length old.def.calcs.calcs) copies in
+      record { few_cells = omega (arith, cells, fits.0); few_copies = omega (arith, ap total_length copies, fits.1) };
   changed = published.changed
       ∙ ap (λ (t : List Turn). record old { tape = t; sheet = new.sheet }) (sym (ap (λ b. b.tape) published.changed));
 }
+  where
+    copies : new.sheet.copies ≡ lists_at records old.tags
+    copies = published.refreshed.copies ∙ whole_book records old so inputs
 
 -- ---- a refusal
 
@@ -53,40 +70,56 @@ none_ahead records b i so within =
     let first = ap (λ l. length (get_or l i [])) so.copies in
     omega (arith, version, first, cut_within (versions_of b) (lists_at records b.tags) i)
 
--- the records that are too many are all of them
-copies_told : (cells records n : ℕ) → limit_fault cells records ≡ Some (sheet.CopyLimit n) → n ≡ records
-copies_told cells records n is = by (nat_lt most_cells cells) (nat_lt most_copies records) is
+-- a limit that is told was passed, and copies are told only where cells are not too many
+over_of : (cells : ℕ) (recovered : List (List Rec)) (fault : Option SheetNo) (reason : RefreshNo)
+    → fault ≡ limit_fault cells (total_length recovered) → IsBookToldOf fault reason → IsOverIn cells recovered reason
+over_of cells recovered fault reason same told =
+    by (nat_lt most_cells cells) (nat_lt most_copies (total_length recovered)) refl refl reason
+    (subst (λ f. IsBookToldOf f reason) same told)
   where
-    by : (b d : Bool) → (if b then Some (sheet.CellLimit cells) else (if d then Some (sheet.CopyLimit records) else None)) ≡ Some (sheet.CopyLimit n)
-        → n ≡ records
-    by true d e = absurd (cc (e))
-    by false true e = cc (e)
-    by false false e = absurd (cc (e))
-
-over_of : (cells : ℕ) (all recovered : List (List Rec)) (no : RefreshNo) → all ≡ recovered
-    → IsBookToldOf (limit_fault cells (total_length all)) no → IsOverIn recovered no
-over_of cells all recovered (Ahead input version records) same told = absurd told
-over_of cells all recovered (CellLimit n) same told = sheet_refused [] cells (total_length all) (CellLimit n) told
-over_of cells all recovered (CopyLimit n) same told = (
-  copies_told cells (total_length all) n told ∙ ap total_length same,
-  sheet_refused [] cells (total_length all) (CopyLimit n) told,
-)
-over_of cells all recovered WantOfMemory same told = tt
+    by : (b d : Bool) → nat_lt most_cells cells ≡ b → nat_lt most_copies (total_length recovered) ≡ d → (why : RefreshNo)
+        → IsBookToldOf (if b then Some (sheet.CellLimit cells)
+        else (if d then Some (sheet.CopyLimit (total_length recovered)) else None)) why → IsOverIn cells recovered why
+    by b d above many (Ahead input version records) is = absurd is
+    by b d above many WantOfMemory is = tt
+    by true d above many (CellLimit n) is =
+        let number : cells ≡ n = cc (is) in
+        (sym number, subst (λ m. most_cells < m) number (ltb-true most_cells cells above))
+    by false true above many (CellLimit n) is = absurd (cc (is))
+    by false false above many (CellLimit n) is = absurd (cc (is))
+    by true d above many (CopyLimit n) is = absurd (cc (is))
+    by false true above many (CopyLimit n) is =
+        let number : total_length recovered ≡ n = cc (is) in (
+          ltb-false most_cells cells above,
+          sym number,
+          subst (λ m. most_copies < m) number (ltb-true most_copies (total_length recovered) many),
+        )
+    by false false above many (CopyLimit n) is = absurd (cc (is))
 
 -- a book that is refused would have come to too much
-pub over_once : {D : Type 0} (records : List (List Rec)) (b : ToldBook D) (no : RefreshNo) → IsCutBook records b
-    → length b.tags ≡ length b.sheet.copies → IsListsRefusal (lists_at records b.tags) b no → IsOverIn (lists_at records b.tags) no
-over_once records b (Ahead input version found) so inputs refused =
-    absurd (omega (
-      arith,
-      refused.1,
-      refused.2,
-      refused.3,
-      none_ahead records b input so
-          (omega (arith, refused.0, inputs, length-map b.tags (λ tag. get_or records tag []))),
-    ))
-over_once records b (CellLimit n) so inputs refused =
-    over_of (cells_after b.sheet (uncut (versions_of b) (lists_at records b.tags))) _ _ (CellLimit n) (whole_book records b so inputs) refused
-over_once records b (CopyLimit n) so inputs refused =
-    over_of (cells_after b.sheet (uncut (versions_of b) (lists_at records b.tags))) _ _ (CopyLimit n) (whole_book records b so inputs) refused
-over_once records b WantOfMemory so inputs refused = tt
+pub over_once : {D : Type 0} (records : List (List Rec)) (b : ToldBook D) (reason : RefreshNo) → IsCutBook records b
+    → b.sheet.group ≡ b.def.calcs → b.sheet.grid ≡ grid_of b.def.start b.def.period
+    → length b.tags ≡ length b.sheet.copies → IsListsRefusal (lists_at records b.tags) b reason
+    → IsOverIn (book_cells b.def (lists_at records b.tags)) (lists_at records b.tags) reason
+over_once {D} records b reason so group grid inputs refused = by reason refused
+  where
+    same : fault_after b.sheet (uncut (versions_of b) (lists_at records b.tags))
+        ≡ limit_fault (book_cells b.def (lists_at records b.tags)) (total_length (lists_at records b.tags))
+    same =
+        ap (λ l. limit_fault (complete_windows b.sheet.grid l * length b.sheet.group.calcs) (total_length l)) (whole_book records b so inputs)
+        ∙ ap₂ (λ w (x : Group). limit_fault (complete_windows w (lists_at records b.tags) * length x.calcs) (total_length (lists_at records b.tags)))
+        grid group
+
+    by : (why : RefreshNo) → IsListsRefusal (lists_at records b.tags) b why
+        → IsOverIn (book_cells b.def (lists_at records b.tags)) (lists_at records b.tags) why
+    by (Ahead input version found) is =
+        absurd (omega (
+          arith,
+          is.1,
+          is.2,
+          is.3,
+          none_ahead records b input so (omega (arith, is.0, inputs, length-map b.tags (λ tag. get_or records tag []))),
+        ))
+    by (CellLimit n) is = over_of _ _ _ (CellLimit n) same is
+    by (CopyLimit n) is = over_of _ _ _ (CopyLimit n) same is
+    by WantOfMemory is = tt

@@ -5,6 +5,7 @@ use Rattle.trend_num.specs.declared.archive.Rec.{Rec}
 use Rattle.trend_num.specs.declared.tag_def.TagDef.{TagDef}
 use Rattle.tag_core.specs.Core.{Core}
 use Rattle.disk_model.specs.Calls.{Rose}
+use Rattle.group_layout.specs.Readings.{GainsGroupSync}
 use Rattle.crash_recovery.specs.Opening.{StaysSame as TagStaysSame}
 use Rattle.plant_status.specs.declared.status.Status.{Status}
 use Rattle.tag_base.specs.declared.definition.Base.{Base}
@@ -18,7 +19,7 @@ use Rattle.plant_store.specs.BookRefusals.{IsRefusal}
 use Rattle.plant_store.proofs.BookDevices as book
 use Rattle.store_commands.specs.Replies.{Rows}
 use Rattle.store_commands.specs.Commands.{AreAllKept, AreOtherDevicesSame}
-use Rattle.store_commands.specs.GroupRows.{AreGroupsTold, IsGroupTold, IsGroupRowsRefusal, IsTooMuchAt, OfCells, OfCopies, OfOpening, OfWant}
+use Rattle.store_commands.specs.GroupRows.{AllGainSync, AreGroupsTold, IsGroupTold, IsGroupRowsRefusal, IsTooMuchAt, OfCells, OfCopies, OfOpening, OfWant}
 
 -- no group's device is called as a tag's
 pub names_apart : (g t : List ℕ) → group.device_name g ≢ tag.device_name t
@@ -59,22 +60,30 @@ module _ (gs : List GroupDef) (records : List (List Rec)) (old mid : DeviceTrace
       book.refusal_before gs records old mid same before now count now why
       (λ rose small. subst (λ n. Rose n now) (first small) (rose (subst (λ n. n < 2 ^ 64) (sym (first small)) small))) refused
 
-  much_before : (i : ℕ) (P : List (List Rec) → Type 0) → IsTooMuchAt gs records mid i P → IsTooMuchAt gs records old i P
-  much_before i P at = record {
+  pub synced_before : (new : DeviceTraces) → AllGainSync gs mid new → AllGainSync gs old new
+  synced_before new gain k d below =
+      subst (λ o. GainsGroupSync (group.group_definition_text (get_or gs k d)) o (group_trace_at new (get_or gs k d))) (same (get_or gs k d))
+      (gain k d below)
+
+  much_before : (new : DeviceTraces) (i : ℕ) (P : GroupDef → List (List Rec) → Type 0) → IsTooMuchAt gs records mid new i P
+      → IsTooMuchAt gs records old new i P
+  much_before new i P at = record {
     g = at.g;
     openings = at.openings;
     there = at.there;
     is_group = at.is_group;
     opened = book.opened_before gs records old mid same (length gs) at.openings at.opened;
+    front = at.front;
     over = at.over;
+    synced = synced_before new at.synced;
   }
 
-  pub rows_before : (before mid_count now : ℕ) (why : Status) → (before < 2 ^ 64 → mid_count ≡ before)
-      → IsGroupRowsRefusal gs records mid mid_count now why → IsGroupRowsRefusal gs records old before now why
-  rows_before before count now why first (OfOpening refused) = OfOpening (refusal_before before count now why first refused)
-  rows_before before count now why first (OfCells i number is at) = OfCells i number is (much_before i _ at)
-  rows_before before count now why first (OfCopies i number is at) = OfCopies i number is (much_before i _ at)
-  rows_before before count now why first (OfWant is) = OfWant is
+  pub rows_before : (new : DeviceTraces) (before mid_count now : ℕ) (why : Status) → (before < 2 ^ 64 → mid_count ≡ before)
+      → IsGroupRowsRefusal gs records mid new mid_count now why → IsGroupRowsRefusal gs records old new before now why
+  rows_before new before count now why first (OfOpening refused) = OfOpening (refusal_before before count now why first refused)
+  rows_before new before count now why first (OfCells i number is at) = OfCells i number is (much_before new i _ at)
+  rows_before new before count now why first (OfCopies i number is at) = OfCopies i number is (much_before new i _ at)
+  rows_before new before count now why first (OfWant is) = OfWant is
 
   pub same_before : (new : DeviceTraces) → group.AllStaySame gs mid new → group.AllStaySame gs old new
   same_before new kept = book.same_before gs records old mid same new new (λ g. refl) kept

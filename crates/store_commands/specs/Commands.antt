@@ -15,7 +15,7 @@ use Rattle.plant_store.specs.Groups as group
 use Rattle.plant_store.specs.Groups.{DeviceTraces}
 use Rattle.plant_store.specs.OpenedBases.{AreUntouched, IsOpenedBase}
 use Rattle.store_commands.specs.Replies.{Rows, trend_text}
-use Rattle.store_commands.specs.GroupRows.{AreGroupsTold, IsGroupRowsRefusal, tag_records}
+use Rattle.store_commands.specs.GroupRows.{AllGainSync, AreGroupsTold, IsGroupRowsRefusal, tag_records}
 
 -- ---- check
 
@@ -62,11 +62,18 @@ pub data IsTrendRefusal (name plan_name : List ℕ) (told : ToldFiles) (old new 
       → IsRefusal base.tags.items old new before now why → IsTrendRefusal name plan_name told old new before now why
   OfGroup : (base : Base) (plan : Plan) (lists : List (List Query)) (cores : List Core) → IsOpenedBase name told old base cores
       → IsPlanFile base.groups.items (told plan_name) plan → AreQueries base told plan.readers.items lists
-      → IsGroupRowsRefusal base.groups.items (tag_records cores) old before now why
+      → IsGroupRowsRefusal base.groups.items (tag_records cores) old new before now why
       → IsTrendRefusal name plan_name told old new before now why
   OfMemory : why ≡ WantOfMemory → IsTrendRefusal name plan_name told old new before now why
 
 -- ---- devices
+
+-- the device of each group of the base has gained one sync and nothing else, if it had a finished layout of the group or
+-- a damaged one
+pub record HaveGroupsSynced (name : List ℕ) (told : ToldFiles) (old new : DeviceTraces) : Type 0 where
+  pub base : Base
+  pub read : IsBaseFile (told name) base
+  pub synced : AllGainSync base.groups.items old new
 
 -- each device is as it was, except those of the base's tags and groups
 abbrev pub AreOtherDevicesSame : Base → DeviceTraces → DeviceTraces → Type 0

@@ -12,6 +12,7 @@ use Rattle.plant_files.specs.Texts.{IsBaseFile, IsBaseRefusal}
 use Rattle.plant_store.specs.TagRefusals.{IsRefusal}
 use Rattle.plant_store.specs.Tags.{AllStaySame}
 use Rattle.plant_store.specs.Tags as tag
+use Rattle.group_layout.specs.Readings.{GainsGroupSync}
 use Rattle.group_book.specs.Openings.{BookStaysSame}
 use Rattle.plant_store.specs.Groups.{group_parts_of, input_records_of, group_definition_text, group_trace_at, DeviceTraces}
 use Rattle.plant_store.specs.Groups as group
@@ -49,7 +50,7 @@ pub data IsFramesRefusal (name group_name calc_name : List ℕ) (told : ToldFile
       → IsFramesRefusal name group_name calc_name told old new before now why
   OfGroup : (base : Base) (g : GroupDef) (i k : ℕ) (cores : List Core) → IsOpenedBase name told old base cores
       → IsNamed base.groups.items group_name calc_name g i k
-      → IsFrameRowsRefusal i g (input_records_of (tag_records cores) g) (group_trace_at old g) before now why
+      → IsFrameRowsRefusal i g (input_records_of (tag_records cores) g) (group_trace_at old g) (group_trace_at new g) before now why
       → IsFramesRefusal name group_name calc_name told old new before now why
   OfMemory : why ≡ WantOfMemory → IsFramesRefusal name group_name calc_name told old new before now why
 
@@ -74,3 +75,14 @@ pub record HaveStayed (name group_name calc_name : List ℕ) (told : ToldFiles) 
 -- either no device has changed, or only those of the tags and of the group have, and these keep what they stand for
 abbrev pub AreFramesKept : List ℕ → List ℕ → List ℕ → ToldFiles → DeviceTraces → DeviceTraces → Type 0
 AreFramesKept name group_name calc_name told old new = AreUntouched old new ⊎ HaveStayed name group_name calc_name told old new
+
+-- the device of the group with this name has gained one sync and nothing else, if it had a finished layout of the group
+-- or a damaged one
+pub record HasGroupSynced (name group_name calc_name : List ℕ) (told : ToldFiles) (old new : DeviceTraces) : Type 0 where
+  pub base : Base
+  pub g : GroupDef
+  pub i : ℕ
+  pub k : ℕ
+  pub read : IsBaseFile (told name) base
+  pub named : IsNamed base.groups.items group_name calc_name g i k
+  pub synced : GainsGroupSync (group_definition_text g) (group_trace_at old g) (group_trace_at new g)

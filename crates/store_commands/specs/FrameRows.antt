@@ -1,18 +1,19 @@
 -- The row of a calculation for which its group's device stands, and the row after one refresh; and why there is none.
-use Rattle.std.specs.Prelude.{◌≡◌, ℕ, ◌*◌, ◌^◌, ◌<◌, ◌≤◌, List, length, map, slice_get, Option, Some}
+use Rattle.std.specs.Prelude.{◌≡◌, ℕ, ◌^◌, ◌<◌, ◌≤◌, true, All, List, length, map, slice_get, Option, Some}
 use Rattle.trend_num.specs.declared.archive.Rec.{Rec}
 use Rattle.trend_num.specs.declared.refusal.What.TheVariants.{Cells, Copies}
 use Rattle.trend_num.specs.declared.value.CalcValue.{CalcValue}
 use Rattle.disk_model.specs.Calls.{Rose, Shows}
 use Rattle.disk_model.specs.Traces.{Trace}
-use Rattle.sheet_law.specs.Scratch.{IsScratch}
+use Rattle.sheet_law.specs.Scratch.{IsScratch, column, is_due, values_at}
 use Rattle.sheet_law.specs.Windows.{complete_windows}
 use Rattle.calc_refresh.specs.Lists.{total_length}
 use Rattle.calc_refresh.specs.Refreshed.{most_cells, most_copies}
 use Rattle.calc_refresh.specs.Sheet.{grid_of}
 use Rattle.group_layout.specs.Images.{IsGroupDamage}
+use Rattle.group_layout.specs.Readings.{GainsGroupSync}
 use Rattle.group_book.specs.Openings.{SavesAhead, SavesShape, StandsForGroup}
-use Rattle.group_book.specs.Tapes.{cut}
+use Rattle.group_book.specs.Tapes.{cut, uncut}
 use Rattle.tag_base.specs.declared.definition.GroupDef.{GroupDef}
 use Rattle.plant_status.specs.declared.mismatch.Place.TheVariants.{Version, Windows}
 use Rattle.plant_status.specs.declared.mismatch.Seen.TheVariants.{Number}
@@ -20,16 +21,25 @@ use Rattle.plant_status.specs.declared.status.Status.{Status}
 use Rattle.plant_status.specs.declared.status.Status.TheVariants.{DeviceFault, Damaged, Limit, Mismatch, WantOfMemory}
 use Rattle.plant_status.specs.declared.unit.Unit.TheVariants.{Group}
 use Rattle.plant_store.specs.Groups.{group_parts_of, group_definition_text}
+use Rattle.store_commands.specs.GroupRows.{cells_of}
+use Rattle.store_commands.specs.Refreshing.{AreWithinLimits}
 
 -- Both rows of calculation k of a group: the saved one, of these saved versions and rows, and the one after a refresh.
 -- The refresh is from all these records of its tags. The versions say how many records of each input, from its first
--- on, the saved rows take into account. If the saved rows are those from scratch on these records, the rows after the
--- refresh are those from scratch on all records.
--- There is a value for each complete window. There are no fewer complete windows than before.
+-- on, the saved rows take into account. All records pass no limit. After the refresh there is a row for each calculation,
+-- with one value for each complete window. There are no fewer complete windows than before. A window that the records
+-- after the first ones make due has its values from scratch. If the saved rows are those from scratch on the first
+-- records, the rows after the refresh are those from scratch on all records.
 pub record AreRefreshed (g : GroupDef) (k : ℕ) (versions : List ℕ) (rows : List (List CalcValue)) (recovered : List (List Rec))
     (saved refreshed : List CalcValue) : Type 0 where
   pub rows_then : List (List CalcValue)
   pub within : map length (cut versions recovered) ≡ versions
+  pub limits : AreWithinLimits (cells_of g recovered) recovered
+  pub calcs : length rows_then ≡ length g.calcs.calcs
+  pub windows : All (λ row. length row ≡ complete_windows (grid_of g.start g.period) recovered) rows_then
+  pub due : (j : ℕ) → j < complete_windows (grid_of g.start g.period) recovered
+      → is_due (grid_of g.start g.period) (cut versions recovered) (uncut versions recovered) j ≡ true
+      → column j rows_then ≡ map Some (values_at g.calcs (grid_of g.start g.period) recovered j)
   pub scratch : IsScratch g.calcs (grid_of g.start g.period) (cut versions recovered) rows
       → IsScratch g.calcs (grid_of g.start g.period) recovered rows_then
   pub complete : length refreshed ≡ complete_windows (grid_of g.start g.period) recovered
@@ -45,30 +55,45 @@ pub record AreFrameRows (g : GroupDef) (k : ℕ) (recovered : List (List Rec)) (
   pub stood : Shows o (StandsForGroup (group_definition_text g) (group_parts_of g) versions rows)
   pub are : AreRefreshed g k versions rows recovered saved refreshed
 
--- how many cells a group has over these records
-abbrev pub cells_of : GroupDef → List (List Rec) → ℕ
-cells_of g recovered = complete_windows (grid_of g.start g.period) recovered * length g.calcs.calcs
+-- The group's device stood for versions and rows that a refresh can start from. No version is above the number of records
+-- of its tag. Each row has one value for each window that the first records complete, as many as the versions say. If the
+-- device was whole, it has gained one sync and nothing else.
+pub record HasStood (g : GroupDef) (recovered : List (List Rec)) (o p : Option Trace) : Type 0 where
+  pub versions : List ℕ
+  pub rows : List (List CalcValue)
+  pub stood : Shows o (StandsForGroup (group_definition_text g) (group_parts_of g) versions rows)
+  pub within : map length (cut versions recovered) ≡ versions
+  pub shape : All (λ row. length row ≡ complete_windows (grid_of g.start g.period) (cut versions recovered)) rows
+  pub synced : GainsGroupSync (group_definition_text g) o p
 
--- Why there are no rows of the group at place i. `before` and `now` are the faults that the store has counted.
+-- Why there are no rows of the group at place i. `o` is the trace of its device before, and `p` the one after. `before`
+-- and `now` are the faults that the store has counted. In the cases from `OfDamage` to `OfCopies`, a device that was whole
+-- or damaged has gained one sync and nothing else.
 -- - `OfFault`: a call of its device has failed.
 -- - `OfDamage`: the bytes of its device break its layout.
 -- - `OfVersion`: a saved version is above the records of a tag. The status has the number of records, then the version.
 -- - `OfWindows`: a saved row does not have one value for each complete window. The status has the number of windows,
 --   then that of the values.
--- - `OfCells`, `OfCopies`: there would be too many cells, or too many records of its tags.
+-- - `OfCells`: what was saved can be refreshed, but there would be too many cells.
+-- - `OfCopies`: what was saved can be refreshed, and the cells are not too many; but the records of its tags are.
 -- - `OfMemory`: there was not enough memory.
-pub data IsFrameRowsRefusal (i : ℕ) (g : GroupDef) (recovered : List (List Rec)) (o : Option Trace) (before now : ℕ) (why : Status)
+pub data IsFrameRowsRefusal (i : ℕ) (g : GroupDef) (recovered : List (List Rec)) (o p : Option Trace) (before now : ℕ) (why : Status)
     : Type 0 where
-  OfFault : why ≡ DeviceFault (Group i) → (before < 2 ^ 64 → Rose before now) → IsFrameRowsRefusal i g recovered o before now why
+  OfFault : why ≡ DeviceFault (Group i) → (before < 2 ^ 64 → Rose before now) → IsFrameRowsRefusal i g recovered o p before now why
   OfDamage : (at : ℕ) (byte : Option ℕ) → why ≡ Damaged (Group i) at byte
       → Shows o (λ c. IsGroupDamage (group_definition_text g) (length g.inputs.items) (length g.calcs.calcs) c at byte)
-      → IsFrameRowsRefusal i g recovered o before now why
+      × GainsGroupSync (group_definition_text g) o p
+      → IsFrameRowsRefusal i g recovered o p before now why
   OfVersion : (input found version : ℕ) → why ≡ Mismatch (Version i input) (Number found) (Number version)
-      → Shows o (SavesAhead (group_definition_text g) (group_parts_of g) recovered input version found) → IsFrameRowsRefusal i g recovered o before now why
+      → Shows o (SavesAhead (group_definition_text g) (group_parts_of g) recovered input version found) × GainsGroupSync (group_definition_text g) o p
+      → IsFrameRowsRefusal i g recovered o p before now why
   OfWindows : (windows rows : ℕ) → why ≡ Mismatch (Windows i) (Number windows) (Number rows)
-      → Shows o (SavesShape (group_definition_text g) (group_parts_of g) recovered windows rows) → IsFrameRowsRefusal i g recovered o before now why
-  OfCells : (number : ℕ) → why ≡ Limit Cells number → number ≡ cells_of g recovered → most_cells < number
-      → IsFrameRowsRefusal i g recovered o before now why
-  OfCopies : (number : ℕ) → why ≡ Limit Copies number → number ≡ total_length recovered → most_copies < number
-      → IsFrameRowsRefusal i g recovered o before now why
-  OfMemory : why ≡ WantOfMemory → IsFrameRowsRefusal i g recovered o before now why
+      → Shows o (SavesShape (group_definition_text g) (group_parts_of g) recovered windows rows) × GainsGroupSync (group_definition_text g) o p
+      → IsFrameRowsRefusal i g recovered o p before now why
+  OfCells : (number : ℕ) → why ≡ Limit Cells number → HasStood g recovered o p
+      → (number ≡ cells_of g recovered) × (most_cells < number)
+      → IsFrameRowsRefusal i g recovered o p before now why
+  OfCopies : (number : ℕ) → why ≡ Limit Copies number → HasStood g recovered o p
+      → (cells_of g recovered ≤ most_cells) × (number ≡ total_length recovered) × (most_copies < number)
+      → IsFrameRowsRefusal i g recovered o p before now why
+  OfMemory : why ≡ WantOfMemory → IsFrameRowsRefusal i g recovered o p before now why

@@ -1,32 +1,46 @@
 -- The rows of the groups of a base, each refreshed once from the records of its tags.
-use Rattle.std.specs.Prelude.{◌≡◌, ℕ, ◌<◌, List, length, map, slice_index_or, Option}
+use Rattle.std.specs.Prelude.{◌≡◌, ℕ, ◌*◌, ◌<◌, ◌≤◌, true, All, List, length, map, slice_index_or, Option, Some}
 use Rattle.trend_num.specs.declared.archive.Rec.{Rec}
 use Rattle.trend_num.specs.declared.refusal.What.TheVariants.{Cells, Copies}
 use Rattle.tag_core.specs.Core.{Core}
 use Rattle.disk_model.specs.Traces.{Trace}
-use Rattle.sheet_law.specs.Scratch.{IsScratch}
+use Rattle.sheet_law.specs.Scratch.{IsScratch, column, is_due, values_at}
+use Rattle.sheet_law.specs.Windows.{complete_windows}
 use Rattle.calc_refresh.specs.Lists.{total_length}
 use Rattle.calc_refresh.specs.Refreshed.{most_cells, most_copies}
 use Rattle.calc_refresh.specs.Sheet.{grid_of}
+use Rattle.group_layout.specs.Readings.{GainsGroupSync}
 use Rattle.tag_base.specs.declared.definition.GroupDef.{GroupDef}
 use Rattle.group_book.specs.declared.history.GroupOpening.{GroupOpening}
 use Rattle.group_book.specs.Histories.{IsRight}
+use Rattle.group_book.specs.Tapes.{cut, uncut}
 use Rattle.plant_status.specs.declared.status.Status.{Status}
 use Rattle.plant_status.specs.declared.status.Status.TheVariants.{Limit, WantOfMemory}
-use Rattle.plant_store.specs.Groups.{AreGroupsOpened, DeviceTraces, IsGroupOpening, input_records_of, group_trace_at}
+use Rattle.plant_store.specs.Groups.{AreGroupsOpened, DeviceTraces, IsGroupOpening, input_records_of, group_definition_text, group_trace_at}
 use Rattle.plant_store.specs.BookRefusals.{IsRefusal}
+use Rattle.store_commands.specs.Refreshing.{AreWithinLimits}
 use Rattle.store_commands.specs.Replies.{Rows}
 
 -- the records of each tag
 abbrev pub tag_records : List Core → List (List Rec)
 tag_records cores = map (λ core. core.state.records) cores
 
--- These are the rows of a group after one refresh from all records of its tags. If the rows that its device stood for
--- were right, these are the rows from scratch on all records. So there is one value for each complete window, and no
--- other.
+-- how many cells a group has over these records
+abbrev pub cells_of : GroupDef → List (List Rec) → ℕ
+cells_of g recovered = complete_windows (grid_of g.start g.period) recovered * length g.calcs.calcs
+
+-- These are the rows of a group after one refresh from all records of its tags, which pass no limit. There is a row for
+-- each calculation, with one value for each complete window. If the rows that its device stood for were right, these are
+-- the rows from scratch on all records. In any case a window that is due over what was saved has its values from scratch.
 pub record IsGroupTold (g : GroupDef) (recovered : List (List Rec)) (o : Option Trace) (rows : Rows) : Type 0 where
   pub opening : GroupOpening
   pub opened : IsGroupOpening g recovered o opening
+  pub within : AreWithinLimits (cells_of g recovered) recovered
+  pub calcs : length rows ≡ length g.calcs.calcs
+  pub windows : All (λ row. length row ≡ complete_windows (grid_of g.start g.period) recovered) rows
+  pub due : (k : ℕ) → k < complete_windows (grid_of g.start g.period) recovered
+      → is_due (grid_of g.start g.period) (cut opening.versions.items recovered) (uncut opening.versions.items recovered) k ≡ true
+      → column k rows ≡ map Some (values_at g.calcs (grid_of g.start g.period) recovered k)
   pub scratch : IsRight g.calcs (grid_of g.start g.period) opening recovered
       → IsScratch g.calcs (grid_of g.start g.period) recovered rows
 
@@ -37,24 +51,34 @@ pub record AreGroupsTold (groups : List GroupDef) (records : List (List Rec)) (o
       → IsGroupTold (slice_index_or groups i g) (input_records_of records (slice_index_or groups i g))
       (group_trace_at old (slice_index_or groups i g)) (slice_index_or groups_rows i r)
 
--- all groups were opened, and the one at place i is over a limit
-pub record IsTooMuchAt (groups : List GroupDef) (records : List (List Rec)) (old : DeviceTraces) (i : ℕ) (P : List (List Rec) → Type 0)
-    : Type 0 where
+-- the device of each group has gained one sync and nothing else, if it had a finished layout of the group or a damaged one
+abbrev pub AllGainSync : List GroupDef → DeviceTraces → DeviceTraces → Type 0
+AllGainSync groups old new =
+    All (λ g. GainsGroupSync (group_definition_text g) (group_trace_at old g) (group_trace_at new g)) groups
+
+-- All groups were opened, and the one at place i is the first that is over a limit. A device that was whole has gained
+-- one sync alone.
+pub record IsTooMuchAt (groups : List GroupDef) (records : List (List Rec)) (old new : DeviceTraces) (i : ℕ)
+    (P : GroupDef → List (List Rec) → Type 0) : Type 0 where
   pub g : GroupDef
   pub openings : List GroupOpening
   pub there : i < length groups
   pub is_group : slice_index_or groups i g ≡ g
   pub opened : AreGroupsOpened (length groups) groups records old openings
-  pub over : P (input_records_of records g)
+  pub front : (k : ℕ) (d : GroupDef) → k < i → AreWithinLimits (cells_of (slice_index_or groups k d) (input_records_of records (slice_index_or groups k d)))
+      (input_records_of records (slice_index_or groups k d))
+  pub over : P g (input_records_of records g)
+  pub synced : AllGainSync groups old new
 
--- Why there are no rows: a group did not open, it would have too many cells or too many records of its tags, or there
--- was not enough memory.
-pub data IsGroupRowsRefusal (groups : List GroupDef) (records : List (List Rec)) (old : DeviceTraces) (before now : ℕ) (why : Status)
+-- Why there are no rows: a group did not open; all opened, but one would have too many cells, or else too many records of
+-- its tags; or there was not enough memory.
+pub data IsGroupRowsRefusal (groups : List GroupDef) (records : List (List Rec)) (old new : DeviceTraces) (before now : ℕ) (why : Status)
     : Type 0 where
-  OfOpening : IsRefusal groups records old before now why → IsGroupRowsRefusal groups records old before now why
-  OfCells : (i number : ℕ) → why ≡ Limit Cells number → IsTooMuchAt groups records old i (λ recovered. most_cells < number)
-      → IsGroupRowsRefusal groups records old before now why
+  OfOpening : IsRefusal groups records old before now why → IsGroupRowsRefusal groups records old new before now why
+  OfCells : (i number : ℕ) → why ≡ Limit Cells number → IsTooMuchAt groups records old new i (λ g recovered. (number ≡ cells_of g recovered) × (most_cells < number))
+      → IsGroupRowsRefusal groups records old new before now why
   OfCopies : (i number : ℕ) → why ≡ Limit Copies number
-      → IsTooMuchAt groups records old i (λ recovered. (number ≡ total_length recovered) × (most_copies < number))
-      → IsGroupRowsRefusal groups records old before now why
-  OfWant : why ≡ WantOfMemory → IsGroupRowsRefusal groups records old before now why
+      → IsTooMuchAt groups records old new i (λ g recovered. (cells_of g recovered ≤ most_cells) × (number ≡ total_length recovered)
+      × (most_copies < number))
+      → IsGroupRowsRefusal groups records old new before now why
+  OfWant : why ≡ WantOfMemory → IsGroupRowsRefusal groups records old new before now why

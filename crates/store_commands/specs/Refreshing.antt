@@ -1,8 +1,11 @@
 -- Books that are refreshed once from lists of records.
-use Rattle.std.specs.Prelude.{◌≡◌, ℕ, ◌<◌, List, length, slice_index_or}
+use Rattle.std.specs.Prelude.{◌≡◌, ℕ, ◌*◌, ◌<◌, ◌≤◌, List, length, slice_index_or}
 use Rattle.trend_num.specs.declared.archive.Rec.{Rec}
 use Rattle.trend_num.specs.declared.refusal.What.TheVariants.{Cells, Copies}
+use Rattle.sheet_law.specs.Windows.{complete_windows}
+use Rattle.calc_refresh.specs.declared.definition.GroupDefParts.{GroupDefParts}
 use Rattle.calc_refresh.specs.Lists.{total_length}
+use Rattle.calc_refresh.specs.Sheet.{grid_of}
 use Rattle.calc_refresh.specs.Refreshed.{most_cells, most_copies}
 use Rattle.group_book.specs.declared.refusal.RefreshNo.{RefreshNo}
 use Rattle.group_book.specs.declared.refusal.RefreshNo.TheVariants.{Ahead, CellLimit, CopyLimit, WantOfMemory}
@@ -20,9 +23,19 @@ pub record IsCutBook {D : Type 0} (records : List (List Rec)) (b : Book D) : Typ
 abbrev pub AreCutBooks : {D : Type 0} → List (List Rec) → List (Book D) → Type 0
 AreCutBooks records books = (i : ℕ) (b : Book _) → i < length books → IsCutBook records (slice_index_or books i b)
 
--- a book has all records of its tags, and nothing has changed but its sheet and its tape
+-- how many cells a group of this definition has over these records
+abbrev pub book_cells : GroupDefParts → List (List Rec) → ℕ
+book_cells def recovered = complete_windows (grid_of def.start def.period) recovered * length def.calcs.calcs
+
+-- so many cells over these records pass no limit
+pub record AreWithinLimits (cells : ℕ) (recovered : List (List Rec)) : Type 0 where
+  pub few_cells : cells ≤ most_cells
+  pub few_copies : total_length recovered ≤ most_copies
+
+-- a book has all records of its tags, which pass no limit, and nothing has changed but its sheet and its tape
 pub record IsRefreshedOnce {D : Type 0} (records : List (List Rec)) (old new : Book D) : Type 0 where
   pub copies : new.sheet.copies ≡ lists_at records old.tags
+  pub within : AreWithinLimits (book_cells old.def (lists_at records old.tags)) (lists_at records old.tags)
   pub changed : new ≡ record old { tape = new.tape; sheet = new.sheet }
 
 -- the same for each book
@@ -35,12 +48,13 @@ pub record HaveDevicesOf {D : Type 0} (old new : List (Book D)) : Type 0 where
   pub as_many : length new ≡ length old
   pub each : (i : ℕ) (b : Book D) → (slice_index_or new i b).dev ≡ (slice_index_or old i b).dev
 
--- why a refresh from all these records is refused: there would be too many cells or records, or no memory
-abbrev pub IsOverIn : List (List Rec) → RefreshNo → Type 0
-IsOverIn recovered (Ahead input version records) = ⊥
-IsOverIn recovered (CellLimit cells) = most_cells < cells
-IsOverIn recovered (CopyLimit records) = (records ≡ total_length recovered) × (most_copies < records)
-IsOverIn recovered WantOfMemory = Unit {0}
+-- why a refresh from all these records is refused: there would be so many cells, too many; or else too many records; or
+-- no memory
+abbrev pub IsOverIn : ℕ → List (List Rec) → RefreshNo → Type 0
+IsOverIn cells recovered (Ahead input version records) = ⊥
+IsOverIn cells recovered (CellLimit number) = (number ≡ cells) × (most_cells < number)
+IsOverIn cells recovered (CopyLimit number) = (cells ≤ most_cells) × (number ≡ total_length recovered) × (most_copies < number)
+IsOverIn cells recovered WantOfMemory = Unit {0}
 
 -- the status of a refused refresh
 abbrev pub refresh_status : RefreshNo → Status
@@ -49,10 +63,13 @@ refresh_status (CellLimit cells) = status.Limit Cells cells
 refresh_status (CopyLimit records) = status.Limit Copies records
 refresh_status WantOfMemory = status.WantOfMemory
 
--- one of the books refuses its refresh, with this status
+-- one of the books refuses its refresh, with this status; those before it pass no limit
 pub record IsOverSome {D : Type 0} (records : List (List Rec)) (books : List (Book D)) (s : Status) : Type 0 where
   pub i : ℕ
   pub why : RefreshNo
   pub there : i < length books
-  pub over : (b : Book D) → IsOverIn (lists_at records (slice_index_or books i b).tags) why
+  pub front : (k : ℕ) (b : Book D) → k < i → AreWithinLimits (book_cells (slice_index_or books k b).def (lists_at records (slice_index_or books k b).tags))
+      (lists_at records (slice_index_or books k b).tags)
+  pub over : (b : Book D) → IsOverIn (book_cells (slice_index_or books i b).def (lists_at records (slice_index_or books i b).tags))
+      (lists_at records (slice_index_or books i b).tags) why
   pub told : s ≡ refresh_status why

@@ -5,7 +5,7 @@ ghost use Rattle.plant_status.specs.declared.file.FileId.{FileId};
 ghost use Rattle.plant_status.specs.declared.status.Status.TheVariants.{ReadFault};
 ghost use Rattle.plant_files.specs.Reading.{faults_after};
 ghost use Rattle.plant_store.specs.OpenedBases.{CountsDevices, IsDurable};
-ghost use Rattle.store_commands.specs.FrameCommands.{AreFramesKept, IsFrames, IsFramesRefusal};
+ghost use Rattle.store_commands.specs.FrameCommands.{AreFramesKept, HasGroupSynced, IsFrames, IsFramesRefusal};
 
 use crate::frame_names::place_of;
 use crate::frame_refreshing::rows_of;
@@ -20,7 +20,8 @@ use std::alloc::Global;
 /// Returns what `frames` prints of the calculation `calc` of the group `group`, over the base in the file `name`. The
 /// text first lists what became of the frames of the saved row by one refresh from all records of the tags. Then it
 /// lists the frames that there are now. Frames count if they have at least `least` windows. The command opens the
-/// device of each tag and of that group, and makes a device that is missing. It saves nothing.
+/// device of each tag and of that group, and makes a device that is missing. The group's device gains one sync and
+/// nothing else if it is whole. The command saves nothing.
 ///
 /// The error is the first in this order: the base, a name that is unknown, a tag, the group. `WantOfMemory` may come at
 /// any time.
@@ -43,6 +44,8 @@ pub fn frames<F: Files, S: Store>(
     ensures file_faults { F.fault_count files.new ≡ faults_after result (F.fault_count files.old) }
     ensures whose { IfErr result (λ why. (which : FileId) → why ≡ ReadFault which → IsFaultOf (F.failed_name files.new) name.now) }
     ensures durable { OnOk result (IsDurable name.now (F.told files.old) (S.device_at store.old) (S.device_at store.new)) }
+    ensures synced { OnOk result (HasGroupSynced name.now group.now calc.now (F.told files.old) (S.device_at store.old)
+        (S.device_at store.new)) }
     ensures counts { S.fault_count store.old < 2 ^ 64
         → CountsDevices result (S.fault_count store.old) (S.fault_count store.new) }
 {

@@ -1,11 +1,11 @@
 // The device of a group.
-ghost use Rattle.std.specs.Prelude.{◌≡◌, ◌≢◌, ℕ, ◌^◌, ◌<◌, List, Option, IfErr, IfOk, IsErrOf, length};
+ghost use Rattle.std.specs.Prelude.{◌≡◌, ◌≢◌, ℕ, ◌^◌, ◌<◌, List, Option, IfErr, IfOk, IsErrOf, OnOk, length};
 ghost use Rattle.archive_file.specs.declared.failure.ScanNo.TheVariants.{Damaged, DeviceFault};
 ghost use Rattle.disk_model.specs.Calls.{CountsFault, Shows};
 ghost use Rattle.disk_model.specs.Moments.{During};
 ghost use Rattle.calc_refresh.specs.Lists.{lists_of};
 ghost use Rattle.group_layout.specs.Images.{IsGroupDamage};
-ghost use Rattle.group_layout.specs.Readings.{HasShape};
+ghost use Rattle.group_layout.specs.Readings.{GainsGroupSync, HasShape};
 ghost use Rattle.group_book.specs.Openings.{StandsForGroup, BookStaysSame};
 ghost use Rattle.plant_store.specs.Groups.{device_name, group_parts_of, group_definition_text, group_trace_at};
 ghost use Rattle.plant_store.specs.BookRefusals.{CountsStore};
@@ -33,8 +33,10 @@ pub(crate) fn saved_of<S: Store>(
         (StandsForGroup (group_definition_text group.now) (group_parts_of group.now) saved.versions.items (lists_of saved.rows.items))) }
     ensures shape { IfOk result (HasShape (length group.now.inputs.items) (length group.now.calcs.calcs)) }
     ensures few { IfOk result (λ saved. saved.windows < 2 ^ 32) }
+    ensures synced { OnOk result (GainsGroupSync (group_definition_text group.now) (group_trace_at (S.device_at store.old) group.now)
+        (group_trace_at (S.device_at store.new) group.now)) }
     ensures refused { IfErr result (IsSavedRefusal place group.now (group_trace_at (S.device_at store.old) group.now)
-        (S.fault_count store.old) (S.fault_count store.new)) }
+        (group_trace_at (S.device_at store.new) group.now) (S.fault_count store.old) (S.fault_count store.new)) }
     ensures same { During (group_trace_at (S.device_at store.old) group.now) (group_trace_at (S.device_at store.new) group.now)
         (BookStaysSame (group_definition_text group.now) (group_parts_of group.now) (group_trace_at (S.device_at store.old) group.now)) }
     ensures others { (n : List ℕ) → n ≢ device_name group.now.name → S.device_at store.new n ≡ S.device_at store.old n }
@@ -61,9 +63,14 @@ fn open_saved<S: Store>(
         (StandsForGroup (group_definition_text group.now) (group_parts_of group.now) saved.versions.items (lists_of saved.rows.items))) }
     ensures shape { IfOk result (HasShape (length group.now.inputs.items) (length group.now.calcs.calcs)) }
     ensures few { IfOk result (λ saved. saved.windows < 2 ^ 32) }
+    ensures synced { OnOk result (GainsGroupSync (group_definition_text group.now) (group_trace_at (S.device_at store.old) group.now)
+        (group_trace_at (S.device_at store.new) group.now)) }
     ensures damaged { (at : ℕ) (byte : Option ℕ) → IsErrOf result (Damaged at byte)
         → Shows (group_trace_at (S.device_at store.old) group.now)
         (λ c. IsGroupDamage (group_definition_text group.now) (length group.now.inputs.items) (length group.now.calcs.calcs) c at byte) }
+    ensures synced_damaged { (at : ℕ) (byte : Option ℕ) → IsErrOf result (Damaged at byte)
+        → GainsGroupSync (group_definition_text group.now) (group_trace_at (S.device_at store.old) group.now)
+        (group_trace_at (S.device_at store.new) group.now) }
     ensures same { During (group_trace_at (S.device_at store.old) group.now) (group_trace_at (S.device_at store.new) group.now)
         (BookStaysSame (group_definition_text group.now) (group_parts_of group.now) (group_trace_at (S.device_at store.old) group.now)) }
     ensures others { (n : List ℕ) → n ≢ device_name group.now.name → S.device_at store.new n ≡ S.device_at store.old n }

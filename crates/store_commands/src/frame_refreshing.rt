@@ -4,8 +4,8 @@ ghost use Rattle.disk_model.specs.Moments.{During};
 ghost use Rattle.plant_files.specs.Reading.{faults_told};
 ghost use Rattle.calc_refresh.specs.Lists.{lists_of};
 ghost use Rattle.calc_refresh.specs.Refreshed.{fresh};
-ghost use Rattle.calc_refresh.specs.Sheet.{IsCopy, IsGrid, IsGroup, grid_of};
-ghost use Rattle.group_layout.specs.Readings.{HasShape};
+ghost use Rattle.calc_refresh.specs.Sheet.{AreRowsWhole, IsCopy, IsGrid, IsGroup, grid_of};
+ghost use Rattle.group_layout.specs.Readings.{GainsGroupSync, HasShape};
 ghost use Rattle.group_book.specs.Openings.{BookStaysSame};
 ghost use Rattle.group_book.specs.Tapes.{cut};
 ghost use Rattle.tag_base.specs.Groups.{IsSoundGroup};
@@ -56,7 +56,10 @@ pub(crate) fn rows_of<S: Store>(
         (group_trace_at (S.device_at store.old) group.now) rows.saved.items rows.refreshed.items) }
     ensures times { IfOk result (λ rows. AreTimes group.now (length rows.refreshed.items)) }
     ensures refused { IfErr result (IsFrameRowsRefusal place.group group.now (input_records_of (tag_records cores.now) group.now)
-        (group_trace_at (S.device_at store.old) group.now) (S.fault_count store.old) (S.fault_count store.new)) }
+        (group_trace_at (S.device_at store.old) group.now) (group_trace_at (S.device_at store.new) group.now)
+        (S.fault_count store.old) (S.fault_count store.new)) }
+    ensures synced { OnOk result (GainsGroupSync (group_definition_text group.now) (group_trace_at (S.device_at store.old) group.now)
+        (group_trace_at (S.device_at store.new) group.now)) }
     ensures no_file_fault { IfErr result (λ why. (n : ℕ) → faults_told why n ≡ n) }
     ensures same { During (group_trace_at (S.device_at store.old) group.now) (group_trace_at (S.device_at store.new) group.now)
         (BookStaysSame (group_definition_text group.now) (group_parts_of group.now) (group_trace_at (S.device_at store.old) group.now)) }
@@ -125,6 +128,7 @@ fn sheet_of(
     requires copied { All (λ r. IsCopy r.now) records.now }
     ensures sheet { IfOk result (λ sheet. sheet ≡ fresh group.now.calcs (grid_of group.now.start group.now.period)
         (cut versions.now (map (λ r. r.now) records.now)) (lists_of rows.items)) }
+    ensures whole { IfOk result AreRowsWhole }
     ensures within { OnOk result (AreWithin versions.now (map (λ r. r.now) records.now)) }
     ensures refused { IfErr result (IsSheetRefusal place group.now versions.now (lists_of rows.items) (map (λ r. r.now) records.now)) }
 {

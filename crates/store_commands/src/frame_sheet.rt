@@ -3,8 +3,8 @@ ghost use Rattle.std.specs.Prelude.{◌≡◌, ◌<◌, All, IfErr, OnOk, length
 ghost use Rattle.calc_refresh.specs.Lists.{lists_of};
 ghost use Rattle.calc_refresh.specs.Refreshed.{IsRefreshed, IsRefreshToldOf, fault_after};
 ghost use Rattle.calc_refresh.specs.Sheet.{IsCopy};
-ghost use Rattle.group_book.specs.Tapes.{cut};
-ghost use Rattle.store_commands.specs.FrameSteps.{AreWithin, IsBroughtUp, IsLimitRefusal};
+ghost use Rattle.group_book.specs.Tapes.{cut, uncut};
+ghost use Rattle.store_commands.specs.FrameSteps.{AreWithin, IsLimitRefusal};
 
 use crate::frame_inputs::new_records;
 use calc_refresh::{Sheet, SheetNo};
@@ -25,7 +25,7 @@ pub(crate) fn refresh(
     requires copied { All (λ r. IsCopy r.now) records.now }
     requires within { AreWithin versions.now (map (λ r. r.now) records.now) }
     requires copies { sheet.old.copies ≡ cut versions.now (map (λ r. r.now) records.now) }
-    ensures refreshed { OnOk result (IsBroughtUp sheet.old sheet.new (map (λ r. r.now) records.now)) }
+    ensures refreshed { OnOk result (IsRefreshed sheet.old sheet.new (uncut versions.now (map (λ r. r.now) records.now))) }
     ensures refused { IfErr result (IsLimitRefusal sheet.old.grid (length sheet.old.group.calcs) (map (λ r. r.now) records.now)) }
 {
     let Ok(behind) = new_records(alloc, versions, records) else {

@@ -7,8 +7,8 @@ ghost use Rattle.plant_store.specs.Groups.{AllStaySame, AreDistinct, AreOtherGro
 ghost use Rattle.plant_store.specs.BookRefusals.{CountsStore};
 ghost use Rattle.group_book.specs.InputLists.{lists_at};
 ghost use Rattle.store_commands.specs.Replies.{rows_in};
-ghost use Rattle.store_commands.specs.GroupRows.{AreGroupsTold, IsGroupRowsRefusal, tag_records};
-ghost use Rattle.store_commands.specs.Refreshing.{AreCutBooks, AreRefreshedOnce, HaveDevicesOf, IsCutBook, IsOverIn, IsOverSome, IsRefreshedOnce, refresh_status};
+ghost use Rattle.store_commands.specs.GroupRows.{AllGainSync, AreGroupsTold, IsGroupRowsRefusal, tag_records};
+ghost use Rattle.store_commands.specs.Refreshing.{AreCutBooks, AreRefreshedOnce, HaveDevicesOf, IsCutBook, IsOverIn, IsOverSome, IsRefreshedOnce, book_cells, refresh_status};
 
 use disk_model::{Disk, Store};
 use group_book::{Book, GroupHistory, RefreshNo};
@@ -33,9 +33,10 @@ pub(crate) fn histories_of<S: Store>(
     requires short { All (λ core. length core.state.records < 2 ^ 32) cores.now }
     ensures told { IfOk result (λ h. AreGroupsTold groups.now (tag_records cores.now) (S.device_at store.old) (rows_in h.items)) }
     ensures refused { IfErr result (IsGroupRowsRefusal groups.now (tag_records cores.now) (S.device_at store.old)
-        (S.fault_count store.old) (S.fault_count store.new)) }
+        (S.device_at store.new) (S.fault_count store.old) (S.fault_count store.new)) }
     ensures no_file_fault { IfErr result (λ why. (n : ℕ) → faults_told why n ≡ n) }
     ensures same { AllStaySame groups.now (S.device_at store.old) (S.device_at store.new) }
+    ensures synced { OnOk result (AllGainSync groups.now (S.device_at store.old) (S.device_at store.new)) }
     ensures others { AreOtherGroupsSame groups.now (S.device_at store.old) (S.device_at store.new) }
     ensures counts { S.fault_count store.old < 2 ^ 64
         → CountsStore result (S.fault_count store.old) (S.fault_count store.new) }
@@ -90,7 +91,8 @@ fn refresh_once<D: Disk>(book: &mut Book<D>, records: &[&[Rec]]) -> Result<(), R
     requires cut { IsCutBook (map (λ r. r.now) records.now) book.old }
     ensures refreshed { OnOk result (IsRefreshedOnce (map (λ r. r.now) records.now) book.old book.new) }
     ensures unchanged { OnErr result (book.new ≡ book.old) }
-    ensures refused { IfErr result (IsOverIn (lists_at (map (λ r. r.now) records.now) book.old.tags)) }
+    ensures refused { IfErr result (IsOverIn (book_cells book.old.def (lists_at (map (λ r. r.now) records.now) book.old.tags))
+        (lists_at (map (λ r. r.now) records.now) book.old.tags)) }
 {
     book.refresh_from(records)
 }

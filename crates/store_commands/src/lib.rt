@@ -31,6 +31,10 @@
 //! - what recovers the tag as it is opened.
 //!
 //! The promise about crashes is for devices whose calls are known, and for fewer than 10^18 events.
+//!
+//! A group's device that has a finished layout of its group, or a damaged one, gains one sync and nothing else. So it does
+//! not grow with each question. This holds if `trend` or `frames` returns a text, or if a group has too many cells or
+//! records. It also holds if `frames` refuses what the device has saved.
 #![tactic(auto)]
 
 mod frame_command;

@@ -2,7 +2,7 @@
 ghost use Rattle.std.specs.Prelude.{◌^◌, ◌<◌, ◌≡◌, string_bytes, IfOk, IfErr, OnOk};
 ghost use Rattle.plant_files.specs.Faults.{IsFaultOfPlanned};
 ghost use Rattle.plant_files.specs.Reading.{faults_after};
-ghost use Rattle.store_commands.specs.Commands.{AreAllKept, IsTrend, IsTrendRefusal};
+ghost use Rattle.store_commands.specs.Commands.{AreAllKept, HaveGroupsSynced, IsTrend, IsTrendRefusal};
 ghost use Rattle.plant_store.specs.OpenedBases.{CountsDevices, IsDurable};
 
 use crate::groups::histories_of;
@@ -16,7 +16,8 @@ use std::alloc::Global;
 
 /// Returns what `trend` prints: the answers to the queries of the readers of the plan in the file `plan_name`, over the
 /// base in the file `name`. The command opens the device of each tag and of each group, and makes a device that is
-/// missing. A group answers after one refresh from all records of its tags. The refresh is not saved.
+/// missing. The device of a group that is whole gains one sync and nothing else. A group answers after one refresh from
+/// all records of its tags. The refresh is not saved.
 ///
 /// The error is the first in this order: the base, the plan, a reader's file, a tag, a group. `WantOfMemory` may come
 /// at any time.
@@ -36,6 +37,7 @@ pub fn trend<F: Files, S: Store>(
     ensures file_faults { F.fault_count files.new ≡ faults_after result (F.fault_count files.old) }
     ensures whose { IfErr result (IsFaultOfPlanned name.now plan_name.now (F.told files.old) (F.failed_name files.new)) }
     ensures durable { OnOk result (IsDurable name.now (F.told files.old) (S.device_at store.old) (S.device_at store.new)) }
+    ensures synced { OnOk result (HaveGroupsSynced name.now (F.told files.old) (S.device_at store.old) (S.device_at store.new)) }
     ensures counts { S.fault_count store.old < 2 ^ 64
         → CountsDevices result (S.fault_count store.old) (S.fault_count store.new) }
 {

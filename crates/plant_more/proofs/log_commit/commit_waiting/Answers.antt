@@ -13,6 +13,11 @@ returns-then-done-eq0-clause-committed g c =
     (goes_of g.D.Disk.trace g.D.Disk.ticks c.commit.result c.in_ok-done.done c.args.log.now c.loop-done.log c.commit.new.self c.loop-done.invariant c.in_ok-done.was
     c.commit.ensures.broken.1 c.commit.ensures.idle c.in_ok-done.ensures.committed).committed
 
+pub returns-then-done-eq0-clause-usable : goal.returns-then-done-eq0-clause-usable
+returns-then-done-eq0-clause-usable g c =
+    (goes_of g.D.Disk.trace g.D.Disk.ticks c.commit.result c.in_ok-done.done c.args.log.now c.loop-done.log c.commit.new.self c.loop-done.invariant c.in_ok-done.was
+    c.commit.ensures.broken.1 c.commit.ensures.idle c.in_ok-done.ensures.committed).usable
+
 pub loop-done-smaller : goal.loop-done-smaller
 loop-done-smaller g c =
     (goes_of g.D.Disk.trace g.D.Disk.ticks c.commit.result c.in_ok-done.done c.args.log.now c.loop-done.log c.commit.new.self c.loop-done.invariant c.in_ok-done.was

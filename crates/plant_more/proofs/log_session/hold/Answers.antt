@@ -1,4 +1,5 @@
 use Rattle.plant_more.proofs.LogRows.{rows_in_range}
+use Rattle.plant_more.proofs.LogSettled.{ok_then}
 use Rattle.plant_more.proofs.log_session.hold.Goals as goal
 
 pub run_collectors-requires-clause-rows : goal.run_collectors-requires-clause-rows
@@ -22,6 +23,7 @@ returns-in-Ok-clause-ended g c = record {
   notes_are = record { of_all = c.in-Ok.ensures.notes; stopped = c.in-Ok.ensures.stops };
   ended = rw (← c.deref.ensures.value) c.settle-answer.ensures.ended;
   made = c.settle-answer.ensures.made;
+  faultless = ok_then c.settle-answer.result c.settle-answer.ensures.usable c.into_history-dev.ensures.faultless;
   begun = c.settle-answer.ensures.begun;
   as_known = c.settle-answer.ensures.known;
   refused = rw (← c.deref.ensures.value) c.settle-answer.ensures.refused;

@@ -83,7 +83,11 @@ returns-in-Ok-clause-text g c =
       cal = cal;
       cores = cores;
       windows = told.0;
-      opened = record { read = c.in_ok-base.ensures.base; opened = c.in_ok-cores.ensures.opened };
+      opened = record {
+        read = c.in_ok-base.ensures.base;
+        opened = c.in_ok-cores.ensures.opened;
+        few = c.in_ok-cores.ensures.few_records;
+      };
       calendar = rw (← c.in_ok-base.ensures.stays) c.in_ok-calendar.ensures.calendar;
       shifts = subst (λ day. AreWindows cal.zone (shifts_over cal.starts day c.args.days) told.0)
           (to_z-of_z w32 c.args.day c.ranges.day) told.1;
@@ -99,7 +103,11 @@ pub returns-in-Ok-clause-durable : goal.returns-in-Ok-clause-durable
 returns-in-Ok-clause-durable g c = record {
   base = c.in_ok-base.base;
   cores = c.in_ok-cores.cores.items;
-  opened = record { read = c.in_ok-base.ensures.base; opened = c.in_ok-cores.ensures.opened };
+  opened = record {
+    read = c.in_ok-base.ensures.base;
+    opened = c.in_ok-cores.ensures.opened;
+    few = c.in_ok-cores.ensures.few_records;
+  };
   left = c.in_ok-cores.ensures.left;
 }
 

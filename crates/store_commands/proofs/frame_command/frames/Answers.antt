@@ -5,11 +5,12 @@ use Rattle.std.proofs.lemmas.Result.{err_from_is_err_and}
 use Rattle.trend_num.specs.declared.value.CalcValue.{CalcValue}
 use Rattle.disk_model.specs.Calls.{Rose}
 use Rattle.calc_check.specs.Group.{Calculation, names_of}
+use Rattle.group_layout.specs.Readings.{GainsGroupSync}
 use Rattle.tag_core.specs.Core.{Core}
 use Rattle.tag_base.specs.Groups.{IsSoundGroup}
 use Rattle.tag_base.specs.declared.definition.GroupDef.{GroupDef}
 use Rattle.plant_status.specs.declared.unit.Unit.TheVariants.{Group, Tag}
-use Rattle.plant_store.specs.Groups.{AreNamesOf, device_name, input_records_of, group_trace_at}
+use Rattle.plant_store.specs.Groups.{AreNamesOf, device_name, group_definition_text, input_records_of, group_trace_at}
 use Rattle.plant_store.proofs.BookNames.{as_many, named_at}
 use Rattle.plant_store.proofs.BookTurns.{still}
 use Rattle.store_commands.specs.GroupRows.{tag_records}
@@ -137,11 +138,13 @@ returns-in_err-rows-clause-refused g c =
     let cores = c.in_ok-cores.cores.items in
     let p = err_from_is_err_and c.from_residual-in_err-rows.result c.from_residual-in_err-rows.ensures.1 in
     rw (p.1, p.2) (OfGroup base group place.group place.calc cores
-    (record { read = c.in_ok-base.ensures.base; opened = c.in_ok-cores.ensures.opened }) named
+    (record { read = c.in_ok-base.ensures.base; opened = c.in_ok-cores.ensures.opened; few = c.in_ok-cores.ensures.few_records }) named
     (refusal_before place.group group (input_records_of (tag_records cores) group) (group_trace_at old group) (group_trace_at mid group)
+    (group_trace_at (g.S.Store.device_at c.rows_of.new.store) group)
     (g.S.Store.fault_count c.args.store.now) count now c.in_err-rows.field-0.0
     (groups_same base.tags.items old mid c.open_base.ensures.others group) c.in_ok-cores.ensures.counts
-    (subst (λ (l : List Core). IsFrameRowsRefusal place.group group (input_records_of (tag_records l) group) (group_trace_at mid group) count now
+    (subst (λ (l : List Core). IsFrameRowsRefusal place.group group (input_records_of (tag_records l) group) (group_trace_at mid group)
+    (group_trace_at (g.S.Store.device_at c.rows_of.new.store) group) count now
     c.in_err-rows.field-0.0) c.deref-2.ensures.value c.in_err-rows.ensures.refused)))
 
 pub returns-in_err-rows-clause-kept : goal.returns-in_err-rows-clause-kept
@@ -154,7 +157,7 @@ returns-in_err-rows-clause-kept g c =
 pub returns-in_err-rows-clause-whose : goal.returns-in_err-rows-clause-whose
 returns-in_err-rows-clause-whose g c =
     let p = err_from_is_err_and c.from_residual-in_err-rows.result c.from_residual-in_err-rows.ensures.1 in
-    rw (p.1, p.2) (λ which same. absurd (rows_no_read _ _ _ _ _ _ c.in_err-rows.field-0.0 c.in_err-rows.ensures.refused which same))
+    rw (p.1, p.2) (λ which same. absurd (rows_no_read _ _ _ _ _ _ _ c.in_err-rows.field-0.0 c.in_err-rows.ensures.refused which same))
 
 pub returns-in_err-rows-clause-counts : goal.returns-in_err-rows-clause-counts
 returns-in_err-rows-clause-counts g c =
@@ -194,7 +197,7 @@ returns-in-Ok-tell_frames-clause-text g c =
       cores = cores;
       saved = rows.saved.items;
       refreshed = rows.refreshed.items;
-      opened = record { read = c.in_ok-base.ensures.base; opened = c.in_ok-cores.ensures.opened };
+      opened = record { read = c.in_ok-base.ensures.base; opened = c.in_ok-cores.ensures.opened; few = c.in_ok-cores.ensures.few_records };
       named = named_group _ c.args.group.now c.args.calc.now place.group place.calc group c.in_ok-place.ensures.placed c.index.ensures;
       rows = rows_before group place.calc (input_records_of (tag_records cores) group) (group_trace_at old group) (group_trace_at mid group) rows.saved.items
           rows.refreshed.items (groups_same base.tags.items old mid c.open_base.ensures.others group)
@@ -222,9 +225,28 @@ returns-in-Ok-tell_frames-clause-durable g c =
     record {
       base = base;
       cores = cores;
-      opened = record { read = c.in_ok-base.ensures.base; opened = c.in_ok-cores.ensures.opened };
+      opened = record { read = c.in_ok-base.ensures.base; opened = c.in_ok-cores.ensures.opened; few = c.in_ok-cores.ensures.few_records };
       left = left_after base.tags.items cores (g.S.Store.device_at c.args.store.now) mid new
           (tags_same c.index.result.now mid new c.rows_of.ensures.others) c.in_ok-cores.ensures.left;
+    }
+
+pub returns-in-Ok-tell_frames-clause-synced : goal.returns-in-Ok-tell_frames-clause-synced
+returns-in-Ok-tell_frames-clause-synced g c =
+    let base = c.in_ok-base.base in
+    let place = c.in_ok-place.place in
+    let group = c.index.result.now in
+    let mid = g.S.Store.device_at c.open_base.new.store in
+    let new = g.S.Store.device_at c.rows_of.new.store in
+    record {
+      base = base;
+      g = group;
+      i = place.group;
+      k = place.calc;
+      read = c.in_ok-base.ensures.base;
+      named = named_group _ c.args.group.now c.args.calc.now place.group place.calc group c.in_ok-place.ensures.placed c.index.ensures;
+      synced = subst (λ o. GainsGroupSync (group_definition_text group) o (group_trace_at new group))
+          (groups_same base.tags.items (g.S.Store.device_at c.args.store.now) mid c.open_base.ensures.others group)
+          c.in_ok-rows.ensures.synced;
     }
 
 pub returns-clause-kept : goal.returns-clause-kept

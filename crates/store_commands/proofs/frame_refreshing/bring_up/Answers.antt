@@ -1,12 +1,13 @@
-use Rattle.std.proofs.Common.{◌≡◌, ◌<◌, ◌∙◌, ap, arith, length, map, refl, subst}
+use Rattle.std.proofs.Common.{◌≡◌, ◌<◌, ◌∙◌, All, ap, arith, length, map, refl, subst, sym}
 use Rattle.std.proofs.lemmas.List.{length-map}
 use Rattle.std.proofs.lemmas.List.Elements.{All-map}
 use Rattle.std.proofs.lemmas.Result.{err_from_is_err_and}
 use Rattle.calc_refresh.specs.Lists.{lists_of}
-use Rattle.calc_refresh.specs.Refreshed.{fresh}
+use Rattle.calc_refresh.specs.Refreshed.{IsRefreshed, fresh}
 use Rattle.calc_refresh.specs.Sheet.{IsCopy, SheetState, grid_of}
-use Rattle.group_book.specs.Tapes.{cut}
-use Rattle.group_book.proofs.Loaded.{rows_short}
+use Rattle.sheet_law.specs.Windows.{complete_windows}
+use Rattle.group_book.specs.Tapes.{cut, uncut}
+use Rattle.group_book.proofs.Loaded.{cut_lengths, rows_short}
 use Rattle.store_commands.specs.FrameSteps.{AreWithin, IsLimitRefusal, IsSheetRefusal, OfLimit, OfSheet}
 use Rattle.store_commands.proofs.Bringing.{both_rows, times_then}
 use Rattle.store_commands.proofs.frame_refreshing.bring_up.Goals as goal
@@ -28,7 +29,17 @@ pub returns-in_err-refresh-clause-refused : goal.returns-in_err-refresh-clause-r
 returns-in_err-refresh-clause-refused c =
     let recovered = map (λ r. r.now) c.args.records.now in
     let p = err_from_is_err_and c.from_residual-in_err-refresh.result c.from_residual-in_err-refresh.ensures.1 in
-    rw (p.1, p.2) (OfLimit (subst (λ (s : SheetState). IsLimitRefusal s.grid (length s.group.calcs) recovered c.in_err-refresh.field-0.0)
+    let group = c.args.group.now in
+    let versions = c.args.saved.versions.items in
+    let rows = lists_of c.args.saved.rows.items in
+    let many : length recovered ≡ length versions =
+    omega (arith, length-map c.args.records.now (λ r. r.now), c.requires.inputs, c.requires.shape.versions_are) in
+    let made = c.in_ok-sheet.ensures.sheet
+    ∙ ap (λ l. fresh group.calcs (grid_of group.start group.period) (cut l recovered) rows) c.deref.ensures.value in
+    rw (p.1, p.2) (OfLimit
+    (cut_lengths versions recovered (sym many) (subst (λ l. AreWithin l recovered) c.deref.ensures.value c.in_ok-sheet.ensures.within))
+    (subst (λ (s : SheetState). All (λ row. length row ≡ complete_windows s.grid s.copies) s.rows) made c.in_ok-sheet.ensures.whole.windows)
+    (subst (λ (s : SheetState). IsLimitRefusal s.grid (length s.group.calcs) recovered c.in_err-refresh.field-0.0)
     c.in_ok-sheet.ensures.sheet c.in_err-refresh.ensures.refused))
 
 pub returns-clause-rows : goal.returns-clause-rows
@@ -43,7 +54,8 @@ returns-clause-rows c =
     (subst (λ l. AreWithin l recovered) c.deref.ensures.value c.in_ok-sheet.ensures.within)
     (c.in_ok-sheet.ensures.sheet
     ∙ ap (λ l. fresh group.calcs (grid_of group.start group.period) (cut l recovered) rows) c.deref.ensures.value)
-    c.in_ok-refresh.ensures.refreshed c.args.place.calc c.in-Ok.saved.items c.in-Ok-row_of.refreshed.items
+    (subst (λ l. IsRefreshed c.in_ok-sheet.sheet c.refresh.new.sheet (uncut l recovered)) c.deref-2.ensures.value
+    c.in_ok-refresh.ensures.refreshed) c.args.place.calc c.in-Ok.saved.items c.in-Ok-row_of.refreshed.items
     c.in-Ok.ensures.row c.in-Ok.ensures.complete c.in-Ok-row_of.ensures.row c.in-Ok-row_of.ensures.complete
 
 pub returns-clause-times : goal.returns-clause-times
@@ -59,5 +71,6 @@ returns-clause-times c =
     (subst (λ l. AreWithin l recovered) c.deref.ensures.value c.in_ok-sheet.ensures.within)
     (c.in_ok-sheet.ensures.sheet
     ∙ ap (λ l. fresh group.calcs (grid_of group.start group.period) (cut l recovered) rows) c.deref.ensures.value)
-    c.in_ok-refresh.ensures.refreshed (length c.in-Ok-row_of.refreshed.items) some
+    (subst (λ l. IsRefreshed c.in_ok-sheet.sheet c.refresh.new.sheet (uncut l recovered)) c.deref-2.ensures.value
+    c.in_ok-refresh.ensures.refreshed) (length c.in-Ok-row_of.refreshed.items) some
     (All-map IsCopy (λ r. r.now) c.args.records.now c.requires.copied) c.in-Ok-row_of.ensures.complete

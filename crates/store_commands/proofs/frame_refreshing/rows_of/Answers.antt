@@ -16,7 +16,7 @@ returns-in_default-clause-same g c = still c.args.group.now _
 pub returns-in_err-saved-clause-refused : goal.returns-in_err-saved-clause-refused
 returns-in_err-saved-clause-refused g c =
     let p = err_from_is_err_and c.from_residual.result c.from_residual.ensures.1 in
-    rw (p.1, p.2) (of_saved _ _ _ _ _ _ c.in_err-saved.field-0.0 c.in_err-saved.ensures.refused)
+    rw (p.1, p.2) (of_saved _ _ _ _ _ _ _ c.in_err-saved.field-0.0 c.in_err-saved.ensures.refused)
 
 pub returns-clause-rows : goal.returns-clause-rows
 returns-clause-rows g c =
@@ -48,6 +48,7 @@ returns-clause-refused g c =
     let records = tag_records c.args.cores.now in
     let saved = c.in_ok-saved.saved in
     let o = group_trace_at (g.S.Store.device_at c.args.store.now) group in
+    let p = group_trace_at (g.S.Store.device_at c.saved_of.new.store) group in
     let before = g.S.Store.fault_count c.args.store.now in
     let now = g.S.Store.fault_count c.saved_of.new.store in
     let lists : map (λ r. r.now) c.deref-2.result.now ≡ input_records_of records group =
@@ -55,8 +56,8 @@ returns-clause-refused g c =
     ∙ ap (map (λ tag. get_or records tag [])) c.deref.ensures.value in
     IfErr-weaker c.bring_up.result
     (IsBringRefusal i group saved.versions.items (lists_of saved.rows.items) (map (λ r. r.now) c.deref-2.result.now))
-    (IsFrameRowsRefusal i group (input_records_of records group) o before now)
-    (λ why is. of_bring i group saved.versions.items (lists_of saved.rows.items) (input_records_of records group) o before now why
-    c.in_ok-saved.ensures.stood
+    (IsFrameRowsRefusal i group (input_records_of records group) o p before now)
+    (λ why is. of_bring i group saved.versions.items (lists_of saved.rows.items) (input_records_of records group) o p before now why
+    c.in_ok-saved.ensures.stood c.in_ok-saved.ensures.synced
     (subst (λ (l : List (List Rec)). IsBringRefusal i group saved.versions.items (lists_of saved.rows.items) l why) lists is))
     c.bring_up.ensures.refused

@@ -1,4 +1,4 @@
-use Rattle.std.proofs.Common.{◌≡◌, List, Some, ap, arith, length, map, refl, subst}
+use Rattle.std.proofs.Common.{◌≡◌, List, Some, ap, arith, length, map, refl, subst, sym}
 use Rattle.std.proofs.lemmas.List.{length-map}
 use Rattle.std.proofs.lemmas.Result.{err_from_is_err_and}
 use Rattle.trend_num.specs.declared.archive.Rec.{Rec}
@@ -8,6 +8,7 @@ use Rattle.calc_refresh.specs.Lists.{lists_of}
 use Rattle.calc_refresh.specs.Refreshed.{IsRefreshToldOf, shape_fault}
 use Rattle.calc_refresh.specs.Sheet.{grid_of}
 use Rattle.sheet_law.specs.Windows.{complete_windows}
+use Rattle.group_book.proofs.Loaded.{cut_lengths}
 use Rattle.store_commands.specs.FrameSteps.{OfAhead, OfShape}
 use Rattle.store_commands.proofs.FrameCuts.{length-cut}
 use Rattle.store_commands.proofs.frame_refreshing.sheet_of.Goals as goal
@@ -42,10 +43,16 @@ returns-in-Err-Shape-clause-refused c =
     let group = c.args.group.now in
     let windows = c.in-Err-Shape.windows in
     let size = c.in-Err-Shape.rows in
-    OfShape windows size refl
-    (subst (λ (l : List (List Rec)). shape_fault (complete_windows (grid_of group.start group.period) l) rows ≡ Some (sheet.Shape windows size))
-    c.in_ok-copies.ensures.cut
-    (subst (λ (d : GroupDefParts). shape_fault (complete_windows (grid_of d.start d.period) copies) rows ≡ Some (sheet.Shape windows size))
-    c.in-Ok.ensures.parts
-    (subst (IsRefreshToldOf (shape_fault (complete_windows (grid_of def.start def.period) copies) rows)) c.in-Err-Shape.field-0-is
-    c.in-Err-Shape.ensures.fault)))
+    let versions = c.args.versions.now in
+    let recovered = map (λ r. r.now) c.args.records.now in
+    let many : length recovered ≡ length versions =
+    omega (arith, length-map c.args.records.now (λ r. r.now), c.requires.inputs, c.requires.versions) in
+    OfShape windows size refl (record {
+      within = cut_lengths versions recovered (sym many) c.in_ok-copies.ensures.within;
+      shape = subst (λ (l : List (List Rec)). shape_fault (complete_windows (grid_of group.start group.period) l) rows ≡ Some (sheet.Shape windows size))
+          c.in_ok-copies.ensures.cut
+          (subst (λ (d : GroupDefParts). shape_fault (complete_windows (grid_of d.start d.period) copies) rows ≡ Some (sheet.Shape windows size))
+          c.in-Ok.ensures.parts
+          (subst (IsRefreshToldOf (shape_fault (complete_windows (grid_of def.start def.period) copies) rows)) c.in-Err-Shape.field-0-is
+          c.in-Err-Shape.ensures.fault));
+    })

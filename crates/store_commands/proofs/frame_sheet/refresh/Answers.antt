@@ -1,7 +1,7 @@
-use Rattle.std.proofs.Common.{◌≡◌, ◌*◌, ◌∙◌, ap, ap₂, length, map, refl, subst, sym}
+use Rattle.std.proofs.Common.{◌≡◌, ◌≤◌, ◌*◌, ◌∙◌, ap, ap₂, length, map, refl, subst, sym}
 use Rattle.std.proofs.lemmas.List.{length-map}
 use Rattle.calc_refresh.specs.Lists.{lists_of, total_length}
-use Rattle.calc_refresh.specs.Refreshed.{IsRefreshToldOf, fault_after}
+use Rattle.calc_refresh.specs.Refreshed.{IsRefreshToldOf, IsRefreshed, fault_after, most_cells}
 use Rattle.sheet_law.specs.Touched.{longer}
 use Rattle.sheet_law.specs.Windows.{complete_windows}
 use Rattle.store_commands.specs.FrameSteps.{CellsAreOver, CopiesAreOver}
@@ -27,13 +27,8 @@ apply-requires-clause-inputs c =
 
 pub returns-in-Ok-apply-clause-refreshed : goal.returns-in-Ok-apply-clause-refreshed
 returns-in-Ok-apply-clause-refreshed c =
-    let is = c.in-Ok-apply.ensures.refreshed in
-    record {
-      group = is.group;
-      grid = is.grid;
-      copies = is.copies ∙ whole (goal.at.returns-in-Ok-apply-clause-refreshed c).After-apply;
-      scratch = is.scratch;
-    }
+    subst (IsRefreshed c.args.sheet.now c.apply.new.sheet) (ap lists_of c.deref.ensures.value ∙ c.in-Ok.ensures.behind)
+    c.in-Ok-apply.ensures.refreshed
 
 pub returns-in-Err-CellLimit-clause-refused : goal.returns-in-Err-CellLimit-clause-refused
 returns-in-Err-CellLimit-clause-refused c =
@@ -53,4 +48,6 @@ returns-in-Err-CopyLimit-clause-refused c =
     let told = copies_told (complete_windows s.grid (longer s.copies more) * length s.group.calcs) (total_length (longer s.copies more))
     c.in-Err-CopyLimit.records
     (subst (IsRefreshToldOf (fault_after s more)) c.in-Err-CopyLimit.field-0-is c.in-Err-CopyLimit.ensures.fault) in
-    CopiesAreOver c.in-Err-CopyLimit.records refl (told.0 ∙ ap total_length whole) told.1
+    CopiesAreOver c.in-Err-CopyLimit.records refl
+    (subst (λ n. n ≤ most_cells) (ap (λ l. complete_windows s.grid l * length s.group.calcs) whole) told.0)
+    (told.1 ∙ ap total_length whole) told.2

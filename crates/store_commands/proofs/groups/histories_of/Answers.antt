@@ -11,7 +11,7 @@ use Rattle.plant_store.proofs.BookNames.{as_many, names_differ}
 use Rattle.plant_store.proofs.BookTurns.{others_same, still}
 use Rattle.store_commands.specs.GroupRows.{OfOpening, tag_records}
 use Rattle.store_commands.specs.Refreshing.{AreRefreshedOnce, IsOverSome}
-use Rattle.store_commands.proofs.Books.{all_back, all_told, counts_same, cut_books, err_and, none_counted, ok_and, over_some}
+use Rattle.store_commands.proofs.Books.{all_back, all_told, counts_same, cut_books, all_synced, err_and, none_counted, ok_always, ok_and, over_some}
 use Rattle.store_commands.proofs.Commands.{rows_no_fault}
 use Rattle.store_commands.proofs.groups.histories_of.Goals as goal
 
@@ -95,16 +95,22 @@ returns-clause-refused g c =
     let lists = ap (map (λ r. r.now)) c.deref-2.ensures.value ∙ c.in-Ok-records_of.ensures.records in
     let lists_then = ap (map (λ r. r.now)) c.deref-3.ensures.value ∙ c.in-Ok-records_of.ensures.records in
     err_and _ _ c.refresh_all-refreshed.result c.close_books.new.histories c.and.result c.and.ensures (λ why over.
-    over_some D.trace D.ticks D.fault_count groups (tag_records c.args.cores.now) old books _ _ why c.in_ok-books.ensures.as_many
+    over_some D.trace D.ticks D.fault_count groups (tag_records c.args.cores.now) old (g.S.Store.device_at c.close_books.new.store) books _ _
+    why c.in_ok-books.ensures.as_many
     (subst (λ l. AreBooksOpened D.trace D.ticks D.fault_count groups l old books) lists c.in_ok-books.ensures.opened)
+    (all_synced D.trace D.ticks D.fault_count groups c.in-Ok.names.items (map (λ r. r.now) c.deref-2.result.now) old
+    (g.S.Store.device_at c.open_books.new.store) (g.S.Store.device_at c.close_books.new.store) books c.refresh_all-refreshed.new.books.items
+    c.in-Ok.ensures.names c.in_ok-books.ensures.as_many c.in_ok-books.ensures.opened c.refresh_all-refreshed.ensures.same
+    (subst (λ l. AreGivenBack D.trace l c.refresh_all-refreshed.new.books.items (g.S.Store.device_at c.open_books.new.store)
+    (g.S.Store.device_at c.close_books.new.store)) c.deref-4.ensures.value c.close_books.ensures.given))
     (subst (λ l. IsOverSome l books why) lists_then over)) c.refresh_all-refreshed.ensures.refused
 
 pub returns-in_err-books-clause-no_file_fault : goal.returns-in_err-books-clause-no_file_fault
 returns-in_err-books-clause-no_file_fault g c =
-    IfErr-weaker c.from_residual.result _ _ (rows_no_fault _ _ _ _ _) (returns-in_err-books-clause-refused g c)
+    IfErr-weaker c.from_residual.result _ _ (rows_no_fault _ _ _ _ _ _) (returns-in_err-books-clause-refused g c)
 
 pub returns-clause-no_file_fault : goal.returns-clause-no_file_fault
-returns-clause-no_file_fault g c = IfErr-weaker c.and.result _ _ (rows_no_fault _ _ _ _ _) (returns-clause-refused g c)
+returns-clause-no_file_fault g c = IfErr-weaker c.and.result _ _ (rows_no_fault _ _ _ _ _ _) (returns-clause-refused g c)
 
 pub returns-clause-same : goal.returns-clause-same
 returns-clause-same g c =
@@ -135,3 +141,15 @@ returns-clause-counts g c = λ small.
     (g.S.Store.device_at c.args.store.now) c.in_ok-books.books.items c.refresh_all-refreshed.new.books.items
     c.in_ok-books.ensures.as_many c.in_ok-books.ensures.opened c.refresh_all-refreshed.ensures.same)
     ∙ first)
+
+pub returns-clause-synced : goal.returns-clause-synced
+returns-clause-synced g c =
+    let D = g.S.Dev.Disk in
+    let new = g.S.Store.device_at c.close_books.new.store in
+    let mid = g.S.Store.device_at c.open_books.new.store in
+    let closed = c.refresh_all-refreshed.new.books.items in
+    ok_always c.and.result
+    (all_synced D.trace D.ticks D.fault_count c.args.groups.now c.in-Ok.names.items (map (λ r. r.now) c.deref-2.result.now)
+    (g.S.Store.device_at c.args.store.now) mid new c.in_ok-books.books.items closed c.in-Ok.ensures.names
+    c.in_ok-books.ensures.as_many c.in_ok-books.ensures.opened c.refresh_all-refreshed.ensures.same
+    (subst (λ l. AreGivenBack D.trace l closed mid new) c.deref-4.ensures.value c.close_books.ensures.given))

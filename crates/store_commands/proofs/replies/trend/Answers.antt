@@ -6,11 +6,11 @@ use Rattle.plant_store.specs.Groups as group
 use Rattle.plant_store.proofs.BookDevices.{same_untouched}
 use Rattle.store_commands.specs.Replies.{rows_in, trend_text}
 use Rattle.store_commands.specs.Commands.{OfGroup, OfPlan, OfReader, OfTag}
-use Rattle.store_commands.specs.GroupRows.{AreGroupsTold, IsGroupRowsRefusal, tag_records}
+use Rattle.store_commands.specs.GroupRows.{AllGainSync, AreGroupsTold, IsGroupRowsRefusal, tag_records}
 use Rattle.store_commands.proofs.Commands.{as_many_lists}
 use Rattle.store_commands.proofs.Faults.{group_is_no_fault}
 use Rattle.plant_store.proofs.OpenedBases.{tag_is_no_fault}
-use Rattle.store_commands.proofs.Stores.{all_kept, groups_same, left_after, rows_before, tags_same, told_before}
+use Rattle.store_commands.proofs.Stores.{all_kept, groups_same, left_after, rows_before, synced_before, tags_same, told_before}
 use Rattle.store_commands.proofs.replies.trend.Goals as goal
 
 pub returns-in_err-plan-clause-refused : goal.returns-in_err-plan-clause-refused
@@ -46,16 +46,16 @@ returns-in_err-groups-clause-refused g c =
     let old = g.S.Store.device_at c.args.store.now in
     let mid = g.S.Store.device_at c.open_base.new.store in
     let stays = c.in_ok-plan.ensures.stays ∙ c.in_ok-base.ensures.stays in
-    let refused = subst (λ l. IsGroupRowsRefusal l (tag_records c.deref-2.result.now) mid (g.S.Store.fault_count c.open_base.new.store)
+    let refused = subst (λ l. IsGroupRowsRefusal l (tag_records c.deref-2.result.now) mid (g.S.Store.device_at c.histories_of.new.store) (g.S.Store.fault_count c.open_base.new.store)
     (g.S.Store.fault_count c.histories_of.new.store) c.in_err-groups.field-0.0) c.deref.ensures.value
     c.in_err-groups.ensures.refused in
-    let refused_cores = subst (λ l. IsGroupRowsRefusal base.groups.items (tag_records l) mid (g.S.Store.fault_count c.open_base.new.store)
+    let refused_cores = subst (λ l. IsGroupRowsRefusal base.groups.items (tag_records l) mid (g.S.Store.device_at c.histories_of.new.store) (g.S.Store.fault_count c.open_base.new.store)
     (g.S.Store.fault_count c.histories_of.new.store) c.in_err-groups.field-0.0) c.deref-2.ensures.value refused in
     let p = err_from_is_err_and c.from_residual-in_err-groups.result c.from_residual-in_err-groups.ensures.1 in
     rw (p.1, p.2) (OfGroup base plan (map (λ list. list.items) c.in_ok-readers.readers.items) cores
-    (record { read = c.in_ok-base.ensures.base; opened = c.in_ok-cores.ensures.opened })
+    (record { read = c.in_ok-base.ensures.base; opened = c.in_ok-cores.ensures.opened; few = c.in_ok-cores.ensures.few_records })
     (rw (← c.in_ok-base.ensures.stays) c.in_ok-plan.ensures.plan) (rw (← stays) c.in_ok-readers.ensures.queries)
-    (rows_before base.groups.items (tag_records cores) old mid (groups_same base.tags.items old mid c.open_base.ensures.others) _ _ _
+    (rows_before base.groups.items (tag_records cores) old mid (groups_same base.tags.items old mid c.open_base.ensures.others) _ _ _ _
     c.in_err-groups.field-0.0 c.in_ok-cores.ensures.counts refused_cores))
 
 pub returns-in_err-cores-clause-kept : goal.returns-in_err-cores-clause-kept
@@ -90,7 +90,7 @@ returns-in-Ok-clause-text g c =
       lists = map (λ list. list.items) c.in_ok-readers.readers.items;
       cores = cores;
       groups = rows_in groups;
-      opened = record { read = c.in_ok-base.ensures.base; opened = c.in_ok-cores.ensures.opened };
+      opened = record { read = c.in_ok-base.ensures.base; opened = c.in_ok-cores.ensures.opened; few = c.in_ok-cores.ensures.few_records };
       planned = rw (← c.in_ok-base.ensures.stays) c.in_ok-plan.ensures.plan;
       asked = rw (← stays) c.in_ok-readers.ensures.queries;
       rows = told_before base.groups.items (tag_records cores) old mid (groups_same base.tags.items old mid c.open_base.ensures.others)
@@ -118,13 +118,27 @@ pub returns-in-Ok-clause-durable : goal.returns-in-Ok-clause-durable
 returns-in-Ok-clause-durable g c = record {
   base = c.in_ok-base.base;
   cores = c.in_ok-cores.cores.items;
-  opened = record { read = c.in_ok-base.ensures.base; opened = c.in_ok-cores.ensures.opened };
+  opened = record { read = c.in_ok-base.ensures.base; opened = c.in_ok-cores.ensures.opened; few = c.in_ok-cores.ensures.few_records };
   left = left_after c.in_ok-base.base.tags.items c.in_ok-cores.cores.items (g.S.Store.device_at c.args.store.now)
       (g.S.Store.device_at c.open_base.new.store) (g.S.Store.device_at c.histories_of.new.store)
       (tags_same c.in_ok-base.base.groups.items _ _ (subst (λ l. group.AreOtherGroupsSame l (g.S.Store.device_at c.open_base.new.store)
       (g.S.Store.device_at c.histories_of.new.store)) c.deref.ensures.value c.histories_of.ensures.others))
       c.in_ok-cores.ensures.left;
 }
+
+pub returns-in-Ok-clause-synced : goal.returns-in-Ok-clause-synced
+returns-in-Ok-clause-synced g c =
+    let base = c.in_ok-base.base in
+    let old = g.S.Store.device_at c.args.store.now in
+    let mid = g.S.Store.device_at c.open_base.new.store in
+    let new = g.S.Store.device_at c.histories_of.new.store in
+    record {
+      base = base;
+      read = c.in_ok-base.ensures.base;
+      synced = synced_before base.groups.items (tag_records c.in_ok-cores.cores.items) old mid
+          (groups_same base.tags.items old mid c.open_base.ensures.others) new
+          (subst (λ l. AllGainSync l mid new) c.deref.ensures.value c.in_ok-groups.ensures.synced);
+    }
 
 pub trend_text-requires-clause-few_readers : goal.trend_text-requires-clause-few_readers
 trend_text-requires-clause-few_readers g c =
@@ -172,4 +186,4 @@ returns-clause-whose g c = of_none _ _ _ _ _ (λ which same. cc)
 pub returns-in_err-groups-clause-whose : goal.returns-in_err-groups-clause-whose
 returns-in_err-groups-clause-whose g c =
     let p = err_from_is_err_and c.from_residual-in_err-groups.result c.from_residual-in_err-groups.ensures.1 in
-    rw (p.1, p.2) (of_none _ _ _ _ _ (group_is_no_fault _ _ _ _ _ c.in_err-groups.field-0.0 c.in_err-groups.ensures.refused))
+    rw (p.1, p.2) (of_none _ _ _ _ _ (group_is_no_fault _ _ _ _ _ _ c.in_err-groups.field-0.0 c.in_err-groups.ensures.refused))

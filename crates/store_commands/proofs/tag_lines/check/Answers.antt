@@ -19,7 +19,7 @@ returns-in-Ok-clause-text g c =
     record {
       base = base;
       cores = c.in_ok-cores.cores.items;
-      opened = record { read = c.in_ok-base.ensures.base; opened = c.in_ok-cores.ensures.opened };
+      opened = record { read = c.in_ok-base.ensures.base; opened = c.in_ok-cores.ensures.opened; few = c.in_ok-cores.ensures.few_records };
       same = c.in-Ok.ensures ∙ ap (λ l. check_text l c.deref-2.result.now) c.deref.ensures.value
           ∙ ap (λ l. check_text base.tags.items l) c.deref-2.ensures.value;
     }
@@ -35,7 +35,7 @@ pub returns-in-Ok-clause-durable : goal.returns-in-Ok-clause-durable
 returns-in-Ok-clause-durable g c = record {
   base = c.in_ok-base.base;
   cores = c.in_ok-cores.cores.items;
-  opened = record { read = c.in_ok-base.ensures.base; opened = c.in_ok-cores.ensures.opened };
+  opened = record { read = c.in_ok-base.ensures.base; opened = c.in_ok-cores.ensures.opened; few = c.in_ok-cores.ensures.few_records };
   left = c.in_ok-cores.ensures.left;
 }
 
