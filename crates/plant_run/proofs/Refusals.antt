@@ -17,8 +17,8 @@ use Rattle.store_commands.specs.FrameRows as frame_rows
 
 -- ---- a refusal is not Done, and no fault of the output
 
-module _ (groups : List GroupDef) (records : List (List Rec)) (old : DeviceTraces) (before now : ℕ) where
-  rows_not_done : IsGroupRowsRefusal groups records old before now Done → ⊥
+module _ (groups : List GroupDef) (records : List (List Rec)) (old new : DeviceTraces) (before now : ℕ) where
+  rows_not_done : IsGroupRowsRefusal groups records old new before now Done → ⊥
   rows_not_done (OfOpening (group.OfFault i is at)) = cc
   rows_not_done (OfOpening (group.OfDamage i a byte is at)) = cc
   rows_not_done (OfOpening (group.OfVersion i input found version is at)) = cc
@@ -28,7 +28,7 @@ module _ (groups : List GroupDef) (records : List (List Rec)) (old : DeviceTrace
   rows_not_done (OfCopies i number is at) = cc
   rows_not_done (OfWant is) = cc
 
-  rows_no_output : IsGroupRowsRefusal groups records old before now WriteFault → ⊥
+  rows_no_output : IsGroupRowsRefusal groups records old new before now WriteFault → ⊥
   rows_no_output (OfOpening (group.OfFault i is at)) = cc
   rows_no_output (OfOpening (group.OfDamage i a byte is at)) = cc
   rows_no_output (OfOpening (group.OfVersion i input found version is at)) = cc
@@ -38,7 +38,7 @@ module _ (groups : List GroupDef) (records : List (List Rec)) (old : DeviceTrace
   rows_no_output (OfCopies i number is at) = cc
   rows_no_output (OfWant is) = cc
 
-  rows_rose : before < 2 ^ 64 → (unit : Unit) → IsGroupRowsRefusal groups records old before now (DeviceFault unit) → Rose before now
+  rows_rose : before < 2 ^ 64 → (unit : Unit) → IsGroupRowsRefusal groups records old new before now (DeviceFault unit) → Rose before now
   rows_rose few unit (OfOpening (group.OfFault i is at)) = at.cause few
   rows_rose few unit (OfOpening (group.OfDamage i a byte is at)) = cc
   rows_rose few unit (OfOpening (group.OfVersion i input found version is at)) = cc
@@ -73,7 +73,7 @@ module _ (name plan_name : List ℕ) (told : ToldFiles) (old new : DeviceTraces)
   trend_not_done (OfPlan base read refused same) = refused
   trend_not_done (OfReader base plan read planned refused same) = (refused done_is_not_memory).first.refused
   trend_not_done (OfTag base plan lists read planned asked refused) = refused
-  trend_not_done (OfGroup base plan lists cores opened planned asked refused) = rows_not_done base.groups.items _ _ _ _ refused
+  trend_not_done (OfGroup base plan lists cores opened planned asked refused) = rows_not_done base.groups.items _ _ _ _ _ refused
   trend_not_done (OfMemory same) = cc
 
   pub trend_no_fault : IsTrendRefusal name plan_name told old new before now WriteFault → ⊥
@@ -81,7 +81,7 @@ module _ (name plan_name : List ℕ) (told : ToldFiles) (old new : DeviceTraces)
   trend_no_fault (OfPlan base read refused same) = refused
   trend_no_fault (OfReader base plan read planned refused same) = (refused fault_is_not_memory).first.refused
   trend_no_fault (OfTag base plan lists read planned asked refused) = refused
-  trend_no_fault (OfGroup base plan lists cores opened planned asked refused) = rows_no_output base.groups.items _ _ _ _ refused
+  trend_no_fault (OfGroup base plan lists cores opened planned asked refused) = rows_no_output base.groups.items _ _ _ _ _ refused
   trend_no_fault (OfMemory same) = cc
 
   -- a device fault that is reported was counted
@@ -101,7 +101,7 @@ module _ (name plan_name : List ℕ) (told : ToldFiles) (old new : DeviceTraces)
   trend_rose few (Group i) (OfTag base plan lists read planned asked refused) = absurd refused
   trend_rose few Log (OfTag base plan lists read planned asked refused) = absurd refused
   trend_rose few unit (OfGroup base plan lists cores opened planned asked refused) =
-      rows_rose base.groups.items _ _ before now few unit refused
+      rows_rose base.groups.items _ _ _ before now few unit refused
   trend_rose few unit (OfMemory same) = cc
 
 module _ (name group calc : List ℕ) (told : ToldFiles) (old new : DeviceTraces) (before now : ℕ) where
@@ -114,8 +114,8 @@ module _ (name group calc : List ℕ) (told : ToldFiles) (old new : DeviceTraces
   frames_not_done (frame.OfGroup base g i k cores opened named (frame_rows.OfDamage at byte is shows)) = cc
   frames_not_done (frame.OfGroup base g i k cores opened named (frame_rows.OfVersion input found version is shows)) = cc
   frames_not_done (frame.OfGroup base g i k cores opened named (frame_rows.OfWindows windows rows is shows)) = cc
-  frames_not_done (frame.OfGroup base g i k cores opened named (frame_rows.OfCells number is many above)) = cc
-  frames_not_done (frame.OfGroup base g i k cores opened named (frame_rows.OfCopies number is many above)) = cc
+  frames_not_done (frame.OfGroup base g i k cores opened named (frame_rows.OfCells number is stood over)) = cc
+  frames_not_done (frame.OfGroup base g i k cores opened named (frame_rows.OfCopies number is stood over)) = cc
   frames_not_done (frame.OfGroup base g i k cores opened named (frame_rows.OfMemory is)) = cc
   frames_not_done (frame.OfMemory is) = cc
 
@@ -128,8 +128,8 @@ module _ (name group calc : List ℕ) (told : ToldFiles) (old new : DeviceTraces
   frames_no_fault (frame.OfGroup base g i k cores opened named (frame_rows.OfDamage at byte is shows)) = cc
   frames_no_fault (frame.OfGroup base g i k cores opened named (frame_rows.OfVersion input found version is shows)) = cc
   frames_no_fault (frame.OfGroup base g i k cores opened named (frame_rows.OfWindows windows rows is shows)) = cc
-  frames_no_fault (frame.OfGroup base g i k cores opened named (frame_rows.OfCells number is many above)) = cc
-  frames_no_fault (frame.OfGroup base g i k cores opened named (frame_rows.OfCopies number is many above)) = cc
+  frames_no_fault (frame.OfGroup base g i k cores opened named (frame_rows.OfCells number is stood over)) = cc
+  frames_no_fault (frame.OfGroup base g i k cores opened named (frame_rows.OfCopies number is stood over)) = cc
   frames_no_fault (frame.OfGroup base g i k cores opened named (frame_rows.OfMemory is)) = cc
   frames_no_fault (frame.OfMemory is) = cc
 
@@ -144,7 +144,7 @@ module _ (name group calc : List ℕ) (told : ToldFiles) (old new : DeviceTraces
   frames_rose few unit (frame.OfGroup base g i k cores opened named (frame_rows.OfDamage at byte is shows)) = cc
   frames_rose few unit (frame.OfGroup base g i k cores opened named (frame_rows.OfVersion input found version is shows)) = cc
   frames_rose few unit (frame.OfGroup base g i k cores opened named (frame_rows.OfWindows windows rows is shows)) = cc
-  frames_rose few unit (frame.OfGroup base g i k cores opened named (frame_rows.OfCells number is many above)) = cc
-  frames_rose few unit (frame.OfGroup base g i k cores opened named (frame_rows.OfCopies number is many above)) = cc
+  frames_rose few unit (frame.OfGroup base g i k cores opened named (frame_rows.OfCells number is stood over)) = cc
+  frames_rose few unit (frame.OfGroup base g i k cores opened named (frame_rows.OfCopies number is stood over)) = cc
   frames_rose few unit (frame.OfGroup base g i k cores opened named (frame_rows.OfMemory is)) = cc
   frames_rose few unit (frame.OfMemory is) = cc

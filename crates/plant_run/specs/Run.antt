@@ -14,11 +14,11 @@ use Rattle.plant_status.specs.declared.status.Status.TheVariants.{BadWords, Read
 use Rattle.plant_files.specs.Asked.{ToldFiles}
 use Rattle.plant_files.specs.Faults.{IsFaultOfPlanned}
 use Rattle.pack_command.specs.Pack.{IsInputRead, IsPackRefusal, first_full, history_of, origin_of}
-use Rattle.plant_files.specs.Printing.{PrintsSo}
-use Rattle.store_commands.specs.Commands.{IsChecked, IsCheckRefusal, IsTrend, IsTrendRefusal, AreAllKept}
+use Rattle.plant_files.specs.Printing.{PrintsSo, WhereDone}
+use Rattle.store_commands.specs.Commands.{IsChecked, IsCheckRefusal, IsTrend, IsTrendRefusal, AreAllKept, HaveGroupsSynced}
 use Rattle.plant_store.specs.Groups.{DeviceTraces}
 use Rattle.plant_store.specs.OpenedBases.{AreKept}
-use Rattle.store_commands.specs.FrameCommands.{AreFramesKept, IsFrames, IsFramesRefusal}
+use Rattle.store_commands.specs.FrameCommands.{AreFramesKept, HasGroupSynced, IsFrames, IsFramesRefusal}
 use Rattle.plant_more.specs.Endings.{AsksForNone, EndsOfShifts, EndsOver, IsUnread, KeepsForShifts, Scene, scene}
 use Rattle.plant_run.specs.CommandLine.{Form, Pack, Check, Trend, Log, Shifts, Frames, Unknown}
 
@@ -68,6 +68,7 @@ EndsAround (Trend base plan) before now status =
     before.output now.output status
     × EndsOver base before now status
     × IsFaultOfPlanned base plan before.files now.failed_name status
+    × WhereDone status (HaveGroupsSynced base before.files before.devices now.devices)
 EndsAround (Shifts asked) before now status = EndsOfShifts asked before now status
 EndsAround (Frames base group calc least) before now status =
     PrintsSo (IsFrames base group calc least before.files before.devices)
@@ -75,6 +76,7 @@ EndsAround (Frames base group calc least) before now status =
     before.output now.output status
     × EndsOver base before now status
     × ((which : FileId) → status ≡ ReadFault which → IsFaultOf now.failed_name base)
+    × WhereDone status (HasGroupSynced base group calc before.files before.devices now.devices)
 EndsAround Unknown before now status = (status ≡ BadWords) × IsUnread before now status
 EndsAround other before now status = ⊥
 

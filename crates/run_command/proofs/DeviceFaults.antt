@@ -1,5 +1,5 @@
 -- A fault of a device that a session reports is one that the store counts.
-use Rattle.std.proofs.Common.{◌≡◌, ◌+◌, ◌-◌, ◌<◌, ℕ, List, Option, Some, Result, Ok, Err, String, arith, subst, min}
+use Rattle.std.proofs.Common.{◌≡◌, ◌+◌, ◌-◌, ◌<◌, ℕ, List, [], ◌∷◌, All, Option, Some, Result, Ok, Err, String, arith, subst, min, length, ◌∙◌}
 use Rattle.std.specs.Prelude.{◌^◌, IfErr, slice_get, true}
 use Rattle.std.specs.declared.alloc.Global.{Global}
 use Rattle.disk_model.specs.Traces.{Trace}
@@ -23,10 +23,18 @@ use Rattle.session_report.specs.declared.session.Session.{Session}
 use Rattle.tag_base.specs.declared.definition.Base.{Base}
 use Rattle.run_command.specs.declared.work.Given.{Given}
 use Rattle.run_command.specs.Refusals.{IsMakingRefusal, IsRefused, OfAsk, OfCommit, OfFinding, OfGroup, OfMaking, OfMemory, OfPull, OfRefresh as OfRefreshing, OfRest, OfRowAsk, OfStop, OfTag, OfTake, OfTaking, OfTurns, OfWant}
-use Rattle.run_command.specs.Runs.{IsOver, IsUndone, OfNone, OfSettling}
+use Rattle.run_command.specs.Runs.{AreUnitsOpen, IsContinued, IsContinuedGroup, IsOver, IsUndone, OfNone, OfSettling}
+use Rattle.run_command.specs.Steps.{AreStepsMade}
+use Rattle.run_command.proofs.Zipped.{zip_at, zip_length}
+use Rattle.std.specs.List.{AllZip}
+use Rattle.std.proofs.lemmas.List.Elements.{All-cons, All-head, All-tail}
+use Rattle.trend_num.specs.declared.tag_def.TagDef.{TagDef}
+use Rattle.tag_cell.specs.declared.history.TagHistory.{TagHistory}
+use Rattle.plant_store.specs.CellClosings.{AreHistoriesOf}
+use Rattle.plant_store.specs.CellOpenings.{AreCellsOpened}
 use Rattle.run_command.specs.Headline.{IsFaultCounted}
 use Rattle.plant_status.proofs.Elements.{element}
-use Rattle.session_audit.specs.CellRefusals.{IsSo}
+use Rattle.session_audit.specs.CellRefusals.{IsCommittedCell, IsSo}
 use Rattle.collector_pool.specs.declared.note.WorkerNote.{WorkerNote}
 
 -- what is counted once more is not zero
@@ -66,10 +74,10 @@ module _ {D : Type 0} (trace : D → Option Trace) (ticks faults : D → ℕ) (b
     of_making (Tag tag) (OfTaking so) = of_cell tag so
     of_making (Group group) (OfTaking so) = absurd so
     of_making Log (OfTaking so) = absurd so
-    of_making (Tag tag) (OfCommit so) = of_cell tag so
-    of_making (Group group) (OfCommit so) = absurd so
-    of_making Log (OfCommit so) = absurd so
-    of_making unit (OfRefreshing so) = of_refresh so.group so.book (durable_lists cells) _ unit so.there so.refused
+    of_making (Tag tag) (OfCommit tapes so) = of_cell tag so.0
+    of_making (Group group) (OfCommit tapes so) = absurd so
+    of_making Log (OfCommit tapes so) = absurd so
+    of_making unit (OfRefreshing tapes committed so) = of_refresh so.group so.book (durable_lists cells) _ unit so.there so.refused
     of_making unit (OfMemory same) = absurd (cc same)
 
     of_rest : (notes : List WorkerNote) (unit : Device) → IsRefused g notes cells books (DeviceFault unit) → HasRisen before now
@@ -95,3 +103,33 @@ module _ {D : Type 0} (trace : D → Option Trace) (ticks faults : D → ℕ) (b
     faults_counted opened opened_books notes (Ok text) undone = tt
     faults_counted opened opened_books notes (Err why) undone = λ unit same.
         of_undone opened opened_books notes unit (subst (IsUndone g opened opened_books cells books notes) same undone)
+
+-- where all steps are made no device has failed, and no fault is counted
+module _ {D : Type 0} (trace : D → Option Trace) (ticks faults : D → ℕ) (base : Base) (old new : DeviceTraces)
+    (cells : List (Cell D)) (books : List (Book D)) (s : Session) (is : IsOver trace ticks faults base old new cells books s)
+    (opened : List (Cell D)) (opened_books : List (Book D)) (opening : AreUnitsOpen trace ticks faults base old opened opened_books)
+    (same : AllZip IsContinued opened cells) (same_books : AllZip IsContinuedGroup opened_books books) where
+  -- a cell that has not failed counts no fault of its device
+  sound_cells : (defs : List TagDef) (first last : List (Cell D)) (ts : List TagHistory) → AreCellsOpened trace ticks faults defs old first
+      → AllZip IsContinued first last → AreHistoriesOf trace ticks faults last ts → All IsCommittedCell last
+      → All (λ (c : Cell D). faults c.journal.dev ≡ 0) last
+  sound_cells defs first [] ts was same is committed = λ i d below. absurd (omega (arith, below))
+  sound_cells defs [] (c ∷ cs) ts was same is committed = absurd same
+  sound_cells [] (e ∷ es) (c ∷ cs) ts was same is committed = absurd was
+  sound_cells (d ∷ ds) (e ∷ es) (c ∷ cs) [] was same is committed = absurd is
+  sound_cells (d ∷ ds) (e ∷ es) (c ∷ cs) (t ∷ ts) was same is committed =
+      All-cons (λ (x : Cell D). faults x.journal.dev ≡ 0) c cs
+      (is.0.faultless (All-head IsCommittedCell c cs committed).usable ∙ same.0.faults ∙ was.0.opened_faultless)
+      (sound_cells ds es cs ts was.1 same.1 is.1 (All-tail IsCommittedCell c cs committed))
+
+  pub none_counted : (g : Given) → AreStepsMade g cells books → (before now : ℕ) → CountsClosed faults cells books before now → now ≡ before
+  none_counted g made before now counts =
+      counts.faultless (sound_cells base.tags.items opened cells s.tags.items opening.tags same is.tags made.committed)
+      (λ i b below.
+      let first : i < length opened_books = omega (arith, below, zip_length IsContinuedGroup opened_books books same_books) in
+      let group : i < length s.groups.items = omega (arith, is.groups.as_many, below) in
+      let a = element opened_books i first in
+      let d = element base.groups.items i (omega (arith, first, opening.as_many_groups)) in
+      (is.groups.each i b (element s.groups.items i group) below).faultless (made.refreshed.each i b below).usable
+      ∙ (zip_at IsContinuedGroup opened_books books i a b same_books below).faults
+      ∙ (opening.groups.each i d a first).opening.faults)

@@ -157,7 +157,7 @@ fits text def recovered windows size is =
     ap (λ (vs : List ℕ). complete_windows w (cut vs recovered)) none.0 ∙ none_complete w def.inputs recovered in
     let no_fault : shape_fault (complete_windows w (cut is.versions recovered)) is.rows ≡ None =
     ap (λ (n : ℕ). shape_fault n is.rows) empty ∙ (ap (shape_fault 0) none.1 ∙ no_shape calcs) in
-    cc (no_fault, is.shape)
+    cc (no_fault, is.misshapen.shape)
 
 of_groups : (defs : List GroupDef) (records : List (List Rec)) (before now : ℕ) (why : Status)
     → groups.IsRefusal defs records fresh_devices before now why → drill_status why ≡ WantOfMemory
@@ -175,7 +175,7 @@ of_groups defs records before now why (groups.OfMemory same) = ap drill_status s
 of_plant : (base : Base) (new : DeviceTraces) (now : ℕ) (why : Status) → IsPlantRefusal base fresh_devices new 0 now why
     → drill_status why ≡ WantOfMemory
 of_plant base new now why (OfTags is) = of_tags base.tags.items new 0 now why is
-of_plant base new now why (OfGroups cores opened is) = of_groups base.groups.items _ 0 now why is
+of_plant base new now why (OfGroups cores opened few is) = of_groups base.groups.items _ 0 now why is
 
 of_devices : (base : Base) (new : DeviceTraces) (now : ℕ) (why : Status) → runs.IsUnopened base fresh_devices new 0 now why
     → drill_status why ≡ WantOfMemory

@@ -1,6 +1,6 @@
 -- Group histories, and the devices that are back under the groups' names.
 use Rattle.std.proofs.Common.{◌≡◌, ◌∙◌, ◌<◌, ℕ, List, [], Option, None, Some, String, string_bytes, arith, ap, sym, subst, refl, length, get_or}
-use Rattle.std.specs.Prelude.{IsSome}
+use Rattle.std.specs.Prelude.{IfSome, IsSome}
 use Rattle.std.specs.declared.alloc.Global.{Global}
 use Rattle.std.proofs.lemmas.List.{get_or-map, length-map}
 use Rattle.disk_model.specs.Traces.{Trace}
@@ -38,9 +38,11 @@ groups_back trace ticks faults groups books old new names histories named many o
       ∙ get_or-map (λ (x : GroupDef). device_name x.name) groups i d [] here in
       let now : group_trace_at new (get_or groups i d) ≡ trace_of trace dev =
       ap new (sym name) ∙ back i b s there
-      ∙ back_is trace dev (old (string_bytes (get_or names i s))) (is.there (λ none. some (is.text ∙ none))) in (
-        count_of ticks dev,
-        count_of faults dev,
-        subst (λ t. IsBookHistory (get_or histories i g) t (count_of ticks dev) (count_of faults dev)) (sym now) is.history,
-      );
+      ∙ back_is trace dev (old (string_bytes (get_or names i s))) (is.there (λ none. some (is.text ∙ none))) in
+      record {
+        ticks = count_of ticks dev;
+        faults = count_of faults dev;
+        clock = subst (λ o. IfSome o (λ t. length t.calls ≡ count_of ticks dev)) (sym now) is.clock;
+        is = subst (λ t. IsBookHistory (get_or histories i g) t (count_of ticks dev) (count_of faults dev)) (sym now) is.history;
+      };
 }

@@ -1,12 +1,13 @@
 -- The promise of a session, from its cells and books.
-use Rattle.std.proofs.Common.{◌≡◌, ◌∙◌, ◌<◌, ◌≤◌, ◌+◌, ℕ, Bool, List, [], ◌∷◌, ◌++◌, All, Option, Result, Ok, Err, IfOk, String, arith, ap, sym, subst, refl, length, map, take, get_or}
-use Rattle.std.specs.Prelude.{◌≢◌, nat_eq, string_bytes, if◌then◌else◌}
+use Rattle.std.proofs.Common.{◌≡◌, ◌∙◌, ◌<◌, ◌≤◌, ◌+◌, ℕ, Bool, List, [], ◌∷◌, ◌++◌, All, Option, None, Some, IfSome, Result, Ok, Err, IfErr, IfOk, String, arith, ap, ap₂, sym, subst, refl, length, map, take, get_or}
+use Rattle.std.specs.Prelude.{◌≢◌, ◌*◌, ◌^◌, nat_eq, string_bytes, if◌then◌else◌}
 use Rattle.std.specs.List.{AllZip, fold, sum_by}
 use Rattle.std.specs.declared.alloc.Global.{Global}
 use Rattle.std.proofs.lemmas.List.{ext_get_or, get_or-map, length-map, length_push, take_all}
 use Rattle.std.proofs.lemmas.List.Sums.{sum_by-cons}
 use Rattle.trend_num.specs.Limits.{most_stored}
 use Rattle.trend_num.specs.declared.point.Point.{Point}
+use Rattle.trend_num.specs.declared.archive.Rec.{Rec}
 use Rattle.trend_num.specs.declared.archive.Summary.{Summary}
 use Rattle.trend_num.specs.declared.tag_def.TagDef.{TagDef}
 use Rattle.trend_model.specs.History.{Raw}
@@ -21,10 +22,15 @@ use Rattle.tag_cell.specs.declared.history.TagHistory.{TagHistory}
 use Rattle.tag_cell.specs.declared.history.TagOpening.{TagOpening}
 use Rattle.tag_cell.specs.Replays.{FitAll, IsTapeReplayed, Shown, replayed}
 use Rattle.tag_cell.specs.Tapes.{CellWalk, after_entry, opened, cell_start, taken, cell_walked}
-use Rattle.tag_cell.specs.Told.{IsCellHistory, ToldCell as Cell, durable_records, takes_waiting}
+use Rattle.tag_cell.specs.Told.{ToldCell as Cell, durable_records, takes_waiting}
 use Rattle.tag_cell.proofs.Entries.{points-end}
 use Rattle.tag_cell.proofs.Laws.{legal}
-use Rattle.calc_refresh.specs.Lists.{lists_of}
+use Rattle.calc_check.specs.Group.{Group}
+use Rattle.sheet_law.specs.Windows.{complete_windows}
+use Rattle.calc_refresh.specs.declared.definition.GroupDefParts.{GroupDefParts}
+use Rattle.calc_refresh.specs.Lists.{lists_of, total_length}
+use Rattle.calc_refresh.specs.Sheet.{grid_of}
+use Rattle.calc_refresh.proofs.Applying.{limits_hold}
 use Rattle.group_book.specs.declared.history.GroupHistory.{GroupHistory}
 use Rattle.group_book.specs.declared.history.GroupOpening.{GroupOpening}
 use Rattle.group_book.specs.Openings.{StandsForGroup}
@@ -50,7 +56,7 @@ use Rattle.tag_base.specs.declared.definition.Base.{Base}
 use Rattle.tag_base.specs.declared.definition.GroupDef.{GroupDef}
 use Rattle.tag_base.specs.declared.schedule.Refresher.{Refresher}
 use Rattle.plant_store.specs.Tags.{tag_trace_of}
-use Rattle.plant_store.specs.CellClosings.{AreHistoriesAt, AreHistoriesOf, IsHistoryOfCell}
+use Rattle.plant_store.specs.CellClosings.{AreHistoriesAt, AreHistoriesOf, IsHistoryAt, IsHistoryOfCell}
 use Rattle.plant_store.specs.CellNames.{device_names_of}
 use Rattle.plant_store.specs.CellOpenings.{AreCellsOpened, records_opened}
 use Rattle.plant_store.specs.Groups.{AreBooksOpened, DeviceTraces, group_parts_of, group_definition_text, group_trace_at}
@@ -59,19 +65,25 @@ use Rattle.plant_files.specs.PlanRows.{IsGoodBase}
 use Rattle.session_report.specs.declared.session.Session.{Session}
 use Rattle.session_report.specs.Report.{report}
 use Rattle.run_command.specs.declared.work.Given.{Given}
-use Rattle.run_command.specs.Headline.{AreGroupsSound, AreUnitsOpened, IsBegun, IsDoneSo, IsGroupOpened, IsMixed, IsPromised, IsGroupRefreshed, IsTagOpened, IsTagSound, entries, tag_records_of, turns, turns_in}
+use Rattle.run_command.specs.Headline.{AreGroupsSound, AreUnitsOpened, HasMade, IsBegun, IsDoneSo, IsGroupOpened, IsMixed, CountsFaults, IsPromised, IsGroupRefreshed, IsTagOpened, IsTagSound, entries, grid, tag_records_of, turns, turns_in}
 use Rattle.run_command.specs.Refusals.{IsOfOpening}
-use Rattle.run_command.specs.Runs.{IsContinued, IsContinuedGroup, IsDone, IsSessionHeld, IsOver, IsSession, IsWorkIn}
+use Rattle.run_command.specs.Runs.{IsContinued, IsContinuedGroup, IsDone, IsSessionHeld, IsUndone, IsOver, IsSession, IsWorkIn}
 use Rattle.run_command.specs.Steps.{AreBegun, AreStepsMade, planned_turn, turn_of}
 use Rattle.run_command.proofs.Zipped.{zip_at, zip_length}
-use Rattle.run_command.proofs.DeviceFaults.{faults_counted}
+use Rattle.run_command.proofs.DeviceFaults.{faults_counted, none_counted}
 use Rattle.plant_status.proofs.Elements.{element}
 
 -- ---- tags
 
 -- the history of a cell is sound
-sound_tag : (trace : Option Trace) (ticks faults : ℕ) (t : TagHistory) → IsCellHistory t trace ticks faults → IsTagSound t trace
-sound_tag trace ticks faults t is =
+-- what is not above a device's clock is not above the number of its calls
+made_by : (o : Option Trace) (many ticks : ℕ) → many ≤ ticks → IfSome o (λ t. length t.calls ≡ ticks) → HasMade many o
+made_by None many ticks low clock = tt
+made_by (Some t) many ticks low clock = omega (arith, low, clock)
+
+sound_tag : (trace : Option Trace) (t : TagHistory) → IsHistoryAt trace t → IsTagSound t trace
+sound_tag trace t at =
+    let is = at.is in
     let s : State = record { records = t.recs.items; summary = t.summary } in
     record {
       kept = λ org h step stands. record {
@@ -79,6 +91,8 @@ sound_tag trace ticks faults t is =
         bounded = bounded org (followed h (map Raw (taken t.tape.items)));
       };
       safe = is.safe;
+      clocked = made_by trace _ at.ticks is.past at.clock;
+      opened_before = made_by trace _ at.ticks is.opened_before at.clock;
       pulled = pulls_durable t.def t.opening t.tape.items s t.acked is.replayed;
     }
 
@@ -87,7 +101,7 @@ pub sound_tags : (new : DeviceTraces) (defs : List TagDef) (ts : List TagHistory
 sound_tags new [] [] is = tt
 sound_tags new [] (t ∷ ts) is = absurd is
 sound_tags new (d ∷ ds) [] is = absurd is
-sound_tags new (d ∷ ds) (t ∷ ts) is = (sound_tag (tag_trace_of new d) is.0.0 is.0.1 t is.0.2, sound_tags new ds ts is.1)
+sound_tags new (d ∷ ds) (t ∷ ts) is = (sound_tag (tag_trace_of new d) t is.0, sound_tags new ds ts is.1)
 
 module _ {D : Type 0} (trace : D → Option Trace) (ticks faults : D → ℕ) (old : DeviceTraces) where
   -- each was opened as its device stood
@@ -224,7 +238,16 @@ module _ {D : Type 0} (trace : D → Option Trace) (ticks faults : D → ℕ) (b
         kept = λ i g below.
             let there : i < length books = omega (arith, many, below) in
             (is.groups.each i (element books i there) g there).history.legal;
-        safe = λ i d g below some. (is.group_devices.each i d g below some).2.safe;
+        evaluated = λ i g below.
+            let there : i < length books = omega (arith, many, below) in
+            (is.groups.each i (element books i there) g there).history.evaluated;
+        safe = λ i d g below some. (is.group_devices.each i d g below some).is.safe;
+        clocked = λ i d g below some.
+            let at = is.group_devices.each i d g below some in
+            made_by (group_trace_at new (get_or base.groups.items i d)) _ at.ticks at.is.past at.clock;
+        opened_before = λ i d g below some.
+            let at = is.group_devices.each i d g below some in
+            made_by (group_trace_at new (get_or base.groups.items i d)) _ at.ticks at.is.opened_before at.clock;
       }
 
   -- each was opened as what its device stood for
@@ -291,13 +314,13 @@ module _ {D : Type 0} (trace : D → Option Trace) (ticks faults : D → ℕ) (b
       takes = subst (λ n. AreTapesWhole entries take_of (phase_item n) rows s.tags.items) given.earlier_is
           (subst (λ files. AreTapesWhole entries take_of (phase_item g.work.earlier) files s.tags.items) given.collectors
           (whole_tapes (λ (c : Cell D). c.tape) entries take_of (phase_item g.work.earlier) (lists_of g.work.collectors.items) cells
-          s.tags.items tags_many (λ i c t below. (history_at i c t below).tape_is) made.takes));
+          s.tags.items tags_many (λ i c t below. (history_at i c t below).tape_is) made.tapes.takes));
       asks = subst (λ files. AreTapesWhole entries ask_of ask_item files s.tags.items) given.readers
           (whole_tapes (λ (c : Cell D). c.tape) entries ask_of ask_item (lists_of g.work.readers.items) cells s.tags.items tags_many
-          (λ i c t below. (history_at i c t below).tape_is) made.asks);
+          (λ i c t below. (history_at i c t below).tape_is) made.tapes.asks);
       row_asks = subst (λ files. AreTapesWhole turns row_ask_of row_item files s.groups.items) given.readers
           (whole_tapes (λ (b : Book D). b.tape) turns row_ask_of row_item (lists_of g.work.readers.items) books s.groups.items
-          is.groups.as_many (λ i b h below. (is.groups.each i b h (omega (arith, is.groups.as_many, below))).tape) made.row_asks);
+          is.groups.as_many (λ i b h below. (is.groups.each i b h (omega (arith, is.groups.as_many, below))).tape) made.tapes.row_asks);
       pulls = λ group input d h t below within.
           let there : group < length books = omega (arith, is.groups.as_many, below) in
           let of_base : group < length base.groups.items = omega (arith, there, is.as_many_groups) in
@@ -323,7 +346,7 @@ module _ {D : Type 0} (trace : D → Option Trace) (ticks faults : D → ℕ) (b
           let of = history_at i c t below in
           let h = get_or s.tags.items i t in
           all_acked h.def h.opening h.tape.items (record { records = h.recs.items; summary = h.summary }) h.acked of.history.replayed
-          (omega (arith, made.none_waits i c there, of.acked_is, ap (λ (x : Summary). x.taken) of.summary_is));
+          (omega (arith, (made.committed i c there).none_waits, of.acked_is, ap (λ (x : Summary). x.taken) of.summary_is));
     }
 
     -- the records of a tag are those of its cell, and no crash takes one away
@@ -377,6 +400,15 @@ module _ {D : Type 0} (trace : D → Option Trace) (ticks faults : D → ℕ) (b
         let known : All (λ tag. tag < length s.tags.items) def.inputs.items =
         λ input e within. omega (arith, tags_many, is.as_many_tags, (good.sound i d of_base).inputs_are_tags input e within) in
         let to = made.refreshed.each i b there in
+        let g' = get_or s.groups.items i h in
+        let same_cells : complete_windows (grid g') (lists_of g'.copies.items) * length g'.def.calcs.calcs
+        ≡ complete_windows book.sheet.grid book.sheet.copies * length book.sheet.group.calcs
+        = ap₂ (λ w (l : List (List Rec)). complete_windows w l * length g'.def.calcs.calcs)
+        (ap (λ (x : GroupDefParts). grid_of x.start x.period) of.def ∙ sym of.same_grid) of.copies
+        ∙ ap (λ (x : Group). complete_windows book.sheet.grid book.sheet.copies * length x.calcs)
+        (ap (λ (x : GroupDefParts). x.calcs) of.def ∙ sym of.same_group) in
+        let fits = limits_hold (complete_windows book.sheet.grid book.sheet.copies * length book.sheet.group.calcs)
+        (total_length book.sheet.copies) to.within in
         let versions : versions_of book ≡ durable_numbers (durable_lists cells) def.inputs.items =
         to.versions ∙ ap (durable_numbers (durable_lists cells)) tags in
         let copies : length book.sheet.copies ≡ length def.inputs.items = sym (length-map book.sheet.copies length) ∙ ap length versions
@@ -390,8 +422,10 @@ module _ {D : Type 0} (trace : D → Option Trace) (ticks faults : D → ℕ) (b
               (copies ∙ sym (length-map def.inputs.items (tag_records_of s)))
               (λ input within.
               let inside : input < length def.inputs.items = omega (arith, copies, within) in
-              copy_at i input b def.inputs.items there inside tags known made.none_waits pulled versions
+              copy_at i input b def.inputs.items there inside tags known (λ k x at. (made.committed k x at).none_waits) pulled versions
               ∙ sym (get_or-map (tag_records_of s) def.inputs.items input 0 [] inside));
+          few_cells = omega (arith, same_cells, fits.0);
+          few_copies = omega (arith, ap total_length of.copies, fits.1);
           saved = subst EndsInSave (sym of.tape) (to.saved (of.there (λ none.
               some_text def.name 44 _ (sym (was.groups i d h below).text ∙ of.text ∙ none))));
         }
@@ -441,6 +475,22 @@ held_opened trace ticks faults base g old new before now answer s is none = reco
       is.opening.few;
 }
 
+-- what a session counts of the faults of its devices
+session_counts : {D : Type 0} (trace : D → Option Trace) (ticks faults : D → ℕ) (base : Base) (g : Given) (old new : DeviceTraces)
+    (before now : ℕ) (answer : Result (String Global) Status) (s : Session)
+    → (run : IsSessionHeld trace ticks faults base g old new before now answer s)
+    → IfErr answer (IsUndone g run.opened run.opened_books run.cells run.books s.workers.items) → before < 2 ^ 64
+    → CountsFaults before now answer
+session_counts trace ticks faults base g old new before now (Ok text) s run undone few =
+    none_counted trace ticks faults base old new run.cells run.books s run.over run.opened run.opened_books run.opening
+    (run.same_tags (λ none. none)) (run.same_groups (λ none. none)) g run.done.made before now (run.counts few)
+session_counts trace ticks faults base g old new before now (Err why) s run undone few =
+    let counts = run.counts few in (
+      counts.later,
+      faults_counted trace ticks faults base old new before now run.cells run.books s run.over counts g run.opened run.opened_books
+          s.workers.items (Err why) undone,
+    )
+
 pub promised : {D : Type 0} (trace : D → Option Trace) (ticks faults : D → ℕ) (name plan_name : List ℕ) (told : ToldFiles)
     (old new : DeviceTraces) (before now stops_before stops_now : ℕ) (answer : Result (String Global) Status) (s : Session)
     → IsSession trace ticks faults name plan_name told old new before now stops_before stops_now answer s
@@ -463,10 +513,5 @@ promised trace ticks faults name plan_name told old new before now stops_before 
           (λ was text it. only_phase is.base is.rows is.queries is.plan.refreshers.items s (string_bytes text)
           (done trace ticks faults is.base old new is.given run.cells run.books s run.over 0 0 is.rows is.queries
           is.plan.refreshers.items (string_bytes text) is.good is.work was it)) run.done;
-      counted = λ few.
-          let counts = run.counts few in (
-            counts.later,
-            faults_counted trace ticks faults is.base old new before now run.cells run.books s run.over counts is.given run.opened
-                run.opened_books s.workers.items answer is.run.undone,
-          );
+      counted = λ few. session_counts trace ticks faults is.base is.given old new before now answer s run is.run.undone few;
     }

@@ -2,6 +2,7 @@
 use Rattle.std.proofs.Common.{◌≡◌, ◌∙◌, ◌<◌, List, All, ap, sym, subst, get_or}
 use Rattle.tag_cell.specs.declared.entry.Entry.{Entry}
 use Rattle.tag_cell.specs.Told.{ToldCell as Cell, takes_waiting}
+use Rattle.session_audit.specs.CellRefusals.{IsCommittedCell}
 use Rattle.session_audit.specs.Cells.{AreLonger}
 use Rattle.group_book.specs.Told.{ToldBook as Book}
 use Rattle.session_audit.specs.Each.{AreEach}
@@ -72,10 +73,12 @@ module _ {D : Type 0} where
     opening = second.opening ∙ first.opening;
   })
 
-  -- nothing takes_waiting that did not wait before pulls
-  pub none_waits : (old new : List (Cell D)) → AreEach IsPulledMore old new → All (λ c. takes_waiting c ≡ 0) old → All (λ c. takes_waiting c ≡ 0) new
-  none_waits old new pulled none i d below =
-      ap takes_waiting (pulled.each i d).changed ∙ none i d (subst (λ n. i < n) pulled.as_many below)
+  -- what was committed before pulls still is
+  pub committed : (old new : List (Cell D)) → AreEach IsPulledMore old new → All IsCommittedCell old → All IsCommittedCell new
+  committed old new pulled was i d below =
+      let before = was i d (subst (λ n. i < n) pulled.as_many below) in
+      let changed = (pulled.each i d).changed in
+      record { none_waits = ap takes_waiting changed ∙ before.none_waits; usable = ap (λ c. c.journal.failed) changed ∙ before.usable }
 
   -- cells that keep their openings are as was kept of them
   pub cells_as_kept : (old new : List (Cell D)) (known : List Kept) → AreEach IsCellKept old new → AreAsKept IsCellAsKept old known

@@ -36,11 +36,11 @@ of_files name plan_name told (plans.OfMemory same) = cc same
 -- no device either
 pub of_plant : (base : Base) (old new : DeviceTraces) (before now : ℕ) → IsPlantRefusal base old new before now BadWords → ⊥
 of_plant base old new before now (OfTags is) = is
-of_plant base old new before now (OfGroups cores opened (OfFault i same at)) = cc same
-of_plant base old new before now (OfGroups cores opened (OfDamage i a byte same at)) = cc same
-of_plant base old new before now (OfGroups cores opened (OfVersion i input found version same at)) = cc same
-of_plant base old new before now (OfGroups cores opened (OfWindows i windows rows same at)) = cc same
-of_plant base old new before now (OfGroups cores opened (OfMemory same)) = cc same
+of_plant base old new before now (OfGroups cores opened few (OfFault i same at)) = cc same
+of_plant base old new before now (OfGroups cores opened few (OfDamage i a byte same at)) = cc same
+of_plant base old new before now (OfGroups cores opened few (OfVersion i input found version same at)) = cc same
+of_plant base old new before now (OfGroups cores opened few (OfWindows i windows rows same at)) = cc same
+of_plant base old new before now (OfGroups cores opened few (OfMemory same)) = cc same
 
 pub of_devices : (base : Base) (old new : DeviceTraces) (before now : ℕ) → runs.IsUnopened base old new before now BadWords → ⊥
 of_devices base old new before now (runs.OfPlant is kept) = of_plant base old new before now is
@@ -75,8 +75,8 @@ module _ {D : Type 0} where
     of_rest notes (OfFinding (OfTurns is)) = is
     of_rest notes (OfStop is) = is
     of_rest notes (OfMaking ended (OfTaking is)) = is
-    of_rest notes (OfMaking ended (OfCommit is)) = is
-    of_rest notes (OfMaking ended (OfRefreshing is)) = of_book _ _ is.group is.book is.refused
+    of_rest notes (OfMaking ended (OfCommit tapes is)) = is
+    of_rest notes (OfMaking ended (OfRefreshing tapes committed is)) = of_book _ _ is.group is.book is.refused
     of_rest notes (OfMaking ended (OfWanting same)) = cc same
     of_rest notes (OfPull ended made is) = is.differs.differs
     of_rest notes (OfWant same) = cc same

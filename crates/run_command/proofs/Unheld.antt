@@ -18,11 +18,11 @@ pub unopened_is_no_fault : (base : Base) (old new : DeviceTraces) (before now : 
     → IsNoReadFault why
 unopened_is_no_fault base old new before now why (OfPlant (OfTags is) kept) which same =
     subst (tags.IsRefusal base.tags.items old new before now) same is
-unopened_is_no_fault base old new before now why (OfPlant (OfGroups cores opened (OfFault i is at)) kept) which same = cc
-unopened_is_no_fault base old new before now why (OfPlant (OfGroups cores opened (OfDamage i a byte is at)) kept) which same = cc
-unopened_is_no_fault base old new before now why (OfPlant (OfGroups cores opened (OfVersion i input found version is at)) kept) which same = cc
-unopened_is_no_fault base old new before now why (OfPlant (OfGroups cores opened (OfWindows i windows rows is at)) kept) which same = cc
-unopened_is_no_fault base old new before now why (OfPlant (OfGroups cores opened (OfMemory is)) kept) which same = cc
+unopened_is_no_fault base old new before now why (OfPlant (OfGroups cores opened few (OfFault i is at)) kept) which same = cc
+unopened_is_no_fault base old new before now why (OfPlant (OfGroups cores opened few (OfDamage i a byte is at)) kept) which same = cc
+unopened_is_no_fault base old new before now why (OfPlant (OfGroups cores opened few (OfVersion i input found version is at)) kept) which same = cc
+unopened_is_no_fault base old new before now why (OfPlant (OfGroups cores opened few (OfWindows i windows rows is at)) kept) which same = cc
+unopened_is_no_fault base old new before now why (OfPlant (OfGroups cores opened few (OfMemory is)) kept) which same = cc
 unopened_is_no_fault base old new before now why (OfWant is untouched) which same = cc
 
 -- what is no read fault counts none

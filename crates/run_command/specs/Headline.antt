@@ -1,5 +1,5 @@
 -- The promise of a session: what holds of each of its tags and groups, and of all of it once it is done.
-use Rattle.std.specs.Prelude.{◌≡◌, ◌≢◌, ℕ, ◌+◌, ◌^◌, ◌<◌, ◌≤◌, List, [], All, length, map, nat_eq, slice_index, slice_index_or, Option, Result, IfErr, IfOk, String, string_bytes, if◌then◌else◌}
+use Rattle.std.specs.Prelude.{◌≡◌, ◌≢◌, ℕ, ◌+◌, ◌*◌, ◌^◌, ◌<◌, ◌≤◌, List, [], All, length, map, nat_eq, slice_index, slice_index_or, Option, Result, Ok, Err, IfOk, IfSome, String, string_bytes, if◌then◌else◌}
 use Rattle.std.specs.List.{AllZip, sum_by}
 use Rattle.std.specs.declared.alloc.Global.{Global}
 use Rattle.trend_num.specs.Limits.{most_stored}
@@ -16,15 +16,18 @@ use Rattle.tag_cell.specs.declared.entry.Entry.{Entry}
 use Rattle.tag_cell.specs.declared.history.TagHistory.{TagHistory}
 use Rattle.tag_cell.specs.Crashes.{IsSafe}
 use Rattle.tag_cell.specs.Replays.{IsLegal}
-use Rattle.tag_cell.specs.Tapes.{opened, taken}
+use Rattle.tag_cell.specs.Tapes.{cell_start, cell_walked, opened, taken}
 use Rattle.sheet_law.specs.declared.grid.Grid.{Grid}
-use Rattle.calc_refresh.specs.Lists.{lists_of}
+use Rattle.sheet_law.specs.Windows.{complete_windows}
+use Rattle.calc_refresh.specs.Lists.{lists_of, total_length}
+use Rattle.calc_refresh.specs.Refreshed.{most_cells, most_copies}
 use Rattle.calc_refresh.specs.Sheet.{grid_of}
 use Rattle.group_book.specs.declared.history.GroupHistory.{GroupHistory}
 use Rattle.group_book.specs.declared.turn.Turn.{Turn}
 use Rattle.group_book.specs.Crashes.{IsBookSafe as IsGroupSafe}
-use Rattle.group_book.specs.Histories.{IsBookLegal as IsGroupLegal}
+use Rattle.group_book.specs.Histories.{AreRowsEvaluated, IsBookLegal as IsGroupLegal}
 use Rattle.group_book.specs.Openings.{StandsForGroup}
+use Rattle.group_book.specs.Tapes.{book_start, book_walked}
 use Rattle.plant_store.specs.Groups.{DeviceTraces, group_parts_of, group_definition_text, group_trace_at}
 use Rattle.tag_base.specs.declared.definition.Base.{Base}
 use Rattle.tag_base.specs.declared.definition.GroupDef.{GroupDef}
@@ -59,12 +62,19 @@ pub record IsKeptFor (org : Origin) (h : List Event) (t : TagHistory) : Type 0 w
   pub legal : IsLegal org h t.def t.opening t.tape.items (record { records = t.recs.items; summary = t.summary }) t.acked
   pub bounded : IsBounded org (followed h (map Raw (taken t.tape.items)))
 
+-- a device with these calls, if they are known, has made at least so many
+abbrev pub HasMade : ℕ → Option Trace → Type 0
+HasMade many trace = IfSome trace (λ t. many ≤ length t.calls)
+
 -- This holds for every history for which the tag's opening stands. After a crash at any moment since the opening, the
--- tag's device, with these calls, has the oldest values that were taken since, among them all acknowledged ones. Each
--- pull of a group ended where the acknowledged records ended then.
+-- tag's device, with these calls, has the oldest values that were taken since, among them all acknowledged ones. No
+-- moment of its opening or of a commit is above the number of these calls. Each pull of a group ended where the
+-- acknowledged records ended then.
 pub record IsTagSound (t : TagHistory) (trace : Option Trace) : Type 0 where
   pub kept : (org : Origin) (h : List Event) → org.step ≡ t.def.step → Stands org h (opened t.opening) → IsKeptFor org h t
   pub safe : IsSafe t.def t.opening t.tape.items (LeftSince trace)
+  pub clocked : HasMade (cell_walked (cell_start t.opening) t.tape.items).moment trace
+  pub opened_before : HasMade t.opening.moment trace
   pub pulled : ArePullsDurable t.def t.opening t.tape.items
 
 -- a tag is that of a base; its opening stands for every history for which its device, with these calls, stood before,
@@ -89,12 +99,27 @@ IsGroupKept g = IsGroupLegal g.def.calcs (grid g) g.opening g.tape.items g.versi
 abbrev pub IsGroupKeptBy : GroupHistory → Option Trace → Type 0
 IsGroupKeptBy g trace = IsGroupSafe g.text.items g.def.calcs (grid g) g.opening (lists_of g.copies.items) g.tape.items (LeftSince trace)
 
--- each group is sound; one with a definition text has a device, under its name
+-- the moment of the last save on a group's tape, or that of its opening if there is none
+abbrev pub last_moment : GroupHistory → ℕ
+last_moment g = (book_walked (book_start g.opening) g.tape.items).moment
+
+-- Whether or not the opening is right, the windows that were due since the opening have their values from scratch, there
+-- is one value of each calculation for each complete window, and as many were evaluated as the refreshes had due.
+abbrev pub IsGroupEvaluated : GroupHistory → Type 0
+IsGroupEvaluated g = AreRowsEvaluated g.def.calcs (grid g) g.opening g.tape.items (lists_of g.copies.items) (lists_of g.rows.items) g.evals
+
+-- Each group is sound. One with a definition text has a device, under its name, and no moment of its opening or of a save
+-- is above the number of calls of that device.
 pub record AreGroupsSound (groups : List GroupDef) (devices : DeviceTraces) (histories : List GroupHistory) : Type 0 where
   pub as_many : length histories ≡ length groups
   pub kept : (i : ℕ) (g : GroupHistory) → i < length histories → IsGroupKept (slice_index_or histories i g)
+  pub evaluated : (i : ℕ) (g : GroupHistory) → i < length histories → IsGroupEvaluated (slice_index_or histories i g)
   pub safe : (i : ℕ) (d : GroupDef) (g : GroupHistory) → i < length histories → (slice_index_or histories i g).text.items ≢ []
       → IsGroupKeptBy (slice_index_or histories i g) (group_trace_at devices (slice_index_or groups i d))
+  pub clocked : (i : ℕ) (d : GroupDef) (g : GroupHistory) → i < length histories → (slice_index_or histories i g).text.items ≢ []
+      → HasMade (last_moment (slice_index_or histories i g)) (group_trace_at devices (slice_index_or groups i d))
+  pub opened_before : (i : ℕ) (d : GroupDef) (g : GroupHistory) → i < length histories → (slice_index_or histories i g).text.items ≢ []
+      → HasMade (slice_index_or histories i g).opening.moment (group_trace_at devices (slice_index_or groups i d))
 
 -- a group is that of a base at this place; its opening is what its device, with these calls, stood for before
 pub record IsGroupOpened (i : ℕ) (d : GroupDef) (before : Option Trace) (g : GroupHistory) : Type 0 where
@@ -153,11 +178,13 @@ tag_records_of s tag = slice_index_or (map (λ t. t.recs.items) s.tags.items) ta
 abbrev pub turns_in : ℕ → List Refresher → ℕ
 turns_in group refreshers = sum_by (λ r. if nat_eq r.group group then r.turns else 0) refreshers
 
--- A group has taken into account all records of its inputs' tags. It was refreshed once more than its refreshers have
--- turns, and was saved after that.
+-- A group has taken into account all records of its inputs' tags, and is within its limits. It was refreshed once more
+-- than its refreshers have turns, and was saved after that.
 pub record IsGroupRefreshed (d : GroupDef) (turns : ℕ) (s : Session) (g : GroupHistory) : Type 0 where
   pub refreshed : length (refreshes g.tape.items) ≡ turns + 1
   pub copies : lists_of g.copies.items ≡ map (tag_records_of s) d.inputs.items
+  pub few_cells : complete_windows (grid g) (lists_of g.copies.items) * length g.def.calcs.calcs ≤ most_cells
+  pub few_copies : total_length (lists_of g.copies.items) ≤ most_copies
   pub saved : EndsInSave g.tape.items
 
 -- a session that is done, whose groups have so many turns: no worker was stopped, each row and question had its turn,
@@ -175,6 +202,12 @@ pub record IsDoneSo (item_of : ℕ → ℕ → RawRow → Option Item) (turns_of
 -- if the answer reports a device fault, the store's count of faults has risen, or is at the end of its type
 abbrev pub IsFaultCounted : ℕ → ℕ → Status → Type 0
 IsFaultCounted before now why = (unit : Device) → why ≡ DeviceFault unit → HasRisen before now
+
+-- No device fault is counted in a session that is done. In any other the count does not fall, and a device fault that the
+-- answer reports is counted.
+abbrev pub CountsFaults : {T : Type 0} → ℕ → ℕ → Result T Status → Type 0
+CountsFaults before now (Ok x) = now ≡ before
+CountsFaults before now (Err why) = (before ≤ now) × IsFaultCounted before now why
 
 -- The session of the plan in a file over the base in another, and its answer. The devices recorded such calls before,
 -- and record such calls now; the store counted so many faults before, and so many now. Whatever the answer is, each tag
@@ -194,4 +227,4 @@ pub record IsPromised (name plan_name : List ℕ) (told : ToldFiles) (before now
   pub begun : (AdmitsForeign answer → ⊥) → IsBegun take_item rows queries s
   pub done : IfOk answer (λ text. IsDoneSo take_item (λ i. turns_in i plan.refreshers.items) base rows queries s
       (string_bytes text))
-  pub counted : faults_before < 2 ^ 64 → (faults_before ≤ faults_now) × IfErr answer (IsFaultCounted faults_before faults_now)
+  pub counted : faults_before < 2 ^ 64 → CountsFaults faults_before faults_now answer

@@ -1,5 +1,5 @@
 -- Why a session is refused after its workers have ended.
-use Rattle.std.specs.Prelude.{◌≡◌, List, [], length, Vec, Result, Ok, Err, ⊤}
+use Rattle.std.specs.Prelude.{◌≡◌, List, [], All, length, Vec, Result, Ok, Err, ⊤}
 use Rattle.std.specs.declared.alloc.Global.{Global}
 use Rattle.trend_num.specs.declared.refusal.WantOfMemory.{WantOfMemory as NoMemory}
 use Rattle.plant_status.specs.declared.status.Status.{Status}
@@ -12,7 +12,7 @@ use Rattle.tag_cell.specs.Told.{ToldCell as Cell}
 use Rattle.collector_pool.specs.declared.note.WorkerNote.{WorkerNote}
 use Rattle.session_audit.specs.declared.cell_opening.Kept.{Kept}
 use Rattle.session_audit.specs.Finding.{IsAskMismatch, IsRowAskMismatch, IsTakeMismatch}
-use Rattle.session_audit.specs.CellRefusals.{IsCellRefusal, IsTakeRefusal}
+use Rattle.session_audit.specs.CellRefusals.{IsCellRefusal, IsCommittedCell, IsTakeRefusal}
 use Rattle.session_audit.specs.Starting.{AreUnfound}
 use Rattle.session_audit.specs.Workers.{AreOver}
 use Rattle.group_book.specs.Told.{ToldBook as Book}
@@ -24,7 +24,7 @@ use Rattle.session_audit.specs.BookRefusals.{IsRefreshRefusal}
 use Rattle.session_audit.specs.GroupTurns.{IsTurnsMismatch}
 use Rattle.run_command.specs.declared.work.Given.{Given}
 use Rattle.run_command.specs.Endings.{HaveAllEnded, IsStop}
-use Rattle.run_command.specs.Steps.{AreStepsMade}
+use Rattle.run_command.specs.Steps.{AreStepsMade, AreTapesMade}
 use Rattle.session_audit.specs.CellOpenings.{IsCellAsKept, IsTagMismatch}
 use Rattle.session_audit.specs.Openings.{AreAsKept}
 
@@ -39,12 +39,14 @@ pub data IsFindingRefusal {D : Type 0} (g : Given) (cells : List (Cell D)) (book
       → AreUnfound (length books) works → IsRowAskMismatch books works s → IsFindingRefusal g cells books s
   OfTurns : IsTurnsMismatch g.turns.items books s → IsFindingRefusal g cells books s
 
--- what the tapes lack cannot be done: a row is not taken, a commit or a refresh is refused, or no memory is found
+-- What the tapes lack cannot be done, in this order: a row is not taken; all is on the tapes, but a commit is refused; all
+-- is committed too, but a refresh or a save is refused. A lack of memory may come at any time.
 pub data IsMakingRefusal {D : Type 0} (g : Given) (cells : List (Cell D)) (books : List (Book D)) (s : Status) : Type 0 where
   OfTaking : IsTakeRefusal (phase_item g.work.earlier) (lists_of g.work.collectors.items) g.rooms.items cells s
       → IsMakingRefusal g cells books s
-  OfCommit : IsCellRefusal cells s → IsMakingRefusal g cells books s
-  OfRefresh : IsRefreshRefusal (durable_lists cells) (lists_of g.inputs.items) books s → IsMakingRefusal g cells books s
+  OfCommit : AreTapesMade g cells books → IsCellRefusal cells s → IsMakingRefusal g cells books s
+  OfRefresh : AreTapesMade g cells books → All IsCommittedCell cells
+      → IsRefreshRefusal (durable_lists cells) (lists_of g.inputs.items) g.turns.items books s → IsMakingRefusal g cells books s
   OfMemory : s ≡ WantOfMemory → IsMakingRefusal g cells books s
 
 -- the refusals, in order: one that comes of the tapes; a worker was stopped or found no memory; what the tapes lack

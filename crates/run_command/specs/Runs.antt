@@ -1,5 +1,5 @@
 -- What a run of a plan comes to: its session, or why there is none.
-use Rattle.std.specs.Prelude.{◌≡◌, ◌≢◌, ℕ, ◌^◌, ◌<◌, ◌≤◌, List, [], length, map, Option, None, Result, Err, OnOk, IfErr, IfOk, String, string_bytes, slice_index_or}
+use Rattle.std.specs.Prelude.{◌≡◌, ◌≢◌, ℕ, ◌^◌, ◌<◌, ◌≤◌, List, [], length, map, Option, None, Result, Err, OnOk, IfErr, IfOk, IfSome, String, string_bytes, slice_index_or}
 use Rattle.std.specs.List.{AllZip}
 use Rattle.std.specs.declared.alloc.Global.{Global}
 use Rattle.trend_num.specs.Limits.{most_stored}
@@ -106,9 +106,12 @@ abbrev pub AreDefined : {D : Type 0} → List GroupDef → List (Book D) → Typ
 AreDefined {D} groups books = (i : ℕ) (g : GroupDef) (b : Book D) → i < length books
     → (slice_index_or books i b).def ≡ group_parts_of (slice_index_or groups i g)
 
--- a history is that of a group's device, which records these calls
-abbrev pub IsGroupHistoryAt : Option Trace → GroupHistory → Type 0
-IsGroupHistoryAt trace g = (ticks : ℕ) × (faults : ℕ) × IsGroupHistory g trace ticks faults
+-- a history is that of a group's device, which records these calls; its clock is their number
+pub record IsGroupHistoryAt (trace : Option Trace) (g : GroupHistory) : Type 0 where
+  pub ticks : ℕ
+  pub faults : ℕ
+  pub clock : IfSome trace (λ t. length t.calls ≡ ticks)
+  pub is : IsGroupHistory g trace ticks faults
 
 -- each history of a group that has a text is that of the device that a store has under the group's name
 pub record AreGroupHistoriesAt (groups : List GroupDef) (traces : DeviceTraces) (histories : List GroupHistory) : Type 0 where

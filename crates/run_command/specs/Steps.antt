@@ -3,9 +3,9 @@ use Rattle.std.specs.Prelude.{◌≡◌, ℕ, ◌+◌, ◌^◌, ◌<◌, ◌≤�
 use Rattle.session_audit.specs.Agendas.{ask_item, phase_item, row_item}
 use Rattle.session_audit.specs.Found.{Reached}
 use Rattle.session_audit.specs.Tapes.{ask_of, take_of}
-use Rattle.tag_cell.specs.Told.{ToldCell as Cell, takes_waiting}
+use Rattle.tag_cell.specs.Told.{ToldCell as Cell}
 use Rattle.session_audit.specs.Cells.{AreAllBegun, AreAllFound, AreAllShown}
-use Rattle.session_audit.specs.CellRefusals.{tag_rows}
+use Rattle.session_audit.specs.CellRefusals.{IsCommittedCell, tag_rows}
 use Rattle.session_audit.specs.Workers.{AreOver, AreTapesBegun, AreTapesFound, AreTapesWhole}
 use Rattle.group_book.specs.Told.{ToldBook as Book}
 use Rattle.session_audit.specs.declared.book_opening.KeptGroup.{KeptGroup}
@@ -59,14 +59,17 @@ pub record AreBegun {D : Type 0} (g : Given) (cells : List (Cell D)) (books : Li
   pub asks : AreAllBegun ask_of ask_item (lists_of g.work.readers.items) cells
   pub row_asks : AreTapesBegun book_tape row_ask_of row_item (lists_of g.work.readers.items) books
 
--- Each tape shows all rows of each worker that are due there, and none of any other worker. All takes are acknowledged.
--- Each group has made its turns and one more, has as many records of its inputs as no crash takes away, and was saved
--- after that.
-pub record AreStepsMade {D : Type 0} (g : Given) (cells : List (Cell D)) (books : List (Book D)) : Type 0 where
+-- each tape shows all rows of each worker that are due there, and none of any other worker
+pub record AreTapesMade {D : Type 0} (g : Given) (cells : List (Cell D)) (books : List (Book D)) : Type 0 where
   pub takes : AreAllShown take_of (phase_item g.work.earlier) (lists_of g.work.collectors.items) cells
   pub asks : AreAllShown ask_of ask_item (lists_of g.work.readers.items) cells
   pub row_asks : AreTapesWhole book_tape row_ask_of row_item (lists_of g.work.readers.items) books
-  pub none_waits : All (λ c. takes_waiting c ≡ 0) cells
+
+-- All that is due stands on the tapes. All takes are acknowledged. Each group has made its turns and one more, has as
+-- many records of its inputs as no crash takes away, and was saved after that. No device has failed.
+pub record AreStepsMade {D : Type 0} (g : Given) (cells : List (Cell D)) (books : List (Book D)) : Type 0 where
+  pub tapes : AreTapesMade g cells books
+  pub committed : All IsCommittedCell cells
   pub refreshed : AreBooksRefreshed (durable_lists cells) (lists_of g.inputs.items) g.turns.items books
 
 -- a cell keeps its definition and its opening

@@ -91,6 +91,8 @@ returns-in-Trend-clause-comes g c =
           ended_so (IsFaultOfPlanned base plan told (g.F.Files.failed_name c.trend.new.files)) before now c.trend.result
               c.finish-in-Trend.result (of_none base plan told _ Done (λ which same. cc))
               (of_none base plan told _ WriteFault (λ which same. cc)) c.trend.ensures.whose text line,
+          done_so _ IsRefused before now c.trend.result c.finish-in-Trend.result c.trend.ensures.synced c.trend.ensures.refused
+              no_done no_fault text line,
         ),
         refl,
       );
@@ -132,6 +134,8 @@ returns-in-Frames-clause-comes g c =
           },
           ended_so (λ status. (which : FileId) → status ≡ ReadFault which → IsFaultOf (g.F.Files.failed_name c.frames.new.files) base)
               before now c.frames.result c.finish-in-Frames.result (λ which same. cc) (λ which same. cc) c.frames.ensures.whose text line,
+          done_so _ IsRefused before now c.frames.result c.finish-in-Frames.result c.frames.ensures.synced c.frames.ensures.refused
+              no_done no_fault text line,
         ),
         refl,
       );

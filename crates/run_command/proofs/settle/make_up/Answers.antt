@@ -8,7 +8,7 @@ use Rattle.session_audit.specs.Agendas.{ask_item, row_item, phase_item}
 use Rattle.session_audit.specs.Tapes.{ask_of, take_of}
 use Rattle.collector_pool.specs.Work.{IsRowOf}
 use Rattle.session_audit.specs.Cells.{AreAllBegun, AreAllShown, IsAskEntry, IsCommitEntry, IsTakeEntry, cell_tape}
-use Rattle.session_audit.specs.CellRefusals.{tag_rows}
+use Rattle.session_audit.specs.CellRefusals.{IsTakeRefusal, tag_rows}
 use Rattle.session_audit.specs.Workers.{AreTapesBegun, AreTapesWhole}
 use Rattle.session_audit.specs.Books.{book_tape}
 use Rattle.session_audit.specs.Refreshing.{AreBooksRefreshed, durable_lists}
@@ -18,11 +18,15 @@ use Rattle.session_audit.specs.GroupTurns.{IsWithinTurns}
 use Rattle.tag_cell.specs.Told.{ToldCell as Cell}
 use Rattle.group_book.specs.Told.{ToldBook as Book}
 use Rattle.session_audit.proofs.Begun.{tapes_begun, whole_begun}
-use Rattle.run_command.specs.Refusals.{OfRefresh}
-use Rattle.run_command.proofs.Kept.{books_asked, books_joined, books_refreshed, cells_joined, cells_longer, cells_pulled, none_waits}
+use Rattle.run_command.specs.Refusals.{OfCommit, OfRefresh, OfTaking}
+use Rattle.run_command.specs.Steps.{AreTapesMade}
+use Rattle.run_command.proofs.Kept.{books_asked, books_joined, books_refreshed, cells_joined, cells_longer, cells_pulled, committed}
 use Rattle.run_command.proofs.Making.{inputs_kept, known_asks, known_row_asks}
+use Rattle.std.proofs.lemmas.Result.{err_from_is_err_and}
 use Rattle.run_command.proofs.Results.{err_weaker, ok_weaker}
+use Rattle.run_command.proofs.settle.make_up.Given as given
 use Rattle.run_command.proofs.settle.make_up.Goals as goal
+use Rattle.run_command.proofs.settle.make_up.Goals.{After-commit_cells, After-refresh_missing}
 
 pub take_missing-requires-clause-values : goal.take_missing-requires-clause-values
 take_missing-requires-clause-values g c =
@@ -77,8 +81,20 @@ refresh_missing-requires-clause-within g c =
     subst (λ (l : List ℕ). IsWithinTurns l c.ask_rows_missing.new.books) (sym c.deref-6.ensures.value)
     (c.ask_rows_missing.ensures.turns _ c.requires.found.turns)
 
-pub returns-clause-made : goal.returns-clause-made
-returns-clause-made g c = ok_weaker c.refresh_missing.result (λ refreshed. record {
+-- all rows and questions are on the tapes once the takes are committed
+made_at_commit : (g : given.Over) (c : After-commit_cells g) → AreTapesMade c.args.given.now c.commit_cells.new.cells c.ask_rows_missing.new.books
+made_at_commit g c = record {
+  takes = subst (λ (l : List (Vec RawRow Global)). AreAllShown take_of (phase_item c.args.given.now.work.earlier) (lists_of l) c.commit_cells.new.cells)
+      c.deref.ensures.value (c.commit_cells.ensures.takes _ _ (c.ask_missing.ensures.takes _ _ c.in_ok-take_missing.ensures.shown));
+  asks = subst (λ (l : List (Vec Query Global)). AreAllShown ask_of ask_item (lists_of l) c.commit_cells.new.cells)
+      c.deref-3.ensures.value (c.commit_cells.ensures.asks _ c.in-Ok-Ok.ensures.shown);
+  row_asks = subst (λ (l : List (Vec Query Global)). AreTapesWhole book_tape row_ask_of row_item (lists_of l) c.ask_rows_missing.new.books)
+      c.deref-4.ensures.value c.in-Ok-Ok.ensures'.shown;
+}
+
+-- and after the refreshes too
+made_at_end : (g : given.Over) (c : After-refresh_missing g) → AreTapesMade c.args.given.now c.refresh_missing.new.cells c.refresh_missing.new.books
+made_at_end g c = record {
   takes = subst (λ (l : List (Vec RawRow Global)). AreAllShown take_of (phase_item c.args.given.now.work.earlier) (lists_of l) c.refresh_missing.new.cells)
       c.deref.ensures.value
       (c.refresh_missing.ensures.takes _ _ (c.commit_cells.ensures.takes _ _ (c.ask_missing.ensures.takes _ _ c.in_ok-take_missing.ensures.shown)));
@@ -86,12 +102,36 @@ returns-clause-made g c = ok_weaker c.refresh_missing.result (λ refreshed. reco
       c.deref-3.ensures.value (c.refresh_missing.ensures.asks _ (c.commit_cells.ensures.asks _ c.in-Ok-Ok.ensures.shown));
   row_asks = subst (λ (l : List (Vec Query Global)). AreTapesWhole book_tape row_ask_of row_item (lists_of l) c.refresh_missing.new.books)
       c.deref-4.ensures.value (c.refresh_missing.ensures.questions _ c.in-Ok-Ok.ensures'.shown);
-  none_waits = none_waits _ _ c.refresh_missing.ensures.pulled c.in_ok-commit_cells.ensures.none_waits;
-  refreshed = subst (λ (l : List (Vec ℕ Global)). AreBooksRefreshed (durable_lists c.refresh_missing.new.cells) (lists_of l)
-      c.args.given.now.turns.items c.refresh_missing.new.books) c.deref-5.ensures.value
-      (subst (λ (l : List ℕ). AreBooksRefreshed (durable_lists c.refresh_missing.new.cells) (lists_of c.deref-5.result.now) l
-      c.refresh_missing.new.books) c.deref-6.ensures.value refreshed);
-}) c.refresh_missing.ensures.refreshed
+}
+
+pub returns-in_err-take_missing-clause-refused : goal.returns-in_err-take_missing-clause-refused
+returns-in_err-take_missing-clause-refused g c =
+    let p = err_from_is_err_and c.from_residual.result c.from_residual.ensures.1 in
+    let phase = phase_item c.args.given.now.work.earlier in
+    let why = c.in_err-take_missing.field-0.0 in
+    rw (p.1, p.2) (OfTaking
+    (subst (λ (l : List (Vec RawRow Global)). IsTakeRefusal phase (lists_of l) c.args.given.now.rooms.items c.take_missing.new.cells why)
+    c.deref.ensures.value
+    (subst (λ (l : List ℕ). IsTakeRefusal phase (lists_of c.deref.result.now) l c.take_missing.new.cells why)
+    c.deref-2.ensures.value c.in_err-take_missing.ensures.refused)))
+
+pub returns-in_err-commit_cells-clause-refused : goal.returns-in_err-commit_cells-clause-refused
+returns-in_err-commit_cells-clause-refused g c =
+    let p = err_from_is_err_and c.from_residual-in_err-commit_cells.result c.from_residual-in_err-commit_cells.ensures.1 in
+    rw (p.1, p.2) (OfCommit (made_at_commit g (goal.at.returns-in_err-commit_cells-clause-refused g c).After-commit_cells)
+    c.in_err-commit_cells.ensures.refused)
+
+pub returns-clause-made : goal.returns-clause-made
+returns-clause-made g c =
+    let at = (goal.at.returns-clause-made g c).After-refresh_missing in
+    ok_weaker c.refresh_missing.result (λ refreshed. record {
+      tapes = made_at_end g at;
+      committed = committed _ _ c.refresh_missing.ensures.pulled c.in_ok-commit_cells.ensures.committed;
+      refreshed = subst (λ (l : List (Vec ℕ Global)). AreBooksRefreshed (durable_lists c.refresh_missing.new.cells) (lists_of l)
+          c.args.given.now.turns.items c.refresh_missing.new.books) c.deref-5.ensures.value
+          (subst (λ (l : List ℕ). AreBooksRefreshed (durable_lists c.refresh_missing.new.cells) (lists_of c.deref-5.result.now) l
+          c.refresh_missing.new.books) c.deref-6.ensures.value refreshed);
+    }) c.refresh_missing.ensures.refreshed
 
 pub returns-clause-cells : goal.returns-clause-cells
 returns-clause-cells g c = cells_joined _ _ _ (cells_joined _ _ _ (cells_joined _ _ _
@@ -103,9 +143,14 @@ returns-clause-books g c = books_joined _ _ _ (books_asked _ _ c.ask_rows_missin
     (books_refreshed _ _ c.refresh_missing.ensures.gained)
 
 pub returns-clause-refused : goal.returns-clause-refused
-returns-clause-refused g c = err_weaker c.refresh_missing.result
-    (λ why is. OfRefresh (subst (λ (l : List (Vec ℕ Global)). IsRefreshRefusal (durable_lists c.refresh_missing.new.cells) (lists_of l)
-    c.refresh_missing.new.books why) c.deref-5.ensures.value is)) c.refresh_missing.ensures.refused
+returns-clause-refused g c =
+    let at = (goal.at.returns-clause-refused g c).After-refresh_missing in
+    err_weaker c.refresh_missing.result
+    (λ why is. OfRefresh (made_at_end g at) (committed _ _ c.refresh_missing.ensures.pulled c.in_ok-commit_cells.ensures.committed)
+    (subst (λ (l : List (Vec ℕ Global)). IsRefreshRefusal (durable_lists c.refresh_missing.new.cells) (lists_of l)
+    c.args.given.now.turns.items c.refresh_missing.new.books why) c.deref-5.ensures.value
+    (subst (λ (l : List ℕ). IsRefreshRefusal (durable_lists c.refresh_missing.new.cells) (lists_of c.deref-5.result.now) l
+    c.refresh_missing.new.books why) c.deref-6.ensures.value is))) c.refresh_missing.ensures.refused
 
 -- what a tape shows of collectors, whatever their rows are read through
 takes_begun : {D : Type 0} (earlier : ℕ) (cells : List (Cell D)) (xs ys : List (Vec RawRow Global)) → ys ≡ xs
