@@ -12,7 +12,6 @@ first comment that is the scratch folder itself.
 It prints what differs in a page, and then a line for the page with the number of its commands. The exit status is 1 if anything differs.
 It uses the standard library alone."""
 import argparse
-import concurrent.futures
 import difflib
 import os
 import re
@@ -123,10 +122,11 @@ def main():
     if program is None:
         sys.exit("there is no program %r: build it with `rt run` in crates/historian, or give its path with --program" % settings.program)
     good = True
-    with concurrent.futures.ThreadPoolExecutor(len(PAGES)) as pool:
-        for passed, text in pool.map(lambda page: result_of(page, program), settings.pages or PAGES):
-            good = good and passed
-            print(text, flush=True)
+    # One page after the other: a script that was just written cannot run while another thread's child still has it open.
+    for page in settings.pages or PAGES:
+        passed, text = result_of(page, program)
+        good = good and passed
+        print(text, flush=True)
     return 0 if good else 1
 
 
