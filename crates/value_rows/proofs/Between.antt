@@ -9,7 +9,7 @@ use Rattle.csv.specs.declared.parser.State.TheVariants as st
 use Rattle.value_rows.specs.RowReader.{is_between}
 
 -- where it ends a record, what a byte does leads between two records
-abbrev EndsBetween : State × Action → Type 0
+abbrev pub EndsBetween : State × Action → Type 0
 EndsBetween next = is_end next.1 ≡ true → is_between next.0 ≡ true
 
 -- so does a choice of two such
@@ -40,7 +40,7 @@ at_record : (c : ℕ) → EndsBetween (step default_config st.StartRecord c)
 at_record c = either ((c == 13) || (c == 10)) _ _ (passes st.StartRecord act.Skip refl) (at_field c)
 
 -- in any state
-step_ends : (s : State) (c : ℕ) → EndsBetween (step default_config s c)
+pub step_ends : (s : State) (c : ℕ) → EndsBetween (step default_config s c)
 step_ends st.StartRecord c = at_record c
 step_ends st.StartField c = at_field c
 step_ends st.InField c = in_a_field c

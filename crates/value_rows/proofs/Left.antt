@@ -111,3 +111,12 @@ same_next s t xs ys between_s between_t same =
       | None ↦ λ gone. nothing_left s xs (same ∙ gone) ∙ sym (nothing_left t ys gone)
       | Some p ↦ λ found. first_left s xs p between_s (same ∙ found) ∙ sym (first_left t ys p between_t found)
     ] refl
+
+-- the records that are left are those of a read that begins with no field
+pub left_is : (s : State) (xs : List ℕ) → is_between s ≡ true
+    → records_left s xs ≡ records_next records_left (next_record default_config s [] [] xs)
+left_is s xs between =
+    elim (next_record default_config s [] [] xs) as (λ o. next_record default_config s [] [] xs ≡ o → records_left s xs ≡ records_next records_left o) [
+      | None ↦ λ gone. nothing_left s xs gone
+      | Some p ↦ λ found. first_left s xs p between found
+    ] refl

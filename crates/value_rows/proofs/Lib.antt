@@ -5,3 +5,6 @@ pub mod Left
 pub mod PlainRow
 pub mod Mark
 pub mod SoFar
+pub mod Follow
+pub mod Scanned
+pub mod Wide

@@ -7,3 +7,4 @@ pub mod Asked
 -- only private functions cite these
 pub mod Form
 pub mod RowReader
+pub mod Narrow

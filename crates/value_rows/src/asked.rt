@@ -77,6 +77,8 @@ struct QueryForm<'n> {
 }
 
 impl<'n> Form for QueryForm<'n> {
+    ghost use Rattle.std.specs.Prelude.{refl};
+
     type Row = Query;
 
     ghost row_of = { λ form. query_row form.tags form.groups.now };
@@ -91,6 +93,8 @@ impl<'n> Form for QueryForm<'n> {
             Fields::Other => Err(Reason::Fields),
         }
     }
+
+    ghost refuses_wide = { λ form a b c d e more. refl };
 }
 
 impl<'n> QueryForm<'n> {

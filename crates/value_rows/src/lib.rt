@@ -8,6 +8,10 @@
 //! - A byte order mark at the beginning of a text is left out.
 //! - Blanks are kept, so `T1, 5` has a field that is no numeral.
 //!
+//! No row has more than four fields. So before `csv` reads a text, the text is cut where a record's fifth field begins.
+//! If that record is reached, it is refused for its fields either way. What follows it is never read. So a record of
+//! many fields takes no memory for each of them.
+//!
 //! [`raw_rows`] reads records `TAG,T,V`. [`query_rows`] reads one query from each record, which begins with its verb.
 //! Their models are the definitions of the same names. These return the rows of all records, or one of two refusals:
 //! - The first bad record, counted from 1, with its first reason in the order of [`Reason`].
@@ -23,6 +27,7 @@
 
 mod asked;
 mod fields;
+mod narrow;
 mod numbers;
 mod places;
 mod plain;

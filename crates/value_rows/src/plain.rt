@@ -34,7 +34,7 @@ pub(crate) fn front_rows<'b>(
 }
 
 // Whether a text begins with a byte order mark.
-fn has_mark(text: &[u8]) -> bool
+pub(crate) fn has_mark(text: &[u8]) -> bool
     ensures { result ≡ has_mark text.now }
 {
     text.len() >= 3 && text[0] == 0xef && text[1] == 0xbb && text[2] == 0xbf

@@ -49,6 +49,8 @@ struct RawForm<'n> {
 }
 
 impl<'n> Form for RawForm<'n> {
+    ghost use Rattle.std.specs.Prelude.{refl};
+
     type Row = RawRow;
 
     ghost row_of = { λ form. raw_row form.tags };
@@ -65,6 +67,8 @@ impl<'n> Form for RawForm<'n> {
             _ => Err(Reason::Fields),
         }
     }
+
+    ghost refuses_wide = { λ form a b c d e more. refl };
 }
 
 // Reads the raw values of a text: first those of the plain rows that it begins with, then those of the records after

@@ -3,9 +3,11 @@ ghost use Rattle.std.specs.Prelude.{◌≡◌, ◌≤◌, ◌∷◌, ◌++◌, [
 ghost use Rattle.csv.specs.Records.{fields_of};
 ghost use Rattle.point_text.specs.declared.failure.RowNo.TheVariants.{WantOfMemory};
 ghost use Rattle.trend_num.specs.declared.refusal.Reason.{Reason};
+ghost use Rattle.value_rows.specs.Narrow.{RefusesWide};
 ghost use Rattle.value_rows.specs.Reading.{AreRefusedFor, text_records_of, rows_of_text, rows_read};
 ghost use Rattle.value_rows.specs.RowReader.{HasLeft, IsNext, reads_behind};
 
+use crate::narrow::narrow;
 use csv::{ByteRecord, ErrorKind, Reader, ReaderBuilder};
 use point_text::RowNo;
 use std::alloc::Global;
@@ -24,6 +26,9 @@ pub(crate) trait Form {
     fn read(&self, row: &ByteRecord) -> Result<Self::Row, Reason>
         ensures row { result ≡ row_of self.now (fields_of row.now) }
         ensures is_row { IfOk result (is_row self.now) };
+
+    /// A record with more fields than any row is refused for their number.
+    ghost refuses_wide: { (form : Self) → RefusesWide (row_of form) };
 }
 
 // Reads the rows of a text of at most `most` records.
@@ -41,8 +46,25 @@ pub(crate) fn rows_of_text<F: Form>(
 }
 
 // Appends the rows of a text's records to `front`, the rows that were read before. At most `most` in all. Records are
-// counted from the first row of `front`.
+// counted from the first row of `front`. A record with more fields than any row ends the text.
 pub(crate) fn rows_behind<F: Form>(
+    alloc: Global,
+    form: &F,
+    front: Vec<F::Row>,
+    bytes: &[u8],
+    most: u64,
+) -> Result<Vec<F::Row>, RowNo>
+    requires few { length front.items ≤ most }
+    requires are_rows { All (F.is_row form.now) front.items }
+    ensures rows { IfOk result (λ rows. rows_read most (reads_behind (F.row_of form.now) front.items bytes.now) ≡ Ok rows.items) }
+    ensures are_rows { IfOk result (λ rows. All (F.is_row form.now) rows.items) }
+    ensures refused { IfErr result (AreRefusedFor (rows_read most (reads_behind (F.row_of form.now) front.items bytes.now))) }
+{
+    whole_rows_behind(alloc, form, front, narrow(bytes), most)
+}
+
+// The same, of a text that is read to its end.
+fn whole_rows_behind<F: Form>(
     alloc: Global,
     form: &F,
     front: Vec<F::Row>,

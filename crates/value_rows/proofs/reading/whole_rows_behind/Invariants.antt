@@ -1,6 +1,6 @@
 use Rattle.value_rows.specs.RowReader.{reads_behind}
 use Rattle.value_rows.proofs.SoFar.{AreSoFar}
-use Rattle.value_rows.proofs.reading.rows_behind.Given as goal
+use Rattle.value_rows.proofs.reading.whole_rows_behind.Given as goal
 
 abbrev pub invariant-loop-count : goal.invariant-loop-count
 invariant-loop-count g l =
