@@ -11,7 +11,7 @@ ghost use Rattle.group_layout.specs.Readings.{GainsGroupSync, HasShape, IsReadOf
 ghost use Rattle.group_book.specs.declared.refusal.LoadNo.TheVariants.{Ahead, Damaged, DeviceFault, Shape};
 ghost use Rattle.group_book.specs.Openings.{CountsBookRefusal, IsAheadOrMemory, IsBookCause, IsRefused, StandsForGroup, BookStaysSame, scan_refusal};
 ghost use Rattle.group_book.specs.Tapes.{cut};
-ghost use Rattle.group_book.specs.Told.{count_of, versions_of};
+ghost use Rattle.group_book.specs.Told.{HoldsBlocks, count_of, trace_of, versions_of};
 
 use crate::book::Book;
 use crate::history::GroupOpening;
@@ -67,6 +67,10 @@ pub fn load<D: Disk>(
         → During (D.trace dev) (D.trace d) (BookStaysSame text.now def.now (D.trace dev))) }
     ensures any_moment_refused { IfErr result (λ e. During (D.trace dev) (D.trace e.dev) (BookStaysSame text.now def.now (D.trace dev))) }
 
+    // Whether or not the rows are right, the device holds the blocks of the saves so far, and the next block goes after
+    // them.
+    ensures held { IfOk result (λ b. Shows (trace_of D.trace b.dev) (HoldsBlocks text.now def.now b.saved)) }
+
     // A device that has a finished layout of this text, or a damaged one, gains one sync and nothing else.
     ensures synced { IfOk result (λ b. (d : D) → b.dev ≡ Some d → GainsGroupSync text.now (D.trace dev) (D.trace d)) }
     ensures synced_refused { IfErr result (λ e. (e.why ≡ DeviceFault → ⊥) → GainsGroupSync text.now (D.trace dev) (D.trace e.dev)) }
@@ -74,6 +78,7 @@ pub fn load<D: Disk>(
     ensures versions { IfOk result (λ b. b.opening.versions.items ≡ versions_of b) }
     ensures copies { IfOk result (λ b. b.sheet.copies ≡ cut b.opening.versions.items (lists_of recovered.now)) }
     ensures rows { IfOk result (λ b. b.sheet.rows ≡ lists_of b.opening.rows.items) }
+    ensures whole { IfOk result (λ b. AreRowsWhole b.sheet) }
     ensures evals { IfOk result (λ b. b.sheet.evals ≡ 0) }
     ensures group { IfOk result (λ b. b.group ≡ group) }
     ensures def { IfOk result (λ b. b.def ≡ def.now) }

@@ -7,6 +7,7 @@ use Rattle.disk_model.specs.Moments.{During}
 use Rattle.disk_model.specs.Traces.{Trace}
 use Rattle.calc_refresh.specs.declared.definition.GroupDefParts.{GroupDefParts}
 use Rattle.calc_refresh.specs.Lists.{lists_of}
+use Rattle.calc_refresh.specs.Sheet.{AreRowsWhole}
 use Rattle.group_layout.specs.Readings.{GainsGroupSync}
 use Rattle.group_layout.specs.Texts.{definition_text}
 use Rattle.tag_base.specs.declared.definition.GroupDef.{GroupDef}
@@ -61,8 +62,9 @@ AreGroupsOpened many groups records old openings = (k : ℕ) (g : GroupDef) (x :
     (slice_index_or openings k x)
 
 -- The book is that of the group at place i as it is opened. It has what its device stood for, and the first records of
--- its tags. A device that had a finished layout of this group has gained one sync and nothing else. A crash at any
--- moment since left of the device what a crash might have left before, or what stands for the same.
+-- its tags. It has a row for each calculation, with one value for each complete window. A device that had a finished
+-- layout of this group has gained one sync and nothing else. A crash at any moment since left of the device what a crash
+-- might have left before, or what stands for the same.
 pub record IsBookOpened {D : Type 0} (trace : D → Option Trace) (ticks faults : D → ℕ) (i : ℕ) (g : GroupDef)
     (recovered : List (List Rec)) (o : Option Trace) (b : ToldBook D) : Type 0 where
   pub group : b.group ≡ i
@@ -74,6 +76,7 @@ pub record IsBookOpened {D : Type 0} (trace : D → Option Trace) (ticks faults 
   pub versions : b.opening.versions.items ≡ versions_of b
   pub copies : b.sheet.copies ≡ cut b.opening.versions.items recovered
   pub rows : b.sheet.rows ≡ lists_of b.opening.rows.items
+  pub whole : AreRowsWhole b.sheet
   pub evals : b.sheet.evals ≡ 0
   pub tape : b.tape ≡ []
   pub usable : b.failed ≡ false

@@ -12,5 +12,4 @@ pub mod CellStops
 pub mod Groups
 pub mod BookRefusals
 pub mod BookEndings
--- modules that only private functions cite
 pub mod BookSteps

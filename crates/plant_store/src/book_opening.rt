@@ -9,7 +9,7 @@ ghost use Rattle.plant_store.specs.BookRefusals.{CountsStore, IsRefusal};
 ghost use Rattle.plant_store.specs.BookSteps.{HavePlaces, IsCauseAt, RestStaysSame};
 
 use crate::book_closing::give_back_all;
-use crate::book_refusal::status_of;
+use crate::book_refusal::book_status;
 use crate::single_book::open_book;
 use disk_model::Store;
 use group_book::{Book, LoadNo};
@@ -61,7 +61,7 @@ pub fn open_books<S: Store>(
         Err(why) => {
             let group = books.len() as u32;
             give_back_all(store, names, books);
-            Err(status_of(group, why))
+            Err(book_status(group, why))
         }
     }
 }

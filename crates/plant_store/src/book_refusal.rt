@@ -5,8 +5,8 @@ ghost use Rattle.plant_store.specs.BookRefusals.{status_of};
 use group_book::LoadNo;
 use plant_status::{Place, Seen, Status, Unit};
 
-// Returns the status for a group that is not opened.
-pub(crate) fn status_of(group: u32, why: LoadNo) -> Status
+/// Returns the status for a group that is not opened. `group` is its place in the base.
+pub fn book_status(group: u32, why: LoadNo) -> Status
     ensures { result ≡ status_of group why }
 {
     match why {

@@ -13,6 +13,10 @@
 //! out, the store's model says nothing about it. [`close_plant`] gives every device back, and returns what happened to
 //! each tag and group ([`close_cells`], [`close_books`]). It takes no memory, so it cannot be refused.
 //!
+//! **One group.** [`open_book`] opens one group as a book, over its device and over the records of its tags.
+//! [`book_status`] returns the status for a group that it refuses. [`close_book`] gives the device back, and returns what
+//! happened to the group.
+//!
 //! **Promise.** It holds if no two tags have the same name.
 //!
 //! - Each opened tag is what its device recovers. Each book has what its group's device stands for.
@@ -22,7 +26,8 @@
 //!   stands for the same, or, of a tag, one that recovers that state as it is opened. This covers devices with a known
 //!   trace of calls, and fewer than 10^18 events.
 //! - Once the tags are open, a crash leaves what recovers them.
-//! - The device of a group that had a finished layout gains one sync as its book is opened, and nothing else.
+//! - The device of a group that had a finished layout gains one sync as its book is opened, and nothing else. If
+//!   [`open_book`] refuses a group for damage, a version or its rows, the device gains the same one sync.
 //! - A device that was given back is as its cell or book left it, and its faults are added to the store's.
 //! - No device is both a tag's and a group's.
 #![tactic(auto)]
@@ -46,6 +51,7 @@ mod tag_opening;
 pub use base_opening::open_base;
 pub use book_closing::close_books;
 pub use book_opening::open_books;
+pub use book_refusal::book_status;
 pub use cell_closing::close_cells;
 pub use cell_naming::tag_device_names;
 pub use cell_opening::open_cells;
@@ -53,5 +59,6 @@ pub use closing::close_plant;
 pub use group_parts::{group_device_names, parts_of};
 pub use opening::{OpenPlant, open_plant};
 pub use shelf::{Shelf, shelf_for};
+pub use single_book::{close_book, open_book};
 pub use tag_device::{LANE_SLOTS, device_name};
 pub use tag_opening::{MAX_STORE_RECORDS, open_tags, status_of, too_many};

@@ -2,8 +2,9 @@
 ghost use Rattle.std.specs.Prelude.{◌≡◌, ◌≢◌, ℕ, ◌^◌, ◌<◌, List, All, IfErr, IfOk, IsTrue, OnErr, OnOk, length, map};
 ghost use Rattle.calc_refresh.specs.Sheet.{IsCopy};
 ghost use Rattle.disk_model.specs.Calls.{CountsFault};
+ghost use Rattle.group_layout.specs.Readings.{GainsGroupSync};
 ghost use Rattle.tag_base.specs.Groups.{IsSoundGroup};
-ghost use Rattle.group_book.specs.declared.refusal.LoadNo.TheVariants.{DeviceFault};
+ghost use Rattle.group_book.specs.declared.refusal.LoadNo.TheVariants.{DeviceFault, WantOfMemory as NoMemory};
 ghost use Rattle.group_book.specs.Openings.{IsBookCause};
 ghost use Rattle.plant_store.specs.Groups.{IsBookOpened, group_parts_of, input_records_of, group_definition_text};
 ghost use Rattle.plant_store.specs.BookEndings.{IsHistoryOfBook, count_after, trace_after};
@@ -16,9 +17,10 @@ use std::alloc::Global;
 use tag_base::GroupDef;
 use trend_num::Rec;
 
-// Opens the group at this place of a base over the device of this name. If the group is not opened, the device is given
-// back.
-pub(crate) fn open_book<S: Store>(
+/// Opens the group at this place of a base over the device of this name, and over the records of its inputs' tags.
+/// `records` has, for each tag of the base, the records that it recovered. A device that does not exist is made. If the
+/// group is not opened, the device is given back. [`book_status`](crate::book_status) has the status for the error.
+pub fn open_book<S: Store>(
     alloc: Global,
     store: &mut S,
     place: u32,
@@ -28,11 +30,22 @@ pub(crate) fn open_book<S: Store>(
 ) -> Result<Book<S::Dev>, LoadNo>
     requires sound { IsSoundGroup (length records.now) group.now }
     requires copied { All (λ r. IsCopy r.now) records.now }
+
+    // The book is that of the group, with what its device and its tags have.
     ensures opened { IfOk result (IsBookOpened S.Dev.trace S.Dev.ticks S.Dev.fault_count place group.now
         (input_records_of (map (λ r. r.now) records.now) group.now) (S.device_at store.old name.now)) }
+
+    // A refusal states its cause. A crash at any moment then leaves of the device what a crash might have left before, or
+    // what stands for the same. The device gains one sync and nothing else if it was whole or damaged, a call of it has
+    // not failed, and there was memory.
     ensures same { OnErr result (StaysSameOf name.now group.now (S.device_at store.old) (S.device_at store.new)) }
     ensures cause { IfErr result (IsBookCause (group_definition_text group.now) (group_parts_of group.now)
         (input_records_of (map (λ r. r.now) records.now) group.now) (S.device_at store.old name.now)) }
+    ensures synced { IfErr result (λ why. why ≢ DeviceFault → why ≢ NoMemory
+        → GainsGroupSync (group_definition_text group.now) (S.device_at store.old name.now) (S.device_at store.new name.now)) }
+
+    // The store has a place for the device, and no other device has changed. The store counts one fault if a call has
+    // failed, and otherwise none.
     ensures place { OnOk result (IsTrue (S.has_place store.new name.now)) }
     ensures places { (n : List ℕ) → IsTrue (S.has_place store.old n) → IsTrue (S.has_place store.new n) }
     ensures others { (n : List ℕ) → n ≢ name.now → S.device_at store.new n ≡ S.device_at store.old n }
@@ -60,8 +73,9 @@ pub(crate) fn open_book<S: Store>(
     }
 }
 
-// Gives the device of a book back under this name, if it has one, and returns what happened to its group.
-pub(crate) fn close_book<S: Store>(store: &mut S, name: &str, book: Book<S::Dev>) -> GroupHistory
+/// Gives the device of a book back under this name, if it has one, and returns what happened to its group. It takes no
+/// memory. The faults of the device are added to those of the store.
+pub fn close_book<S: Store>(store: &mut S, name: &str, book: Book<S::Dev>) -> GroupHistory
     requires place { IsTrue (S.has_place store.old name.now) }
     ensures history { IsHistoryOfBook S.Dev.trace S.Dev.ticks S.Dev.fault_count book result }
     ensures given { S.device_at store.new name.now ≡ trace_after S.Dev.trace book.dev (S.device_at store.old name.now) }

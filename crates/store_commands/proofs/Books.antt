@@ -32,7 +32,7 @@ use Rattle.plant_store.specs.BookRefusals.{CountsStore}
 use Rattle.plant_store.proofs.BookCauses.{back_is, front_of}
 use Rattle.plant_store.proofs.BookNames.{as_many, named_at}
 use Rattle.store_commands.specs.Replies.{Rows, rows_in}
-use Rattle.store_commands.specs.GroupRows.{AllGainSync, AreGroupsTold, cells_of, IsGroupTold, IsGroupRowsRefusal, IsTooMuchAt, OfCells, OfCopies, OfWant}
+use Rattle.store_commands.specs.GroupRows.{AllGainSync, AreGroupsTold, AreRowsTold, cells_of, IsGroupTold, IsGroupRowsRefusal, IsTooMuchAt, OfCells, OfCopies, OfWant}
 use Rattle.store_commands.specs.Refreshing.{AreCutBooks, AreRefreshedOnce, AreWithinLimits, HaveDevicesOf, IsOverIn, IsOverSome, IsRefreshedOnce, book_cells, refresh_status}
 
 -- books that were opened have the first records of their tags
@@ -103,13 +103,11 @@ AreWhole rows d x l = (length rows ≡ length d.calcs.calcs)
     → column k rows ≡ map Some (values_at d.calcs (grid_of d.start d.period) l k))
 
 -- one group
-group_told : {D : Type 0} (trace : D → Option Trace) (ticks faults : D → ℕ) (i : ℕ) (g : GroupDef) (recovered : List (List Rec))
+pub rows_told : {D : Type 0} (trace : D → Option Trace) (ticks faults : D → ℕ) (i : ℕ) (g : GroupDef) (recovered : List (List Rec))
     (o : Option Trace) (b c : ToldBook D) (h : GroupHistory) → IsBookOpened trace ticks faults i g recovered o b → c.sheet.copies ≡ recovered
     → AreWithinLimits (book_cells b.def recovered) recovered → c ≡ record b { tape = c.tape; sheet = c.sheet }
-    → IsHistoryOfBook trace ticks faults c h → IsGroupTold g recovered o (lists_of h.rows.items)
-group_told trace ticks faults i g recovered o b c h book copies within changed told = record {
-  opening = b.opening;
-  opened = book.opening;
+    → IsHistoryOfBook trace ticks faults c h → AreRowsTold g recovered b.opening (lists_of h.rows.items)
+rows_told trace ticks faults i g recovered o b c h book copies within changed told = record {
   within = subst (λ d. AreWithinLimits (book_cells d recovered) recovered) book.def within;
   calcs = rows.0;
   windows = rows.1;
@@ -155,11 +153,15 @@ all_told {D} trace ticks faults groups records old books closed hs many opened d
         let one = once i b (omega (arith, below, many)) in
         subst (λ x. IsGroupTold (get_or groups i g) (input_records_of records (get_or groups i g)) (group_trace_at old (get_or groups i g)) x)
         (sym (get_or-map rows_of hs i h r (omega (arith, below, many, devices.as_many, told.as_many))))
-        (group_told trace ticks faults i (get_or groups i g) (input_records_of records (get_or groups i g)) (group_trace_at old (get_or groups i g))
-        (get_or books i b) (get_or closed i b) (get_or hs i h) book (one.copies ∙ ap (lists_at records) book.tags)
-        (subst (λ (l : List (List Rec)). AreWithinLimits (book_cells (get_or books i b).def l) l) (ap (lists_at records) book.tags) one.within)
-        one.changed
-        (told.each i b h (omega (arith, below, many, devices.as_many))))
+        (record {
+          opening = (get_or books i b).opening;
+          opened = book.opening;
+          rows_are = rows_told trace ticks faults i (get_or groups i g) (input_records_of records (get_or groups i g))
+              (group_trace_at old (get_or groups i g)) (get_or books i b) (get_or closed i b) (get_or hs i h) book
+              (one.copies ∙ ap (lists_at records) book.tags)
+              (subst (λ (l : List (List Rec)). AreWithinLimits (book_cells (get_or books i b).def l) l) (ap (lists_at records) book.tags) one.within)
+              one.changed (told.each i b h (omega (arith, below, many, devices.as_many)));
+        })
 
 -- the device of each is back, and stays the same
 pub all_back : {D : Type 0} (trace : D → Option Trace) (ticks faults : D → ℕ) (groups : List GroupDef) (names : List (String Global))

@@ -10,8 +10,7 @@ use Rattle.event_frames.specs.declared.frame.Edit.TheVariants.{Gone, New}
 use Rattle.event_frames.specs.declared.frame.Frame.{Frame}
 use Rattle.event_frames.specs.Edits.{AreEdits}
 use Rattle.event_frames.specs.Frames.{AreFrames, IsFrame}
-use Rattle.store_commands.specs.FrameLines.{IsFrameTimed, frame_of}
-use Rattle.store_commands.specs.FrameSteps.{AreTimes}
+use Rattle.store_commands.specs.FrameLines.{AreTimes, IsFrameTimed, frame_of}
 
 -- the last window of a frame is one of its row
 within_row : (truths : List Bool) (least : ℕ) (f : Frame) → IsFrame truths least f → f.upto < length truths

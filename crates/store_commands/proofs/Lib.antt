@@ -7,11 +7,7 @@ pub mod Listing
 pub mod Answering
 pub mod ReplyNumbers
 pub mod FramePlaces
-pub mod FrameColumns
 pub mod Changing
-pub mod FrameCuts
-pub mod FrameLimits
 pub mod FrameTiming
-pub mod FrameScans
-pub mod Bringing
+pub mod FrameBooks
 pub mod FrameEnds

@@ -27,6 +27,10 @@ pub record IsFrameTimed (g : GroupDef) (f : Frame) : Type 0 where
   pub begins : frame_from g f ≤ last_time
   pub ends : frame_to g f ≤ last_time
 
+-- each of the first so many windows of a group ends at a time
+abbrev pub AreTimes : GroupDef → ℕ → Type 0
+AreTimes g windows = (k : ℕ) → k < windows → window_to (grid_of g.start g.period) k ≤ last_time
+
 -- the frame of an edit
 abbrev pub frame_of : Edit → Frame
 frame_of (Gone f) = f

@@ -1,69 +1,49 @@
 -- The row of a calculation for which its group's device stands, and the row after one refresh; and why there is none.
-use Rattle.std.specs.Prelude.{◌≡◌, ℕ, ◌^◌, ◌<◌, ◌≤◌, true, All, List, length, map, slice_get, Option, Some}
+use Rattle.std.specs.Prelude.{◌≡◌, ℕ, ◌^◌, ◌<◌, ◌≤◌, All, List, length, slice_get, Option, Some}
 use Rattle.trend_num.specs.declared.archive.Rec.{Rec}
 use Rattle.trend_num.specs.declared.refusal.What.TheVariants.{Cells, Copies}
 use Rattle.trend_num.specs.declared.value.CalcValue.{CalcValue}
 use Rattle.disk_model.specs.Calls.{Rose, Shows}
 use Rattle.disk_model.specs.Traces.{Trace}
-use Rattle.sheet_law.specs.Scratch.{IsScratch, column, is_due, values_at}
 use Rattle.sheet_law.specs.Windows.{complete_windows}
-use Rattle.calc_refresh.specs.Lists.{total_length}
+use Rattle.calc_refresh.specs.Lists.{lists_of, total_length}
 use Rattle.calc_refresh.specs.Refreshed.{most_cells, most_copies}
 use Rattle.calc_refresh.specs.Sheet.{grid_of}
 use Rattle.group_layout.specs.Images.{IsGroupDamage}
 use Rattle.group_layout.specs.Readings.{GainsGroupSync}
-use Rattle.group_book.specs.Openings.{SavesAhead, SavesShape, StandsForGroup}
-use Rattle.group_book.specs.Tapes.{cut, uncut}
+use Rattle.group_book.specs.declared.history.GroupOpening.{GroupOpening}
+use Rattle.group_book.specs.Openings.{SavesAhead, SavesShape}
+use Rattle.group_book.specs.Tapes.{cut}
 use Rattle.tag_base.specs.declared.definition.GroupDef.{GroupDef}
 use Rattle.plant_status.specs.declared.mismatch.Place.TheVariants.{Version, Windows}
 use Rattle.plant_status.specs.declared.mismatch.Seen.TheVariants.{Number}
 use Rattle.plant_status.specs.declared.status.Status.{Status}
 use Rattle.plant_status.specs.declared.status.Status.TheVariants.{DeviceFault, Damaged, Limit, Mismatch, WantOfMemory}
 use Rattle.plant_status.specs.declared.unit.Unit.TheVariants.{Group}
-use Rattle.plant_store.specs.Groups.{group_parts_of, group_definition_text}
-use Rattle.store_commands.specs.GroupRows.{cells_of}
-use Rattle.store_commands.specs.Refreshing.{AreWithinLimits}
+use Rattle.plant_store.specs.Groups.{IsGroupOpening, group_parts_of, group_definition_text}
+use Rattle.store_commands.specs.GroupRows.{AreRowsTold, cells_of}
+use Rattle.store_commands.specs.Replies.{Rows}
 
--- Both rows of calculation k of a group: the saved one, of these saved versions and rows, and the one after a refresh.
--- The refresh is from all these records of its tags. The versions say how many records of each input, from its first
--- on, the saved rows take into account. All records pass no limit. After the refresh there is a row for each calculation,
--- with one value for each complete window. There are no fewer complete windows than before. A window that the records
--- after the first ones make due has its values from scratch. If the saved rows are those from scratch on the first
--- records, the rows after the refresh are those from scratch on all records.
-pub record AreRefreshed (g : GroupDef) (k : ℕ) (versions : List ℕ) (rows : List (List CalcValue)) (recovered : List (List Rec))
-    (saved refreshed : List CalcValue) : Type 0 where
-  pub rows_then : List (List CalcValue)
-  pub within : map length (cut versions recovered) ≡ versions
-  pub limits : AreWithinLimits (cells_of g recovered) recovered
-  pub calcs : length rows_then ≡ length g.calcs.calcs
-  pub windows : All (λ row. length row ≡ complete_windows (grid_of g.start g.period) recovered) rows_then
-  pub due : (j : ℕ) → j < complete_windows (grid_of g.start g.period) recovered
-      → is_due (grid_of g.start g.period) (cut versions recovered) (uncut versions recovered) j ≡ true
-      → column j rows_then ≡ map Some (values_at g.calcs (grid_of g.start g.period) recovered j)
-  pub scratch : IsScratch g.calcs (grid_of g.start g.period) (cut versions recovered) rows
-      → IsScratch g.calcs (grid_of g.start g.period) recovered rows_then
+-- The saved row and the refreshed row of calculation k of a group, whose tags recovered these records. The group was
+-- opened over its device, and refreshed once from all these records. The first row is the one for which its device stood,
+-- and the second is the one after the refresh. There are no fewer complete windows than before.
+pub record AreFrameRows (g : GroupDef) (k : ℕ) (recovered : List (List Rec)) (o : Option Trace) (saved refreshed : List CalcValue) : Type 0 where
+  pub opening : GroupOpening
+  pub rows : Rows
+  pub opened : IsGroupOpening g recovered o opening
+  pub rows_are : AreRowsTold g recovered opening rows
   pub complete : length refreshed ≡ complete_windows (grid_of g.start g.period) recovered
   pub grown : length saved ≤ length refreshed
-  pub saved_is : slice_get rows k ≡ Some saved
-  pub refreshed_is : slice_get rows_then k ≡ Some refreshed
-
--- The saved row and the refreshed row of calculation k of a group, whose tags recovered these records. The group's
--- device stood for the saved versions and rows.
-pub record AreFrameRows (g : GroupDef) (k : ℕ) (recovered : List (List Rec)) (o : Option Trace) (saved refreshed : List CalcValue) : Type 0 where
-  pub versions : List ℕ
-  pub rows : List (List CalcValue)
-  pub stood : Shows o (StandsForGroup (group_definition_text g) (group_parts_of g) versions rows)
-  pub are : AreRefreshed g k versions rows recovered saved refreshed
+  pub saved_is : slice_get (lists_of opening.rows.items) k ≡ Some saved
+  pub refreshed_is : slice_get rows k ≡ Some refreshed
 
 -- The group's device stood for versions and rows that a refresh can start from. No version is above the number of records
 -- of its tag. Each row has one value for each window that the first records complete, as many as the versions say. If the
 -- device was whole, it has gained one sync and nothing else.
 pub record HasStood (g : GroupDef) (recovered : List (List Rec)) (o p : Option Trace) : Type 0 where
-  pub versions : List ℕ
-  pub rows : List (List CalcValue)
-  pub stood : Shows o (StandsForGroup (group_definition_text g) (group_parts_of g) versions rows)
-  pub within : map length (cut versions recovered) ≡ versions
-  pub shape : All (λ row. length row ≡ complete_windows (grid_of g.start g.period) (cut versions recovered)) rows
+  pub opening : GroupOpening
+  pub opened : IsGroupOpening g recovered o opening
+  pub shape : All (λ row. length row ≡ complete_windows (grid_of g.start g.period) (cut opening.versions.items recovered)) (lists_of opening.rows.items)
   pub synced : GainsGroupSync (group_definition_text g) o p
 
 -- Why there are no rows of the group at place i. `o` is the trace of its device before, and `p` the one after. `before`

@@ -29,12 +29,11 @@ tag_records cores = map (λ core. core.state.records) cores
 abbrev pub cells_of : GroupDef → List (List Rec) → ℕ
 cells_of g recovered = complete_windows (grid_of g.start g.period) recovered * length g.calcs.calcs
 
--- These are the rows of a group after one refresh from all records of its tags, which pass no limit. There is a row for
--- each calculation, with one value for each complete window. If the rows that its device stood for were right, these are
--- the rows from scratch on all records. In any case a window that is due over what was saved has its values from scratch.
-pub record IsGroupTold (g : GroupDef) (recovered : List (List Rec)) (o : Option Trace) (rows : Rows) : Type 0 where
-  pub opening : GroupOpening
-  pub opened : IsGroupOpening g recovered o opening
+-- These are the rows of a group that was opened so, after one refresh from all records of its tags, which pass no limit.
+-- There is a row for each calculation, with one value for each complete window. If the rows that its device stood for were
+-- right, these are the rows from scratch on all records. In any case a window that is due over what was saved has its
+-- values from scratch.
+pub record AreRowsTold (g : GroupDef) (recovered : List (List Rec)) (opening : GroupOpening) (rows : Rows) : Type 0 where
   pub within : AreWithinLimits (cells_of g recovered) recovered
   pub calcs : length rows ≡ length g.calcs.calcs
   pub windows : All (λ row. length row ≡ complete_windows (grid_of g.start g.period) recovered) rows
@@ -43,6 +42,12 @@ pub record IsGroupTold (g : GroupDef) (recovered : List (List Rec)) (o : Option 
       → column k rows ≡ map Some (values_at g.calcs (grid_of g.start g.period) recovered k)
   pub scratch : IsRight g.calcs (grid_of g.start g.period) opening recovered
       → IsScratch g.calcs (grid_of g.start g.period) recovered rows
+
+-- these are the rows of a group, which was opened over its device and refreshed once
+pub record IsGroupTold (g : GroupDef) (recovered : List (List Rec)) (o : Option Trace) (rows : Rows) : Type 0 where
+  pub opening : GroupOpening
+  pub opened : IsGroupOpening g recovered o opening
+  pub rows_are : AreRowsTold g recovered opening rows
 
 -- the same for each group
 pub record AreGroupsTold (groups : List GroupDef) (records : List (List Rec)) (old : DeviceTraces) (groups_rows : List Rows) : Type 0 where

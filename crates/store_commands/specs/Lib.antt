@@ -9,4 +9,3 @@ pub mod FrameNames
 pub mod FrameLines
 pub mod FrameRows
 pub mod FrameCommands
-pub mod FrameSteps

@@ -1,34 +1,27 @@
 // Brings what was saved of a group up to all records of its tags.
-ghost use Rattle.std.specs.Prelude.{◌≡◌, ◌≢◌, ℕ, ◌^◌, ◌<◌, ◌≤◌, List, All, IfErr, IfOk, OnOk, length, map, vec_len};
+ghost use Rattle.std.specs.Prelude.{◌≡◌, ◌≢◌, ℕ, ◌^◌, ◌<◌, List, All, IfErr, IfOk, OnOk, Some, length, slice_get, vec_len};
 ghost use Rattle.disk_model.specs.Moments.{During};
 ghost use Rattle.plant_files.specs.Reading.{faults_told};
 ghost use Rattle.calc_refresh.specs.Lists.{lists_of};
-ghost use Rattle.calc_refresh.specs.Refreshed.{fresh};
-ghost use Rattle.calc_refresh.specs.Sheet.{AreRowsWhole, IsCopy, IsGrid, IsGroup, grid_of};
-ghost use Rattle.group_layout.specs.Readings.{GainsGroupSync, HasShape};
+ghost use Rattle.group_layout.specs.Readings.{GainsGroupSync};
 ghost use Rattle.group_book.specs.Openings.{BookStaysSame};
-ghost use Rattle.group_book.specs.Tapes.{cut};
 ghost use Rattle.tag_base.specs.Groups.{IsSoundGroup};
 ghost use Rattle.plant_store.specs.Groups.{device_name, group_parts_of, input_records_of, group_definition_text, group_trace_at};
 ghost use Rattle.plant_store.specs.BookRefusals.{CountsStore};
 ghost use Rattle.store_commands.specs.GroupRows.{tag_records};
-ghost use Rattle.store_commands.specs.FrameRows.{AreRefreshed, AreFrameRows, IsFrameRowsRefusal};
-ghost use Rattle.store_commands.specs.FrameSteps.{AreTimes, AreWithin, IsBringRefusal, IsSheetRefusal};
+ghost use Rattle.store_commands.specs.FrameLines.{AreTimes};
+ghost use Rattle.store_commands.specs.FrameRows.{AreFrameRows, IsFrameRowsRefusal};
 
-use crate::frame_inputs::{first_records, records_of};
 use crate::frame_names::CalcPlace;
-use crate::frame_opening::saved_of;
-use crate::frame_row::row_of;
-use crate::frame_sheet::refresh;
-use calc_refresh::{CalcValue, Sheet, SheetNo, from_saved};
+use crate::groups::{records_of, refresh_once, refusal_of};
+use calc_refresh::CalcValue;
 use disk_model::Store;
-use group_layout::SavedGroup;
-use plant_status::{Place, Seen, Status};
-use plant_store::parts_of;
+use group_book::{GroupHistory, GroupOpening};
+use plant_status::Status;
+use plant_store::{book_status, close_book, open_book};
 use std::alloc::Global;
 use tag_base::GroupDef;
 use tag_core::TagCore;
-use trend_num::Rec;
 
 // The row of a calculation as it was saved, and after one refresh.
 #[derive(Drop)]
@@ -37,8 +30,8 @@ pub(crate) struct CalcRows {
     pub refreshed: Vec<CalcValue>,
 }
 
-// Returns both rows of the calculation at this place. Only the device of its group is opened, and nothing is saved
-// there. `name` is the device's name, and `cores` are the tags of the base.
+// Returns both rows of the calculation at this place. It opens the book of its group alone, refreshes it once, and gives
+// the device back. Nothing is saved there. `name` is the device's name, and `cores` are the tags of the base.
 pub(crate) fn rows_of<S: Store>(
     alloc: Global,
     store: &mut S,
@@ -67,82 +60,40 @@ pub(crate) fn rows_of<S: Store>(
     ensures counts { S.fault_count store.old < 2 ^ 64
         → CountsStore result (S.fault_count store.old) (S.fault_count store.new) }
 {
-    let Ok(records) = records_of(alloc, &group.inputs, cores) else {
+    let Ok(records) = records_of(alloc, cores) else {
         return Err(Status::WantOfMemory);
     };
-    let saved = saved_of(alloc, store, place.group as u32, group, name)?;
-    bring_up(alloc, place, group, saved, &records)
+    let at = place.group as u32;
+    let mut book = match open_book(alloc, store, at, group, name, &records) {
+        Ok(book) => book,
+        Err(why) => return Err(book_status(at, why)),
+    };
+    let refreshed = refresh_once(&mut book, &records);
+    let history = close_book(store, name, book);
+    match refreshed {
+        Ok(()) => Ok(both_rows(history, place.calc)),
+        Err(no) => Err(refusal_of(no)),
+    }
 }
 
-// Returns both rows, from what was saved and from all records of the inputs.
-fn bring_up(
-    alloc: Global,
-    place: CalcPlace,
-    group: &GroupDef,
-    saved: SavedGroup,
-    records: &[&[Rec]],
-) -> Result<CalcRows, Status>
-    requires group { IsGroup (length group.now.inputs.items) group.now.calcs }
-    requires grid { IsGrid (grid_of group.now.start group.now.period) }
-    requires inputs { length records.now ≡ length group.now.inputs.items }
-    requires copied { All (λ r. IsCopy r.now) records.now }
-    requires shape { HasShape (length group.now.inputs.items) (length group.now.calcs.calcs) saved }
-    requires few { saved.windows < 2 ^ 32 }
-    requires place { place.group < 2 ^ 32 }
-    requires calc { place.calc < length group.now.calcs.calcs }
-    ensures rows { IfOk result (λ rows. AreRefreshed group.now place.calc saved.versions.items (lists_of saved.rows.items)
-        (map (λ r. r.now) records.now) rows.saved.items rows.refreshed.items) }
-    ensures times { IfOk result (λ rows. AreTimes group.now (length rows.refreshed.items)) }
-    ensures refused { IfErr result (IsBringRefusal place.group group.now saved.versions.items (lists_of saved.rows.items)
-        (map (λ r. r.now) records.now)) }
+// Returns the rows of a calculation: the one that its group was opened with, and the last one.
+fn both_rows(history: GroupHistory, calc: usize) -> CalcRows
+    requires saved { calc < vec_len history.opening.rows }
+    requires refreshed { calc < vec_len history.rows }
+    ensures saved { slice_get (lists_of history.opening.rows.items) calc ≡ Some result.saved.items }
+    ensures refreshed { slice_get (lists_of history.rows.items) calc ≡ Some result.refreshed.items }
 {
-    let SavedGroup { versions, rows, .. } = saved;
-    let calc = place.calc as u32;
-    let mut sheet = sheet_of(alloc, place.group as u32, group, &versions, rows, records)?;
-    let Ok(saved) = row_of(alloc, &sheet, calc) else {
-        return Err(Status::WantOfMemory);
-    };
-    refresh(alloc, &mut sheet, &versions, records)?;
-    let Ok(refreshed) = row_of(alloc, &sheet, calc) else {
-        return Err(Status::WantOfMemory);
-    };
-    Ok(CalcRows { saved, refreshed })
-}
-
-// Makes the sheet of the group at this place: its saved rows, over the first records of its inputs. Refuses a version
-// above the records of its input, and a row that does not have one value for each complete window.
-fn sheet_of(
-    alloc: Global,
-    place: u32,
-    group: &GroupDef,
-    versions: &[u32],
-    rows: Vec<Vec<CalcValue>>,
-    records: &[&[Rec]],
-) -> Result<Sheet, Status>
-    requires group { IsGroup (length group.now.inputs.items) group.now.calcs }
-    requires grid { IsGrid (grid_of group.now.start group.now.period) }
-    requires inputs { length records.now ≡ length group.now.inputs.items }
-    requires versions { length versions.now ≡ length group.now.inputs.items }
-    requires calcs { vec_len rows ≡ length group.now.calcs.calcs }
-    requires short { All (λ row. vec_len row < 2 ^ 32) rows.items }
-    requires copied { All (λ r. IsCopy r.now) records.now }
-    ensures sheet { IfOk result (λ sheet. sheet ≡ fresh group.now.calcs (grid_of group.now.start group.now.period)
-        (cut versions.now (map (λ r. r.now) records.now)) (lists_of rows.items)) }
-    ensures whole { IfOk result AreRowsWhole }
-    ensures within { OnOk result (AreWithin versions.now (map (λ r. r.now) records.now)) }
-    ensures refused { IfErr result (IsSheetRefusal place group.now versions.now (lists_of rows.items) (map (λ r. r.now) records.now)) }
-{
-    let Ok(def) = parts_of(group) else {
-        return Err(Status::WantOfMemory);
-    };
-    let copies = first_records(alloc, place, versions, records)?;
-    match from_saved(alloc, &def, copies, rows) {
-        Ok(sheet) => Ok(sheet),
-        Err(SheetNo::Shape { windows, rows }) => Err(Status::Mismatch {
-            place: Place::Windows { group: place },
-            kept: Seen::Number(windows),
-            told: Seen::Number(rows),
-        }),
-        Err(_) => Err(Status::WantOfMemory),
+    let GroupHistory {
+        opening,
+        rows: mut refreshed,
+        ..
+    } = history;
+    let GroupOpening {
+        rows: mut saved,
+        ..
+    } = opening;
+    CalcRows {
+        saved: saved.swap_remove(calc),
+        refreshed: refreshed.swap_remove(calc),
     }
 }

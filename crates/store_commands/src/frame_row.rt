@@ -1,26 +1,10 @@
-// The row of a calculation, and what changes in it.
+// What changes in the row of a calculation.
 ghost use Rattle.std.specs.Prelude.{◌≡◌, ◌<◌, ◌≤◌, IfOk, IsTrue, Some, length, slice_get, ◌↔◌};
-ghost use Rattle.sheet_law.specs.Windows.{complete_windows};
 ghost use Rattle.event_frames.specs.Row.{IsChangeList, row_with};
 
-use calc_refresh::{CalcValue, Sheet};
+use calc_refresh::CalcValue;
 use event_frames::Change;
 use std::alloc::{AllocError, Global};
-
-// The values of a calculation of a sheet, one for each complete window.
-pub(crate) fn row_of(alloc: Global, sheet: &Sheet, calc: u32) -> Result<Vec<CalcValue>, AllocError>
-    requires { calc < length sheet.now.group.calcs }
-    ensures row { IfOk result (λ row. slice_get sheet.now.rows calc ≡ Some row.items) }
-    ensures complete { IfOk result (λ row. length row.items ≡ complete_windows sheet.now.grid sheet.now.copies) }
-{
-    let mut row = Vec::with_capacity(alloc, sheet.rows()[calc as usize].len())?;
-    let mut k = 0;
-    while let Some(value) = sheet.row(calc, k) {
-        row.push(value)?;
-        k += 1;
-    }
-    Ok(row)
-}
 
 // The changes from one row to another that is no shorter: each window with another value, and each new window.
 pub(crate) fn changes(

@@ -1,7 +1,6 @@
 // The text about the frames of a calculation.
 ghost use Rattle.std.specs.Prelude.{◌≡◌, ◌≤◌, IfOk, length, string_bytes};
-ghost use Rattle.store_commands.specs.FrameLines.{TellsFrames};
-ghost use Rattle.store_commands.specs.FrameSteps.{AreTimes};
+ghost use Rattle.store_commands.specs.FrameLines.{AreTimes, TellsFrames};
 
 use crate::frame_lines::frames_text;
 use crate::frame_row::changes;

@@ -1,6 +1,6 @@
 // The groups of a base, each refreshed once from the records of its tags.
 ghost use Rattle.std.specs.Prelude.{◌≡◌, ℕ, ◌^◌, ◌<◌, ◌≤◌, All, IfErr, IfOk, OnErr, OnOk, length, map};
-ghost use Rattle.calc_refresh.specs.Sheet.{IsCopy};
+ghost use Rattle.calc_refresh.specs.Sheet.{IsCopy, grid_of};
 ghost use Rattle.plant_files.specs.Reading.{faults_told};
 ghost use Rattle.tag_base.specs.Groups.{IsSoundGroup};
 ghost use Rattle.plant_store.specs.Groups.{AllStaySame, AreDistinct, AreOtherGroupsSame};
@@ -57,7 +57,7 @@ pub(crate) fn histories_of<S: Store>(
 }
 
 // The records of each tag.
-fn records_of(alloc: Global, cores: &[TagCore]) -> Result<Vec<&[Rec]>, WantOfMemory>
+pub(crate) fn records_of(alloc: Global, cores: &[TagCore]) -> Result<Vec<&[Rec]>, WantOfMemory>
     requires short { All (λ core. length core.state.records < 2 ^ 32) cores.now }
     ensures records { IfOk result (λ v. map (λ r. r.now) v.items ≡ tag_records cores.now) }
     ensures copied { IfOk result (λ v. All (λ r. IsCopy r.now) v.items) }
@@ -86,20 +86,22 @@ fn refresh_all<D: Disk>(books: &mut Vec<Book<D>>, records: &[&[Rec]]) -> Result<
 }
 
 // Refreshes a group from all records of its tags. Changes nothing if it refuses.
-fn refresh_once<D: Disk>(book: &mut Book<D>, records: &[&[Rec]]) -> Result<(), RefreshNo>
+pub(crate) fn refresh_once<D: Disk>(book: &mut Book<D>, records: &[&[Rec]]) -> Result<(), RefreshNo>
     requires copied { All (λ r. IsCopy r.now) records.now }
     requires cut { IsCutBook (map (λ r. r.now) records.now) book.old }
     ensures refreshed { OnOk result (IsRefreshedOnce (map (λ r. r.now) records.now) book.old book.new) }
     ensures unchanged { OnErr result (book.new ≡ book.old) }
     ensures refused { IfErr result (IsOverIn (book_cells book.old.def (lists_at (map (λ r. r.now) records.now) book.old.tags))
         (lists_at (map (λ r. r.now) records.now) book.old.tags)) }
+    ensures inputs { length book.old.tags ≡ length book.old.sheet.copies }
+    ensures same_grid { book.old.sheet.grid ≡ grid_of book.old.def.start book.old.def.period }
 {
     book.refresh_from(records)
 }
 
 // The status of a refused refresh. `Ahead` never comes here, because a book's versions count records of these lists.
 // The function reports it as `WantOfMemory`.
-fn refusal_of(no: RefreshNo) -> Status
+pub(crate) fn refusal_of(no: RefreshNo) -> Status
     ensures { result ≡ refresh_status no }
 {
     match no {

@@ -18,10 +18,10 @@
 //! Readers are answered in their order, and so are the queries of each. Both are numbered from 1. All memory for the
 //! contents is taken before the first answer.
 //!
-//! **`frames`** finds a group and a calculation by their names. It opens the tags, and then the device of that one
-//! group ([`frames`]). One refresh brings what was saved there up to all records of its tags. The model is two rows of
-//! the calculation: the one for which the device stood, and the one after the refresh. The text first lists what became
-//! of the frames of the first row, and then the frames of the second.
+//! **`frames`** finds a group and a calculation by their names. It opens the tags, and then that one group over its
+//! device ([`frames`]). One refresh, as in `trend`, brings what was saved there up to all records of its tags. The model
+//! is two rows of the calculation: the one for which the device stood, and the one after the refresh. The text first
+//! lists what became of the frames of the first row, and then the frames of the second.
 //!
 //! **Promise.** `IsChecked`, `IsTrend` and `IsFrames` state what the text is, from the files and devices alone. The
 //! refusal is the first in this order: base, plan, readers' files (or names), tags, groups. A refusal before the tags
@@ -38,13 +38,10 @@
 #![tactic(auto)]
 
 mod frame_command;
-mod frame_inputs;
 mod frame_lines;
 mod frame_names;
-mod frame_opening;
 mod frame_refreshing;
 mod frame_row;
-mod frame_sheet;
 mod frame_telling;
 mod groups;
 mod query_answer;

@@ -28,6 +28,16 @@ returns-in-Err-clause-cause g c =
     subst (IsBookCause c.args.text.now def recovered o) (sym c.refusal_of.ensures)
     (scan_cause c.args.text.now def recovered _ calcs o c.in-Err.why (λ a byte is. c.in-Err.ensures.damaged a byte (ap Err is)))
 
+pub returns-clause-held : goal.returns-clause-held
+returns-clause-held g c =
+    let def = c.args.def.now in
+    let D = g.D.Disk in
+    let dev = c.open_group.new.dev in
+    let g' = c.in-Ok.saved in
+    let calcs = sym (length-map c.defs.result.now calculation) ∙ ap length c.defs.ensures.calcs in
+    loaded_holds c.args.text.now def g' (D.trace dev)
+    (subst (λ (n : ℕ). Shows (D.trace dev) (λ x. IsReadOf c.args.text.now def.inputs n x g')) calcs c.in-Ok.ensures.holds)
+
 pub invariant_of-result : goal.invariant_of-result
 invariant_of-result g c =
     let def = c.args.def.now in

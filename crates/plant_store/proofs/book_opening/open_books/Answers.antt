@@ -28,7 +28,7 @@ returns-in-Err-clause-refused g c =
     let old = g.S.Store.device_at c.args.store.now in
     let before = g.S.Store.fault_count c.args.store.now in
     let some = c.in-Err.ensures.some in
-    let status : c.status_of.result ≡ status_of (length books) why = c.status_of.ensures
+    let status : c.book_status.result ≡ status_of (length books) why = c.book_status.ensures
     ∙ ap (λ n. status_of n why) (c.len-group.ensures ∙ c.open_all.new.books.ok.0) in
     subst (IsRefusal c.args.groups.now records old before (g.S.Store.fault_count c.give_back_all.new.store)) (sym status)
     (told_all D.trace D.ticks D.fault_count c.args.groups.now records old books before _ why c.open_all.ensures.opened some
@@ -69,7 +69,7 @@ returns-in-Err-clause-counts g c = λ small.
     let same = c.give_back_all.ensures.counted
     ∙ all_faultless D.trace D.ticks D.fault_count c.args.groups.now records old books _ (omega (arith, c.in-Err.ensures.some))
     c.open_all.ensures.opened (stays_small why before _ small counts) in
-    let status : c.status_of.result ≡ status_of (length books) why = c.status_of.ensures
+    let status : c.book_status.result ≡ status_of (length books) why = c.book_status.ensures
     ∙ ap (λ n. status_of n why) (c.len-group.ensures ∙ c.open_all.new.books.ok.0) in
     subst (λ s. CountsStore {T = Unit {0}} (Err s) before (g.S.Store.fault_count c.give_back_all.new.store)) (sym status)
     (counted (Unit {0}) (length books) before _ why (subst (λ n. CountsFault {T = Unit {0}} (Err why) DeviceFault before n) (sym same) counts))

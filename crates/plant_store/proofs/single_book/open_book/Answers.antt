@@ -49,6 +49,7 @@ returns-in-Ok-load-clause-opened g c =
       versions = is.versions;
       copies = copies;
       rows = is.rows;
+      whole = is.whole;
       evals = is.evals;
       tape = is.tape;
       usable = is.usable;

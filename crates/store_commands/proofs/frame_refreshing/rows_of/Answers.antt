@@ -1,63 +1,102 @@
-use Rattle.std.proofs.Common.{◌≡◌, ◌∙◌, [], List, ap, get_or, map, subst}
-use Rattle.std.proofs.lemmas.Result.{err_from_is_err_and, IfErr-weaker, IfOk-weaker}
+use Rattle.std.proofs.Common.{◌≡◌, ◌≢◌, ◌∙◌, [], All, List, ap, arith, get_or, length, map, subst, sym}
+use Rattle.std.proofs.lemmas.List.{length-map}
+use Rattle.std.proofs.lemmas.List.Elements.{All-map}
 use Rattle.trend_num.specs.declared.archive.Rec.{Rec}
-use Rattle.calc_refresh.specs.Lists.{lists_of}
-use Rattle.plant_store.specs.Groups.{input_records_of, group_trace_at}
+use Rattle.calc_refresh.specs.Sheet.{IsCopy}
+use Rattle.group_layout.specs.Readings.{GainsGroupSync}
+use Rattle.group_book.specs.declared.refusal.LoadNo.TheVariants.{DeviceFault, WantOfMemory}
+use Rattle.group_book.specs.InputLists.{lists_at}
+use Rattle.group_book.specs.Openings.{IsBookCause}
+use Rattle.plant_store.specs.BookEndings.{trace_after}
+use Rattle.plant_store.specs.Groups.{IsBookOpened, group_definition_text, group_parts_of, group_trace_at, input_records_of}
+use Rattle.plant_store.proofs.BookCauses.{fails}
 use Rattle.plant_store.proofs.BookTurns.{still}
+use Rattle.store_commands.specs.FrameRows.{AreFrameRows, IsFrameRowsRefusal}
 use Rattle.store_commands.specs.GroupRows.{tag_records}
-use Rattle.store_commands.specs.FrameRows.{AreRefreshed, AreFrameRows, IsFrameRowsRefusal}
-use Rattle.store_commands.specs.FrameSteps.{IsBringRefusal}
-use Rattle.store_commands.proofs.FrameScans.{of_bring, of_saved}
+use Rattle.store_commands.specs.Refreshing.{IsOverIn, IsRefreshedOnce, book_cells}
+use Rattle.store_commands.proofs.FrameBooks.{all_times, given_back, inputs_copied, not_opened, over_book, rows_of_book}
 use Rattle.store_commands.proofs.frame_refreshing.rows_of.Goals as goal
 
 pub returns-in_default-clause-same : goal.returns-in_default-clause-same
 returns-in_default-clause-same g c = still c.args.group.now _
 
-pub returns-in_err-saved-clause-refused : goal.returns-in_err-saved-clause-refused
-returns-in_err-saved-clause-refused g c =
-    let p = err_from_is_err_and c.from_residual.result c.from_residual.ensures.1 in
-    rw (p.1, p.2) (of_saved _ _ _ _ _ _ _ c.in_err-saved.field-0.0 c.in_err-saved.ensures.refused)
-
-pub returns-clause-rows : goal.returns-clause-rows
-returns-clause-rows g c =
+pub returns-in-Err-clause-refused : goal.returns-in-Err-clause-refused
+returns-in-Err-clause-refused g c =
     let group = c.args.group.now in
-    let k = c.args.place.calc in
-    let records = tag_records c.args.cores.now in
-    let saved = c.in_ok-saved.saved in
-    let o = group_trace_at (g.S.Store.device_at c.args.store.now) group in
-    let lists : map (λ r. r.now) c.deref-2.result.now ≡ input_records_of records group =
-    ap (map (λ r. r.now)) c.deref-2.ensures.value ∙ c.in-Ok.ensures.records
-    ∙ ap (map (λ tag. get_or records tag [])) c.deref.ensures.value in
-    IfOk-weaker c.bring_up.result
-    (λ rows. AreRefreshed group k saved.versions.items (lists_of saved.rows.items) (map (λ r. r.now) c.deref-2.result.now) rows.saved.items
-    rows.refreshed.items)
-    (λ rows. AreFrameRows group k (input_records_of records group) o rows.saved.items rows.refreshed.items)
-    (λ rows are. record {
-      versions = saved.versions.items;
-      rows = lists_of saved.rows.items;
-      stood = c.in_ok-saved.ensures.stood;
-      are = subst (λ (l : List (List Rec)). AreRefreshed group k saved.versions.items (lists_of saved.rows.items) l rows.saved.items
-          rows.refreshed.items) lists are;
-    })
-    c.bring_up.ensures.rows
+    let i = c.args.place.group in
+    let recovered = input_records_of (tag_records c.args.cores.now) group in
+    let old = g.S.Store.device_at c.args.store.now in
+    let new = g.S.Store.device_at c.open_book.new.store in
+    let before = g.S.Store.fault_count c.args.store.now in
+    let now = g.S.Store.fault_count c.open_book.new.store in
+    let why = c.in-Err.why in
+    let lists = ap (map (λ r. r.now)) c.deref.ensures.value ∙ c.in-Ok.ensures.records in
+    subst (IsFrameRowsRefusal i group recovered (group_trace_at old group) (group_trace_at new group) before now) (sym c.book_status.ensures)
+    (not_opened i group recovered (group_trace_at old group) (group_trace_at new group) before now why
+    (subst (λ n. IsBookCause (group_definition_text group) (group_parts_of group) recovered (old n) why) c.requires.name
+    (subst (λ l. IsBookCause (group_definition_text group) (group_parts_of group) (input_records_of l group) (old c.args.name.now) why) lists
+    c.in-Err.ensures.cause))
+    (subst (λ n. why ≢ DeviceFault → why ≢ WantOfMemory → GainsGroupSync (group_definition_text group) (old n) (new n)) c.requires.name
+    c.in-Err.ensures.synced) (λ small is. fails why before now (c.in-Err.ensures.counts small) is))
 
-pub returns-clause-refused : goal.returns-clause-refused
-returns-clause-refused g c =
+pub returns-in-Ok-refreshed-clause-rows : goal.returns-in-Ok-refreshed-clause-rows
+returns-in-Ok-refreshed-clause-rows g c =
+    let D = g.S.Dev.Disk in
     let group = c.args.group.now in
     let i = c.args.place.group in
     let records = tag_records c.args.cores.now in
-    let saved = c.in_ok-saved.saved in
-    let o = group_trace_at (g.S.Store.device_at c.args.store.now) group in
-    let p = group_trace_at (g.S.Store.device_at c.saved_of.new.store) group in
+    let old = g.S.Store.device_at c.args.store.now in
+    let book = c.in-Ok-open_book.book in
+    let lists = ap (map (λ r. r.now)) c.deref.ensures.value ∙ c.in-Ok.ensures.records in
+    let lists_then = ap (map (λ r. r.now)) c.deref-2.ensures.value ∙ c.in-Ok.ensures.records in
+    let opened = subst (λ n. IsBookOpened D.trace D.ticks D.fault_count i group (input_records_of records group) (old n) book) c.requires.name
+    (subst (λ l. IsBookOpened D.trace D.ticks D.fault_count i group (input_records_of l group) (old c.args.name.now) book) lists
+    c.in-Ok-open_book.ensures.opened) in
+    rows_of_book D.trace D.ticks D.fault_count i group records (group_trace_at old group) book opened c.refresh_once-refreshed.new.book
+    c.close_book-history.result c.args.place.calc c.both_rows.result.saved.items c.both_rows.result.refreshed.items
+    (subst (λ l. IsRefreshedOnce l book c.refresh_once-refreshed.new.book) lists_then c.in-Ok-refreshed.ensures.refreshed)
+    c.close_book-history.ensures.history c.refresh_once-refreshed.ensures.same_grid c.refresh_once-refreshed.ensures.inputs
+    c.requires.sound.some_period c.both_rows.ensures.saved c.both_rows.ensures.refreshed
+
+pub returns-in-Ok-refreshed-clause-times : goal.returns-in-Ok-refreshed-clause-times
+returns-in-Ok-refreshed-clause-times g c =
+    let group = c.args.group.now in
+    let records = tag_records c.args.cores.now in
+    let recovered = input_records_of records group in
+    let rows : AreFrameRows group c.args.place.calc recovered (group_trace_at (g.S.Store.device_at c.args.store.now) group)
+    c.both_rows.result.saved.items c.both_rows.result.refreshed.items
+    = returns-in-Ok-refreshed-clause-rows g c in
+    all_times group recovered (length c.both_rows.result.refreshed.items) c.requires.sound.some_period
+    (omega (arith, c.requires.sound.some_inputs, length-map group.inputs.items (λ tag. get_or records tag [])))
+    (inputs_copied records group.inputs.items
+    (subst (λ (l : List (List Rec)). All IsCopy l) c.in-Ok.ensures.records (All-map IsCopy (λ r. r.now) c.in-Ok.records.items c.in-Ok.ensures.copied)))
+    rows.complete
+
+pub returns-clause-refused : goal.returns-clause-refused
+returns-clause-refused g c =
+    let D = g.S.Dev.Disk in
+    let group = c.args.group.now in
+    let i = c.args.place.group in
+    let records = tag_records c.args.cores.now in
+    let recovered = input_records_of records group in
+    let old = g.S.Store.device_at c.args.store.now in
+    let mid = g.S.Store.device_at c.open_book.new.store in
+    let new = g.S.Store.device_at c.close_book-history.new.store in
     let before = g.S.Store.fault_count c.args.store.now in
-    let now = g.S.Store.fault_count c.saved_of.new.store in
-    let lists : map (λ r. r.now) c.deref-2.result.now ≡ input_records_of records group =
-    ap (map (λ r. r.now)) c.deref-2.ensures.value ∙ c.in-Ok.ensures.records
-    ∙ ap (map (λ tag. get_or records tag [])) c.deref.ensures.value in
-    IfErr-weaker c.bring_up.result
-    (IsBringRefusal i group saved.versions.items (lists_of saved.rows.items) (map (λ r. r.now) c.deref-2.result.now))
-    (IsFrameRowsRefusal i group (input_records_of records group) o p before now)
-    (λ why is. of_bring i group saved.versions.items (lists_of saved.rows.items) (input_records_of records group) o p before now why
-    c.in_ok-saved.ensures.stood c.in_ok-saved.ensures.synced
-    (subst (λ (l : List (List Rec)). IsBringRefusal i group saved.versions.items (lists_of saved.rows.items) l why) lists is))
-    c.bring_up.ensures.refused
+    let now = g.S.Store.fault_count c.close_book-history.new.store in
+    let book = c.in-Ok-open_book.book in
+    let closed = c.refresh_once-refreshed.new.book in
+    let lists = ap (map (λ r. r.now)) c.deref.ensures.value ∙ c.in-Ok.ensures.records in
+    let lists_then = ap (map (λ r. r.now)) c.deref-2.ensures.value ∙ c.in-Ok.ensures.records in
+    let opened = subst (λ n. IsBookOpened D.trace D.ticks D.fault_count i group (input_records_of records group) (old n) book) c.requires.name
+    (subst (λ l. IsBookOpened D.trace D.ticks D.fault_count i group (input_records_of l group) (old c.args.name.now) book) lists
+    c.in-Ok-open_book.ensures.opened) in
+    let given = given_back D.trace D.ticks D.fault_count i group records (group_trace_at old group) book opened closed (group_trace_at mid group)
+    (group_trace_at new group) (ap (λ b. b.dev) c.in-Err-refreshed.ensures.unchanged)
+    (subst (λ n. new n ≡ trace_after D.trace closed.dev (mid n)) c.requires.name c.close_book-history.ensures.given) in
+    subst (IsFrameRowsRefusal i group recovered (group_trace_at old group) (group_trace_at new group) before now) (sym c.refusal_of.ensures)
+    (over_book D.trace D.ticks D.fault_count i group records (group_trace_at old group) book opened (group_trace_at new group) before now
+    c.in-Err-refreshed.no c.refresh_once-refreshed.ensures.same_grid
+    (subst (GainsGroupSync (group_definition_text group) (group_trace_at old group)) (sym given) opened.synced)
+    (subst (λ l. IsOverIn (book_cells book.def (lists_at l book.tags)) (lists_at l book.tags) c.in-Err-refreshed.no) lists_then
+    c.in-Err-refreshed.ensures.refused))
