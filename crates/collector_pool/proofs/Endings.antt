@@ -1,6 +1,6 @@
 -- How workers end whose calls were refused.
 use Rattle.std.proofs.Common.{◌≡◌, ℕ, ◌<◌, ◌≤◌, true, List, length, get_or, take, refl, sym, subst, inl, inr, ap, ◌∙◌}
-use Rattle.std.specs.Prelude.{slice_range, IfErr, IfOk, OnOk, MatchResult, Option, None, Some, Result, Ok, Err}
+use Rattle.std.specs.Prelude.{slice_range, IfErr, MatchResult, Option, None, Some, Result, Ok, Err}
 use Rattle.std.specs.Option.{option_map}
 use Rattle.value_rows.specs.declared.asked.Query.{Query}
 use Rattle.value_rows.specs.declared.asked.Query.TheVariants as ask
@@ -8,39 +8,22 @@ use Rattle.value_rows.specs.declared.raw.RawRow.{RawRow}
 use Rattle.tag_cell.specs.declared.entry.CommitNo.{CommitNo}
 use Rattle.tag_cell.specs.declared.entry.CommitNo.TheVariants as commit
 use Rattle.tag_cell.specs.declared.entry.TakeNo.{TakeNo}
-use Rattle.tag_cell.specs.Told.{ToldCell as CellTold, IsTakenBy, take_refusal}
+use Rattle.tag_cell.specs.Told.{ToldCell as CellTold, take_refusal}
 use Rattle.collector_pool.specs.declared.group_turns.TurnNo.{TurnNo}
 use Rattle.collector_pool.specs.declared.group_turns.TurnNo.TheVariants as turn
 use Rattle.collector_pool.specs.declared.note.CellNo.{CellNo}
 use Rattle.collector_pool.specs.declared.note.Ending.{Ending}
 use Rattle.collector_pool.specs.declared.note.Ending.TheVariants.{Ended, Halted, Tag, Group, WantOfMemory}
-use Rattle.collector_pool.specs.declared.note.TakeNote.{TakeNote}
 use Rattle.collector_pool.specs.declared.work.Refresh.{Refresh}
-use Rattle.collector_pool.specs.Notes.{AsksGroup, EndsAtCommit, EndsAtQuery, EndsCollector, EndsReader, EndsRefresher, IsNoteOfTake, IsRefusedCommit, RefusesRow, halts}
+use Rattle.collector_pool.specs.Notes.{AsksGroup, EndsAtCommit, EndsAtQuery, EndsCollector, EndsReader, EndsRefresher, IsRefusedCommit, RefusesRow, halts}
 use Rattle.collector_pool.specs.Refusals.{refusal_of_take, ending_of_commit, ending_of_turn}
-use Rattle.collector_pool.proofs.Firsts.{any_at, any_of_range, found_at}
-
--- a row that was taken is noted
-pub note_of_take : (D : Type 0) (collector number : ℕ) (row : RawRow) (old new : CellTold D) (r : Result TakeNote CellNo)
-    → OnOk r (IsTakenBy collector number row.point old new)
-    → IfOk r (λ note. note ≡ record { tag = row.tag; row = number; point = row.point; place = length old.tape })
-    → IfOk r (IsNoteOfTake D collector number row)
-note_of_take D collector number row old new (Ok note) taken is = record {
-  tag = ap (λ n. n.tag) is;
-  number_is = ap (λ n. n.row) is;
-  point = ap (λ n. n.point) is;
-  before = old;
-  after = new;
-  taken = taken;
-  place = ap (λ n. n.place) is;
-}
-note_of_take D collector number row old new (Err why) taken is = tt
+use Rattle.collector_pool.proofs.Places.{any_at, any_of_range, found_at}
 
 -- a row that was not taken was refused by its tag
-pub refused_row : (D : Type 0) (row : RawRow) (cell : CellTold D) (r : Result TakeNote CellNo)
+pub refused_row : (D : Type 0) (row : RawRow) (cell : CellTold D) (r : Result (Unit {0}) CellNo)
     → MatchResult r (λ _. take_refusal cell ≡ None) (λ why. option_map refusal_of_take (take_refusal cell) ≡ Some why)
     → IfErr r (RefusesRow D row row.tag)
-refused_row D row cell (Ok note) is = tt
+refused_row D row cell (Ok done) is = tt
 refused_row D row cell (Err why) is = by_refusal (take_refusal cell) refl is
   where
     by_refusal : (refusal : Option TakeNo) → take_refusal cell ≡ refusal → option_map refusal_of_take refusal ≡ Some why

@@ -1,4 +1,4 @@
-pub mod Firsts
+pub mod Places
 pub mod Snaps
 pub mod Endings
 pub mod Seats

@@ -1,10 +1,9 @@
 -- The notes of all workers, once they have ended.
 use Rattle.std.proofs.Common.{◌≡◌, ℕ, ◌<◌, List, length, drop, map, get_or, sym, ◌∙◌, ap, subst, arith}
 use Rattle.std.proofs.lemmas.List.Elements.{All-drop, All-get_or}
-use Rattle.std.specs.Prelude.{All, Option, Vec}
+use Rattle.std.specs.Prelude.{All, Vec}
 use Rattle.std.specs.declared.alloc.Global.{Global}
 use Rattle.atomic_table.specs.Seated.{TableId}
-use Rattle.trend_num.specs.declared.value.CalcValue.{CalcValue}
 use Rattle.value_rows.specs.declared.asked.Query.{Query}
 use Rattle.value_rows.specs.declared.raw.RawRow.{RawRow}
 use Rattle.snapshot_table.specs.Boards.{Looking, LooksAt}
@@ -17,19 +16,18 @@ use Rattle.collector_pool.specs.declared.session_worker.SessionWorker.{SessionWo
 use Rattle.collector_pool.specs.declared.work.Refresh.{Refresh}
 use Rattle.collector_pool.specs.declared.work.Work.{Work}
 use Rattle.collector_pool.specs.Notes.{AreNotesOf, IsCollectorNote, IsNoteAt, IsReaderNote, IsRefresherNote, halts}
-use Rattle.collector_pool.specs.RowAsk.{RowAsk}
 use Rattle.collector_pool.specs.SeatedWorkers.{AreDone, AreSeated, IsNoteAs, IsRoleOf, worker_of}
 use Rattle.collector_pool.specs.Work.{IsQueryOf, IsRowOf, IsWorkOf, worker_count}
-use Rattle.collector_pool.proofs.Firsts.{same_item}
+use Rattle.collector_pool.proofs.Places.{same_item}
 
-module _ (D : Type 0) (tells : RowAsk → ℕ → Option CalcValue → Type 0) (refuses : ℕ → TurnNo → Type 0) (w : Work) where
+module _ (D : Type 0) (refuses : ℕ → TurnNo → Type 0) (w : Work) where
   -- the note of a worker in its role is that of its place
   note_at : (board : List TableId) (role : Role) (place : ℕ) (n : WorkerNote) → n.worker ≡ place → worker_of w role ≡ place
-      → IsRoleOf w board role → IsNoteAs D tells refuses w role n → IsNoteAt D tells refuses w place n
+      → IsRoleOf w board role → IsNoteAs D refuses w role n → IsNoteAt D refuses w place n
   note_at board (Collector c) place n number here role note = record {
     numbered = number;
     collector = λ rows few.
-        subst (λ (i : ℕ). IsCollectorNote D i (drop w.earlier (get_or w.collectors.items i rows).items) n) here (note rows);
+        subst (λ (i : ℕ). IsCollectorNote D (drop w.earlier (get_or w.collectors.items i rows).items) n) here (note rows);
     reader = λ r queries few is. absurd (omega arith);
     refresher = λ r refresh few is. absurd (omega arith);
   }
@@ -38,7 +36,7 @@ module _ (D : Type 0) (tells : RowAsk → ℕ → Option CalcValue → Type 0) (
     collector = λ rows few. absurd (omega arith);
     reader = λ i queries few is.
         let same : r ≡ i = omega arith in
-        subst (λ (k : ℕ). IsReaderNote D tells refuses k (get_or w.readers.items k queries).items n) same (note queries);
+        subst (λ (k : ℕ). IsReaderNote refuses (get_or w.readers.items k queries).items n) same (note queries);
     refresher = λ i refresh few is. let within = role.0 in absurd (omega arith);
   }
   note_at board (Refresher r) place n number here role note = record {
@@ -53,8 +51,8 @@ module _ (D : Type 0) (tells : RowAsk → ℕ → Option CalcValue → Type 0) (
   -- the notes of seats whose workers were seated and have ended
   pub notes_of : {O : Type 0} (stops : O → ℕ) (board : List TableId) (lookers : List Looking) (old new : List (SessionWorker O))
       (notes : List WorkerNote) → AreSeated stops w lookers old → All (LooksAt board) lookers → length old ≡ worker_count w
-      → length new ≡ length old → AreDone D tells refuses stops w old new → notes ≡ map (λ s. s.note) new
-      → AreNotesOf D tells refuses w notes
+      → length new ≡ length old → AreDone D refuses stops w old new → notes ≡ map (λ s. s.note) new
+      → AreNotesOf D refuses w notes
   notes_of stops board lookers old new notes seated looks count same done are = record {
     count = ap length are ∙ (mapped_length (λ s. s.note) new ∙ (same ∙ count));
     each = λ place n few.
@@ -72,16 +70,16 @@ module _ (D : Type 0) (tells : RowAsk → ℕ → Option CalcValue → Type 0) (
   }
 
 -- the pass of each of these seats has stopped its worker as often as the note says
-pub all_stopped : {O : Type 0} (D : Type 0) (tells : RowAsk → ℕ → Option CalcValue → Type 0) (refuses : ℕ → TurnNo → Type 0)
-    (w : Work) (stops : O → ℕ) (old new : List (SessionWorker O)) → length new ≡ length old → AreDone D tells refuses stops w old new
+pub all_stopped : {O : Type 0} (D : Type 0) (refuses : ℕ → TurnNo → Type 0) (w : Work) (stops : O → ℕ)
+    (old new : List (SessionWorker O)) → length new ≡ length old → AreDone D refuses stops w old new
     → All (λ s. stops s.pass ≡ halts s.note.ending) new
-all_stopped D tells refuses w stops old new same done = λ k d few. (done.each k d (omega arith)).stopped
+all_stopped D refuses w stops old new same done = λ k d few. (done.each k d (omega arith)).stopped
 
 -- the note of a collector, a reader or a refresher is that of its role
 pub as_collector : (D : Type 0) (w : Work) (collector : ℕ) (rows : List RawRow) (n : WorkerNote)
-    → ((d : Vec RawRow Global) → rows ≡ drop w.earlier (get_or w.collectors.items collector d).items) → IsCollectorNote D collector rows n
-    → (d : Vec RawRow Global) → IsCollectorNote D collector (drop w.earlier (get_or w.collectors.items collector d).items) n
-as_collector D w collector rows n is note d = subst (λ (r : List RawRow). IsCollectorNote D collector r n) (is d) note
+    → ((d : Vec RawRow Global) → rows ≡ drop w.earlier (get_or w.collectors.items collector d).items) → IsCollectorNote D rows n
+    → (d : Vec RawRow Global) → IsCollectorNote D (drop w.earlier (get_or w.collectors.items collector d).items) n
+as_collector D w collector rows n is note d = subst (λ (r : List RawRow). IsCollectorNote D r n) (is d) note
 
 -- the rows that are a collector's work are of the plant's tags, and so are a reader's queries and a refresher's turns
 pub rows_known : (tags groups : ℕ) (w : Work) (collector : ℕ) (rows : List RawRow) → IsWorkOf tags groups w
@@ -104,12 +102,11 @@ turns_known tags groups w refresher turns work few is =
     subst (λ (r : Refresh). r.group < groups) (sym is)
     (All-get_or (λ (r : Refresh). r.group < groups) w.refreshers.items refresher turns few work.turns)
 
-pub as_reader : (D : Type 0) (tells : RowAsk → ℕ → Option CalcValue → Type 0) (refuses : ℕ → TurnNo → Type 0) (w : Work) (reader : ℕ)
-    (queries : Vec Query Global) (n : WorkerNote) → reader < length w.readers.items → queries ≡ get_or w.readers.items reader queries
-    → IsReaderNote D tells refuses reader queries.items n
-    → (d : Vec Query Global) → IsReaderNote D tells refuses reader (get_or w.readers.items reader d).items n
-as_reader D tells refuses w reader queries n few is note d =
-    subst (λ (q : Vec Query Global). IsReaderNote D tells refuses reader q.items n) (is ∙ same_item w.readers.items reader queries d few) note
+pub as_reader : (refuses : ℕ → TurnNo → Type 0) (w : Work) (reader : ℕ) (queries : Vec Query Global) (n : WorkerNote)
+    → reader < length w.readers.items → queries ≡ get_or w.readers.items reader queries → IsReaderNote refuses queries.items n
+    → (d : Vec Query Global) → IsReaderNote refuses (get_or w.readers.items reader d).items n
+as_reader refuses w reader queries n few is note d =
+    subst (λ (q : Vec Query Global). IsReaderNote refuses q.items n) (is ∙ same_item w.readers.items reader queries d few) note
 
 pub as_refresher : (refuses : ℕ → TurnNo → Type 0) (w : Work) (refresher : ℕ) (d : Refresh) (n : WorkerNote)
     → refresher < length w.refreshers.items → IsRefresherNote refuses (get_or w.refreshers.items refresher d) n

@@ -1,11 +1,12 @@
--- Snapshots that a reader receives, one after the other.
-use Rattle.std.proofs.Common.{◌≡◌, ◌≢◌, ◌⊎◌, inl, inr, ℕ, zero, suc, ◌<◌, ◌≤◌, List, [], ◌∷◌, ◌++◌, length, get_or, Some, refl, sym, ap, subst, ◌∙◌, arith}
+-- Snapshots that a reader sees, one after the other.
+use Rattle.std.proofs.Common.{◌≡◌, ◌≢◌, ◌⊎◌, inl, inr, ℕ, zero, suc, ◌+◌, ◌<◌, ◌≤◌, List, [], ◌∷◌, ◌++◌, length, map, take, get_or, Option, None, Some, is_some, refl, sym, ap, subst, ◌∙◌, arith}
 use Rattle.std.specs.Prelude.{IfSome, slice_get, slice_set}
+use Rattle.std.proofs.lemmas.List.{length_push, map_more, map_push}
 use Rattle.std.proofs.lemmas.Option.{slice_get-get_or, slice_get_within}
 use Rattle.trend_num.specs.declared.archive.Snap.{Snap}
-use Rattle.collector_pool.specs.declared.note.Told.{Told}
-use Rattle.collector_pool.specs.declared.note.Told.TheVariants as told
-use Rattle.collector_pool.specs.Notes.{AreSnapsSeen, DoSnapsRise, IsSeenNext}
+use Rattle.value_rows.specs.declared.asked.Query.{Query}
+use Rattle.value_rows.specs.declared.asked.Query.TheVariants as ask
+use Rattle.collector_pool.specs.Notes.{AreSnapsOf, AreSnapsSeen, DoSnapsRise, IsSeenNext, asks_snap}
 
 -- what is in a list that has one more item was there before, or is that item
 found_in_more : {A : Type 0} (xs : List A) (x y : A) (i : ℕ) → slice_get (xs ++ x ∷ []) i ≡ Some y
@@ -30,66 +31,100 @@ found_in_set (a ∷ xs) (suc k) (suc j) x y at = elim (found_in_set xs k j x y a
   | inr (other, there) ↦ inr (λ same. other (omega (arith, same)), there)
 ]
 
--- an answer of before is not newer than a snapshot that the looker was shown of its tag now
-not_newer : (answers : List Told) (old : List Snap) (i tag : ℕ) (first snap : Snap) → AreSnapsSeen answers old
-    → slice_get answers i ≡ Some (told.Snap tag first) → tag < length old
-    → IfSome (slice_get old tag) (λ last. last.taken ≤ snap.taken) → first.taken ≤ snap.taken
-not_newer answers old i tag first snap seen at within shown =
+-- there is a snapshot exactly where the query asks for one
+seen_asked : (q : Query) (old new : List Snap) (x : Option Snap) → IsSeenNext q old new x → is_some x ≡ asks_snap q
+seen_asked (ask.Snap tag) old new (Some snap) next = refl
+seen_asked (ask.Snap tag) old new None next = absurd next
+seen_asked (ask.Tag tag query) old new x next = ap is_some next.0
+seen_asked (ask.Row group calc k) old new x next = ap is_some next.0
+
+-- a snapshot of before is not newer than one that the looker was shown of its tag now
+not_newer : (queries : List Query) (snaps : List (Option Snap)) (old : List Snap) (i tag : ℕ) (first snap : Snap)
+    → AreSnapsSeen queries snaps old → slice_get queries i ≡ Some (ask.Snap tag) → slice_get snaps i ≡ Some (Some first)
+    → tag < length old → IfSome (slice_get old tag) (λ last. last.taken ≤ snap.taken) → first.taken ≤ snap.taken
+not_newer queries snaps old i tag first snap seen asked at within shown =
     let there : slice_get old tag ≡ Some (get_or old tag snap) = slice_get-get_or old tag snap within in
-    let before : first.taken ≤ (get_or old tag snap).taken = seen i tag first (get_or old tag snap) at there in
+    let before : first.taken ≤ (get_or old tag snap).taken = seen i tag first (get_or old tag snap) asked at there in
     let later : (get_or old tag snap).taken ≤ snap.taken =
     subst (λ o. IfSome o (λ (last : Snap). last.taken ≤ snap.taken)) there shown in
     omega (arith, before, later)
 
-pub snaps_rise_on : (answers : List Told) (old new : List Snap) (x : Told) → DoSnapsRise answers → AreSnapsSeen answers old
-    → IsSeenNext old new x → DoSnapsRise (answers ++ x ∷ [])
-snaps_rise_on answers old new x rise seen next = λ i j tag first later before at later_at.
-    elim (found_in_more answers x (told.Snap tag later) j later_at) [
-      | inl there ↦ elim (found_in_more answers x (told.Snap tag first) i at) [
-        | inl here ↦ rise i j tag first later before here there
-        | inr (last, is) ↦ absurd (omega (arith, last, before, slice_get_within answers j (told.Snap tag later) there))
-      ]
-      | inr (last, is) ↦ elim (found_in_more answers x (told.Snap tag first) i at) [
-        | inl here ↦
-            let now : IsSeenNext old new (told.Snap tag later) = subst (IsSeenNext old new) (sym is) next in
-            not_newer answers old i tag first later seen here now.0 now.2
-        | inr (same, too) ↦ absurd (omega (arith, last, same, before))
-      ]
+-- where no snapshot came, those of before are not newer than the last ones
+seen_still : (queries : List Query) (snaps : List (Option Snap)) (old new : List Snap) (x : Option Snap) → x ≡ None → new ≡ old
+    → AreSnapsSeen queries snaps old → AreSnapsSeen queries (snaps ++ x ∷ []) new
+seen_still queries snaps old new x none same seen = λ i tag first last asked at last_at.
+    elim (found_in_more snaps x (Some first) i at) [
+      | inl old_at ↦ seen i tag first last asked old_at (ap (λ l. slice_get l tag) (sym same) ∙ last_at)
+      | inr (end, is) ↦ absurd (cc)
     ]
 
-pub snaps_seen_on : (answers : List Told) (old new : List Snap) (x : Told) → AreSnapsSeen answers old
-    → IsSeenNext old new x → AreSnapsSeen (answers ++ x ∷ []) new
-snaps_seen_on answers old new (told.Tag asked place reply) seen next = λ i tag first last at last_at.
-    elim (found_in_more answers (told.Tag asked place reply) (told.Snap tag first) i at) [
-      | inl here ↦ seen i tag first last here (ap (λ l. slice_get l tag) (sym next) ∙ last_at)
-      | inr (end, is) ↦ absurd (cc)
-    ]
-snaps_seen_on answers old new (told.Row asked place reply) seen next = λ i tag first last at last_at.
-    elim (found_in_more answers (told.Row asked place reply) (told.Snap tag first) i at) [
-      | inl here ↦ seen i tag first last here (ap (λ l. slice_get l tag) (sym next) ∙ last_at)
-      | inr (end, is) ↦ absurd (cc)
-    ]
-snaps_seen_on answers old new (told.Snap looked snap) seen next = λ i tag first last at last_at.
+-- no snapshot is newer than the last one of its tag
+seen_on : (queries : List Query) (q : Query) (snaps : List (Option Snap)) (old new : List Snap) (x : Option Snap)
+    → IsSeenNext q old new x → slice_get queries (length snaps) ≡ Some q → AreSnapsSeen queries snaps old
+    → AreSnapsSeen queries (snaps ++ x ∷ []) new
+seen_on queries (ask.Tag tag query) snaps old new x next here seen =
+    seen_still queries snaps old new x next.0 next.1 seen
+seen_on queries (ask.Row group calc k) snaps old new x next here seen =
+    seen_still queries snaps old new x next.0 next.1 seen
+seen_on queries (ask.Snap looked) snaps old new None next here seen = absurd next
+seen_on queries (ask.Snap looked) snaps old new (Some snap) next here seen = λ i tag first last asked at last_at.
     elim (found_in_set old looked tag snap last (ap (λ l. slice_get l tag) (sym next.1) ∙ last_at)) [
-      | inl (same, is) ↦ elim (found_in_more answers (told.Snap looked snap) (told.Snap tag first) i at) [
-        | inl here ↦
-            let there : slice_get answers i ≡ Some (told.Snap looked first) = here ∙ ap (λ n. Some (told.Snap n first)) same in
-            subst (λ (s : Snap). first.taken ≤ s.taken) (sym is) (not_newer answers old i looked first snap seen there next.0 next.2)
+      | inl (same, is) ↦ elim (found_in_more snaps (Some snap) (Some first) i at) [
+        | inl old_at ↦
+            let of : slice_get queries i ≡ Some (ask.Snap looked) = asked ∙ ap (λ n. Some (ask.Snap n)) same in
+            subst (λ (s : Snap). first.taken ≤ s.taken) (sym is)
+            (not_newer queries snaps old i looked first snap seen of old_at next.0 next.2)
         | inr (end, now) ↦
             let one : first ≡ snap = cc in
             omega (arith, ap (λ (s : Snap). s.taken) one, ap (λ (s : Snap). s.taken) is)
       ]
-      | inr (other, there) ↦ elim (found_in_more answers (told.Snap looked snap) (told.Snap tag first) i at) [
-        | inl here ↦ seen i tag first last here there
+      | inr (other, there) ↦ elim (found_in_more snaps (Some snap) (Some first) i at) [
+        | inl old_at ↦ seen i tag first last asked old_at there
         | inr (end, now) ↦
             let one : tag ≡ looked = cc in
             absurd (other one)
       ]
     ]
 
--- a reader that has received nothing yet
-pub none_rise : DoSnapsRise []
-none_rise = λ i j tag first later before at later_at. absurd (cc)
+-- what a reader sees for one query more
+module _ (queries : List Query) (i : ℕ) (d : Query) (snaps : List (Option Snap)) (old new : List Snap) (x : Option Snap)
+    (count : length snaps ≡ i) (within : i < length queries) (next : IsSeenNext (get_or queries i d) old new x) where
+  here : slice_get queries (length snaps) ≡ Some (get_or queries i d)
+  here = ap (slice_get queries) count ∙ slice_get-get_or queries i d within
 
-pub none_seen : (seen : List Snap) → AreSnapsSeen [] seen
-none_seen seen = λ i tag first last at last_at. absurd (cc)
+  pub snaps_of_on : AreSnapsOf queries snaps → AreSnapsOf queries (snaps ++ x ∷ [])
+  snaps_of_on are =
+      map_push is_some snaps x ∙ ap (λ l. l ++ is_some x ∷ []) (are ∙ ap (λ n. map asks_snap (take n queries)) count)
+      ∙ ap (λ b. map asks_snap (take i queries) ++ b ∷ []) (seen_asked (get_or queries i d) old new x next)
+      ∙ sym (map_more asks_snap queries i d within) ∙ ap (λ n. map asks_snap (take n queries)) longer
+    where
+      longer : i + 1 ≡ length (snaps ++ x ∷ [])
+      longer = omega (arith, count, length_push snaps x)
+
+  pub snaps_rise_on : DoSnapsRise queries snaps → AreSnapsSeen queries snaps old → DoSnapsRise queries (snaps ++ x ∷ [])
+  snaps_rise_on rise seen = λ k j tag first later before asked later_asked at later_at.
+      elim (found_in_more snaps x (Some later) j later_at) [
+        | inl there ↦ elim (found_in_more snaps x (Some first) k at) [
+          | inl old_at ↦ rise k j tag first later before asked later_asked old_at there
+          | inr (last, is) ↦ absurd (omega (arith, last, before, slice_get_within snaps j (Some later) there))
+        ]
+        | inr (last, is) ↦ elim (found_in_more snaps x (Some first) k at) [
+          | inl old_at ↦
+              let at_end = here in
+              let same : get_or queries i d ≡ ask.Snap tag = cc in
+              let step : IsSeenNext (ask.Snap tag) old new x = subst (λ (q : Query). IsSeenNext q old new x) same next in
+              let now : IsSeenNext (ask.Snap tag) old new (Some later) = subst (IsSeenNext (ask.Snap tag) old new) (sym is) step in
+              not_newer queries snaps old k tag first later seen asked old_at now.0 now.2
+          | inr (same, too) ↦ absurd (omega (arith, last, same, before))
+        ]
+      ]
+
+  pub snaps_seen_on : AreSnapsSeen queries snaps old → AreSnapsSeen queries (snaps ++ x ∷ []) new
+  snaps_seen_on seen = seen_on queries (get_or queries i d) snaps old new x next here seen
+
+-- a reader that has answered nothing yet
+pub none_rise : (queries : List Query) → DoSnapsRise queries []
+none_rise queries = λ i j tag first later before asked later_asked at later_at. absurd (cc)
+
+pub none_seen : (queries : List Query) (seen : List Snap) → AreSnapsSeen queries [] seen
+none_seen queries seen = λ i tag first last asked at last_at. absurd (cc)

@@ -1,4 +1,3 @@
-pub mod RowAsk
 pub mod Work
 pub mod Refusals
 pub mod Notes

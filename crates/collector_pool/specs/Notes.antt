@@ -1,53 +1,27 @@
--- What the note of a worker contains: its own work, in order, and how it ended.
-use Rattle.std.specs.Prelude.{◌≡◌, ◌≢◌, ◌⊎◌, ℕ, suc, ◌+◌, ◌<◌, ◌≤◌, true, List, [], ◌∷◌, Any, IfSome, IsSomeAnd, Option, Some, Vec, length, slice_get, slice_index_or, slice_set, drop, fold, take}
+-- What the note of a worker contains: how many steps it made, what a reader saw, and how the worker ended.
+use Rattle.std.specs.Prelude.{◌≡◌, ◌≢◌, ◌⊎◌, ℕ, ◌+◌, ◌<◌, ◌≤◌, Bool, true, false, List, [], Any, IfSome, IsSomeAnd, Option, None, Some, Vec, is_some, length, map, slice_get, slice_index_or, slice_set, drop, fold, take}
 use Rattle.std.specs.declared.alloc.Global.{Global}
 use Rattle.trend_num.specs.declared.archive.Snap.{Snap}
-use Rattle.trend_num.specs.declared.query.TagQuery.{TagQuery}
-use Rattle.trend_num.specs.declared.value.CalcValue.{CalcValue}
-use Rattle.trend_model.specs.Contents.{closed_points}
 use Rattle.plant_status.specs.Pass.{sum_of_fault_counts}
-use Rattle.interp_read.specs.declared.query.Reply.{Reply}
-use Rattle.interp_read.specs.Replies.{Answers}
 use Rattle.value_rows.specs.declared.asked.Query.{Query}
 use Rattle.value_rows.specs.declared.asked.Query.TheVariants as ask
 use Rattle.value_rows.specs.declared.raw.RawRow.{RawRow}
 use Rattle.tag_cell.specs.declared.entry.CommitNo.{CommitNo}
 use Rattle.tag_cell.specs.declared.entry.CommitNo.TheVariants as commit
 use Rattle.tag_cell.specs.declared.entry.TakeNo.{TakeNo}
-use Rattle.tag_cell.specs.Told.{ToldCell as CellTold, IsAskedBy, IsTakenBy, take_refusal}
+use Rattle.tag_cell.specs.Told.{ToldCell as CellTold, take_refusal}
 use Rattle.collector_pool.specs.declared.group_turns.TurnNo.{TurnNo}
 use Rattle.collector_pool.specs.declared.group_turns.TurnNo.TheVariants as turn
 use Rattle.collector_pool.specs.declared.note.CellNo.{CellNo}
 use Rattle.collector_pool.specs.declared.note.Ending.{Ending}
 use Rattle.collector_pool.specs.declared.note.Ending.TheVariants.{Ended, Halted, Tag, Group, WantOfMemory}
-use Rattle.collector_pool.specs.declared.note.TakeNote.{TakeNote}
-use Rattle.collector_pool.specs.declared.note.Told.{Told}
-use Rattle.collector_pool.specs.declared.note.Told.TheVariants as told
 use Rattle.collector_pool.specs.declared.note.WorkerNote.{WorkerNote}
 use Rattle.collector_pool.specs.declared.work.Refresh.{Refresh}
 use Rattle.collector_pool.specs.declared.work.Work.{Work}
 use Rattle.collector_pool.specs.Refusals.{refusal_of_take, ending_of_commit}
-use Rattle.collector_pool.specs.RowAsk.{RowAsk}
 use Rattle.collector_pool.specs.Work.{worker_count}
 
--- The second list has one element for each of the first items, in order. P holds of the item's number, the item and its
--- element. The first item has number n.
-abbrev pub AreOfFirst : {A B : Type 0} → (ℕ → A → B → Type 0) → ℕ → List A → List B → Type 0
-AreOfFirst P n items [] = Unit {0}
-AreOfFirst P n [] (x ∷ xs) = ⊥
-AreOfFirst P n (item ∷ items) (x ∷ xs) = P n item x × AreOfFirst P (suc n) items xs
-
 -- ---- collectors
-
--- a tag took this row of a collector, and this is its note
-pub record IsNoteOfTake (D : Type 0) (collector number : ℕ) (row : RawRow) (note : TakeNote) : Type 0 where
-  pub tag : note.tag ≡ row.tag
-  pub number_is : note.row ≡ number
-  pub point : note.point ≡ row.point
-  pub before : CellTold D
-  pub after : CellTold D
-  pub taken : IsTakenBy collector number row.point before after
-  pub place : note.place ≡ length before.tape
 
 -- a tag refused to take this row
 pub record RefusesRow (D : Type 0) (row : RawRow) (tag : ℕ) (why : CellNo) : Type 0 where
@@ -79,48 +53,40 @@ EndsCollector D rows taken (Tag tag why) =
     IsSomeAnd (slice_get rows taken) (λ row. RefusesRow D row tag why) ⊎ EndsAtCommit D (take taken rows) (Tag tag why)
 EndsCollector D rows taken (Group group why) = ⊥
 
--- the note of a collector of these rows: it took the first of them, in order
-pub record IsCollectorNote (D : Type 0) (collector : ℕ) (rows : List RawRow) (n : WorkerNote) : Type 0 where
-  pub takes : AreOfFirst (IsNoteOfTake D collector) 1 rows n.takes.items
-  pub ending : EndsCollector D rows (length n.takes.items) n.ending
-  pub no_answers : n.told.items ≡ []
-  pub no_turns : n.turns ≡ 0
+-- the note of a collector of these rows: it took so many of the first of them
+pub record IsCollectorNote (D : Type 0) (rows : List RawRow) (n : WorkerNote) : Type 0 where
+  pub ending : EndsCollector D rows n.steps n.ending
+  pub no_snaps : n.snaps.items ≡ []
 
 -- ---- readers
 
--- a tag gave this answer to this query, and its entry is at this place of the tag's tape
-pub record IsAnswerOf (D : Type 0) (reader number : ℕ) (query : TagQuery) (place : ℕ) (reply : Reply) : Type 0 where
-  pub before : CellTold D
-  pub after : CellTold D
-  pub asked : IsAskedBy reader number query reply before after
-  pub answers : Answers before.def.step (closed_points before.state.records before.state.summary.held) query reply
-  pub place_is : place ≡ length before.tape
+-- whether a query asks for a snapshot
+abbrev pub asks_snap : Query → Bool
+asks_snap (ask.Snap tag) = true
+asks_snap query = false
 
--- this is what a reader received for its query
-abbrev pub IsToldFor : Type 0 → (RowAsk → ℕ → Option CalcValue → Type 0) → ℕ → ℕ → Query → Told → Type 0
-IsToldFor D tells reader number (ask.Tag tag query) (told.Tag asked place reply) =
-    (asked ≡ tag) × IsAnswerOf D reader number query place reply
-IsToldFor D tells reader number (ask.Snap tag) (told.Snap looked snap) = looked ≡ tag
-IsToldFor D tells reader number (ask.Row group calc k) (told.Row asked place reply) =
-    (asked ≡ group) × tells (record { reader = reader; row = number; group = group; calc = calc; k = k }) place reply
-IsToldFor D tells reader number query other = ⊥
+-- Each of these is of one of the first queries, in order: a snapshot if the query asks for one, and otherwise nothing.
+abbrev pub AreSnapsOf : List Query → List (Option Snap) → Type 0
+AreSnapsOf queries snaps = map is_some snaps ≡ map asks_snap (take (length snaps) queries)
 
--- of two snapshots of the same tag among these answers, the later one is not older
-abbrev pub DoSnapsRise : List Told → Type 0
-DoSnapsRise answers = (i j tag : ℕ) (first later : Snap) → i < j → slice_get answers i ≡ Some (told.Snap tag first)
-    → slice_get answers j ≡ Some (told.Snap tag later) → first.taken ≤ later.taken
+-- of two snapshots of the same tag, the later one is not older
+abbrev pub DoSnapsRise : List Query → List (Option Snap) → Type 0
+DoSnapsRise queries snaps = (i j tag : ℕ) (first later : Snap) → i < j
+    → slice_get queries i ≡ Some (ask.Snap tag) → slice_get queries j ≡ Some (ask.Snap tag)
+    → slice_get snaps i ≡ Some (Some first) → slice_get snaps j ≡ Some (Some later) → first.taken ≤ later.taken
 
--- no snapshot among these answers is newer than the one of its tag that was seen last
-abbrev pub AreSnapsSeen : List Told → List Snap → Type 0
-AreSnapsSeen answers seen = (i tag : ℕ) (first last : Snap) → slice_get answers i ≡ Some (told.Snap tag first)
-    → slice_get seen tag ≡ Some last → first.taken ≤ last.taken
+-- no snapshot among these is newer than the one of its tag that was seen last
+abbrev pub AreSnapsSeen : List Query → List (Option Snap) → List Snap → Type 0
+AreSnapsSeen queries snaps seen = (i tag : ℕ) (first last : Snap) → slice_get queries i ≡ Some (ask.Snap tag)
+    → slice_get snaps i ≡ Some (Some first) → slice_get seen tag ≡ Some last → first.taken ≤ last.taken
 
--- If the answer is a snapshot, it is not older than the one of its tag that was seen last, and is now the one seen
--- last. Otherwise nothing new was seen.
-abbrev pub IsSeenNext : List Snap → List Snap → Told → Type 0
-IsSeenNext old new (told.Snap tag snap) = (tag < length old) × (new ≡ slice_set old tag snap)
+-- If the query asks for a snapshot, this one is not older than the one of its tag that was seen last, and is now the one
+-- seen last. Otherwise there is none, and nothing new was seen.
+abbrev pub IsSeenNext : Query → List Snap → List Snap → Option Snap → Type 0
+IsSeenNext (ask.Snap tag) old new (Some snap) = (tag < length old) × (new ≡ slice_set old tag snap)
     × IfSome (slice_get old tag) (λ last. last.taken ≤ snap.taken)
-IsSeenNext old new answer = new ≡ old
+IsSeenNext (ask.Snap tag) old new None = ⊥
+IsSeenNext query old new snap = (snap ≡ None) × (new ≡ old)
 
 -- why a group made no turn or gave no answer, other than a lack of memory
 abbrev pub IsOfGroup : TurnNo → Type 0
@@ -138,7 +104,7 @@ EndsAtQuery refuses query WantOfMemory = Unit {0}
 EndsAtQuery refuses query (Group group why) = AsksGroup group query × IsOfGroup why × refuses group why
 EndsAtQuery refuses query ending = ⊥
 
--- how a reader of these queries ends after it has received so many answers
+-- how a reader of these queries ends after it has answered so many
 abbrev pub EndsReader : (ℕ → TurnNo → Type 0) → List Query → ℕ → Ending → Type 0
 EndsReader refuses queries answered Ended = answered ≡ length queries
 EndsReader refuses queries answered Halted = answered < length queries
@@ -147,15 +113,13 @@ EndsReader refuses queries answered (Group group why) =
     IsSomeAnd (slice_get queries answered) (AsksGroup group) × IsOfGroup why × refuses group why
 EndsReader refuses queries answered (Tag tag why) = ⊥
 
--- The note of a reader of these queries. It has the answers to the first of them, in order. No snapshot of a tag is
--- older than an earlier one.
-pub record IsReaderNote (D : Type 0) (tells : RowAsk → ℕ → Option CalcValue → Type 0) (refuses : ℕ → TurnNo → Type 0) (reader : ℕ)
-    (queries : List Query) (n : WorkerNote) : Type 0 where
-  pub told : AreOfFirst (IsToldFor D tells reader) 1 queries n.told.items
-  pub snaps : DoSnapsRise n.told.items
-  pub ending : EndsReader refuses queries (length n.told.items) n.ending
-  pub no_takes : n.takes.items ≡ []
-  pub no_turns : n.turns ≡ 0
+-- The note of a reader of these queries. It answered so many of the first of them, and has the snapshots that it saw. No
+-- snapshot of a tag is older than an earlier one.
+pub record IsReaderNote (refuses : ℕ → TurnNo → Type 0) (queries : List Query) (n : WorkerNote) : Type 0 where
+  pub count : length n.snaps.items ≡ n.steps
+  pub snaps : AreSnapsOf queries n.snaps.items
+  pub rise : DoSnapsRise queries n.snaps.items
+  pub ending : EndsReader refuses queries n.steps n.ending
 
 -- ---- refreshers
 
@@ -170,32 +134,29 @@ EndsRefresher refuses refresh turns (Tag tag why) = ⊥
 
 -- the note of a refresher
 pub record IsRefresherNote (refuses : ℕ → TurnNo → Type 0) (refresh : Refresh) (n : WorkerNote) : Type 0 where
-  pub ending : EndsRefresher refuses refresh n.turns n.ending
-  pub no_takes : n.takes.items ≡ []
-  pub no_answers : n.told.items ≡ []
+  pub ending : EndsRefresher refuses refresh n.steps n.ending
+  pub no_snaps : n.snaps.items ≡ []
 
 -- ---- a session
 
 -- The note of the worker at this place. The work of a collector is its rows after those that it took in an earlier
 -- phase.
-pub record IsNoteAt (D : Type 0) (tells : RowAsk → ℕ → Option CalcValue → Type 0) (refuses : ℕ → TurnNo → Type 0) (w : Work)
-    (place : ℕ) (n : WorkerNote) : Type 0 where
+pub record IsNoteAt (D : Type 0) (refuses : ℕ → TurnNo → Type 0) (w : Work) (place : ℕ) (n : WorkerNote) : Type 0 where
   pub numbered : n.worker ≡ place
   pub collector : (rows : Vec RawRow Global) → place < length w.collectors.items
-      → IsCollectorNote D place (drop w.earlier (slice_index_or w.collectors.items place rows).items) n
+      → IsCollectorNote D (drop w.earlier (slice_index_or w.collectors.items place rows).items) n
   pub reader : (reader : ℕ) (queries : Vec Query Global) → reader < length w.readers.items
       → place ≡ length w.collectors.items + reader
-      → IsReaderNote D tells refuses reader (slice_index_or w.readers.items reader queries).items n
+      → IsReaderNote refuses (slice_index_or w.readers.items reader queries).items n
   pub refresher : (refresher : ℕ) (refresh : Refresh) → refresher < length w.refreshers.items
       → place ≡ length w.collectors.items + length w.readers.items + refresher
       → IsRefresherNote refuses (slice_index_or w.refreshers.items refresher refresh) n
 
 -- the notes of all workers: first the collectors, then the readers, then the refreshers
-pub record AreNotesOf (D : Type 0) (tells : RowAsk → ℕ → Option CalcValue → Type 0) (refuses : ℕ → TurnNo → Type 0) (w : Work)
-    (notes : List WorkerNote) : Type 0 where
+pub record AreNotesOf (D : Type 0) (refuses : ℕ → TurnNo → Type 0) (w : Work) (notes : List WorkerNote) : Type 0 where
   pub count : length notes ≡ worker_count w
   pub each : (place : ℕ) (n : WorkerNote) → place < length notes
-      → IsNoteAt D tells refuses w place (slice_index_or notes place n)
+      → IsNoteAt D refuses w place (slice_index_or notes place n)
 
 -- how often the pass of a worker with this ending has stopped it
 abbrev pub halts : Ending → ℕ

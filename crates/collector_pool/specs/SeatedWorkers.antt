@@ -1,8 +1,7 @@
 -- What a worker has before it begins, and what it leaves.
-use Rattle.std.specs.Prelude.{◌≡◌, ℕ, ◌+◌, ◌<◌, List, [], ◌∷◌, ◌++◌, All, Option, Vec, drop, length, slice_index_or}
+use Rattle.std.specs.Prelude.{◌≡◌, ℕ, ◌+◌, ◌<◌, List, [], ◌∷◌, ◌++◌, All, Vec, drop, length, slice_index_or}
 use Rattle.std.specs.declared.alloc.Global.{Global}
 use Rattle.atomic_table.specs.Seated.{TableId}
-use Rattle.trend_num.specs.declared.value.CalcValue.{CalcValue}
 use Rattle.value_rows.specs.declared.asked.Query.{Query}
 use Rattle.value_rows.specs.declared.raw.RawRow.{RawRow}
 use Rattle.snapshot_table.specs.Boards.{Looking, LooksAt}
@@ -14,7 +13,6 @@ use Rattle.collector_pool.specs.declared.session_worker.SessionWorker.{SessionWo
 use Rattle.collector_pool.specs.declared.work.Refresh.{Refresh}
 use Rattle.collector_pool.specs.declared.work.Work.{Work}
 use Rattle.collector_pool.specs.Notes.{IsCollectorNote, IsReaderNote, IsRefresherNote, halts}
-use Rattle.collector_pool.specs.RowAsk.{RowAsk}
 
 -- the number of the worker with this role
 abbrev pub worker_of : Work → Role → ℕ
@@ -29,13 +27,13 @@ IsRoleOf w board (Reader reader looker) = (reader < length w.readers.items) × L
 IsRoleOf w board (Refresher refresher) = refresher < length w.refreshers.items
 
 -- the note of a worker with this role
-abbrev pub IsNoteAs : Type 0 → (RowAsk → ℕ → Option CalcValue → Type 0) → (ℕ → TurnNo → Type 0) → Work → Role → WorkerNote → Type 0
-IsNoteAs D tells refuses w (Collector collector) n =
+abbrev pub IsNoteAs : Type 0 → (ℕ → TurnNo → Type 0) → Work → Role → WorkerNote → Type 0
+IsNoteAs D refuses w (Collector collector) n =
     (rows : Vec RawRow Global)
-    → IsCollectorNote D collector (drop w.earlier (slice_index_or w.collectors.items collector rows).items) n
-IsNoteAs D tells refuses w (Reader reader looker) n =
-    (queries : Vec Query Global) → IsReaderNote D tells refuses reader (slice_index_or w.readers.items reader queries).items n
-IsNoteAs D tells refuses w (Refresher refresher) n =
+    → IsCollectorNote D (drop w.earlier (slice_index_or w.collectors.items collector rows).items) n
+IsNoteAs D refuses w (Reader reader looker) n =
+    (queries : Vec Query Global) → IsReaderNote refuses (slice_index_or w.readers.items reader queries).items n
+IsNoteAs D refuses w (Refresher refresher) n =
     (refresh : Refresh) → IsRefresherNote refuses (slice_index_or w.refreshers.items refresher refresh) n
 
 -- a seat whose worker may begin
@@ -58,14 +56,14 @@ pub record AreSeated {O : Type 0} (stops : O → ℕ) (w : Work) (lookers : List
   pub ready : (board : List TableId) → All (LooksAt board) lookers → All (IsReady stops w board) seats
 
 -- a seat whose worker has ended
-pub record IsDone {O : Type 0} (D : Type 0) (tells : RowAsk → ℕ → Option CalcValue → Type 0) (refuses : ℕ → TurnNo → Type 0)
-    (stops : O → ℕ) (w : Work) (old new : SessionWorker O) : Type 0 where
+pub record IsDone {O : Type 0} (D : Type 0) (refuses : ℕ → TurnNo → Type 0) (stops : O → ℕ) (w : Work)
+    (old new : SessionWorker O) : Type 0 where
   pub worker : new.note.worker ≡ old.note.worker
-  pub note : IsNoteAs D tells refuses w old.role new.note
+  pub note : IsNoteAs D refuses w old.role new.note
   pub stopped : stops new.pass ≡ halts new.note.ending
 
 -- seats whose workers have ended
-pub record AreDone {O : Type 0} (D : Type 0) (tells : RowAsk → ℕ → Option CalcValue → Type 0) (refuses : ℕ → TurnNo → Type 0)
-    (stops : O → ℕ) (w : Work) (old new : List (SessionWorker O)) : Type 0 where
+pub record AreDone {O : Type 0} (D : Type 0) (refuses : ℕ → TurnNo → Type 0) (stops : O → ℕ) (w : Work)
+    (old new : List (SessionWorker O)) : Type 0 where
   pub each : (i : ℕ) (d : SessionWorker O) → i < length old
-      → IsDone D tells refuses stops w (slice_index_or old i d) (slice_index_or new i d)
+      → IsDone D refuses stops w (slice_index_or old i d) (slice_index_or new i d)

@@ -1,19 +1,20 @@
 // A collector: it takes its rows in order, and commits them.
-ghost use Rattle.std.specs.Prelude.{◌≡◌, ◌==◌, ◌||◌, ◌%◌, ℕ, ◌+◌, ◌<◌, ◌≤◌, [], All, Any, IfErr, IfOk, IsErrOf, OnErr, OnOk, Some, MatchResult, None, length, true};
+ghost use Rattle.std.specs.Prelude.{◌≡◌, ◌==◌, ◌||◌, ◌%◌, ℕ, ◌+◌, ◌<◌, ◌≤◌, All, Any, IfErr, IsErrOf, OnErr, OnOk, Some, MatchResult, None, length, true};
 ghost use Rattle.std.specs.Option.{option_map};
 ghost use Rattle.trend_num.specs.Ranges.{InRange};
 ghost use Rattle.tag_cell.specs.declared.entry.CommitNo.TheVariants.{Broken, DeviceFault};
 ghost use Rattle.tag_cell.specs.Told.{IsTakenBy, take_refusal, takes_waiting};
-ghost use Rattle.collector_pool.specs.Notes.{AreOfFirst, EndsAtCommit, EndsCollector, IsCollectorNote, IsNoteOfTake, IsRefusedCommit, RefusesRow, halts};
+ghost use Rattle.collector_pool.specs.Notes.{EndsAtCommit, EndsCollector, IsCollectorNote, IsRefusedCommit, RefusesRow, halts};
 ghost use Rattle.collector_pool.specs.Refusals.{refusal_of_take};
 ghost use Rattle.collector_pool.specs.Work.{IsRowOf};
 
-use crate::note::{CellNo, Ending, TakeNote, WorkerNote, ending_of_commit, make_room};
+use crate::note::{CellNo, Ending, WorkerNote, ending_of_commit};
 use disk_model::Disk;
 use plant_status::Pass;
 use std::alloc::Global;
 use std::sync::{Mutex, Wait};
 use tag_cell::{Cell, CommitNo};
+use trend_num::Point;
 use value_rows::RawRow;
 
 // A collector commits after this many rows.
@@ -32,51 +33,44 @@ pub(crate) fn collect<R: Wait, D: Disk, O: Pass>(
     requires rows { All (IsRowOf (length cells.now)) rows.now }
     requires fresh { O.stops pass.old ≡ 0 }
     ensures worker { result.worker ≡ worker }
-    ensures note { IsCollectorNote D collector rows.now result }
+    ensures note { IsCollectorNote D rows.now result }
     ensures stops { O.stops pass.new ≡ halts result.ending }
 {
     let mut note = WorkerNote::new(alloc, worker);
-    note.ending = take_rows(rt, cells, collector, rows, pass, &mut note.takes);
+    (note.steps, note.ending) = take_rows(rt, cells, collector, rows, pass);
     note
 }
 
-// Takes the rows in order, adds a note for each, and returns how the collector ends.
+// Takes the rows in order, and returns how many it took and how the collector ends.
 fn take_rows<R: Wait, D: Disk, O: Pass>(
     rt: &R,
     cells: &[Mutex<Cell<D>>],
     collector: u32,
     rows: &[RawRow],
     pass: &mut O,
-    takes: &mut Vec<TakeNote>,
-) -> Ending
+) -> (u64, Ending)
     requires rows { All (IsRowOf (length cells.now)) rows.now }
     requires fresh { O.stops pass.old ≡ 0 }
-    requires none { takes.old.items ≡ [] }
-    ensures takes { AreOfFirst (IsNoteOfTake D collector) 1 rows.now takes.new.items }
-    ensures ending { EndsCollector D rows.now (length takes.new.items) result }
-    ensures stops { O.stops pass.new ≡ halts result }
+    ensures ending { EndsCollector D rows.now result.0 result.1 }
+    ensures stops { O.stops pass.new ≡ halts result.1 }
 {
-    if make_room(takes, rows.len()).is_err() {
-        return Ending::WantOfMemory;
-    }
     let mut committed = 0;
     for (i, row) in rows.iter().enumerate() {
         if !pass.pass(i as u64) {
-            return Ending::Halted;
+            return (i as u64, Ending::Halted);
         }
-        match take_row(rt, cells, collector, i as u64 + 1, *row) {
-            Ok(note) => takes.push_reserved(note),
-            Err(why) => return Ending::Tag { tag: row.tag, why },
+        if let Err(why) = take_row(rt, cells, collector, i as u64 + 1, *row) {
+            return (i as u64, Ending::Tag { tag: row.tag, why });
         }
         let taken = i + 1;
         if is_due(taken, rows.len()) {
             if let Err(ending) = commit_tags(rt, cells, &rows[committed..taken]) {
-                return ending;
+                return (taken as u64, ending);
             }
             committed = taken;
         }
     }
-    Ending::Ended
+    (rows.len() as u64, Ending::Ended)
 }
 
 // Returns whether a collector with so many rows commits after this one: its number is a multiple of 64, or it is the
@@ -94,36 +88,29 @@ fn take_row<R: Wait, D: Disk>(
     collector: u32,
     number: u64,
     row: RawRow,
-) -> Result<TakeNote, CellNo>
+) -> Result<(), CellNo>
     requires { IsRowOf (length cells.now) row }
-    ensures noted { IfOk result (IsNoteOfTake D collector number row) }
-    ensures refused { IfErr result (RefusesRow D row row.tag) }
+    ensures { IfErr result (RefusesRow D row row.tag) }
 {
     let mut cell = cells[row.tag as usize].lock(rt);
-    take_into(rt, &mut cell, collector, number, row)
+    take_into(rt, &mut cell, collector, number, row.point)
 }
 
-// Takes a row into the cell of its tag, and returns the note of it.
+// Takes a point into the cell of its tag.
 fn take_into<R: Wait, D: Disk>(
     rt: &R,
     cell: &mut Cell<D>,
     collector: u32,
     number: u64,
-    row: RawRow,
-) -> Result<TakeNote, CellNo>
-    requires { InRange row.point }
-    ensures taken { OnOk result (IsTakenBy collector number row.point cell.old cell.new) }
-    ensures noted { IfOk result (λ note. note ≡ record { tag = row.tag; row = number; point = row.point; place = length cell.old.tape }) }
+    point: Point,
+) -> Result<(), CellNo>
+    requires { InRange point }
+    ensures taken { OnOk result (IsTakenBy collector number point cell.old cell.new) }
     ensures refused { MatchResult result (λ _. take_refusal cell.old ≡ None) (λ why. option_map refusal_of_take (take_refusal cell.old) ≡ Some why) }
     ensures unchanged { OnErr result (cell.new ≡ cell.old) }
 {
-    let receipt = cell.take(rt, collector, number, row.point)?;
-    Ok(TakeNote {
-        tag: row.tag,
-        row: number,
-        point: row.point,
-        place: receipt.place,
-    })
+    cell.take(rt, collector, number, point)?;
+    Ok(())
 }
 
 // Commits each tag of these rows, one after the other. If a commit is refused, it returns how the collector ends.

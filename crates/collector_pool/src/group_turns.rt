@@ -1,5 +1,5 @@
 // The groups of a plant, as workers use them.
-ghost use Rattle.std.specs.Prelude.{ℕ, ◌<◌, IfErr, IfOk, Option};
+ghost use Rattle.std.specs.Prelude.{ℕ, ◌<◌, IfErr};
 
 use disk_model::Disk;
 use std::sync::{Mutex, Wait};
@@ -33,16 +33,10 @@ pub enum TurnNo {
 
 /// The groups of a plant, each under its lock. Groups are counted from 0.
 pub trait GroupTurns<D: Disk>: Sync {
-    ghost use Rattle.trend_num.specs.declared.value.CalcValue.{CalcValue};
     ghost use Rattle.collector_pool.specs.declared.group_turns.TurnNo.{TurnNo};
-    ghost use Rattle.collector_pool.specs.RowAsk.{RowAsk};
 
     /// How many groups there are.
     ghost groups: { Self → ℕ };
-
-    /// What is known of an answer, and of the place of its entry on the group's tape. The default is that nothing is
-    /// known.
-    ghost Tells: { Self → RowAsk → ℕ → Option CalcValue → Type 0 } = { λ _ _ _ _. Unit {0} };
 
     /// What is known if a group refuses with this reason. The default is that nothing is known.
     ghost Refuses: { Self → ℕ → TurnNo → Type 0 } = { λ _ _ _. Unit {0} };
@@ -64,6 +58,5 @@ pub trait GroupTurns<D: Disk>: Sync {
         k: u64,
     ) -> Result<(u64, Option<CalcValue>), TurnNo>
         requires { group < groups self.now }
-        ensures told { IfOk result (λ told. Tells self.now (record { reader = reader; row = row; group = group; calc = calc; k = k }) told.0 told.1) }
-        ensures refused { IfErr result (Refuses self.now group) };
+        ensures { IfErr result (Refuses self.now group) };
 }

@@ -5,11 +5,11 @@
 //! and commits after every 64 rows and after its last one. A reader answers its queries in order. It reads a snapshot
 //! from the board, without the tag's lock. A refresher makes its turns, through the trait `GroupTurns`.
 //!
-//! The model of a session is the list of its notes (`specs/Notes.antt`). Each note records its worker's own work, in
-//! order: the takes of the first rows, the answers to the first queries, or the number of turns. A worker whose ending
-//! is `Ended` has done all its work. Any other ending records what its pass, or the call of its next step, answered. So
-//! the number of stops that the passes count rises by exactly the number of halted workers. Notes do not record what
-//! happened to a tag or a group under its lock, nor which worker came first: the tapes of tags and groups do.
+//! The model of a session is the list of its notes (`specs/Notes.antt`). Each note has a number of steps, the snapshots
+//! that a reader saw, and how the worker ended. If that is `Ended`, the number is that of all its work. Any other ending
+//! is what its pass, or the call of its next step, answered. So the number of stops that the passes count rises by
+//! exactly the number of halted workers. No clause says that a worker made the steps that its note counts, nor what
+//! happened to a tag or a group under its lock, nor which worker came first. The tapes of tags and groups show all that.
 #![tactic(auto)]
 
 mod collector;
@@ -22,8 +22,7 @@ mod session_worker;
 mod work;
 
 pub use group_turns::{GroupTurns, TurnNo};
-pub use interp_read::Reply;
-pub use note::{CellNo, Ending, TakeNote, Told, WorkerNote};
+pub use note::{CellNo, Ending, WorkerNote};
 pub use session::run_session;
 pub use snapshot_table::{Board, Looker};
 pub use tag_cell::Cell;

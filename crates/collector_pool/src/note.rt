@@ -3,44 +3,9 @@ ghost use Rattle.std.specs.Prelude.{◌≡◌, ◌+◌, ◌<◌, ◌≤◌, [], 
 ghost use Rattle.collector_pool.specs.Refusals.{ending_of_commit, ending_of_turn};
 
 use crate::group_turns::TurnNo;
-use interp_read::Reply;
 use std::alloc::Global;
 use tag_cell::{CommitNo, TakeNo};
-use trend_num::{CalcValue, Point, Snap, WantOfMemory};
-
-/// A row that a collector took.
-#[derive(Clone, Copy, Debug, PartialEq, Eq)]
-pub struct TakeNote {
-    /// The tag, counted from 0.
-    pub tag: u32,
-    /// The row in the collector's work, counted from 1 in each phase of a session.
-    pub row: u64,
-    pub point: Point,
-    /// The place of the take's entry on the tag's tape, counted from 0.
-    pub place: u64,
-}
-
-/// The answer that a reader received for a query.
-#[derive(Drop)]
-pub enum Told {
-    /// The answer of a tag, and the place of its entry on the tag's tape.
-    Tag {
-        tag: u32,
-        place: u64,
-        reply: Reply,
-    },
-    /// The snapshot of a tag that the board showed.
-    Snap {
-        tag: u32,
-        snap: Snap,
-    },
-    /// The answer of a group, and the place of its entry on the group's tape.
-    Row {
-        group: u32,
-        place: u64,
-        reply: Option<CalcValue>,
-    },
-}
+use trend_num::{Snap, WantOfMemory};
 
 /// Why a tag refused to take a value or to commit.
 #[derive(Clone, Copy, Debug, PartialEq, Eq)]
@@ -70,17 +35,15 @@ pub enum Ending {
     WantOfMemory,
 }
 
-/// What a worker did, and how it ended.
+/// How far a worker came, and how it ended.
 #[derive(Drop)]
 pub struct WorkerNote {
     /// The worker, counted from 0: the collectors, then the readers, then the refreshers.
     pub worker: u32,
-    /// What it took, if it is a collector.
-    pub takes: Vec<TakeNote>,
-    /// The answers that it received, if it is a reader.
-    pub told: Vec<Told>,
-    /// How many turns it made, if it is a refresher.
-    pub turns: u32,
+    /// How many steps it made: rows that it took, queries that it answered, or turns of its group.
+    pub steps: u64,
+    /// For each query that it answered, the snapshot that it saw, if it asked for one. Only readers answer queries.
+    pub snaps: Vec<Option<Snap>>,
     pub ending: Ending,
 }
 
@@ -88,15 +51,12 @@ impl WorkerNote {
     // Returns the note of a worker that has not begun.
     pub(crate) fn new(alloc: Global, worker: u32) -> WorkerNote
         ensures worker { result.worker ≡ worker }
-        ensures takes { result.takes.items ≡ [] }
-        ensures told { result.told.items ≡ [] }
-        ensures turns { result.turns ≡ 0 }
+        ensures snaps { result.snaps.items ≡ [] }
     {
         WorkerNote {
             worker,
-            takes: Vec::new(alloc),
-            told: Vec::new(alloc),
-            turns: 0,
+            steps: 0,
+            snaps: Vec::new(alloc),
             ending: Ending::Ended,
         }
     }

@@ -1,20 +1,18 @@
 // A reader: it answers its queries in order.
 ghost use Rattle.std.specs.Prelude.{◌≡◌, ℕ, ◌+◌, ◌<◌, ◌≤◌, [], All, IfErr, IfOk, length};
 ghost use Rattle.snapshot_table.specs.Boards.{LooksAt};
-ghost use Rattle.trend_num.specs.Queries.{IsTagQuery};
-ghost use Rattle.collector_pool.specs.Notes.{AreOfFirst, DoSnapsRise, EndsAtQuery, EndsReader, IsAnswerOf, IsReaderNote, IsSeenNext, IsToldFor, halts};
+ghost use Rattle.collector_pool.specs.Notes.{AreSnapsOf, DoSnapsRise, EndsAtQuery, EndsReader, IsReaderNote, IsSeenNext, halts};
 ghost use Rattle.collector_pool.specs.Work.{IsQueryOf};
 
 use crate::group_turns::GroupTurns;
-use crate::note::{Ending, Told, WorkerNote, ending_of_turn, make_room};
+use crate::note::{Ending, WorkerNote, ending_of_turn, make_room};
 use disk_model::Disk;
-use interp_read::Reply;
 use plant_status::Pass;
 use snapshot_table::{Board, Looker};
 use std::alloc::Global;
 use std::sync::{Mutex, Wait};
 use tag_cell::Cell;
-use trend_num::{TagQuery, WantOfMemory};
+use trend_num::Snap;
 use value_rows::Query;
 
 // Does the work of a reader, and returns its note.
@@ -35,7 +33,7 @@ pub(crate) fn read<R: Wait, D: Disk, G: GroupTurns<D>, O: Pass>(
     requires looks { LooksAt board.now looker.old }
     requires fresh { O.stops pass.old ≡ 0 }
     ensures worker { result.worker ≡ worker }
-    ensures note { IsReaderNote D (G.Tells groups.now) (G.Refuses groups.now) reader queries.now result }
+    ensures note { IsReaderNote (G.Refuses groups.now) queries.now result }
     ensures stops { O.stops pass.new ≡ halts result.ending }
 {
     let mut note = WorkerNote::new(alloc, worker);
@@ -48,12 +46,13 @@ pub(crate) fn read<R: Wait, D: Disk, G: GroupTurns<D>, O: Pass>(
         queries,
         looker,
         pass,
-        &mut note.told,
+        &mut note.snaps,
     );
+    note.steps = note.snaps.len() as u64;
     note
 }
 
-// Answers the queries in order, adds each answer to `told`, and returns how the reader ends.
+// Answers the queries in order, adds to `snaps` what it saw for each, and returns how the reader ends.
 fn answer_all<R: Wait, D: Disk, G: GroupTurns<D>, O: Pass>(
     rt: &R,
     cells: &[Mutex<Cell<D>>],
@@ -63,19 +62,19 @@ fn answer_all<R: Wait, D: Disk, G: GroupTurns<D>, O: Pass>(
     queries: &[Query],
     looker: &mut Looker,
     pass: &mut O,
-    told: &mut Vec<Told>,
+    snaps: &mut Vec<Option<Snap>>,
 ) -> Ending
     requires queries { All (IsQueryOf (length cells.now) (G.groups groups.now)) queries.now }
     requires board { length cells.now ≤ length board.now }
     requires looks { LooksAt board.now looker.old }
     requires fresh { O.stops pass.old ≡ 0 }
-    requires none { told.old.items ≡ [] }
-    ensures told { AreOfFirst (IsToldFor D (G.Tells groups.now) reader) 1 queries.now told.new.items }
-    ensures snaps { DoSnapsRise told.new.items }
-    ensures ending { EndsReader (G.Refuses groups.now) queries.now (length told.new.items) result }
+    requires none { snaps.old.items ≡ [] }
+    ensures snaps { AreSnapsOf queries.now snaps.new.items }
+    ensures rise { DoSnapsRise queries.now snaps.new.items }
+    ensures ending { EndsReader (G.Refuses groups.now) queries.now (length snaps.new.items) result }
     ensures stops { O.stops pass.new ≡ halts result }
 {
-    if make_room(told, queries.len()).is_err() {
+    if make_room(snaps, queries.len()).is_err() {
         return Ending::WantOfMemory;
     }
     for (i, query) in queries.iter().enumerate() {
@@ -92,7 +91,7 @@ fn answer_all<R: Wait, D: Disk, G: GroupTurns<D>, O: Pass>(
             *query,
             looker,
         ) {
-            Ok(answer) => told.push_reserved(answer),
+            Ok(snap) => snaps.push_reserved(snap),
             Err(ending) => return ending,
         }
     }
@@ -100,7 +99,7 @@ fn answer_all<R: Wait, D: Disk, G: GroupTurns<D>, O: Pass>(
 }
 
 // Answers a query: about a tag under the tag's lock, about a snapshot by a look at the board, about a group through
-// `groups`.
+// `groups`. Returns the snapshot that it saw, if the query asks for one.
 fn answer<R: Wait, D: Disk, G: GroupTurns<D>>(
     rt: &R,
     cells: &[Mutex<Cell<D>>],
@@ -110,52 +109,26 @@ fn answer<R: Wait, D: Disk, G: GroupTurns<D>>(
     number: u64,
     query: Query,
     looker: &mut Looker,
-) -> Result<Told, Ending>
+) -> Result<Option<Snap>, Ending>
     requires query { IsQueryOf (length cells.now) (G.groups groups.now) query }
     requires board { length cells.now ≤ length board.now }
     requires looks { LooksAt board.now looker.old }
     ensures looks { LooksAt board.now looker.new }
-    ensures told { IfOk result (IsToldFor D (G.Tells groups.now) reader number query) }
-    ensures seen { IfOk result (IsSeenNext looker.old.seen looker.new.seen) }
+    ensures seen { IfOk result (IsSeenNext query looker.old.seen looker.new.seen) }
     ensures ending { IfErr result (EndsAtQuery (G.Refuses groups.now) query) }
 {
     match query {
         Query::Tag { tag, query } => {
-            let cell = &cells[tag as usize];
-            match ask_tag(rt, cell, reader, number, query) {
-                Ok((place, reply)) => Ok(Told::Tag { tag, place, reply }),
-                Err(WantOfMemory) => Err(Ending::WantOfMemory),
+            let mut cell = cells[tag as usize].lock(rt);
+            match cell.ask(reader, number, query) {
+                Ok(_) => Ok(None),
+                Err(_) => Err(Ending::WantOfMemory),
             }
         }
-        Query::Snap { tag } => {
-            let snap = board.look(rt, looker, tag);
-            Ok(Told::Snap { tag, snap })
-        }
-        Query::Row { group, calc, k } => {
-            match groups.ask(rt, reader, number, group, calc, k) {
-                Ok((place, reply)) => Ok(Told::Row {
-                    group,
-                    place,
-                    reply,
-                }),
-                Err(no) => Err(ending_of_turn(group, no)),
-            }
-        }
+        Query::Snap { tag } => Ok(Some(board.look(rt, looker, tag))),
+        Query::Row { group, calc, k } => match groups.ask(rt, reader, number, group, calc, k) {
+            Ok(_) => Ok(None),
+            Err(no) => Err(ending_of_turn(group, no)),
+        },
     }
-}
-
-// Asks a tag under its lock, and returns the answer and its place on the tag's tape.
-fn ask_tag<R: Wait, D: Disk>(
-    rt: &R,
-    cell: &Mutex<Cell<D>>,
-    reader: u32,
-    number: u64,
-    query: TagQuery,
-) -> Result<(u64, Reply), WantOfMemory>
-    requires { IsTagQuery query }
-    ensures { IfOk result (λ told. IsAnswerOf D reader number query told.0 told.1) }
-{
-    let mut cell = cell.lock(rt);
-    let (receipt, reply) = cell.ask(reader, number, query)?;
-    Ok((receipt.place, reply))
 }

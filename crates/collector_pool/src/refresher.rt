@@ -28,7 +28,7 @@ pub(crate) fn refresh<R: Wait, D: Disk, G: GroupTurns<D>, O: Pass>(
     ensures stops { O.stops pass.new ≡ halts result.ending }
 {
     let mut note = WorkerNote::new(alloc, worker);
-    (note.turns, note.ending) = make_turns(rt, cells, groups, refresh, pass);
+    (note.steps, note.ending) = make_turns(rt, cells, groups, refresh, pass);
     note
 }
 
@@ -39,19 +39,20 @@ fn make_turns<R: Wait, D: Disk, G: GroupTurns<D>, O: Pass>(
     groups: &G,
     refresh: Refresh,
     pass: &mut O,
-) -> (u32, Ending)
+) -> (u64, Ending)
     requires group { refresh.group < G.groups groups.now }
     requires fresh { O.stops pass.old ≡ 0 }
     ensures ending { EndsRefresher (G.Refuses groups.now) refresh result.0 result.1 }
     ensures stops { O.stops pass.new ≡ halts result.1 }
 {
     for turn in 0..refresh.turns {
-        if !pass.pass(u64::from(turn)) {
-            return (turn, Ending::Halted);
+        let made = u64::from(turn);
+        if !pass.pass(made) {
+            return (made, Ending::Halted);
         }
         if let Err(no) = groups.refresh(rt, refresh.group, cells) {
-            return (turn, ending_of_turn(refresh.group, no));
+            return (made, ending_of_turn(refresh.group, no));
         }
     }
-    (refresh.turns, Ending::Ended)
+    (u64::from(refresh.turns), Ending::Ended)
 }

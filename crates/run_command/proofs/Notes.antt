@@ -15,7 +15,7 @@ use Rattle.run_command.specs.Endings.{HaveAllEnded}
 use Rattle.run_command.specs.Sessions.{AreNotes, AreNotesOfAll, OfAll, OfNone}
 
 pub notes_are : (D : Type 0) (w : Work) (before now : ℕ) (r : Result (Vec WorkerNote Global) WantOfMemory)
-    → IfOk r (λ notes. AreNotesOf D (λ ask place reply. ⊤) (λ group no. ⊤) w notes.items)
+    → IfOk r (λ notes. AreNotesOf D (λ group no. ⊤) w notes.items)
     → IfOk r (λ notes. now ≡ stops_with before notes.items) → OnErr r (now ≡ before) → AreNotes D w before now (notes_of r)
 notes_are D w before now (Ok notes) are stops none = OfAll are stops
 notes_are D w before now (Err why) are stops none = OfNone refl none

@@ -6,7 +6,7 @@ use Rattle.collector_pool.specs.Notes.{AreNotesOf, stops_with}
 
 -- these are the notes of all workers
 abbrev pub AreNotesOfAll : (D : Type 0) → Work → List WorkerNote → Type 0
-AreNotesOfAll D w notes = AreNotesOf D (λ ask place reply. ⊤) (λ group no. ⊤) w notes
+AreNotesOfAll D w notes = AreNotesOf D (λ group no. ⊤) w notes
 
 -- these are the notes of all workers, and the passes counted as many more stops as workers were stopped; or no worker
 -- began, and no stop was counted

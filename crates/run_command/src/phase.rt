@@ -313,7 +313,7 @@ pub(crate) fn run_workers<D: Disk + Send, P: Passes, R: Threads + Wait + Sync>(
     requires room { HasRoomFor (vec_len cells) (vec_len books) room }
     ensures cells { vec_len result.cells ≡ vec_len cells }
     ensures books { vec_len result.books ≡ vec_len books }
-    ensures notes { IfOk result.notes (λ notes. AreNotesOf D (λ ask place reply. ⊤) (λ group no. ⊤) work.now notes.items) }
+    ensures notes { IfOk result.notes (λ notes. AreNotesOf D (λ group no. ⊤) work.now notes.items) }
     ensures stops { IfOk result.notes (λ notes. P.stops passes.new ≡ stops_with (P.stops passes.old) notes.items) }
     ensures unbegun { OnErr result.notes (P.stops passes.new ≡ P.stops passes.old) }
 {
@@ -364,7 +364,7 @@ fn work_over<D: Disk + Send, P: Passes, R: Threads + Wait + Sync>(
     requires board { length cells.now ≤ length board.now }
     requires lookers { vec_len lookers ≡ vec_len work.now.readers }
     requires looks { All (LooksAt board.now) lookers.items }
-    ensures notes { IfOk result (λ notes. AreNotesOf D (λ ask place reply. ⊤) (λ group no. ⊤) work.now notes.items) }
+    ensures notes { IfOk result (λ notes. AreNotesOf D (λ group no. ⊤) work.now notes.items) }
     ensures stops { IfOk result (λ notes. P.stops passes.new ≡ stops_with (P.stops passes.old) notes.items) }
     ensures unbegun { OnErr result (P.stops passes.new ≡ P.stops passes.old) }
 {

@@ -22,7 +22,7 @@ use Rattle.trend_report.specs.declared.reply_line.ReplyText.TheVariants.{Tag, Sn
 use Rattle.trend_report.specs.Lines.{group_lines, tag_line_of, reply_text, tag_text}
 use Rattle.session_report.specs.declared.session.Session.{Session}
 use Rattle.session_report.specs.Askers.{first_by, group_asker, tag_asker}
-use Rattle.session_report.specs.Snaps.{snap_in, snap_of, told_at}
+use Rattle.session_report.specs.Snaps.{snap_of, told_at}
 
 -- the results of f for each element and its place, where the first element has the place n
 abbrev pub placed_answers : {A B : Type 0} → (ℕ → A → B) → ℕ → List A → List B
@@ -72,7 +72,7 @@ reply_to s notes reader place (query.Tag tag asked) =
 reply_to s notes reader place (query.Row group calc k) =
     answer_of_group (first_by group_asker reader (place + 1) (group_tape s.groups.items group))
 reply_to s notes reader place (query.Snap tag) =
-    Snap (snap_of s.tags.items tag (snap_in tag (told_at s.workers.items (notes + reader) place)))
+    Snap (snap_of s.tags.items tag (told_at s.workers.items (notes + reader) place))
 
 -- the lines of the replies to a reader, and to all
 abbrev pub replies_to : Session → ℕ → ℕ → List Query → List ℕ

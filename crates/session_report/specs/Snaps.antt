@@ -8,8 +8,6 @@ use Rattle.trend_num.specs.declared.archive.Snap.{Snap}
 use Rattle.tag_cell.specs.declared.entry.Entry.{Entry}
 use Rattle.tag_cell.specs.declared.entry.Entry.TheVariants.{Take}
 use Rattle.tag_cell.specs.declared.history.TagHistory.{TagHistory}
-use Rattle.collector_pool.specs.declared.note.Told.{Told}
-use Rattle.collector_pool.specs.declared.note.Told.TheVariants as told
 use Rattle.collector_pool.specs.declared.note.WorkerNote.{WorkerNote}
 
 -- ---- what a tag had
@@ -44,14 +42,10 @@ snap_at_end h = record { taken = h.summary.taken; held = h.summary.held }
 
 -- ---- the reply to a reader
 
--- the snapshot of this tag in an answer, if the answer has one
-abbrev pub snap_in : ℕ → Option Told → Option Snap
-snap_in tag (Some (told.Snap its snap)) = if nat_eq its tag then Some snap else None
-snap_in tag other = None
-
--- the answer that the note of a worker has at a place
-abbrev pub told_at : List WorkerNote → ℕ → ℕ → Option Told
-told_at notes worker place = option_and_then (λ note. slice_get note.told.items place) (slice_get notes worker)
+-- the snapshot that the note of a worker has at a place, if it has one
+abbrev pub told_at : List WorkerNote → ℕ → ℕ → Option Snap
+told_at notes worker place =
+    option_and_then (λ note. option_and_then (λ seen. seen) (slice_get note.snaps.items place)) (slice_get notes worker)
 
 -- the snapshot in the note, if the tag had it; otherwise that of the tag's end
 abbrev pub checked : TagHistory → Option Snap → Snap

@@ -8,7 +8,7 @@ ghost use Rattle.session_report.specs.Report.{replies_to, reply_lines, reply_to}
 use crate::answer::{group_answer, group_tape, tag_answer, tag_tape};
 use crate::places::places_of;
 use crate::session::Session;
-use crate::snap::{held_lists, snap_of, snap_told};
+use crate::snap::{held_lists, snap_of, told_at};
 use std::alloc::Global;
 use trend_num::{Point, WantOfMemory};
 use trend_report::{ReplyText, reply_text};
@@ -121,7 +121,7 @@ fn reply_line(
             ReplyText::Row(group_answer(tape, found, number, row))
         }
         Query::Snap { tag } => {
-            let told = snap_told(&session.workers, notes + reader, place, tag);
+            let told = told_at(&session.workers, notes + reader, place);
             ReplyText::Snap(snap_of(&session.tags, held, tag, told))
         }
     };

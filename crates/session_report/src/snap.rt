@@ -4,9 +4,9 @@ ghost use Rattle.std.specs.List.{list_any};
 ghost use Rattle.calc_refresh.specs.Lists.{lists_of};
 ghost use Rattle.session_report.specs.Places.{AreMarked, AreSnapped, held_lists, is_snap, is_snapped};
 ghost use Rattle.session_report.specs.Report.{tag_tape};
-ghost use Rattle.session_report.specs.Snaps.{checked, had, held_after, held_points, same_held, snap_at_end, snap_in, snap_of, told_at};
+ghost use Rattle.session_report.specs.Snaps.{checked, had, held_after, held_points, same_held, snap_at_end, snap_of, told_at};
 
-use collector_pool::{Told, WorkerNote};
+use collector_pool::WorkerNote;
 use std::alloc::Global;
 use tag_cell::{Entry, TagHistory};
 use trend_num::{Point, Snap, WantOfMemory};
@@ -106,21 +106,18 @@ fn held_after(entry: &Entry) -> Option<Point>
     }
 }
 
-// Returns the snapshot of a tag that the note of a worker has at a place, if it has one.
-pub(crate) fn snap_told(notes: &[WorkerNote], worker: usize, place: usize, tag: u32) -> Option<Snap>
-    ensures { result ≡ snap_in tag (told_at notes.now worker place) }
+// Returns the snapshot that the note of a worker has at a place, if it has one.
+pub(crate) fn told_at(notes: &[WorkerNote], worker: usize, place: usize) -> Option<Snap>
+    ensures { result ≡ told_at notes.now worker place }
 {
     if worker >= notes.len() {
         return None;
     }
-    let told = notes[worker].told.as_slice();
-    if place >= told.len() {
+    let snaps = notes[worker].snaps.as_slice();
+    if place >= snaps.len() {
         return None;
     }
-    match &told[place] {
-        Told::Snap { tag: its, snap } if *its == tag => Some(*snap),
-        _ => None,
-    }
+    snaps[place]
 }
 
 // Returns the snapshot in the reply about a tag: the one in the reader's note, if the tag had it, and otherwise that of

@@ -14,7 +14,7 @@ returns-in-Reader-clause-note g c =
     let role = rw c.in-Reader.is at c.requires.role in
     let note = rw c.deref.ensures.value at c.read.ensures.note in
     rw c.in-Reader.is
-    (as_reader g.row.D.Denot _ _ c.args.work.now c.in-Reader.reader c.index-queries.result.now c.read.result role.0
+    (as_reader _ c.args.work.now c.in-Reader.reader c.index-queries.result.now c.read.result role.0
     c.index-queries.ensures note)
 
 pub returns-in-Refresher-clause-note : goal.returns-in-Refresher-clause-note
