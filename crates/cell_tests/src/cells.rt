@@ -3,6 +3,7 @@
 use disk_model::{Disk, MemDisk, Pick};
 use interp_read::Reply;
 use std::alloc::Global;
+use std::process::Abort;
 use std::sync::{Arc, Mutex, Wait};
 use std::test::Fail;
 use std::thread::{Threads, join};
@@ -153,6 +154,11 @@ fn device_of(cell: Cell<MemDisk>) -> MemDisk {
     dev
 }
 
+/// Compares what was told with what is wanted.
+pub(crate) fn same(rt: &impl Abort, told: &str, want: &str) {
+    assert_eq!(rt; told, want);
+}
+
 // Returns a kept record.
 fn kept(t: u64, v: i64) -> Rec {
     Rec {
@@ -171,10 +177,10 @@ fn holds_three(dev: &MemDisk) -> bool {
 #[test]
 fn a_batch_is_two_writes_and_two_syncs(rt: HostRuntime) -> Result<(), Fail> {
     let mut cell = filled(&rt, rt.alloc(), false, 64, 4, "0,0 10,10 20,20").ok_or("refused")?;
-    assert_eq!(rt; commit(&mut cell), all_of(3));
+    assert!(rt; commit(&mut cell) == all_of(3));
     // The second commit leaves no entry.
-    assert_eq!(rt; commit(&mut cell), all_of(3));
-    assert_eq!(rt; last_commit(&cell), Some((4, 4, 3)));
+    assert!(rt; commit(&mut cell) == all_of(3));
+    assert!(rt; last_commit(&cell) == Some((4, 4, 3)));
     assert!(rt; holds_three(&device_of(cell)));
     Ok(())
 }
@@ -182,30 +188,21 @@ fn a_batch_is_two_writes_and_two_syncs(rt: HostRuntime) -> Result<(), Fail> {
 #[test]
 fn records_are_handed_out_once_they_are_acknowledged(rt: HostRuntime) -> Result<(), Fail> {
     let mut cell = filled(&rt, rt.alloc(), false, 64, 4, "0,0 10,10 20,0").ok_or("refused")?;
-    assert_eq!(rt;
-        ahead(&mut cell, 1),
-        Some(PullNo::Ahead { from: 1, acked: 0 })
-    );
+    assert!(rt; ahead(&mut cell, 1) == Some(PullNo::Ahead { from: 1, acked: 0 }));
     assert!(rt; pulls(&mut cell, &[]));
-    assert_eq!(rt; commit(&mut cell), all_of(3));
+    assert!(rt; commit(&mut cell) == all_of(3));
     assert!(rt; pulls(&mut cell, &[kept(0, 0), kept(10, 10)]));
-    assert_eq!(rt;
-        ahead(&mut cell, 5),
-        Some(PullNo::Ahead { from: 5, acked: 2 })
-    );
+    assert!(rt; ahead(&mut cell, 5) == Some(PullNo::Ahead { from: 5, acked: 2 }));
     Ok(())
 }
 
 #[test]
 fn a_full_lane_goes_by_a_checkpoint(rt: HostRuntime) -> Result<(), Fail> {
     let mut cell = filled(&rt, rt.alloc(), false, 1, 2, "0,0").ok_or("refused")?;
-    assert_eq!(rt; commit(&mut cell), all_of(1));
+    assert!(rt; commit(&mut cell) == all_of(1));
     take_all(&rt, &mut cell, "10,10").ok_or("refused")?;
-    assert_eq!(rt; commit(&mut cell), all_of(2));
-    assert_eq!(rt;
-        refusal(&rt, &mut cell, 3, 20, 0),
-        Some(TakeNo::RoomFull { room: 2 })
-    );
+    assert!(rt; commit(&mut cell) == all_of(2));
+    assert!(rt; refusal(&rt, &mut cell, 3, 20, 0) == Some(TakeNo::RoomFull { room: 2 }));
     Ok(())
 }
 
@@ -245,11 +242,11 @@ fn broke(cell: &Cell<MemDisk>) -> bool {
 #[test]
 fn a_broken_cell_answers_and_hands_out(rt: HostRuntime) -> Result<(), Fail> {
     let mut cell = about_to_break(&rt, rt.alloc()).ok_or("refused")?;
-    assert_eq!(rt; commit(&mut cell), Err(CommitNo::DeviceFault));
+    assert!(rt; commit(&mut cell) == Err(CommitNo::DeviceFault));
     assert!(rt; broke(&cell));
-    assert_eq!(rt; commit(&mut cell), Err(CommitNo::Broken));
-    assert_eq!(rt; refusal(&rt, &mut cell, 2, 1, 1), Some(TakeNo::Broken));
-    assert_eq!(rt; reading(&mut cell, 3), Some(Reading::Flat(7)));
+    assert!(rt; commit(&mut cell) == Err(CommitNo::Broken));
+    assert!(rt; refusal(&rt, &mut cell, 2, 1, 1) == Some(TakeNo::Broken));
+    assert!(rt; reading(&mut cell, 3) == Some(Reading::Flat(7)));
     assert!(rt; pulls(&mut cell, &[]));
     Ok(())
 }
@@ -257,10 +254,10 @@ fn a_broken_cell_answers_and_hands_out(rt: HostRuntime) -> Result<(), Fail> {
 #[test]
 fn a_step_tag_answers_by_its_stair(rt: HostRuntime) -> Result<(), Fail> {
     let mut cell = filled(&rt, rt.alloc(), true, 64, 4, "0,10 10,11 20,15 30,14").ok_or("refused")?;
-    assert_eq!(rt; reading(&mut cell, 15), Some(Reading::Flat(10)));
-    assert_eq!(rt; reading(&mut cell, 20), Some(Reading::Exact(15)));
-    assert_eq!(rt; measured(&mut cell, Measure::Area, 0, 30), Some(700));
-    assert_eq!(rt; measured(&mut cell, Measure::Low, 0, 30), Some(10));
+    assert!(rt; reading(&mut cell, 15) == Some(Reading::Flat(10)));
+    assert!(rt; reading(&mut cell, 20) == Some(Reading::Exact(15)));
+    assert!(rt; measured(&mut cell, Measure::Area, 0, 30) == Some(700));
+    assert!(rt; measured(&mut cell, Measure::Low, 0, 30) == Some(10));
     Ok(())
 }
 
@@ -328,7 +325,7 @@ fn first_loss(rt: &impl Wait, alloc: Global, def: &TagDef, opening: u64) -> Opti
 fn a_crash_after_any_call_leaves_what_was_acknowledged(rt: HostRuntime) -> Result<(), Fail> {
     let def = tag(false, 0).ok_or("name")?;
     let opening = calls_of_opening(&rt, rt.alloc(), &def, 1).ok_or("refused")?;
-    assert_eq!(rt; first_loss(&rt, rt.alloc(), &def, opening), None);
+    assert!(rt; first_loss(&rt, rt.alloc(), &def, opening).is_none());
     Ok(())
 }
 
@@ -345,11 +342,8 @@ fn fill_up(rt: &impl Wait, cell: &mut Cell<MemDisk>) -> Option<TakeNo> {
 #[test]
 fn a_tag_at_its_limit_of_records_answers_full(rt: HostRuntime) -> Result<(), Fail> {
     let mut cell = filled(&rt, rt.alloc(), false, 1, 1_048_700, "1,0").ok_or("refused")?;
-    assert_eq!(rt;
-        fill_up(&rt, &mut cell),
-        Some(TakeNo::Full { records: 1_048_575 })
-    );
-    assert_eq!(rt; cell.tape().len(), 1_048_575);
+    assert!(rt; fill_up(&rt, &mut cell) == Some(TakeNo::Full { records: 1_048_575 }));
+    assert!(rt; cell.tape().len() == 1_048_575);
     Ok(())
 }
 
@@ -389,9 +383,9 @@ fn two_collectors_take_beside_each_other(rt: HostRuntime) -> Result<(), Fail> {
     let cell = opened(&rt, rt.alloc(), dev, &def, 64, 80).ok_or("refused")?;
     let cell = Mutex::new(cell);
     let (first, second) = beside(&rt, &cell);
-    assert_eq!(rt; first.wrapping_add(second), 80);
+    assert!(rt; first.wrapping_add(second) == 80);
     let (_, history) = cell.into_inner().into_history();
-    assert_eq!(rt; history.tape.len(), 80);
-    assert_eq!(rt; history.summary.taken, 80);
+    assert!(rt; history.tape.len() == 80);
+    assert!(rt; history.summary.taken == 80);
     Ok(())
 }

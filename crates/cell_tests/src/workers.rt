@@ -4,9 +4,7 @@ ghost use Rattle.std.specs.Arc.{arc_value};
 ghost use Rattle.snapshot_table.specs.Boards.{LooksAt};
 
 use crate::cells::tag;
-use collector_pool::{
-    CellNo, Ending, GroupTurns, Refresh, TakeNote, Told, TurnNo, Work, WorkerNote, run_session,
-};
+use collector_pool::{CellNo, Ending, GroupTurns, Refresh, TurnNo, Work, WorkerNote, run_session};
 use disk_model::MemDisk;
 use plant_status::{OpenPasses, Passes};
 use snapshot_table::{Board, Looker};
@@ -81,6 +79,8 @@ fn twice(alloc: Global, board: Board) -> Option<(Arc<Board, Global>, Arc<Board, 
 struct Ran {
     notes: Vec<WorkerNote>,
     history: TagHistory,
+    // How many questions the group was asked.
+    answers: u64,
 }
 
 // Runs a session over one new tag that has room for so many takes. With `filled`, so many values are taken before it.
@@ -133,7 +133,12 @@ fn work_over<P: Passes, R: Threads + Wait + Sync>(
     let notes = run_session(rt, alloc, &cells, board, lookers, &groups, work, passes).ok()?;
     let cell = cells.pop()?;
     let (_, history) = cell.into_inner().into_history();
-    Some(Ran { notes, history })
+    let answers = groups.answers.into_inner();
+    Some(Ran {
+        notes,
+        history,
+        answers,
+    })
 }
 
 // Takes so many values. Each but the last is kept.
@@ -239,27 +244,44 @@ fn taken_rows(alloc: Global, history: &TagHistory) -> Option<Vec<u64>> {
     Some(rows)
 }
 
-// Returns whether the entry at the place of a note is the take that the note records.
-fn stands(history: &TagHistory, collector: u32, note: &TakeNote) -> bool {
-    match history.tape.get(note.place as usize) {
-        Some(
-            Entry::Take {
-                collector: by,
-                row,
-                point,
-                ..
-            },
-        ) => *by == collector && *row == note.row && *point == note.point,
-        _ => false,
-    }
+// Returns whether a take is that of the row at this place of a collector's rows.
+fn is_take_of(rows: &[RawRow], place: u64, number: u64, point: Point) -> bool {
+    number == place.saturating_add(1)
+        && rows
+            .get(place as usize)
+            .is_some_and(|row| row.point == point)
 }
 
-// Returns whether each take of each note is at its place on the tape.
-fn all_stand(ran: &Ran) -> bool {
-    ran.notes.iter().all(|note| note
-        .takes
-        .iter()
-        .all(|take| stands(&ran.history, note.worker, take)))
+// Returns whether the takes of a collector on a tape are the first so many of its rows, in order.
+fn took_first(history: &TagHistory, collector: u32, rows: &[RawRow], steps: u64) -> bool {
+    let mut taken = 0u64;
+    for entry in &history.tape {
+        if let Entry::Take {
+            collector: by,
+            row,
+            point,
+            ..
+        } = entry
+        {
+            if *by == collector {
+                if !is_take_of(rows, taken, *row, *point) {
+                    return false;
+                }
+                taken = taken.saturating_add(1);
+            }
+        }
+    }
+    taken == steps
+}
+
+// Returns whether each collector has taken the first of its rows, as many as its note has steps, and nothing else.
+fn all_stand(ran: &Ran, work: &Work) -> bool {
+    ran.notes.iter().zip(&work.collectors).all(|(note, rows)| took_first(
+        &ran.history,
+        note.worker,
+        rows.as_slice(),
+        note.steps,
+    ))
 }
 
 // Returns whether the workers ended like this.
@@ -286,7 +308,7 @@ fn two_collectors_take_in_turn(rt: HostRuntime) -> Result<(), Fail> {
     assert!(rt; ended_by(&ran, &[Ending::Ended, Ending::Ended]));
     let rows = taken_rows(rt.alloc(), &ran.history).ok_or("memory")?;
     assert_eq!(rt; rows.as_slice(), [1, 1, 2, 2].as_slice());
-    assert!(rt; all_stand(&ran));
+    assert!(rt; all_stand(&ran, &work));
     assert_eq!(rt; ran.history.acked, 4);
     assert_eq!(rt; gates.stops, 0);
     Ok(())
@@ -416,28 +438,19 @@ fn a_tape_without_room_ends_its_collector(rt: HostRuntime) -> Result<(), Fail> {
     Ok(())
 }
 
-// Returns whether a reader saw the snapshot of the one value that was taken, and an empty row of the group, at place 0
-// of its tape.
-fn told_a_snap_and_a_row(note: &WorkerNote) -> bool {
-    match note.told.as_slice() {
-        [
-            Told::Snap { tag: 0, snap },
-            Told::Row {
-                group: 0,
-                place: 0,
-                reply: None,
-            },
-        ] => *snap
-            == Snap {
-                taken: 1,
-                held: Some(Point { t: 0, v: 0 }),
-            },
-        _ => false,
-    }
+// Returns whether a reader answered two queries, and saw for the first the snapshot of the one value that was taken.
+fn saw_a_snap_and_no_other(note: &WorkerNote) -> bool {
+    let seen = Snap {
+        taken: 1,
+        held: Some(Point { t: 0, v: 0 }),
+    };
+    note.steps == 2 && note.snaps.as_slice() == [Some(seen), None].as_slice()
 }
 
 #[test]
-fn a_snapshot_is_told_from_the_board_and_a_row_by_the_group(rt: HostRuntime) -> Result<(), Fail> {
+fn a_reader_notes_the_snapshot_of_the_board_and_no_row_of_a_group(
+    rt: HostRuntime,
+) -> Result<(), Fail> {
     let queries = [
         Query::Snap { tag: 0 },
         Query::Row {
@@ -450,7 +463,8 @@ fn a_snapshot_is_told_from_the_board_and_a_row_by_the_group(rt: HostRuntime) -> 
     work.collectors.clear();
     let ran = session_over(&rt, rt.alloc(), 2, 1, &work, &mut OpenPasses).ok_or("refused")?;
     assert!(rt; ended_by(&ran, &[Ending::Ended, Ending::Ended]));
-    assert!(rt; ran.notes.first().is_some_and(told_a_snap_and_a_row));
-    assert!(rt; ran.notes.last().is_some_and(|note| note.turns == 2));
+    assert!(rt; ran.notes.first().is_some_and(saw_a_snap_and_no_other));
+    assert!(rt; ran.notes.last().is_some_and(|note| note.steps == 2));
+    assert!(rt; ran.answers == 1);
     Ok(())
 }

@@ -1,7 +1,9 @@
 // What no clause says: that calls succeed if there is memory; and images that were computed by hand.
-use crate::spelled::{change, number};
-use disk_model::{Disk, Failed, MemDisk, MemStore, Pick, Store, close_gates};
-use std::alloc::{AllocError, Global};
+ghost use Rattle.std.specs.Prelude.{ℕ, List, IsTrue, OnOk};
+
+use crate::spelled::{change, number, rows_tell, same};
+use disk_model::{Disk, MemDisk, MemStore, Pick, Store, close_gates};
+use std::alloc::Global;
 use std::process::Abort;
 use std::test::Fail;
 
@@ -42,43 +44,59 @@ fn image(alloc: Global, disk: &MemDisk, pick: Pick) -> Result<String, Fail> {
     Ok(String::from_utf8(left.bytes().to_vec(alloc)?).map_err(|_| "text")?)
 }
 
+// Makes the calls of a row up to the first that fails, and returns whether all were done.
+fn all_done(rt: &impl Abort, disk: &mut MemDisk, steps: &str) -> bool {
+    for step in steps.split_whitespace() {
+        if !is_done(rt, disk, step) {
+            return false;
+        }
+    }
+    true
+}
+
+// The device after the calls of a row. A fault is counted exactly if a call fails.
+fn called(rt: &impl Abort, alloc: Global, given: &str) -> Result<MemDisk, Fail> {
+    let (steps, fail) = given.rsplit_once(' ').ok_or("call")?;
+    let mut disk = MemDisk::new(b"abc".to_vec(alloc)?, vec![in alloc; number(rt, fail)]?);
+    let done = all_done(rt, &mut disk, steps);
+    assert!(rt; done == (fail == "9"));
+    assert!(rt; disk.faults() == u64::from(!done));
+    Ok(disk)
+}
+
+// The images that a crash may leave of a device, as text.
+fn images_told(alloc: Global, disk: &MemDisk) -> Result<String, Fail> {
+    let old = image(alloc, disk, Pick::Old)?;
+    let new = image(alloc, disk, Pick::New)?;
+    Ok(format!(in alloc; "{old} {new} {}", image(alloc, disk, Pick::Fill(b'-'))?)?)
+}
+
 #[test]
 fn a_crash_leaves_old_new_or_other_bytes(rt: HostRuntime) -> Result<(), Fail> {
-    let alloc = rt.alloc();
-    for row in IMAGES.lines() {
-        let (given, want) = row.split_once(" => ").ok_or("row")?;
-        let (steps, fail) = given.rsplit_once(' ').ok_or("call")?;
-        let mut disk = MemDisk::new(b"abc".to_vec(alloc)?, vec![in alloc; number(&rt, fail)]?);
-        let mut done = true;
-        for step in steps.split_whitespace() {
-            done = done && is_done(&rt, &mut disk, step);
-        }
-        assert_eq!(rt; done, fail == "9", "{given}");
-        assert_eq!(rt; disk.faults(), u64::from(!done), "{given}");
-        let (old, new) = (
-            image(alloc, &disk, Pick::Old)?,
-            image(alloc, &disk, Pick::New)?,
-        );
-        let told = format!(in alloc; "{old} {new} {}", image(alloc, &disk, Pick::Fill(b'-'))?)?;
-        assert_eq!(rt; told.as_str(), want, "{given}");
-    }
-    Ok(())
+    rows_tell(&rt, IMAGES, |given| {
+        images_told(rt.alloc(), &called(&rt, rt.alloc(), given)?)
+    })
+}
+
+// What the calls of a device of "abc" answer. The second of them fails, and each one from the sixth on.
+fn calls_told(alloc: Global) -> Result<String, Fail> {
+    let mut disk = MemDisk::new(b"abc".to_vec(alloc)?, vec![in alloc; 1]?);
+    let (first, failed, len) = (disk.len(), disk.sync(), disk.len());
+    let mut two = [0; 2];
+    let (read, cut) = (disk.read(1, &mut two), disk.cut(1));
+    disk.stop_after(5);
+    let last = disk.len();
+    let counts = [disk.calls(), disk.clock(), disk.faults()];
+    Ok(format!(in alloc;
+        "{first:?} {failed:?} {len:?} {read:?} {two:?} {cut:?} {last:?} {counts:?}"
+    )?)
 }
 
 #[test]
 fn a_device_in_memory_counts(rt: HostRuntime) -> Result<(), Fail> {
-    let alloc = rt.alloc();
-    let mut disk = MemDisk::new(b"abc".to_vec(alloc)?, vec![in alloc; 1]?);
-    assert_eq!(rt; disk.len(), Ok(3));
-    assert_eq!(rt; disk.sync(), Err(Failed));
-    let mut two = [0; 2];
-    assert_eq!(rt; disk.len(), Ok(3));
-    assert_eq!(rt; disk.read(1, &mut two), Ok(()));
-    assert_eq!(rt; two.as_slice(), b"bc".as_slice());
-    assert_eq!(rt; disk.cut(1), Ok(()));
-    disk.stop_after(5);
-    assert_eq!(rt; disk.len(), Err(Failed));
-    assert_eq!(rt; (disk.calls(), disk.clock(), disk.faults()), (6, 2, 2));
+    let told = calls_told(rt.alloc())?;
+    let want = "Ok(3) Err(Failed) Ok(3) Ok(()) [98, 99] Ok(()) Err(Failed) [6, 2, 2]";
+    same(&rt, told.as_str(), want, "calls");
     Ok(())
 }
 
@@ -93,49 +111,72 @@ fn closed(bytes: Vec<u8>) -> Option<MemDisk> {
     Some(disk)
 }
 
+// The bytes of four changed gates after they were closed, and how many writes and syncs that took.
+fn gates_told(rt: &impl Abort, alloc: Global, changes: &str) -> Result<String, Fail> {
+    let mut gates = vec![in alloc; 0; 4]?;
+    change(rt, gates.as_mut_slice(), changes);
+    let disk = closed(gates).ok_or("refused")?;
+    Ok(format!(in alloc; "{:?} {}", disk.bytes(), disk.clock())?)
+}
+
 #[test]
 fn gates_that_read_closed_are_not_written(rt: HostRuntime) -> Result<(), Fail> {
-    for row in GATES.lines() {
-        let (given, want) = row.split_once(" => ").ok_or("row")?;
-        let mut gates = vec![in rt.alloc(); 0; 4]?;
-        change(&rt, gates.as_mut_slice(), given);
-        let disk = closed(gates).ok_or("refused")?;
-        let told = format!(in rt.alloc(); "{:?} {}", disk.bytes(), disk.clock())?;
-        assert_eq!(rt; told.as_str(), want, "{given}");
-    }
+    rows_tell(&rt, GATES, |given| gates_told(&rt, rt.alloc(), given))
+}
+
+/// Hands out the device of a name.
+pub fn handed<S: Store>(store: &mut S, name: &str) -> Result<S::Dev, Fail>
+    ensures place { OnOk result (IsTrue (S.has_place store.new name.now)) }
+    ensures places { (n : List ℕ) → IsTrue (S.has_place store.old n) → IsTrue (S.has_place store.new n) }
+{
+    Ok(store.device(name).map_err(|_| "failed")?)
+}
+
+// A store of one device, `a.tag`, that holds "abc". Its first call fails.
+fn store_of_one(alloc: Global) -> Result<MemStore, Fail> {
+    let kept = MemDisk::new(b"abc".to_vec(alloc)?, vec![in alloc; 0]?);
+    let mut devices = Vec::new(alloc);
+    devices.push((String::from_str(alloc, "a.tag")?, kept))?;
+    Ok(MemStore::new(devices))
+}
+
+// Takes two devices of a store, and gives the first one back after a call.
+fn taken(rt: &impl Abort, store: &mut MemStore) -> Result<(), Fail> {
+    let mut a = handed(store, "a.tag")?;
+    let b = handed(store, "b.tag")?;
+    assert!(rt; a.bytes() == b"abc".as_slice());
+    assert!(rt; b.bytes().is_empty());
+    assert!(rt; a.sync().is_err());
+    store.give_back("a.tag", a);
     Ok(())
 }
 
 #[test]
 fn a_store_in_memory_keeps_devices_by_name(rt: HostRuntime) -> Result<(), Fail> {
-    let alloc = rt.alloc();
-    let kept = MemDisk::new(b"abc".to_vec(alloc)?, vec![in alloc; 0]?);
-    let mut devices = Vec::new(alloc);
-    devices.push((String::from_str(alloc, "a.tag")?, kept))?;
-    let mut store = MemStore::new(devices);
-    let mut a = store.device("a.tag").map_err(|_| "failed")?;
-    let b = store.device("b.tag").map_err(|_| "failed")?;
-    assert_eq!(rt; (a.bytes(), b.bytes()), (b"abc".as_slice(), b"".as_slice()));
-    assert_eq!(rt; a.sync(), Err(Failed));
-    store.give_back("a.tag", a);
-    let again = store.device("a.tag").map_err(|_| "failed")?;
-    assert_eq!(rt;
-        (again.bytes(), again.clock(), again.faults()),
-        (b"abc".as_slice(), 1, 0)
-    );
+    let mut store = store_of_one(rt.alloc())?;
+    taken(&rt, &mut store)?;
+    let again = handed(&mut store, "a.tag")?;
+    assert!(rt; again.bytes() == b"abc".as_slice());
+    assert!(rt; (again.clock(), again.faults()) == (1, 0));
     Ok(())
+}
+
+// Makes six calls of two devices, of which the fourth and each later one fails.
+fn two_stop(rt: &impl Abort, a: &mut MemDisk, b: &mut MemDisk) {
+    assert!(rt; a.sync().is_ok() && b.sync().is_ok());
+    assert!(rt; a.len() == Ok(0));
+    assert!(rt; b.sync().is_err() && a.sync().is_err());
+    assert!(rt; (a.faults(), b.faults()) == (1, 1));
 }
 
 #[test]
 fn devices_of_a_store_stop_together(rt: HostRuntime) -> Result<(), Fail> {
     let mut store = MemStore::new(Vec::new(rt.alloc()));
-    let mut before = store.device("before.tag").map_err(|_| "failed")?;
+    let mut before = handed(&mut store, "before.tag")?;
     store.stop_after(3).map_err(|_| "memory")?;
-    let mut a = store.device("a.tag").map_err(|_| "failed")?;
-    let mut b = store.device("b.tag").map_err(|_| "failed")?;
-    assert_eq!(rt; (a.sync(), b.sync(), a.len()), (Ok(()), Ok(()), Ok(0)));
-    assert_eq!(rt; (b.sync(), a.sync()), (Err(Failed), Err(Failed)));
-    assert_eq!(rt; (a.faults(), b.faults()), (1, 1));
-    assert_eq!(rt; before.sync(), Ok(()));
+    let mut a = handed(&mut store, "a.tag")?;
+    let mut b = handed(&mut store, "b.tag")?;
+    two_stop(&rt, &mut a, &mut b);
+    assert!(rt; before.sync().is_ok());
     Ok(())
 }

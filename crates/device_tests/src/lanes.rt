@@ -1,8 +1,8 @@
 // Lanes written by hand: what a scan finds, and the first field that breaks the layout.
-use crate::spelled::{change, number};
+use crate::spelled::{change, number, rows_tell};
 use disk_model::MemDisk;
 use event_queue::scan;
-use std::alloc::{AllocError, Global};
+use std::alloc::Global;
 use std::process::Abort;
 use std::test::Fail;
 
@@ -41,31 +41,32 @@ const SCANS: &str = "\
 2 400=0 => Damaged { at: 1438, byte: Some(0) }
 0 401=0 => 1 2 2 false";
 
-// What a scan of the changed device finds, if the summary counts `taken` values.
-fn found(rt: &impl Abort, alloc: Global, taken: u64, changes: &str) -> Result<String, Fail> {
+// A device of two batches, with these changes.
+fn changed(rt: &impl Abort, alloc: Global, changes: &str) -> Result<MemDisk, Fail> {
     let mut bytes = vec![in alloc; 0; 4540]?;
     change(rt, bytes.as_mut_slice(), TWO_BATCHES);
     change(rt, bytes.as_mut_slice(), changes);
-    let mut disk = MemDisk::new(bytes, Vec::new(alloc));
+    Ok(MemDisk::new(bytes, Vec::new(alloc)))
+}
+
+// What a scan of a device finds, if the summary counts `taken` values.
+fn found(rt: &impl Abort, alloc: Global, mut disk: MemDisk, taken: u64) -> Result<String, Fail> {
     assert!(rt; disk.bytes().len() == 4540);
     assert!(rt; taken <= 1000);
-    let told = match scan(alloc, &mut disk, 4, taken) {
+    match scan(alloc, &mut disk, 4, taken) {
         Ok(s) => {
             let (used, next, count) = (s.lane.used, s.lane.next, s.points.len());
-            format!(in alloc; "{used} {next} {count} {}", s.stale)?
+            Ok(format!(in alloc; "{used} {next} {count} {}", s.stale)?)
         }
-        Err(why) => format!(in alloc; "{why:?}")?,
-    };
-    Ok(told)
+        Err(why) => Ok(format!(in alloc; "{why:?}")?),
+    }
 }
 
 #[test]
 fn a_scan_finds_points_or_the_first_bad_field(rt: HostRuntime) -> Result<(), Fail> {
-    for row in SCANS.lines() {
-        let (given, want) = row.split_once(" => ").ok_or("row")?;
+    rows_tell(&rt, SCANS, |given| {
         let (taken, changes) = given.split_once(' ').ok_or("taken")?;
-        let told = found(&rt, rt.alloc(), number(&rt, taken), changes)?;
-        assert_eq!(rt; told.as_str(), want, "{given}");
-    }
-    Ok(())
+        let disk = changed(&rt, rt.alloc(), changes)?;
+        found(&rt, rt.alloc(), disk, number(&rt, taken))
+    })
 }

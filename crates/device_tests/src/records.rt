@@ -1,5 +1,5 @@
 // Records and summaries in bytes that were written by hand.
-use crate::spelled::{change, number, point};
+use crate::spelled::{change, number, point, rows_tell, same};
 use archive_file::{
     DeviceFault, Kind, Point, PutNo, Rec, ScanNo, Summary, Tuning, put_records, read_records,
     rec_bytes, rec_of, summary_bytes, summary_of,
@@ -8,6 +8,7 @@ use disk_model::{Failed, MemDisk, WantOfMemory};
 use event_queue::LaneNo;
 use std::alloc::{AllocError, Global};
 use std::fmt::Write;
+use std::process::Abort;
 use std::test::Fail;
 
 // A record and its bytes.
@@ -54,34 +55,54 @@ fn summary(tuning: Option<Tuning>) -> Summary {
     }
 }
 
+// The bytes of a record, as text. They are read as the record again.
+fn bytes_told(rt: &impl Abort, alloc: Global, given: &str) -> Result<String, Fail> {
+    let (kind, field) = given.split_once(' ').ok_or("kind")?;
+    let kind = if kind == "kept" {
+        Kind::Kept
+    } else {
+        Kind::Late
+    };
+    let rec = Rec {
+        kind,
+        point: point(rt, field),
+    };
+    let bytes = rec_bytes(rec);
+    assert!(rt; rec_of(&bytes) == Some(rec));
+    in_digits(alloc, &bytes)
+}
+
+// Bytes in hexadecimal digits.
+fn in_digits(alloc: Global, bytes: &[u8]) -> Result<String, Fail> {
+    let mut told = String::new(alloc);
+    for b in bytes {
+        write!(told, "{b:02x}")?;
+    }
+    Ok(told)
+}
+
 #[test]
 fn records_have_these_bytes(rt: HostRuntime) -> Result<(), Fail> {
-    for row in RECORDS.lines() {
-        let (given, want) = row.split_once(" => ").ok_or("row")?;
-        let (kind, field) = given.split_once(' ').ok_or("kind")?;
-        let kind = if kind == "kept" {
-            Kind::Kept
-        } else {
-            Kind::Late
-        };
-        let point = point(&rt, field);
-        let bytes = rec_bytes(Rec { kind, point });
-        let mut told = String::new(rt.alloc());
-        for b in &bytes {
-            write!(told, "{b:02x}")?;
-        }
-        assert_eq!(rt; told.as_str(), want, "{given}");
-        assert_eq!(rt; rec_of(&bytes), Some(Rec { kind, point }), "{given}");
-    }
-    Ok(())
+    rows_tell(&rt, RECORDS, |given| bytes_told(&rt, rt.alloc(), given))
+}
+
+// The bytes of a summary: those of a tag that took (0,5), with these changes.
+fn plain(rt: &impl Abort, changes: &str) -> [u8; 128] {
+    let mut bytes = [0; 128];
+    change(rt, &mut bytes, "7=1 11=1 12=5 31=5 63=5");
+    change(rt, &mut bytes, changes);
+    bytes
+}
+
+// Checks that a summary has these bytes, and that they are read as the summary again.
+fn has_bytes(rt: &impl Abort, summary: &Summary, bytes: &[u8; 128]) {
+    assert!(rt; summary_bytes(summary).as_slice() == bytes.as_slice());
+    assert!(rt; summary_of(bytes).as_ref() == Some(summary));
 }
 
 #[test]
 fn summaries_have_these_bytes(rt: HostRuntime) {
-    let mut plain = [0; 128];
-    change(&rt, &mut plain, "7=1 11=1 12=5 31=5 63=5");
-    assert_eq!(rt; summary_bytes(&summary(None)), plain);
-    assert_eq!(rt; summary_of(&plain), Some(summary(None)));
+    has_bytes(&rt, &summary(None), &plain(&rt, ""));
     let tuning = Tuning {
         exc_dev: 0,
         exc_max: 1_000_000,
@@ -89,40 +110,42 @@ fn summaries_have_these_bytes(rt: HostRuntime) {
         comp_min: 0,
         comp_max: 1_000_000,
     };
-    let mut tuned = plain;
-    change(
-        &rt,
-        &mut tuned,
-        "12=21 106=15 107=66 108=64 115=5 125=15 126=66 127=64",
-    );
-    assert_eq!(rt; summary_bytes(&summary(Some(tuning))), tuned);
-    assert_eq!(rt; summary_of(&tuned), Some(summary(Some(tuning))));
+    let tuned = plain(&rt, "12=21 106=15 107=66 108=64 115=5 125=15 126=66 127=64");
+    has_bytes(&rt, &summary(Some(tuning)), &tuned);
+}
+
+#[test]
+fn broken_bytes_are_no_summary(rt: HostRuntime) {
     for changes in BROKEN.lines() {
-        let mut bytes = plain;
-        change(&rt, &mut bytes, changes);
-        assert_eq!(rt; summary_of(&bytes), None, "{changes}");
+        assert!(rt; summary_of(&plain(&rt, changes)).is_none(), "{changes}");
+    }
+}
+
+// A device of "abc", (0,5) kept and (1500,60) late, with these changes. The call of this number fails.
+fn changed(rt: &impl Abort, alloc: Global, fail: u64, changes: &str) -> Result<MemDisk, Fail> {
+    let mut bytes = vec![in alloc; 0; 37]?;
+    let two = "0=97 1=98 2=99 3=75 19=5 20=76 27=5 28=220 36=60";
+    change(rt, bytes.as_mut_slice(), two);
+    change(rt, bytes.as_mut_slice(), changes);
+    Ok(MemDisk::new(bytes, vec![in alloc; fail]?))
+}
+
+// How many records are read of a device, or why not, as text.
+fn read_told(rt: &impl Abort, alloc: Global, mut disk: MemDisk) -> Result<String, Fail> {
+    assert!(rt; disk.bytes().len() == 37);
+    match read_records(alloc, &mut disk, 3, 2) {
+        Ok(recs) => Ok(format!(in alloc; "Ok({})", recs.len())?),
+        Err(why) => Ok(format!(in alloc; "Err({why:?})")?),
     }
 }
 
 #[test]
 fn the_first_bad_byte_is_told(rt: HostRuntime) -> Result<(), Fail> {
-    let alloc = rt.alloc();
-    for row in READS.lines() {
-        let (given, want) = row.split_once(" => ").ok_or("row")?;
+    rows_tell(&rt, READS, |given| {
         let (fail, changes) = given.split_once(' ').ok_or("call")?;
-        let mut bytes = vec![in alloc; 0; 37]?;
-        change(
-            &rt,
-            bytes.as_mut_slice(),
-            "0=97 1=98 2=99 3=75 19=5 20=76 27=5 28=220 36=60",
-        );
-        change(&rt, bytes.as_mut_slice(), changes);
-        let mut disk = MemDisk::new(bytes, vec![in alloc; number(&rt, fail)]?);
-        let read = read_records(alloc, &mut disk, 3, 2).map(|recs| recs.len());
-        let told = format!(in alloc; "{read:?}")?;
-        assert_eq!(rt; told.as_str(), want, "{given}");
-    }
-    Ok(())
+        let disk = changed(&rt, rt.alloc(), number(&rt, fail), changes)?;
+        read_told(&rt, rt.alloc(), disk)
+    })
 }
 
 // Records of both kinds, more than are read in one piece.
@@ -136,35 +159,43 @@ fn many(alloc: Global) -> Result<Vec<Rec>, AllocError> {
     Ok(recs)
 }
 
+// Whether a device reads as these records.
+fn reads_as(alloc: Global, disk: &mut MemDisk, recs: &[Rec]) -> bool {
+    match read_records(alloc, disk, 3, 3_900) {
+        Ok(again) => again.as_slice() == recs,
+        Err(_) => false,
+    }
+}
+
 #[test]
 fn records_are_written_and_read(rt: HostRuntime) -> Result<(), Fail> {
     let alloc = rt.alloc();
     let recs = many(alloc)?;
     let mut disk = MemDisk::new(b"abc".to_vec(alloc)?, Vec::new(alloc));
-    assert_eq!(rt; put_records(alloc, &mut disk, 3, &recs), Ok(()));
-    let again = read_records(alloc, &mut disk, 3, 3_900).map_err(|_| "refused")?;
-    assert_eq!(rt; again.as_slice(), recs.as_slice());
-    assert_eq!(rt;
-        read_records(alloc, &mut disk, 3, 3_901).err(),
-        Some(ScanNo::Damaged {
-            at: 66_303,
-            byte: None
-        })
-    );
+    assert!(rt; put_records(alloc, &mut disk, 3, &recs).is_ok());
+    assert!(rt; reads_as(alloc, &mut disk, &recs));
+    let missing = ScanNo::Damaged {
+        at: 66_303,
+        byte: None,
+    };
+    assert!(rt; read_records(alloc, &mut disk, 3, 3_901).err() == Some(missing));
     Ok(())
+}
+
+// The refusals, as texts.
+fn refusals(alloc: Global) -> Result<String, Fail> {
+    let damaged = ScanNo::Damaged { at: 7, byte: None };
+    Ok(format!(in alloc;
+        "{Failed}, {WantOfMemory}, {DeviceFault}, {damaged}, {}, {}",
+        PutNo::WantOfMemory,
+        LaneNo::LaneFull
+    )?)
 }
 
 #[test]
 fn refusals_have_texts(rt: HostRuntime) -> Result<(), Fail> {
-    let damaged = ScanNo::Damaged { at: 7, byte: None };
-    let texts = format!(in rt.alloc();
-        "{Failed}, {WantOfMemory}, {DeviceFault}, {damaged}, {}, {}",
-        PutNo::WantOfMemory,
-        LaneNo::LaneFull
-    )?;
-    assert_eq!(rt;
-        texts.as_str(),
-        "a call of a device failed, out of memory, a call of a device failed, damaged at 7, out of memory, the lane is full"
-    );
+    let want =
+        "a call of a device failed, out of memory, a call of a device failed, damaged at 7, out of memory, the lane is full";
+    same(&rt, refusals(rt.alloc())?.as_str(), want, "refusals");
     Ok(())
 }

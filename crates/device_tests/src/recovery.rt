@@ -1,7 +1,7 @@
 // Devices that are opened again: stories written by hand, and damaged bytes.
 ghost use Rattle.std.specs.Prelude.{◌≡◌, ◌<◌};
 
-use crate::spelled::{change, point};
+use crate::spelled::{change, point, rows_tell, same};
 use crash_recovery::{OpenFail, OpenNo, Opened, open_tag};
 use disk_model::MemDisk;
 use event_queue::LaneNo;
@@ -145,6 +145,48 @@ fn put(rt: &impl Abort, alloc: Global, tag: &mut Opened<MemDisk>, p: Point) -> R
     keep::<Brand>(rt, alloc, tag, p, Blank::new(1))
 }
 
+// Opens a device with the tuning of a name. It returns the tag, and the clock of the device then.
+fn begun(
+    alloc: Global,
+    dev: MemDisk,
+    slots: u32,
+    name: &str,
+) -> Result<(Opened<MemDisk>, u64), Fail> {
+    let def = tag(name).ok_or("tag")?;
+    let now = opened(alloc, dev, &def, slots).ok().ok_or("refused")?;
+    let start = now.journal.clock();
+    Ok((now, start))
+}
+
+// Makes a checkpoint, or takes a value and keeps it.
+fn happen(
+    rt: &impl Abort,
+    alloc: Global,
+    now: &mut Opened<MemDisk>,
+    event: &str,
+) -> Result<(), Fail> {
+    if event == "check" {
+        return check(alloc, now);
+    }
+    put(rt, alloc, now, point(rt, event))
+}
+
+// Goes on by one event of a story.
+fn gone_on(
+    rt: &impl Abort,
+    alloc: Global,
+    story: (Opened<MemDisk>, u64),
+    slots: u32,
+    event: &str,
+) -> Result<(Opened<MemDisk>, u64), Fail> {
+    let (mut now, start) = story;
+    if tag(event).is_some() {
+        return begun(alloc, now.journal.into_device(), slots, event);
+    }
+    happen(rt, alloc, &mut now, event)?;
+    Ok((now, start))
+}
+
 // Plays a story to its end. It returns the tag, and the clock of its device when that was opened last.
 fn stored(
     rt: &impl Abort,
@@ -154,23 +196,11 @@ fn stored(
 ) -> Result<(Opened<MemDisk>, u64), Fail> {
     let new = MemDisk::new(Vec::new(alloc), Vec::new(alloc));
     let (first, events) = events.split_once(' ').unwrap_or((events, ""));
-    let mut now = opened(alloc, new, &tag(first).ok_or("tag")?, slots)
-        .ok()
-        .ok_or("refused")?;
-    let mut start = now.journal.clock();
+    let mut story = begun(alloc, new, slots, first)?;
     for event in events.split_whitespace() {
-        if let Some(def) = tag(event) {
-            now = opened(alloc, now.journal.into_device(), &def, slots)
-                .ok()
-                .ok_or("refused")?;
-            start = now.journal.clock();
-        } else if event == "check" {
-            check(alloc, &mut now)?;
-        } else {
-            put(rt, alloc, &mut now, point(rt, event))?;
-        }
+        story = gone_on(rt, alloc, story, slots, event)?;
     }
-    Ok((now, start))
+    Ok(story)
 }
 
 // The records of a tag and its held point, as text.
@@ -198,13 +228,10 @@ fn story_told(rt: &impl Abort, alloc: Global, slots: u32, events: &str) -> Resul
 
 #[test]
 fn a_device_goes_on(rt: HostRuntime) -> Result<(), Fail> {
-    for row in STORIES.lines() {
-        let (given, want) = row.split_once(" => ").ok_or("row")?;
+    rows_tell(&rt, STORIES, |given| {
         let (slots, events) = given.split_once(' ').ok_or("slots")?;
-        let told = story_told(&rt, rt.alloc(), slots.parse::<u32>()?, events)?;
-        assert_eq!(rt; told.as_str(), want, "{given}");
-    }
-    Ok(())
+        story_told(&rt, rt.alloc(), slots.parse::<u32>()?, events)
+    })
 }
 
 // A device of 64 lane slots that stores (0,0), in a record and a summary, and (10,10), in its lane.
@@ -223,29 +250,44 @@ fn answer(alloc: Global, bytes: Vec<u8>, def: &TagDef) -> Result<String, Fail> {
     )
 }
 
+// The answer when a device of these bytes with these changes is opened.
+fn damaged_told(
+    rt: &impl Abort,
+    alloc: Global,
+    good: &[u8],
+    def: &TagDef,
+    changes: &str,
+) -> Result<String, Fail> {
+    let mut bytes = good.to_vec(alloc)?;
+    change(rt, bytes.as_mut_slice(), changes);
+    answer(alloc, bytes, def)
+}
+
 #[test]
 fn a_damaged_byte_is_told_at_its_field(rt: HostRuntime) -> Result<(), Fail> {
-    let alloc = rt.alloc();
     let def = tag("plain").ok_or("tag")?;
-    let good = good(&rt, alloc)?;
-    for row in DAMAGED.lines() {
-        let (given, want) = row.split_once(" => ").ok_or("row")?;
-        let mut bytes = good.clone()?;
-        change(&rt, bytes.as_mut_slice(), given);
-        assert_eq!(rt; answer(alloc, bytes, &def)?.as_str(), want, "{given}");
-    }
-    let mut short = good.clone()?;
+    let good = good(&rt, rt.alloc())?;
+    rows_tell(&rt, DAMAGED, |given| {
+        damaged_told(&rt, rt.alloc(), &good, &def, given)
+    })
+}
+
+#[test]
+fn a_short_device_and_one_of_another_tag_are_refused(rt: HostRuntime) -> Result<(), Fail> {
+    let def = tag("plain").ok_or("tag")?;
+    let mut short = good(&rt, rt.alloc())?;
+    let whole = short.clone()?;
     short.truncate(66_639);
-    assert_eq!(rt;
-        answer(alloc, short, &def)?.as_str(),
-        "Damaged { at: 66639, byte: None }"
+    let told = answer(rt.alloc(), short, &def)?;
+    same(
+        &rt,
+        told.as_str(),
+        "Damaged { at: 66639, byte: None }",
+        "short",
     );
     let stepped = TagDef { step: true, ..def };
-    assert!(rt;
-        answer(alloc, good, &stepped)?
-            .as_str()
-            .starts_with("OtherTag")
-    );
+    let told = answer(rt.alloc(), whole, &stepped)?;
+    assert!(rt; told.as_str().starts_with("OtherTag"));
     Ok(())
 }
 
@@ -254,22 +296,29 @@ fn checked(rt: &impl Abort, alloc: Global, bytes: Vec<u8>) -> Result<Vec<u8>, Fa
     let def = tag("plain").ok_or("tag")?;
     let dev = MemDisk::new(bytes, Vec::new(alloc));
     let mut tag = opened(alloc, dev, &def, 64).ok().ok_or("refused")?;
-    assert_eq!(rt; (tag.core.taken(), tag.core.tuning()), (2, def.tuning));
+    assert!(rt; tag.core.taken() == 2);
+    assert!(rt; tag.core.tuning() == def.tuning);
     check(alloc, &mut tag)?;
     Ok(tag.journal.into_device().bytes().to_vec(alloc)?)
 }
 
-#[test]
-fn a_summary_of_the_first_version_is_read(rt: HostRuntime) -> Result<(), Fail> {
-    let mut bytes = good(&rt, rt.alloc())?;
-    assert_eq!(rt; bytes.len(), 66_657);
+// The device of `good` as the first version wrote its summary: without a tuning.
+fn of_first_version(rt: &impl Abort, alloc: Global) -> Result<Vec<u8>, Fail> {
+    let mut bytes = good(rt, alloc)?;
+    assert!(rt; bytes.len() == 66_657);
     bytes[140] = 5;
     bytes[224..256].fill(0);
+    Ok(bytes)
+}
+
+#[test]
+fn a_summary_of_the_first_version_is_read(rt: HostRuntime) -> Result<(), Fail> {
+    let bytes = of_first_version(&rt, rt.alloc())?;
     let bytes = checked(&rt, rt.alloc(), bytes)?;
-    assert_eq!(rt; bytes.len(), 66_657);
+    assert!(rt; bytes.len() == 66_657);
     // The flags of both slots, and the second one's tuning.
-    assert_eq!(rt; (bytes[140], bytes[268]), (5, 0x1d));
+    assert!(rt; bytes[140] == 5 && bytes[268] == 0x1d);
     let tuning = b"\0\0\0\0\0\0\0\0\0\0\x0f\x42\x40\0\0\0\0\0\0\0\0\0\0\0\0\0\0\0\0\x0f\x42\x40";
-    assert_eq!(rt; &bytes[352..384], tuning.as_slice());
+    assert!(rt; &bytes[352..384] == tuning.as_slice());
     Ok(())
 }

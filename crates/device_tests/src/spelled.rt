@@ -1,6 +1,28 @@
-// The numbers, points and bytes that the rows of tables spell.
+// The numbers, points and bytes that the rows of tables spell, and what tests tell of them.
 use std::process::Abort;
+use std::test::Fail;
 use trend_num::Point;
+
+/// Compares what was told of what a row gives with what is wanted.
+pub fn same(rt: &impl Abort, told: &str, want: &str, given: &str) {
+    assert_eq!(rt; told, want, "{given}");
+}
+
+/// Checks each row `GIVEN => WANTED` of a table: `tell` is to tell of GIVEN what is wanted.
+pub fn rows_tell<F: FnMut(&str) -> Result<String, Fail>>(
+    rt: &impl Abort,
+    rows: &str,
+    mut tell: F,
+) -> Result<(), Fail>
+    requires { F.IsAlwaysCallable tell }
+{
+    for row in rows.lines() {
+        let (given, want) = row.split_once(" => ").ok_or("row")?;
+        let told = tell(given)?;
+        same(rt, told.as_str(), want, given);
+    }
+    Ok(())
+}
 
 /// Returns the number that a field spells.
 pub fn number(rt: &impl Abort, field: &str) -> u64 {

@@ -1,6 +1,7 @@
 // The store of files: what no clause says, because no clause knows what a file holds.
+use crate::devices::handed;
 use crate::recovery::{opened, tag};
-use crate::spelled::{change, number};
+use crate::spelled::{change, number, rows_tell};
 use disk_model::{Disk, Failed, MemDisk, OPEN, Pick, Store};
 use std::alloc::Global;
 use std::fs::{self, File};
@@ -51,9 +52,15 @@ const FILES: &str = "\
 // each byte. No disk leaves a `-` in the first byte if 00 was there and an open gate was written. The model allows it,
 // and the store refuses it.
 const MAKINGS: &str = "\
-0 1 2 => handed out, handed out, handed out, handed out
-3 4 5 6 => handed out, handed out, handed out, handed out
-7 8 => handed out, handed out, refused, handed out";
+0 => handed out, handed out, handed out, handed out
+1 => handed out, handed out, handed out, handed out
+2 => handed out, handed out, handed out, handed out
+3 => handed out, handed out, handed out, handed out
+4 => handed out, handed out, handed out, handed out
+5 => handed out, handed out, handed out, handed out
+6 => handed out, handed out, handed out, handed out
+7 => handed out, handed out, refused, handed out
+8 => handed out, handed out, refused, handed out";
 
 // Begins with an empty folder of devices.
 fn begin(rt: &(impl Files + AllocGlobal)) -> io::Result<()> {
@@ -76,6 +83,37 @@ fn content(alloc: Global, dev: &mut impl Disk) -> Result<Vec<u8>, Fail> {
     Ok(bytes)
 }
 
+// Checks that a device has these bytes.
+fn holds(rt: &impl Abort, alloc: Global, dev: &mut impl Disk, want: &[u8]) -> Result<(), Fail> {
+    assert!(rt; content(alloc, dev)?.as_slice() == want);
+    Ok(())
+}
+
+// Returns whether a store hands out the device `a.tag`. Then it also checks that the device has exactly these bytes.
+fn told_of<S: Store>(
+    rt: &impl Abort,
+    alloc: Global,
+    store: &mut S,
+    bytes: &[u8],
+) -> Result<&'static str, Fail>
+where
+    S::Dev: Drop,
+{
+    match store.device("a.tag") {
+        Ok(mut dev) => {
+            holds(rt, alloc, &mut dev, bytes)?;
+            Ok("handed out")
+        }
+        Err(Failed) => Ok("refused"),
+    }
+}
+
+// Checks that the file `a.tag` has these bytes.
+fn file_holds<R: Files<File = File> + AllocGlobal + Abort>(rt: &R, bytes: &[u8]) -> io::Result<()> {
+    assert!(rt; fs::read(rt, "historian.d/a.tag")?.as_slice() == bytes);
+    Ok(())
+}
+
 // Returns whether a store that reads the folder hands out the file of these bytes. Then it also checks that the device
 // has exactly these bytes, and that the file keeps them.
 fn answer<R: Files<File = File> + AllocGlobal + Abort>(
@@ -85,28 +123,36 @@ fn answer<R: Files<File = File> + AllocGlobal + Abort>(
     begin(rt)?;
     fs::write(rt, "historian.d/a.tag", bytes)?;
     let mut store = DirStore::read(rt, Wanted::Archives);
-    let told = match store.device("a.tag") {
-        Ok(mut dev) => {
-            assert_eq!(rt; content(rt.alloc(), &mut dev)?.as_slice(), bytes);
-            "handed out"
-        }
-        Err(Failed) => "refused",
-    };
-    assert_eq!(rt; fs::read(rt, "historian.d/a.tag")?.as_slice(), bytes);
+    let told = told_of(rt, rt.alloc(), &mut store, bytes)?;
+    file_holds(rt, bytes)?;
     end(rt)?;
     Ok(told)
 }
 
+// Whether the store hands out the file of a row, as text.
+fn file_told<R: Files<File = File> + AllocGlobal + Abort>(
+    rt: &R,
+    given: &str,
+) -> Result<String, Fail> {
+    let (len, changes) = given.split_once(' ').unwrap_or((given, ""));
+    let mut bytes = vec![in rt.alloc(); 0; number(rt, len) as usize]?;
+    change(rt, bytes.as_mut_slice(), changes);
+    Ok(String::from_str(rt.alloc(), answer(rt, &bytes)?)?)
+}
+
 #[test]
 fn a_lost_first_byte_is_refused(rt: HostRuntime) -> Result<(), Fail> {
-    for row in FILES.lines() {
-        let (given, want) = row.split_once(" => ").ok_or("row")?;
-        let (len, changes) = given.split_once(' ').unwrap_or((given, ""));
-        let mut bytes = vec![in rt.alloc(); 0; number(&rt, len) as usize]?;
-        change(&rt, bytes.as_mut_slice(), changes);
-        assert_eq!(rt; answer(&rt, &bytes)?, want, "{given}");
-    }
-    Ok(())
+    rows_tell(&rt, FILES, |given| file_told(&rt, given))
+}
+
+// What the store makes of the file that a crash of a device leaves.
+fn crash_told<R: Files<File = File> + AllocGlobal + Abort>(
+    rt: &R,
+    dev: &MemDisk,
+    pick: Pick,
+) -> Result<&'static str, Fail> {
+    let left = dev.crash(pick).map_err(|_| "memory")?;
+    answer(rt, left.bytes())
 }
 
 // What the store makes of each file that a crash of a device leaves.
@@ -114,15 +160,11 @@ fn answers<R: Files<File = File> + AllocGlobal + Abort>(
     rt: &R,
     dev: &MemDisk,
 ) -> Result<String, Fail> {
-    let mut told = String::new(rt.alloc());
-    for pick in [Pick::Old, Pick::New, Pick::Fill(b'-'), Pick::Fill(OPEN)] {
-        let left = dev.crash(pick).map_err(|_| "memory")?;
-        if !told.is_empty() {
-            told.push_str(", ")?;
-        }
-        told.push_str(answer(rt, left.bytes())?)?;
-    }
-    Ok(told)
+    let old = crash_told(rt, dev, Pick::Old)?;
+    let new = crash_told(rt, dev, Pick::New)?;
+    let filled = crash_told(rt, dev, Pick::Fill(b'-'))?;
+    let open = crash_told(rt, dev, Pick::Fill(OPEN))?;
+    Ok(format!(in rt.alloc(); "{old}, {new}, {filled}, {open}")?)
 }
 
 // A new device, whose making stops after `calls` calls.
@@ -132,16 +174,64 @@ fn stopped(alloc: Global, calls: u64) -> Option<MemDisk> {
     Some(opened(alloc, dev, &tag("plain")?, 64).err()?.dev)
 }
 
+// What the store makes of a device whose making stops after so many calls.
+fn making_told<R: Files<File = File> + AllocGlobal + Abort>(
+    rt: &R,
+    calls: u64,
+) -> Result<String, Fail> {
+    let dev = stopped(rt.alloc(), calls).ok_or("made")?;
+    answers(rt, &dev)
+}
+
 #[test]
 fn a_making_that_stops_is_not_refused(rt: HostRuntime) -> Result<(), Fail> {
-    for row in MAKINGS.lines() {
-        let (given, want) = row.split_once(" => ").ok_or("row")?;
-        for calls in given.split_whitespace() {
-            let dev = stopped(rt.alloc(), number(&rt, calls)).ok_or("made")?;
-            assert_eq!(rt; answers(&rt, &dev)?.as_str(), want, "{calls}");
-        }
-    }
+    rows_tell(&rt, MAKINGS, |calls| making_told(&rt, number(&rt, calls)))?;
     assert!(rt; stopped(rt.alloc(), 9).is_none());
+    Ok(())
+}
+
+// Checks the clock of a device, and how many faults it has.
+fn counts(rt: &impl Abort, dev: &impl Disk, clock: u64, faults: u64) {
+    assert!(rt; dev.clock() == clock);
+    assert!(rt; dev.faults() == faults);
+}
+
+// Makes a device of two bytes, and gives it back. Until then the store does not hand it out again.
+fn make<S: Store>(rt: &impl Abort, store: &mut S) -> Result<(), Fail>
+where
+    S::Dev: Drop,
+{
+    let mut made = handed(store, "a.tag")?;
+    assert!(rt; made.write_at(0, b"\xa5bc").is_ok());
+    assert!(rt; made.cut(2).is_ok());
+    assert!(rt; made.sync().is_ok());
+    assert!(rt; store.device("a.tag").is_err());
+    store.give_back("a.tag", made);
+    Ok(())
+}
+
+// Adds a byte to the device of two bytes, and gives it back.
+fn add<S: Store>(rt: &impl Abort, alloc: Global, store: &mut S) -> Result<(), Fail>
+where
+    S::Dev: Drop,
+{
+    let mut again = handed(store, "a.tag")?;
+    holds(rt, alloc, &mut again, b"\xa5b")?;
+    counts(rt, &again, 3, 0);
+    let len = again.len().map_err(|_| "length")?;
+    assert!(rt; again.write_at(len, b"-").is_ok());
+    store.give_back("a.tag", again);
+    Ok(())
+}
+
+// Checks that a store hands out a device of these bytes, with no call so far.
+fn finds<S: Store>(rt: &impl Abort, alloc: Global, store: &mut S, bytes: &[u8]) -> Result<(), Fail>
+where
+    S::Dev: Drop,
+{
+    let mut later = handed(store, "a.tag")?;
+    holds(rt, alloc, &mut later, bytes)?;
+    counts(rt, &later, 0, 0);
     Ok(())
 }
 
@@ -150,58 +240,50 @@ fn files_of_a_folder_are_devices(rt: HostRuntime) -> Result<(), Fail> {
     begin(&rt)?;
     end(&rt)?;
     let mut store = DirStore::read(&rt, Wanted::Archives);
-    let mut made = store.device("a.tag").map_err(|_| "failed")?;
-    assert_eq!(rt; made.write_at(0, b"\xa5bc"), Ok(()));
-    assert_eq!(rt; made.cut(2), Ok(()));
-    assert_eq!(rt; made.sync(), Ok(()));
-    assert!(rt; store.device("a.tag").is_err());
-    store.give_back("a.tag", made);
-    let mut again = store.device("a.tag").map_err(|_| "failed")?;
-    assert_eq!(rt;
-        content(rt.alloc(), &mut again)?.as_slice(),
-        b"\xa5b".as_slice()
-    );
-    assert_eq!(rt; (again.clock(), again.faults()), (3, 0));
-    let len = again.len().map_err(|_| "length")?;
-    assert_eq!(rt; again.write_at(len, b"-"), Ok(()));
-    store.give_back("a.tag", again);
+    make(&rt, &mut store)?;
+    add(&rt, rt.alloc(), &mut store)?;
     drop(store);
     let mut store = DirStore::read(&rt, Wanted::Archives);
-    let mut later = store.device("a.tag").map_err(|_| "failed")?;
-    assert_eq!(rt;
-        content(rt.alloc(), &mut later)?.as_slice(),
-        b"\xa5b-".as_slice()
-    );
-    assert_eq!(rt; (later.clock(), later.faults()), (0, 0));
+    finds(&rt, rt.alloc(), &mut store, b"\xa5b-")?;
     end(&rt)?;
     Ok(())
 }
 
-// A device that stops, because there is no memory for so long a cut. It is written anew, and the next store hands it
-// out.
+// Makes calls of a device after one that fails, because there is no memory for so long a cut. Each of them fails.
+fn fail(rt: &impl Abort, dev: &mut impl Disk) {
+    assert!(rt; dev.cut(u64::MAX).is_err());
+    assert!(rt; dev.len().is_err());
+    assert!(rt; dev.read(0, &mut []).is_err());
+    assert!(rt; dev.write_at(0, b"d").is_err());
+    assert!(rt; dev.cut(1).is_err());
+    assert!(rt; dev.sync().is_err());
+    counts(rt, dev, 5, 6);
+}
+
+// Takes a device that stops, and gives it back. The store does not hand it out again, but it does another one.
+fn break_one<S: Store>(rt: &impl Abort, store: &mut S) -> Result<(), Fail>
+where
+    S::Dev: Drop,
+{
+    let mut dev = handed(store, "a.tag")?;
+    assert!(rt; dev.write_at(0, b"\xa5bc").is_ok());
+    fail(rt, &mut dev);
+    store.give_back("a.tag", dev);
+    assert!(rt; store.device("a.tag").is_err());
+    assert!(rt; store.device("b.tag").is_ok());
+    Ok(())
+}
+
+// A device that stops is written anew, and the next store hands it out.
 #[test]
 fn each_call_after_a_failed_one_is_a_fault(rt: HostRuntime) -> Result<(), Fail> {
     begin(&rt)?;
     let mut store = DirStore::read(&rt, Wanted::Archives);
-    let mut dev = store.device("a.tag").map_err(|_| "failed")?;
-    assert_eq!(rt; dev.write_at(0, b"\xa5bc"), Ok(()));
-    assert_eq!(rt; dev.cut(u64::MAX), Err(Failed));
-    assert_eq!(rt; dev.len(), Err(Failed));
-    assert_eq!(rt; dev.read(0, &mut []), Err(Failed));
-    assert_eq!(rt; dev.write_at(0, b"d"), Err(Failed));
-    assert_eq!(rt; dev.cut(1), Err(Failed));
-    assert_eq!(rt; dev.sync(), Err(Failed));
-    assert_eq!(rt; (dev.clock(), dev.faults()), (5, 6));
-    store.give_back("a.tag", dev);
-    assert!(rt; store.device("a.tag").is_err());
-    assert!(rt; store.device("b.tag").is_ok());
+    break_one(&rt, &mut store)?;
     drop(store);
     let mut store = DirStore::read(&rt, Wanted::Archives);
-    let mut dev = store.device("a.tag").map_err(|_| "failed")?;
-    assert_eq!(rt;
-        content(rt.alloc(), &mut dev)?.as_slice(),
-        b"\xa5bc".as_slice()
-    );
+    let mut dev = handed(&mut store, "a.tag")?;
+    holds(&rt, rt.alloc(), &mut dev, b"\xa5bc")?;
     end(&rt)?;
     Ok(())
 }
@@ -216,18 +298,21 @@ fn handed_out<R: Files<File = File> + AllocGlobal>(rt: &R, wanted: Wanted) -> [b
     ]
 }
 
+// Writes a file of three bytes.
+fn write_three(rt: &(impl Files + AllocGlobal), name: &str) -> Result<(), Fail> {
+    let path = format!(in rt.alloc(); "historian.d/{name}")?;
+    fs::write(rt, path, b"\xa5bc")?;
+    Ok(())
+}
+
 #[test]
 fn a_device_that_was_not_read_is_refused(rt: HostRuntime) -> Result<(), Fail> {
     begin(&rt)?;
-    for name in ["a.tag", "b.grp", "plant.log"] {
-        fs::write(
-            &rt,
-            format!(in rt.alloc(); "historian.d/{name}")?,
-            b"\xa5bc",
-        )?;
-    }
-    assert_eq!(rt; handed_out(&rt, Wanted::Archives), [true, true, false]);
-    assert_eq!(rt; handed_out(&rt, Wanted::Log), [false, false, true]);
+    write_three(&rt, "a.tag")?;
+    write_three(&rt, "b.grp")?;
+    write_three(&rt, "plant.log")?;
+    assert!(rt; handed_out(&rt, Wanted::Archives) == [true, true, false]);
+    assert!(rt; handed_out(&rt, Wanted::Log) == [false, false, true]);
     end(&rt)?;
     Ok(())
 }
@@ -240,11 +325,8 @@ fn a_device_with_a_mark_is_written_anew(rt: HostRuntime) -> Result<(), Fail> {
     fs::write(&rt, "historian.d/a.tag.new", b"\xa5bcdef")?;
     fs::write(&rt, "historian.d/a.tag.fault", b"")?;
     let mut store = DirStore::read(&rt, Wanted::Archives);
-    let mut dev = store.device("a.tag").map_err(|_| "failed")?;
-    assert_eq!(rt;
-        content(rt.alloc(), &mut dev)?.as_slice(),
-        b"\xa5bc".as_slice()
-    );
+    let mut dev = handed(&mut store, "a.tag")?;
+    holds(&rt, rt.alloc(), &mut dev, b"\xa5bc")?;
     assert!(rt; !fs::exists(&rt, "historian.d/a.tag.new")?);
     assert!(rt; !fs::exists(&rt, "historian.d/a.tag.fault")?);
     end(&rt)?;
@@ -295,10 +377,7 @@ fn what_is_no_plain_file_of_one_name_is_refused(rt: HostRuntime) -> Result<(), F
     drop(store);
     let mut store = DirStore::new(&rt);
     are_refused(&rt, &mut store);
-    assert_eq!(rt;
-        fs::read(&rt, "historian.d/kept")?.as_slice(),
-        b"\xa5bc".as_slice()
-    );
+    assert!(rt; fs::read(&rt, "historian.d/kept")?.as_slice() == b"\xa5bc".as_slice());
     assert!(rt; !fs::exists(&rt, "historian.d/missing")?);
     end(&rt)?;
     Ok(())
@@ -318,10 +397,7 @@ fn a_file_that_is_not_as_it_was_told_is_refused(rt: HostRuntime) -> Result<(), F
     fs::write(&rt, "historian.d/b.tag", b"\xa5")?;
     assert!(rt; store.device("a.tag").is_err());
     assert!(rt; store.device("b.tag").is_err());
-    assert_eq!(rt;
-        fs::read(&rt, "historian.d/a.tag")?.as_slice(),
-        b"\xa5bcd".as_slice()
-    );
+    file_holds(&rt, b"\xa5bcd")?;
     end(&rt)?;
     Ok(())
 }

@@ -1,10 +1,10 @@
 // The device of a group as bytes: its first block, and devices that are read or damaged.
+use crate::tables::rows_tell;
 use archive_file::ScanNo;
 use calc_refresh::CalcValue;
 use disk_model::MemDisk;
 use group_layout::{Block, BlockRow, Found, SavedGroup, block_bytes, read_group};
 use std::alloc::Global;
-use std::process::Abort;
 use std::test::Fail;
 
 // The definition text of a group of one tag and one calculation.
@@ -97,23 +97,16 @@ fn read_text(alloc: Global, dev: &mut MemDisk) -> Result<String, Fail> {
     Ok(text)
 }
 
-// Reads the device of a line, and compares the result.
-fn follow(rt: &impl Abort, alloc: Global, line: &str) -> Result<(), Fail> {
-    let (change, want) = line.split_once(" => ").ok_or("an arrow")?;
+// What is read of the device of a row.
+fn told(alloc: Global, change: &str) -> Result<String, Fail> {
     let (at, byte) = change.split_once(' ').ok_or("a byte")?;
-    let at = at.parse::<usize>().map_err(|_| "a place")?;
-    let byte = byte.parse::<u8>().map_err(|_| "a value")?;
-    let mut dev = saved_once(alloc, at, byte)?;
-    assert_eq!(rt; read_text(alloc, &mut dev)?.as_str(), want, "{line}");
-    Ok(())
+    let mut dev = saved_once(alloc, at.parse::<usize>()?, byte.parse::<u8>()?)?;
+    read_text(alloc, &mut dev)
 }
 
 #[test]
 fn a_device_is_read_or_its_first_damage_told(rt: HostRuntime) -> Result<(), Fail> {
-    for line in ROWS.lines() {
-        follow(&rt, rt.alloc(), line)?;
-    }
-    Ok(())
+    rows_tell(&rt, ROWS, " => ", |change| told(rt.alloc(), change))
 }
 
 #[test]

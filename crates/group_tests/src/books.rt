@@ -2,6 +2,7 @@
 ghost use Rattle.std.specs.Prelude.{◌≡◌, ◌<◌};
 
 use crate::book_groups::means;
+use crate::tables::{rows_tell, same};
 use calc_refresh::CalcValue;
 use disk_model::MemDisk;
 use group_book::{Book, RefreshNo, Turn, new_book};
@@ -161,27 +162,36 @@ fn refreshed(
     answers(alloc, book)
 }
 
+// Follows the steps of a line with a book. Returns the answers after each step.
+fn steps_told(
+    rt: &impl Wait,
+    alloc: Global,
+    book: &mut Book<MemDisk>,
+    cells: &[Mutex<Cell<MemDisk>>],
+    line: &str,
+) -> Option<String> {
+    let mut told = String::new(alloc);
+    for values in line.split(" / ") {
+        told.push_str(&refreshed(rt, alloc, book, cells, values)?)
+            .ok()?;
+        told.push_str("/ ").ok()?;
+    }
+    Some(told)
+}
+
 // Follows the steps of a line. Returns the answers after each step, and how many values were evaluated.
 fn followed(rt: &impl Wait, alloc: Global, line: &str) -> Option<String> {
     let mut book = book_of(alloc)?;
     let cells = [Mutex::new(cell_of(rt, alloc)?)];
-    let mut told = String::new(alloc);
-    for values in line.split(" / ") {
-        let rows = refreshed(rt, alloc, &mut book, &cells, values)?;
-        write!(told, "{rows}/ ").ok()?;
-    }
-    write!(told, "e{}", evals_of(book)).ok()?;
-    Some(told)
+    let told = steps_told(rt, alloc, &mut book, &cells, line)?;
+    format!(in alloc; "{told}e{}", evals_of(book)).ok()
 }
 
 #[test]
 fn a_refresh_takes_what_is_acknowledged(rt: HostRuntime) -> Result<(), Fail> {
-    for row in ROWS.lines() {
-        let (steps, want) = row.split_once(" => ").ok_or("a row")?;
-        let told = followed(&rt, rt.alloc(), steps).ok_or("not followed")?;
-        assert_eq!(rt; told.as_str(), want, "{steps}");
-    }
-    Ok(())
+    rows_tell(&rt, ROWS, " => ", |steps| {
+        Ok(followed(&rt, rt.alloc(), steps).ok_or("not followed")?)
+    })
 }
 
 // Returns whether the tape of a book has one refresh and nothing else.
@@ -202,7 +212,7 @@ fn without_a_cell(rt: &impl Wait, alloc: Global) -> Option<String> {
 #[test]
 fn an_input_without_its_tag_gives_nothing(rt: HostRuntime) -> Result<(), Fail> {
     let told = without_a_cell(&rt, rt.alloc()).ok_or("not refreshed")?;
-    assert_eq!(&rt; told.as_str(), "");
+    same(&rt, told.as_str(), "", "no cell");
     Ok(())
 }
 

@@ -1,7 +1,8 @@
 // Random changes of a row. The frames are compared with a list that plain code makes anew.
 use crate::spelled_frames::applied;
-use event_frames::{Bad, CalcValue, Change, Edit, Frame, new_frames};
+use event_frames::{Bad, CalcValue, Change, Edit, Frame, Frames, new_frames};
 use std::alloc::{AllocError, Global};
+use std::process::Abort;
 use std::test::Fail;
 
 // Returns the next number of a sequence that is fixed by its first number.
@@ -41,26 +42,40 @@ fn plain(alloc: Global, row: &[CalcValue], least: u64) -> Result<Vec<Frame>, All
     Ok(frames)
 }
 
+// Appends an edit for each frame of a list that another list lacks.
+fn push_edits(
+    edits: &mut Vec<Edit>,
+    frames: &[Frame],
+    others: &[Frame],
+    is_new: bool,
+) -> Result<(), AllocError> {
+    for frame in frames {
+        if !others.contains(frame) {
+            edits.push(if is_new {
+                Edit::New(*frame)
+            } else {
+                Edit::Gone(*frame)
+            })?;
+        }
+    }
+    Ok(())
+}
+
 // Returns the edits from one list to another.
 fn edits(alloc: Global, old: &[Frame], new: &[Frame]) -> Result<Vec<Edit>, AllocError> {
     let mut edits = Vec::new(alloc);
-    for frame in old {
-        if !new.contains(frame) {
-            edits.push(Edit::Gone(*frame))?;
-        }
-    }
-    for frame in new {
-        if !old.contains(frame) {
-            edits.push(Edit::New(*frame))?;
-        }
-    }
+    push_edits(&mut edits, old, new, false)?;
+    push_edits(&mut edits, new, old, true)?;
     Ok(edits)
 }
 
-// Returns random changes of a row: of some of its windows, and up to three new ones. It also applies them to the row.
-fn draw(alloc: Global, seed: u64, row: &mut Vec<CalcValue>) -> Result<Vec<Change>, AllocError> {
+// Draws a change of each of some windows of a row, and applies it to the row. Returns the next seed.
+fn draw_some(
+    seed: u64,
+    row: &mut Vec<CalcValue>,
+    changes: &mut Vec<Change>,
+) -> Result<u64, AllocError> {
     let mut seed = seed;
-    let mut changes = Vec::new(alloc);
     let step = (seed >> 40) % 90;
     for k in 0..row.len() {
         seed = drawn(seed);
@@ -73,34 +88,74 @@ fn draw(alloc: Global, seed: u64, row: &mut Vec<CalcValue>) -> Result<Vec<Change
             changes.push(change)?;
         }
     }
+    Ok(seed)
+}
+
+// Draws up to three new windows of a row, and appends them to the row.
+fn draw_new(
+    seed: u64,
+    row: &mut Vec<CalcValue>,
+    changes: &mut Vec<Change>,
+) -> Result<(), AllocError> {
+    let mut seed = seed;
     for _ in 0..(seed >> 50) % 4 {
         seed = drawn(seed);
-        let k = row.len() as u64;
-        row.push(value(seed))?;
-        changes.push(Change {
-            k,
+        let change = Change {
+            k: row.len() as u64,
             value: value(seed),
-        })?;
+        };
+        row.push(change.value)?;
+        changes.push(change)?;
     }
+    Ok(())
+}
+
+// Returns random changes of a row: of some of its windows, and up to three new ones. It also applies them to the row.
+fn draw(alloc: Global, seed: u64, row: &mut Vec<CalcValue>) -> Result<Vec<Change>, AllocError> {
+    let mut changes = Vec::new(alloc);
+    let seed = draw_some(seed, row, &mut changes)?;
+    draw_new(seed, row, &mut changes)?;
     Ok(changes)
+}
+
+// Changes a row, and compares its frames, and what is told of the changes, with a list that is made anew. Returns that
+// list.
+fn changed(
+    rt: &impl Abort,
+    alloc: Global,
+    seed: u64,
+    row: &mut Vec<CalcValue>,
+    frames: &mut Frames,
+    least: u32,
+    before: &[Frame],
+) -> Result<Vec<Frame>, Fail> {
+    let changes = draw(alloc, seed, row)?;
+    let told = applied(rt, frames, changes.as_slice())?;
+    let now = plain(alloc, row.as_slice(), u64::from(least))?;
+    assert!(rt; told == edits(alloc, before, now.as_slice())?);
+    assert!(rt; frames.list()? == now);
+    Ok(now)
+}
+
+// Changes a row 300 times, whose frames have at least so many windows. Returns the seed of what comes next.
+fn changed_often(rt: &impl Abort, alloc: Global, seed: u64, least: u32) -> Result<u64, Fail> {
+    assert!(rt; 1 <= least);
+    let mut seed = seed;
+    let mut row = Vec::new(alloc);
+    let mut frames = new_frames(alloc, least, row.as_slice())?;
+    let mut before = Vec::new(alloc);
+    for _ in 0..300u32 {
+        seed = drawn(seed);
+        before = changed(rt, alloc, seed, &mut row, &mut frames, least, &before)?;
+    }
+    Ok(seed)
 }
 
 #[test]
 fn drawn_changes_are_as_a_list_made_anew(rt: HostRuntime) -> Result<(), Fail> {
     let mut seed = 20_261_128;
     for least in 1..4u32 {
-        let mut row = Vec::new(rt.alloc());
-        let mut frames = new_frames(rt.alloc(), least, row.as_slice())?;
-        let mut before = Vec::new(rt.alloc());
-        for _ in 0..300u32 {
-            seed = drawn(seed);
-            let changes = draw(rt.alloc(), seed, &mut row)?;
-            let told = applied(&rt, &mut frames, changes.as_slice())?;
-            let now = plain(rt.alloc(), row.as_slice(), u64::from(least))?;
-            assert!(rt; told == edits(rt.alloc(), before.as_slice(), now.as_slice())?);
-            assert!(rt; frames.list()? == now);
-            before = now;
-        }
+        seed = changed_often(&rt, rt.alloc(), seed, least)?;
     }
     Ok(())
 }

@@ -1,7 +1,7 @@
 // The fields of a layout in memory.
+use crate::tables::rows_tell;
 use archive_file::{Field, ScanNo, byte_at, check, long_at, short_at};
 use std::alloc::Global;
-use std::process::Abort;
 use std::test::Fail;
 
 // Twelve bytes.
@@ -24,26 +24,26 @@ fn told(alloc: Global, places: &str) -> Result<Option<ScanNo>, Fail> {
     Ok(check(&IMAGE, &fields).err())
 }
 
+// The first field that is refused, as a text.
+fn first_told(alloc: Global, places: &str) -> Result<String, Fail> {
+    match told(alloc, places)? {
+        None => Ok(String::from_str(alloc, "kept")?),
+        Some(ScanNo::Damaged { at, byte: Some(b) }) => Ok(format!(in alloc; "{at} byte {b}")?),
+        Some(ScanNo::Damaged { at, byte: None }) => Ok(format!(in alloc; "{at} end")?),
+        Some(_) => Err("another refusal".into()),
+    }
+}
+
 #[test]
 fn the_first_field_that_is_not_kept_is_told(rt: HostRuntime) -> Result<(), Fail> {
-    for line in ROWS.lines() {
-        let (places, want) = line.split_once(" => ").ok_or("an arrow")?;
-        let told = match told(rt.alloc(), places)? {
-            None => format!(in rt.alloc(); "kept")?,
-            Some(ScanNo::Damaged { at, byte: Some(b) }) => format!(in rt.alloc(); "{at} byte {b}")?,
-            Some(ScanNo::Damaged { at, byte: None }) => format!(in rt.alloc(); "{at} end")?,
-            Some(_) => return Err("another refusal".into()),
-        };
-        assert_eq!(&rt; told.as_str(), want, "{places}");
-    }
-    Ok(())
+    rows_tell(&rt, ROWS, " => ", |places| first_told(rt.alloc(), places))
 }
 
 #[test]
 fn numbers_have_their_highest_byte_first(rt: HostRuntime) -> Result<(), Fail> {
-    assert_eq!(&rt; short_at(&IMAGE, 0), 258);
-    assert_eq!(&rt; short_at(&IMAGE, 10), 16_777_216);
-    assert_eq!(&rt; long_at(&IMAGE, 4), 256);
-    assert_eq!(&rt; byte_at(&IMAGE, 12), 0);
+    assert!(&rt; short_at(&IMAGE, 0) == 258);
+    assert!(&rt; short_at(&IMAGE, 10) == 16_777_216);
+    assert!(&rt; long_at(&IMAGE, 4) == 256);
+    assert!(&rt; byte_at(&IMAGE, 12) == 0);
     Ok(())
 }

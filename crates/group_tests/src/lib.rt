@@ -21,3 +21,5 @@ mod saves;
 mod sheets;
 #[cfg(test)]
 mod spelled_frames;
+#[cfg(test)]
+mod tables;

@@ -3,6 +3,7 @@ ghost use Rattle.std.specs.Prelude.{◌<◌, IfOk};
 ghost use Rattle.calc_refresh.specs.Sheet.{IsCopy};
 
 use crate::sheets::{def_of, push_row, tell};
+use crate::tables::same;
 use calc_refresh::{Kind, Point, Rec, new_sheet};
 use std::alloc::{AllocError, Global};
 use std::process::Abort;
@@ -82,19 +83,24 @@ fn rows_in_parts(
     Ok(text)
 }
 
+// Draws records, and checks that their parts of each size make the same rows.
+fn agree(rt: &impl Abort, alloc: Global, draws: &mut Draws) -> Result<(), Fail> {
+    let first = draws.records(alloc)?;
+    let second = draws.records(alloc)?;
+    let all = rows_in_parts(rt, alloc, &first, &second, 40)?;
+    assert!(rt; !all.is_empty());
+    let one = rows_in_parts(rt, alloc, &first, &second, 1)?;
+    same(rt, one.as_str(), all.as_str(), "parts of one");
+    let few = rows_in_parts(rt, alloc, &first, &second, 7)?;
+    same(rt, few.as_str(), all.as_str(), "parts of seven");
+    Ok(())
+}
+
 #[test]
 fn parts_of_any_size_make_the_same_rows(rt: HostRuntime) -> Result<(), Fail> {
-    let alloc = rt.alloc();
     let mut draws = Draws { state: 1 };
     for _ in 0..100 {
-        let first = draws.records(alloc)?;
-        let second = draws.records(alloc)?;
-        let one = rows_in_parts(&rt, alloc, &first, &second, 1)?;
-        let few = rows_in_parts(&rt, alloc, &first, &second, 7)?;
-        let all = rows_in_parts(&rt, alloc, &first, &second, 40)?;
-        assert!(rt; !all.is_empty());
-        assert_eq!(rt; one.as_str(), all.as_str());
-        assert_eq!(rt; few.as_str(), all.as_str());
+        agree(&rt, rt.alloc(), &mut draws)?;
     }
     Ok(())
 }

@@ -4,6 +4,7 @@ ghost use Rattle.calc_refresh.specs.Sheet.{IsCopy};
 
 use crate::book_groups::means;
 use crate::books::{answers, cell_of, cell_with, refresh, take_all};
+use crate::tables::same;
 use disk_model::{MemDisk, Pick};
 use group_book::{Book, LoadFail, Turn, load};
 use group_layout::definition_text;
@@ -142,16 +143,27 @@ fn session<R: Wait>(rt: &R, alloc: Global, dev: MemDisk, words: &str) -> Option<
     }
 }
 
+// Runs a session on a device, compares what is told of it, and returns the device.
+fn step<R: Abort + Wait>(rt: &R, alloc: Global, dev: MemDisk, step: &str) -> Result<MemDisk, Fail> {
+    let (words, want) = step.split_once(" => ").ok_or("an arrow")?;
+    let (next, told) = session(rt, alloc, dev, words).ok_or("no session")?;
+    same(rt, told.as_str(), want, step);
+    Ok(next)
+}
+
+// Runs the sessions of a line.
+fn follow<R: Abort + Wait>(rt: &R, alloc: Global, line: &str) -> Result<(), Fail> {
+    let mut dev = MemDisk::new(Vec::new(alloc), Vec::new(alloc));
+    for words in line.split(" / ") {
+        dev = step(rt, alloc, dev, words)?;
+    }
+    Ok(())
+}
+
 #[test]
 fn what_was_saved_is_there_again(rt: HostRuntime) -> Result<(), Fail> {
     for line in SESSIONS.lines() {
-        let mut dev = MemDisk::new(Vec::new(rt.alloc()), Vec::new(rt.alloc()));
-        for step in line.split(" / ") {
-            let (words, want) = step.split_once(" => ").ok_or("an arrow")?;
-            let (next, told) = session(&rt, rt.alloc(), dev, words).ok_or("no session")?;
-            assert_eq!(&rt; told.as_str(), want, "{step}");
-            dev = next;
-        }
+        follow(&rt, rt.alloc(), line)?;
     }
     Ok(())
 }
@@ -258,7 +270,7 @@ fn a_first_save_has_these_bytes(rt: HostRuntime) -> Result<(), Fail> {
     let text = text_of(rt.alloc()).ok_or("no text")?;
     assert!(&rt; text.as_slice() == TEXT.as_slice());
     let told = first(&rt, rt.alloc()).ok_or("no session")?;
-    assert_eq!(rt; told.as_str(), FIRST);
+    same(&rt, told.as_str(), FIRST, "a first save");
     Ok(())
 }
 
@@ -285,5 +297,5 @@ fn first_save(rt: &impl Wait, alloc: Global) -> Option<(u64, u64)> {
 
 #[test]
 fn a_save_leaves_its_number_and_moment(rt: HostRuntime) {
-    assert_eq!(&rt; first_save(&rt, rt.alloc()), Some((1, 4)));
+    assert!(&rt; first_save(&rt, rt.alloc()) == Some((1, 4)));
 }

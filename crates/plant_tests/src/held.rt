@@ -1,9 +1,10 @@
 // Sessions whose workers are held or stopped at their steps.
 use crate::gates::{AtSync, GateStore, Signs};
-use crate::plants::{text, words};
-use byte_io::{MemFiles, MemSink, MemSource};
+use crate::plants;
+use crate::plants::files_of;
+use byte_io::MemFiles;
 use disk_model::{MemStore, Store};
-use plant_run::{OpenPasses, Outcome, Passes, Status, run};
+use plant_run::{OpenPasses, Outcome, Passes, Status};
 use std::alloc::Global;
 use std::fmt::Write;
 use std::sync::Wait;
@@ -28,12 +29,7 @@ asks.csv: row,g,m,3|at,T1,0|";
 
 // Returns these files, one file with the same row a hundred times, and one with 65 rising rows.
 fn files(alloc: Global) -> Result<MemFiles, Fail> {
-    let mut files = Vec::new(alloc);
-    for row in FILES.lines() {
-        let (name, field) = row.split_once(": ").ok_or("a file")?;
-        let text = text(alloc, field)?.into_bytes();
-        files.push((String::from_str(alloc, name)?, text))?;
-    }
+    let mut files = files_of(alloc, FILES)?;
     let same = "T1,0,5\n".repeat(alloc, 100)?;
     files.push((String::from_str(alloc, "same.csv")?, same.into_bytes()))?;
     let mut rising = String::new(alloc);
@@ -52,15 +48,7 @@ fn ended<R: Threads + Wait + Sync, S: Store, P: Passes>(
     store: &mut S,
     passes: &mut P,
 ) -> Result<(Outcome, String), Fail> {
-    let words = words(alloc, line)?;
-    let mut input = MemSource::new(Vec::new(alloc), Vec::new(alloc));
-    let mut files = files(alloc)?;
-    let mut out = MemSink::new(alloc, Vec::new(alloc));
-    let outcome = run(
-        rt, alloc, &words, &mut input, &mut files, &mut out, store, passes,
-    );
-    let printed = str::from_utf8(out.bytes()).map_err(|_| "text")?;
-    Ok((outcome, String::from_str(alloc, printed)?))
+    plants::ended(rt, alloc, line, files(alloc)?, store, passes)
 }
 
 // Returns the numbers of the rows that the first tag of a session took, in the order of its tape.

@@ -15,6 +15,8 @@ mod log_device;
 #[cfg(test)]
 mod log_stops;
 #[cfg(test)]
+mod pairs;
+#[cfg(test)]
 mod plants;
 #[cfg(test)]
 mod runs;

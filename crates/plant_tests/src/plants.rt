@@ -1,7 +1,7 @@
 // What a run of the program needs, and what it prints.
 use byte_io::{MemFiles, MemSink, MemSource};
-use disk_model::MemStore;
-use plant_run::{OpenPasses, run_args};
+use disk_model::{MemStore, Store};
+use plant_run::{OpenPasses, Outcome, Passes, run, run_args};
 use std::alloc::{AllocError, Global};
 use std::process::{Abort, ExitCode};
 use std::sync::Wait;
@@ -41,6 +41,36 @@ pub fn words(alloc: Global, line: &str) -> Result<Vec<String>, AllocError> {
         words.push(String::from_str(alloc, word)?)?;
     }
     Ok(words)
+}
+
+/// Returns the names and texts of files. Each line has a name, a colon, a blank and a text.
+pub fn files_of(alloc: Global, rows: &str) -> Result<Vec<(String, Vec<u8>)>, Fail> {
+    let mut files = Vec::new(alloc);
+    for row in rows.lines() {
+        let (name, field) = row.split_once(": ").ok_or("a file")?;
+        let text = text(alloc, field)?.into_bytes();
+        files.push((String::from_str(alloc, name)?, text))?;
+    }
+    Ok(files)
+}
+
+/// Runs words over files and a store with these passes. Returns how the run ended and what it printed.
+pub fn ended<R: Threads + Wait + Sync, S: Store, P: Passes>(
+    rt: &R,
+    alloc: Global,
+    line: &str,
+    mut files: MemFiles,
+    store: &mut S,
+    passes: &mut P,
+) -> Result<(Outcome, String), Fail> {
+    let words = words(alloc, line)?;
+    let mut input = MemSource::new(Vec::new(alloc), Vec::new(alloc));
+    let mut out = MemSink::new(alloc, Vec::new(alloc));
+    let outcome = run(
+        rt, alloc, &words, &mut input, &mut files, &mut out, store, passes,
+    );
+    let printed = str::from_utf8(out.bytes()).map_err(|_| "text")?;
+    Ok((outcome, String::from_str(alloc, printed)?))
 }
 
 /// Runs a line of words, of which the first is the program's name. Returns the exit code, a space, and what is printed.

@@ -2,10 +2,9 @@
 ghost use Rattle.std.specs.Prelude.{IsTrue, All};
 ghost use Rattle.trend_num.specs.Ranges.{InRange};
 
-use crate::spelled::{content, number};
-use late_insert::{Content, Kind, Point, Rec};
+use crate::spelled::{content, number, rows_tell, same};
+use late_insert::{Content, Kind, Point, Rec, Runs};
 use std::alloc::{AllocError, Global};
-use std::fmt::Write;
 use std::process::Abort;
 use std::test::Fail;
 use trend_num::in_range;
@@ -34,20 +33,26 @@ const RUNS: &str = "\
 128 255 97282 97028
 256 289 35970 35904";
 
+// A point that a content lists, as a text. A star marks a late one.
+fn point_told(alloc: Global, content: &Content, p: Point) -> Result<String, Fail> {
+    let mark = if content.late_at(p.t) { "*" } else { "" };
+    Ok(format!(in alloc; " {},{}{mark}", p.t, p.v)?)
+}
+
+// The points that a content lists, as a text.
+fn listed_told(alloc: Global, content: &Content) -> Result<String, Fail> {
+    let mut told = String::new(alloc);
+    for i in 0..content.len() {
+        told.push_str(&point_told(alloc, content, content.point(i))?)?;
+    }
+    Ok(told)
+}
+
 #[test]
 fn records_are_listed_in_order_of_time(rt: HostRuntime) -> Result<(), Fail> {
-    for row in LISTED.lines() {
-        let (given, want) = row.split_once(" =>").ok_or("row")?;
-        let content = content(&rt, rt.alloc(), given)?;
-        let mut told = String::new(rt.alloc());
-        for i in 0..content.len() {
-            let Point { t, v } = content.point(i);
-            let mark = if content.late_at(t) { "*" } else { "" };
-            write!(told, " {t},{v}{mark}")?;
-        }
-        assert_eq!(rt; told.as_str(), want, "{given}");
-    }
-    Ok(())
+    rows_tell(&rt, LISTED, " =>", |given| {
+        listed_told(rt.alloc(), &content(&rt, rt.alloc(), given)?)
+    })
 }
 
 // The points around a time, as a text.
@@ -59,12 +64,9 @@ fn around_told(alloc: Global, content: &Content, t: u64) -> Result<String, Fail>
 #[test]
 fn the_points_around_a_time_are_found(rt: HostRuntime) -> Result<(), Fail> {
     let content = content(&rt, rt.alloc(), "10,8 0,4")?;
-    for row in AROUND.lines() {
-        let (given, want) = row.split_once(" => ").ok_or("row")?;
-        let told = around_told(rt.alloc(), &content, number(&rt, given))?;
-        assert_eq!(rt; told.as_str(), want, "{given}");
-    }
-    Ok(())
+    rows_tell(&rt, AROUND, " => ", |given| {
+        around_told(rt.alloc(), &content, number(&rt, given))
+    })
 }
 
 // Kept records of `count` points (2i,i).
@@ -94,33 +96,45 @@ fn all_in_range(recs: &[Rec]) -> bool
     true
 }
 
+// The next run of a content, as a text.
+fn run_told(alloc: Global, runs: &mut Runs) -> Result<String, Fail> {
+    let run = runs.next().ok_or("a run")?;
+    let (first, last) = (run.first().v, run.last().v);
+    Ok(format!(in alloc; "{first} {last} {} {}", run.area(false), run.area(true))?)
+}
+
 // Compares the runs of a content of 130,000 points, from the 101st to the 290th, with the rows of `RUNS`.
 fn runs_are_told(rt: &impl Abort, alloc: Global, content: &Content) -> Result<(), Fail> {
     assert!(rt; content.len() == 130_000);
     let mut runs = content.runs(100, 290);
     for row in RUNS.lines() {
-        let run = runs.next().ok_or("a run")?;
-        let (first, last) = (run.first().v, run.last().v);
-        let told = format!(in alloc; "{first} {last} {} {}", run.area(false), run.area(true))?;
-        assert_eq!(rt; told.as_str(), row);
+        let told = run_told(alloc, &mut runs)?;
+        same(rt, told.as_str(), row, "a run");
     }
     assert!(rt; runs.next().is_none());
     Ok(())
 }
 
+// The content of 130,000 points (2i,i).
+fn many(rt: &impl Abort, alloc: Global) -> Result<Content, Fail> {
+    let recs = rising(alloc, 130_000)?;
+    assert!(rt; all_in_range(recs.as_slice()));
+    Ok(Content::from_records(alloc, recs.as_slice(), 0)?)
+}
+
+// What a content of 130,000 points has: how many, and how many more may come; the last one not after a time; and how
+// many are before a time.
+fn many_told(alloc: Global, content: &Content) -> Result<String, Fail> {
+    let (len, spare) = (content.len(), content.spare());
+    let (floor, below) = (content.floor(259_999), content.below(130_000));
+    Ok(format!(in alloc; "{len} {spare} {floor:?} {below}")?)
+}
+
 #[test]
 fn many_records_in_order_fill_pages(rt: HostRuntime) -> Result<(), Fail> {
-    let recs = rising(rt.alloc(), 130_000)?;
-    assert!(rt; all_in_range(recs.as_slice()));
-    let content = Content::from_records(rt.alloc(), recs.as_slice(), 0)?;
-    assert_eq!(rt; (content.len(), content.spare()), (130_000, 0));
-    assert_eq!(rt;
-        content.floor(259_999),
-        Some(Point {
-            t: 259_998,
-            v: 129_999
-        })
-    );
-    assert_eq!(rt; content.below(130_000), 65_000);
+    let content = many(&rt, rt.alloc())?;
+    let told = many_told(rt.alloc(), &content)?;
+    let want = "130000 0 Some(Point { t: 259998, v: 129999 }) 65000";
+    same(&rt, told.as_str(), want, "130,000 points");
     runs_are_told(&rt, rt.alloc(), &content)
 }

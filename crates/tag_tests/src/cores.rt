@@ -1,7 +1,7 @@
 // What cores keep of histories, worked out by hand.
 ghost use Rattle.std.specs.Prelude.{◌≡◌, ◌<◌};
 
-use crate::spelled::point;
+use crate::spelled::{point, rows_tell};
 use std::alloc::Global;
 use std::fmt::Write;
 use std::marker::Brand;
@@ -54,6 +54,21 @@ fn tuning_of(name: &str) -> Option<Tuning> {
     })
 }
 
+// Makes a core of a kind, with the tuning of a name.
+fn begun(rt: &impl Abort, alloc: Global, kind: &str, name: &str) -> Result<TagCore, Fail> {
+    let tuning = tuning_of(name).ok_or("tuning")?;
+    assert!(rt; tuning_ok(&tuning));
+    Ok(TagCore::new(alloc, tuning, kind == "step", 4)?)
+}
+
+// Makes a core from the parts of another.
+fn made_again(rt: &impl Abort, core: TagCore) -> Result<TagCore, Fail> {
+    let (tuning, step) = (core.tuning(), core.step());
+    let (recs, summary) = core.into_parts();
+    assert!(rt; tuning_ok(&tuning) && parts_ok(&tuning, step, &recs, &summary));
+    Ok(TagCore::from_records(tuning, step, recs, &summary, 4)?)
+}
+
 // What is kept of a row's history. One core takes the history. A second core is made from the first one's parts, and
 // the text is what the second has.
 fn compressed<L: Ledger>(
@@ -64,15 +79,9 @@ fn compressed<L: Ledger>(
 ) -> Result<String, Fail> {
     let (kind, events) = given.split_once(' ').ok_or("kind")?;
     let (first, events) = events.split_once(' ').ok_or("tuning")?;
-    let tuning = tuning_of(first).ok_or("tuning")?;
-    assert!(rt; tuning_ok(&tuning));
-    let mut core = TagCore::new(alloc, tuning, kind == "step", 4)?;
+    let mut core = begun(rt, alloc, kind, first)?;
     take_all(rt, &mut core, events, steps)?;
-    let (tuning, step) = (core.tuning(), core.step());
-    let (recs, summary) = core.into_parts();
-    assert!(rt; tuning_ok(&tuning) && parts_ok(&tuning, step, &recs, &summary));
-    let again = TagCore::from_records(tuning, step, recs, &summary, 4)?;
-    kept(alloc, &again)
+    kept(alloc, &made_again(rt, core)?)
 }
 
 // Passes these events to the core.
@@ -127,12 +136,9 @@ fn all_told<L: Ledger>(rt: &impl Abort, alloc: Global, blank: Blank) -> Result<(
     requires some { 0 < L.parts }
 {
     let mut steps = Steps::<L>::new(blank);
-    for row in HISTORIES.lines() {
-        let (given, want) = row.split_once(" =>").ok_or("row")?;
-        let told = compressed(rt, alloc, given, &mut steps)?;
-        assert_eq!(rt; told.as_str(), want, "{given}");
-    }
-    Ok(())
+    rows_tell(rt, HISTORIES, " =>", |given| {
+        compressed(rt, alloc, given, &mut steps)
+    })
 }
 
 #[test]

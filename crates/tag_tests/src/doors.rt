@@ -2,7 +2,7 @@
 ghost use Rattle.std.specs.Prelude.{◌≡◌, ◌<◌, ◌↔◌, IsTrue};
 ghost use Rattle.trend_num.specs.Ranges.{InRange};
 
-use crate::spelled::point;
+use crate::spelled::{point, rows_tell};
 use door_slopes::{Doors, Point, Steps};
 use std::alloc::Global;
 use std::marker::Brand;
@@ -42,6 +42,35 @@ fn is_after(doors: &Doors, p: Point) -> bool
     in_range(p) && doors.hinge().t < p.t
 }
 
+// Whether the doors admit the point of a field.
+fn admitted<L: Ledger>(
+    rt: &impl Abort,
+    alloc: Global,
+    doors: &Doors,
+    given: &str,
+    steps: &mut Steps<L>,
+) -> Result<String, Fail> {
+    let p = point(rt, given);
+    assert!(rt; is_after(doors, p));
+    Ok(format!(in alloc; "{}", doors.admits(p, steps))?)
+}
+
+// Whether the doors admit the point of a field, and the upper and the lower door after the swing.
+fn swung<L: Ledger>(
+    rt: &impl Abort,
+    alloc: Global,
+    doors: &mut Doors,
+    given: &str,
+    steps: &mut Steps<L>,
+) -> Result<String, Fail> {
+    let told = admitted(rt, alloc, doors, given, steps)?;
+    let p = point(rt, given);
+    assert!(rt; is_after(doors, p));
+    doors.swing(p, steps);
+    let (upper, lower) = (doors.upper(), doors.lower());
+    Ok(format!(in alloc; "{told} {},{} {},{}", upper.t, upper.v, lower.t, lower.v)?)
+}
+
 // Passes all rows to the doors. Counts on the ledger of the blank.
 fn walked<L: Ledger>(rt: &impl Abort, alloc: Global, blank: Blank) -> Result<(), Fail>
     requires name { blank.name ≡ L.name }
@@ -50,26 +79,12 @@ fn walked<L: Ledger>(rt: &impl Abort, alloc: Global, blank: Blank) -> Result<(),
 {
     let mut steps = Steps::<L>::new(blank);
     let mut doors = Doors::hang(HINGE, 1, Point { t: 10, v: 1 });
-    for row in SWINGS.lines() {
-        let (given, want) = row.split_once(" => ").ok_or("row")?;
-        let p = point(rt, given);
-        assert!(rt; is_after(&doors, p));
-        let admitted = doors.admits(p, &mut steps);
-        doors.swing(p, &mut steps);
-        let (upper, lower) = (doors.upper(), doors.lower());
-        let told = format!(in alloc;
-            "{admitted} {},{} {},{}",
-            upper.t, upper.v, lower.t, lower.v
-        )?;
-        assert_eq!(rt; told.as_str(), want, "{given}");
-    }
-    for row in ADMITTED.lines() {
-        let (given, want) = row.split_once(" => ").ok_or("row")?;
-        let p = point(rt, given);
-        assert!(rt; is_after(&doors, p));
-        assert_eq!(rt; doors.admits(p, &mut steps), want == "true", "{given}");
-    }
-    Ok(())
+    rows_tell(rt, SWINGS, " => ", |given| {
+        swung(rt, alloc, &mut doors, given, &mut steps)
+    })?;
+    rows_tell(rt, ADMITTED, " => ", |given| {
+        admitted(rt, alloc, &doors, given, &mut steps)
+    })
 }
 
 #[test]

@@ -1,6 +1,8 @@
 // Offers to an exception test, one after the other, worked out by hand.
-use crate::spelled::point;
+use crate::spelled::{point, rows_tell};
 use exception_test::{Gate, Tuning};
+use std::alloc::Global;
+use std::process::Abort;
 use std::test::Fail;
 
 const TUNING: Tuning = Tuning {
@@ -25,14 +27,16 @@ const OFFERS: &str = "\
 149,-9 => None None
 150,-9 => Some(Point { t: 149, v: -9 }) Some(InOrder(Point { t: 150, v: -9 }))";
 
+// What a gate sends at the offer of a point, as a text.
+fn sent_told(rt: &impl Abort, alloc: Global, gate: &mut Gate, given: &str) -> Result<String, Fail> {
+    let sent = gate.offer(&TUNING, point(rt, given));
+    Ok(format!(in alloc; "{:?} {:?}", sent.first, sent.second)?)
+}
+
 #[test]
 fn a_gate_answers_offers_in_turn(rt: HostRuntime) -> Result<(), Fail> {
     let mut gate = Gate::new();
-    for row in OFFERS.lines() {
-        let (given, want) = row.split_once(" => ").ok_or("row")?;
-        let sent = gate.offer(&TUNING, point(&rt, given));
-        let told = format!(in rt.alloc(); "{:?} {:?}", sent.first, sent.second)?;
-        assert_eq!(rt; told.as_str(), want, "{given}");
-    }
-    Ok(())
+    rows_tell(&rt, OFFERS, " => ", |given| {
+        sent_told(&rt, rt.alloc(), &mut gate, given)
+    })
 }

@@ -1,6 +1,8 @@
 // Numbers and names at the edges of their ranges, and comparisons of sides that are equal or nearly so.
 ghost use Rattle.std.specs.Prelude.{◌≡◌, ◌<◌};
 
+use crate::spelled::rows_tell;
+use std::alloc::Global;
 use std::cmp::Ordering;
 use std::marker::Brand;
 use std::process::Abort;
@@ -59,53 +61,63 @@ fn point(rt: &impl Abort, fields: &mut SplitWhitespace) -> Point {
 
 #[test]
 fn numerals_have_a_sign_and_twenty_digits(rt: HostRuntime) -> Result<(), Fail> {
-    for row in NUMERALS.lines() {
-        let (text, want) = row.split_once(" => ").ok_or("row")?;
-        let told = format!(in rt.alloc(); "{:?}", numeral(text.as_bytes()))?;
-        assert_eq!(rt; told.as_str(), want, "{text}");
+    rows_tell(&rt, NUMERALS, " => ", |text| {
+        Ok(format!(in rt.alloc(); "{:?}", numeral(text.as_bytes()))?)
+    })
+}
+
+// Whether a text is a name, which then has the text's bytes.
+fn is_name(text: &str) -> bool {
+    match name_from(text.as_bytes()) {
+        Some(name) => name.bytes() == text.as_bytes(),
+        None => false,
     }
-    Ok(())
 }
 
 #[test]
 fn names_are_short_and_plain(rt: HostRuntime) -> Result<(), Fail> {
-    for row in NAMES.lines() {
-        let (text, want) = row.split_once(" => ").ok_or("row")?;
-        let is_name = match name_from(text.as_bytes()) {
-            Some(name) => name.bytes() == text.as_bytes(),
-            None => false,
-        };
-        assert_eq!(rt; is_name, want == "true", "{text}");
-    }
-    Ok(())
+    rows_tell(&rt, NAMES, " => ", |text| {
+        Ok(format!(in rt.alloc(); "{}", is_name(text))?)
+    })
+}
+
+// Whether the point that a row spells is in range.
+fn range_told(rt: &impl Abort, alloc: Global, given: &str) -> Result<String, Fail> {
+    let p = point(rt, &mut given.split_whitespace());
+    Ok(format!(in alloc; "{}", in_range(p))?)
 }
 
 #[test]
 fn ranges_end_at_their_limits(rt: HostRuntime) -> Result<(), Fail> {
-    for row in POINTS.lines() {
-        let (given, want) = row.split_once(" => ").ok_or("row")?;
-        let p = point(&rt, &mut given.split_whitespace());
-        assert_eq!(rt; in_range(p), want == "true", "{given}");
-    }
-    Ok(())
+    rows_tell(
+        &rt,
+        POINTS,
+        " => ",
+        |given| range_told(&rt, rt.alloc(), given),
+    )
+}
+
+// The value of a line at a time.
+fn line_told(rt: &impl Abort, alloc: Global, given: &str) -> Result<String, Fail> {
+    let mut fields = given.split_whitespace();
+    let a = point(rt, &mut fields);
+    let b = point(rt, &mut fields);
+    let t = time(rt, &mut fields);
+    assert!(rt; in_range(a));
+    assert!(rt; in_range(b));
+    assert!(rt; a.t <= t && t <= b.t && a.t < b.t);
+    let f = line_at(a, b, t);
+    Ok(format!(in alloc; "{}/{}", f.num, f.den)?)
 }
 
 #[test]
 fn a_line_reads_between_its_ends(rt: HostRuntime) -> Result<(), Fail> {
-    for row in LINES.lines() {
-        let (given, want) = row.split_once(" => ").ok_or("row")?;
-        let mut fields = given.split_whitespace();
-        let a = point(&rt, &mut fields);
-        let b = point(&rt, &mut fields);
-        let t = time(&rt, &mut fields);
-        assert!(rt; in_range(a));
-        assert!(rt; in_range(b));
-        assert!(rt; a.t <= t && t <= b.t && a.t < b.t);
-        let f = line_at(a, b, t);
-        let told = format!(in rt.alloc(); "{}/{}", f.num, f.den)?;
-        assert_eq!(rt; told.as_str(), want, "{given}");
-    }
-    Ok(())
+    rows_tell(
+        &rt,
+        LINES,
+        " => ",
+        |given| line_told(&rt, rt.alloc(), given),
+    )
 }
 
 // Compares deviations and slopes. Counts on the ledger of the blank.

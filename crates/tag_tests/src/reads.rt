@@ -1,6 +1,6 @@
 // Reads of small contents, worked out by hand.
-use crate::spelled::{content, number};
-use interp_read::{Reading, at, at_step, points};
+use crate::spelled::{content, number, rows_tell, same};
+use interp_read::{at, at_step, points};
 use late_insert::{Content, Kind, Point, Rec};
 use std::alloc::Global;
 use std::process::Abort;
@@ -32,27 +32,31 @@ fn read_told(alloc: Global, content: &Content, t: u64) -> Result<String, Fail> {
 
 #[test]
 fn lines_and_stairs_are_read(rt: HostRuntime) -> Result<(), Fail> {
-    for row in READ.lines() {
-        let (given, want) = row.split_once(" => ").ok_or("row")?;
+    rows_tell(&rt, READ, " => ", |given| {
         let (records, t) = given.split_once(" @ ").ok_or("time")?;
         let content = content(&rt, rt.alloc(), records)?;
-        let told = read_told(rt.alloc(), &content, number(&rt, t))?;
-        assert_eq!(rt; told.as_str(), want, "{given}");
-    }
-    Ok(())
+        read_told(rt.alloc(), &content, number(&rt, t))
+    })
 }
 
-#[test]
-fn a_held_point_closes_the_content(rt: HostRuntime) -> Result<(), Fail> {
-    let mut content = Content::new(rt.alloc(), 1)?;
+// What a stair of one point, (20,15), reads before the held point (30,14) and at its time; and how many points there
+// are with the held one.
+fn held_told(alloc: Global) -> Result<String, Fail> {
+    let mut content = Content::new(alloc, 1)?;
     content.put(Rec {
         kind: Kind::Kept,
         point: Point { t: 20, v: 15 },
     });
     let held = Some(Point { t: 30, v: 14 });
-    assert_eq!(rt; at_step(&content, held, 29), Reading::Flat(15));
-    assert_eq!(rt; at_step(&content, held, 30), Reading::Exact(14));
-    assert_eq!(rt; points(rt.alloc(), &content, held, 1, 30)?.list.len(), 2);
+    let (before, last) = (at_step(&content, held, 29), at_step(&content, held, 30));
+    let count = points(alloc, &content, held, 1, 30)?.list.len();
+    Ok(format!(in alloc; "{before:?} {last:?} {count}")?)
+}
+
+#[test]
+fn a_held_point_closes_the_content(rt: HostRuntime) -> Result<(), Fail> {
+    let told = held_told(rt.alloc())?;
+    same(&rt, told.as_str(), "Flat(15) Exact(14) 2", "a held point");
     Ok(())
 }
 
@@ -78,11 +82,8 @@ fn list_told(alloc: Global, content: &Content, from: u64, to: u64) -> Result<Str
 #[test]
 fn at_most_256_points_are_listed(rt: HostRuntime) -> Result<(), Fail> {
     let content = each_time(&rt, rt.alloc())?;
-    for row in LISTED.lines() {
-        let (given, want) = row.split_once(" => ").ok_or("row")?;
+    rows_tell(&rt, LISTED, " => ", |given| {
         let (from, to) = given.split_once(' ').ok_or("times")?;
-        let told = list_told(rt.alloc(), &content, number(&rt, from), number(&rt, to))?;
-        assert_eq!(rt; told.as_str(), want, "{given}");
-    }
-    Ok(())
+        list_told(rt.alloc(), &content, number(&rt, from), number(&rt, to))
+    })
 }

@@ -1,4 +1,4 @@
-// The points and contents that the rows of tables spell.
+// The points and contents that the rows of tables spell, and what tests tell of them.
 ghost use Rattle.trend_num.specs.Ranges.{InRange};
 
 use late_insert::{Content, Kind, Point, Rec};
@@ -6,6 +6,28 @@ use std::alloc::Global;
 use std::process::Abort;
 use std::test::Fail;
 use trend_num::in_range;
+
+/// Compares what was told of what a row gives with what is wanted.
+pub fn same(rt: &impl Abort, told: &str, want: &str, given: &str) {
+    assert_eq!(rt; told, want, "{given}");
+}
+
+/// Checks each row of a table. A row gives something before `arrow`, and says after it what `tell` is to tell of it.
+pub fn rows_tell<F: FnMut(&str) -> Result<String, Fail>>(
+    rt: &impl Abort,
+    rows: &str,
+    arrow: &str,
+    mut tell: F,
+) -> Result<(), Fail>
+    requires { F.IsAlwaysCallable tell }
+{
+    for row in rows.lines() {
+        let (given, want) = row.split_once(arrow).ok_or("row")?;
+        let told = tell(given)?;
+        same(rt, told.as_str(), want, given);
+    }
+    Ok(())
+}
 
 /// Reads a field as a number. The test aborts if it is none.
 pub fn number(rt: &impl Abort, field: &str) -> u64 {

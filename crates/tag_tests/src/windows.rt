@@ -2,7 +2,7 @@
 ghost use Rattle.std.specs.Prelude.{◌<◌, ◌≤◌};
 ghost use Rattle.trend_num.specs.Ranges.{last_time};
 
-use crate::spelled::{content, number};
+use crate::spelled::{content, number, rows_tell, same};
 use late_insert::{Content, Kind, Point, Rec};
 use std::alloc::Global;
 use std::fmt::Write;
@@ -78,15 +78,12 @@ fn window_of(
 
 #[test]
 fn a_window_has_each_measure(rt: HostRuntime) -> Result<(), Fail> {
-    for row in SMALL.lines() {
-        let (given, want) = row.split_once(" =>").ok_or("row")?;
+    rows_tell(&rt, SMALL, " =>", |given| {
         let (kind, points) = given.split_once(' ').ok_or("kind")?;
         let (points, field) = points.split_once(" @ ").ok_or("window")?;
         let content = content(&rt, rt.alloc(), points)?;
-        let told = window_of(&rt, rt.alloc(), &content, kind == "stair", field)?;
-        assert_eq!(rt; told.as_str(), want, "{given}");
-    }
-    Ok(())
+        window_of(&rt, rt.alloc(), &content, kind == "stair", field)
+    })
 }
 
 // The content of the points at the times 0 to 299, which come in falling order.
@@ -109,27 +106,28 @@ fn falling(rt: &impl Abort, alloc: Global) -> Result<Content, Fail> {
 #[test]
 fn a_window_over_pages_is_that_of_the_points(rt: HostRuntime) -> Result<(), Fail> {
     let content = falling(&rt, rt.alloc())?;
-    for row in LARGE.lines() {
-        let (given, want) = row.split_once(" =>").ok_or("row")?;
+    rows_tell(&rt, LARGE, " =>", |given| {
         let (kind, field) = given.split_once(' ').ok_or("kind")?;
-        let told = window_of(&rt, rt.alloc(), &content, kind == "stair", field)?;
-        assert_eq!(rt; told.as_str(), want, "{given}");
-    }
-    Ok(())
+        window_of(&rt, rt.alloc(), &content, kind == "stair", field)
+    })
 }
 
-#[test]
-fn a_held_point_ends_a_window(rt: HostRuntime) -> Result<(), Fail> {
-    let mut content = Content::new(rt.alloc(), 1)?;
+// The last value of a stair, and the area under a line, from the point (20,15) to the held point (30,14).
+fn held_told(alloc: Global) -> Result<String, Fail> {
+    let mut content = Content::new(alloc, 1)?;
     content.put(Rec {
         kind: Kind::Kept,
         point: Point { t: 20, v: 15 },
     });
     let held = Some(Point { t: 30, v: 14 });
-    assert_eq!(rt;
-        window_step(&content, held, Measure::Last, 20, 30),
-        Some(14)
-    );
-    assert_eq!(rt; window(&content, held, Measure::Area, 20, 30), Some(290));
+    let last = window_step(&content, held, Measure::Last, 20, 30);
+    let area = window(&content, held, Measure::Area, 20, 30);
+    Ok(format!(in alloc; "{last:?} {area:?}")?)
+}
+
+#[test]
+fn a_held_point_ends_a_window(rt: HostRuntime) -> Result<(), Fail> {
+    let told = held_told(rt.alloc())?;
+    same(&rt, told.as_str(), "Some(14) Some(290)", "a held point");
     Ok(())
 }

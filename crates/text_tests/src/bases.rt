@@ -1,11 +1,11 @@
 // Bases and plans with each rule broken, first alone and then together with another one. An independent program gave
 // the answers.
-use crate::spelled::{number, text};
+use crate::spelled::{number, rows_tell, same, text};
 use std::alloc::{AllocError, Global};
 use std::fmt::Write;
 use std::process::Abort;
 use std::test::Fail;
-use tag_base::{TextNo, Tuning, What, read_base, read_plan};
+use tag_base::{Base, Plan, TextNo, What, read_base, read_plan};
 
 const BASE: &str = r#"[[tag]]
 name = "T1"
@@ -170,61 +170,65 @@ fn edited(alloc: Global, whole: &str, edits: &str) -> Result<String, Fail> {
     Ok(whole)
 }
 
+// The answer for the base after edits.
+fn base_told(alloc: Global, edits: &str) -> Result<String, Fail> {
+    let text = edited(alloc, BASE, edits)?;
+    Ok(base_counts(alloc, text.as_bytes())?)
+}
+
 #[test]
 fn a_base_is_refused_for_the_first_rule_that_it_breaks(rt: HostRuntime) -> Result<(), Fail> {
-    let alloc = rt.alloc();
-    for row in BASES.lines() {
-        let (edits, want) = row.split_once(" => ").ok_or("row")?;
-        let text = edited(alloc, BASE, edits)?;
-        assert_eq!(rt;
-            base_counts(alloc, text.as_bytes())?.as_str(),
-            want,
-            "{edits}"
-        );
-    }
-    assert_eq!(rt; base_counts(alloc, b"\xff")?.as_str(), "1 0 0");
+    rows_tell(&rt, BASES, " => ", |edits| base_told(rt.alloc(), edits))?;
+    let told = base_counts(rt.alloc(), b"\xff")?;
+    same(&rt, told.as_str(), "1 0 0", "no text");
     Ok(())
 }
 
-// A base of so many tags and groups, in which each group has so many calculations.
-fn large_base(alloc: Global, tags: u64, groups: u64, calcs: u64) -> Result<String, AllocError> {
-    let mut text = String::new(alloc);
+// Appends so many tags to a base.
+fn push_tags(text: &mut String, tags: u64) -> Result<(), Fail> {
     for i in 0..tags {
         write!(text, "[[tag]]\nname = \"T{i}\"\nexc_dev = 0\nexc_max = 0\n")?;
         text.push_str("comp_dev = 0\ncomp_min = 0\ncomp_max = 0\n")?;
     }
+    Ok(())
+}
+
+// Appends so many calculations to a group.
+fn push_calcs(text: &mut String, calcs: u64) -> Result<(), Fail> {
+    for j in 0..calcs {
+        write!(text, "[[group.calc]]\nname = \"c{j}\"\nformula = \"1\"\n")?;
+    }
+    Ok(())
+}
+
+// A base of so many tags and groups, in which each group has so many calculations.
+fn large_base(alloc: Global, tags: u64, groups: u64, calcs: u64) -> Result<String, Fail> {
+    let mut text = String::new(alloc);
+    push_tags(&mut text, tags)?;
     for i in 0..groups {
         write!(
             text,
             "[[group]]\nname = \"g{i}\"\ntags = [\"T0\"]\nstart = 0\nperiod = 1\n"
         )?;
-        for j in 0..calcs {
-            write!(text, "[[group.calc]]\nname = \"c{j}\"\nformula = \"1\"\n")?;
-        }
+        push_calcs(&mut text, calcs)?;
     }
     Ok(text)
 }
 
+// The answer for a base of as many tables as a row gives.
+fn tables_told(rt: &impl Abort, alloc: Global, given: &str) -> Result<String, Fail> {
+    let (tags, rest) = given.split_once(' ').ok_or("tags")?;
+    let (groups, calcs) = rest.split_once(' ').ok_or("groups")?;
+    let (tags, groups, calcs) = (number(rt, tags), number(rt, groups), number(rt, calcs));
+    let text = large_base(alloc, tags, groups, calcs)?;
+    Ok(base_counts(alloc, text.as_bytes())?)
+}
+
 #[test]
 fn a_base_has_so_many_tables_at_most(rt: HostRuntime) -> Result<(), Fail> {
-    let alloc = rt.alloc();
-    for row in TABLES.lines() {
-        let (given, want) = row.split_once(" => ").ok_or("row")?;
-        let (tags, rest) = given.split_once(' ').ok_or("tags")?;
-        let (groups, calcs) = rest.split_once(' ').ok_or("groups")?;
-        let text = large_base(
-            alloc,
-            number(&rt, tags),
-            number(&rt, groups),
-            number(&rt, calcs),
-        )?;
-        assert_eq!(rt;
-            base_counts(alloc, text.as_bytes())?.as_str(),
-            want,
-            "{given}"
-        );
-    }
-    Ok(())
+    rows_tell(&rt, TABLES, " => ", |given| {
+        tables_told(&rt, rt.alloc(), given)
+    })
 }
 
 // The digit 1, so many times.
@@ -232,47 +236,52 @@ fn letters(alloc: Global, count: usize) -> Result<String, Fail> {
     Ok(String::from_utf8(vec![in alloc; b'1'; count]?).map_err(|_| "bytes")?)
 }
 
+// A text of the base, how many digits take its place, and the answer.
+const LENGTHS: &str = "\
+V2 | 64 => ok 3 2
+V2 | 65 => 4 1 0
+calc('m') + 1 | 1025 => 11 0 1024";
+
+// A text, and as many digits as stand behind the bar, as an edit that puts these in its place.
+fn edit_of(rt: &impl Abort, alloc: Global, given: &str) -> Result<String, Fail> {
+    let (old, count) = given.split_once(" | ").ok_or("count")?;
+    let digits = letters(alloc, number(rt, count) as usize)?;
+    Ok(format!(in alloc; "{old} -> {digits}")?)
+}
+
 #[test]
 fn names_and_formulas_have_so_many_bytes_at_most(rt: HostRuntime) -> Result<(), Fail> {
-    let alloc = rt.alloc();
-    for (old, count, want) in [
-        ("V2", 64, "ok 3 2"),
-        ("V2", 65, "4 1 0"),
-        ("calc('m') + 1", 1025, "11 0 1024"),
-    ] {
-        let edits = format!(in alloc; "{old} -> {}", letters(alloc, count)?)?;
-        let text = edited(alloc, BASE, edits.as_str())?;
-        assert_eq!(rt;
-            base_counts(alloc, text.as_bytes())?.as_str(),
-            want,
-            "{count}"
-        );
-    }
-    Ok(())
+    rows_tell(&rt, LENGTHS, " => ", |given| {
+        base_told(rt.alloc(), edit_of(&rt, rt.alloc(), given)?.as_str())
+    })
+}
+
+// The second tag of a base, as text.
+fn tag_told(alloc: Global, base: &Base) -> Result<String, Fail> {
+    let tag = base.tags.get(1).ok_or("tag")?;
+    let name = str::from_utf8(tag.name.bytes()).map_err(|_| "text")?;
+    let t = tag.tuning;
+    let tuning = [t.exc_dev, t.exc_max, t.comp_dev, t.comp_min, t.comp_max];
+    Ok(format!(in alloc; "{name} {tuning:?} {}", tag.step)?)
+}
+
+// The second group of a base, as text: its inputs, its start, its period, and how many calculations it has.
+fn group_told(alloc: Global, base: &Base) -> Result<String, Fail> {
+    let group = base.groups.get(1).ok_or("group")?;
+    let calcs = group.calcs.defs().len();
+    Ok(format!(in alloc;
+        "{:?} {} {} {calcs}",
+        group.inputs, group.start, group.period
+    )?)
 }
 
 #[test]
 fn a_base_holds_what_its_text_says(rt: HostRuntime) -> Result<(), Fail> {
-    let alloc = rt.alloc();
-    let base = read_base(alloc, BASE.as_bytes()).map_err(|_| "base")?;
-    let tuning = Tuning {
-        exc_dev: 21,
-        exc_max: 22,
-        comp_dev: 23,
-        comp_min: 24,
-        comp_max: 25,
-    };
-    let valve = base.tags.get(1).ok_or("tag")?;
-    assert_eq!(rt;
-        (valve.name.bytes(), valve.tuning, valve.step),
-        (b"V2".as_slice(), tuning, true)
-    );
-    let group = base.groups.get(1).ok_or("group")?;
-    assert_eq!(rt; group.inputs.as_slice(), [2, 0].as_slice());
-    assert_eq!(rt;
-        (group.start, group.period, group.calcs.defs().len()),
-        (51, 52, 1)
-    );
+    let base = read_base(rt.alloc(), BASE.as_bytes()).map_err(|_| "base")?;
+    let told = tag_told(rt.alloc(), &base)?;
+    same(&rt, told.as_str(), "V2 [21, 22, 23, 24, 25] true", "tag");
+    let told = group_told(rt.alloc(), &base)?;
+    same(&rt, told.as_str(), "[2, 0] 51 52 1", "group");
     Ok(())
 }
 
@@ -332,28 +341,27 @@ fn plan_counts(alloc: Global, text: &str) -> Result<String, AllocError> {
     }
 }
 
+// The answer for the plan after edits.
+fn plan_told(alloc: Global, edits: &str) -> Result<String, Fail> {
+    let text = edited(alloc, PLAN, edits)?;
+    Ok(plan_counts(alloc, text.as_str())?)
+}
+
 #[test]
 fn a_plan_is_refused_for_the_first_rule_that_it_breaks(rt: HostRuntime) -> Result<(), Fail> {
-    let alloc = rt.alloc();
-    for row in PLANS.lines() {
-        let (edits, want) = row.split_once(" => ").ok_or("row")?;
-        let text = edited(alloc, PLAN, edits)?;
-        assert_eq!(rt;
-            plan_counts(alloc, text.as_str())?.as_str(),
-            want,
-            "{edits}"
-        );
-    }
-    for (count, want) in [(255, "ok 2 2 2"), (256, "3 1 0")] {
-        let edits = format!(in alloc; "c2.csv -> {}", letters(alloc, count)?)?;
-        let text = edited(alloc, PLAN, edits.as_str())?;
-        assert_eq!(rt;
-            plan_counts(alloc, text.as_str())?.as_str(),
-            want,
-            "{count}"
-        );
-    }
-    Ok(())
+    rows_tell(&rt, PLANS, " => ", |edits| plan_told(rt.alloc(), edits))
+}
+
+// A text of the plan, how many digits take its place, and the answer.
+const FILE_LENGTHS: &str = "\
+c2.csv | 255 => ok 2 2 2
+c2.csv | 256 => 3 1 0";
+
+#[test]
+fn names_of_files_have_so_many_bytes_at_most(rt: HostRuntime) -> Result<(), Fail> {
+    rows_tell(&rt, FILE_LENGTHS, " => ", |given| {
+        plan_told(rt.alloc(), edit_of(&rt, rt.alloc(), given)?.as_str())
+    })
 }
 
 // How many collectors and readers there are.
@@ -363,42 +371,53 @@ const LISTS: &str = "\
 16 17 => Readers 17
 0 0 => ok 0 0 0";
 
-#[test]
-fn a_plan_has_so_many_files_at_most(rt: HostRuntime) -> Result<(), Fail> {
-    let alloc = rt.alloc();
-    for row in LISTS.lines() {
-        let (given, want) = row.split_once(" => ").ok_or("row")?;
-        let (collectors, readers) = given.split_once(' ').ok_or("collectors")?;
-        let mut text = String::new(alloc);
-        for _ in 0..number(&rt, collectors) {
-            text.push_str("[[collector]]\nfile = \"c\"\n")?;
-        }
-        for _ in 0..number(&rt, readers) {
-            text.push_str("[[reader]]\nfile = \"r\"\n")?;
-        }
-        assert_eq!(rt;
-            plan_counts(alloc, text.as_str())?.as_str(),
-            want,
-            "{given}"
-        );
+// Appends so many tables to a plan.
+fn push_tables(text: &mut String, count: u64, table: &str) -> Result<(), AllocError> {
+    for _ in 0..count {
+        text.push_str(table)?;
     }
     Ok(())
 }
 
-#[test]
-fn a_plan_holds_what_its_text_says(rt: HostRuntime) -> Result<(), Fail> {
-    let alloc = rt.alloc();
-    let base = read_base(alloc, BASE.as_bytes()).map_err(|_| "base")?;
-    let plan = read_plan(alloc, PLAN.as_bytes(), &base).map_err(|_| "plan")?;
-    let reader = plan.readers.get(1).ok_or("reader")?;
-    assert_eq!(rt; reader.text(), "r2.csv");
-    let refresher = plan.refreshers.first().ok_or("refresher")?;
-    assert_eq!(rt; (refresher.group, refresher.turns), (1, 4));
-    Ok(())
+// The answer for a plan of as many files as a row gives.
+fn files_told(rt: &impl Abort, alloc: Global, given: &str) -> Result<String, Fail> {
+    let (collectors, readers) = given.split_once(' ').ok_or("collectors")?;
+    let mut text = String::new(alloc);
+    let (first, second) = (
+        "[[collector]]\nfile = \"c\"\n",
+        "[[reader]]\nfile = \"r\"\n",
+    );
+    push_tables(&mut text, number(rt, collectors), first)?;
+    push_tables(&mut text, number(rt, readers), second)?;
+    Ok(plan_counts(alloc, text.as_str())?)
 }
 
 #[test]
-fn refusals_have_texts(rt: HostRuntime) -> Result<(), Fail> {
+fn a_plan_has_so_many_files_at_most(rt: HostRuntime) -> Result<(), Fail> {
+    rows_tell(&rt, LISTS, " => ", |given| {
+        files_told(&rt, rt.alloc(), given)
+    })
+}
+
+// The second reader and the first refresher of a plan, as text.
+fn second_told(alloc: Global, plan: &Plan) -> Result<String, Fail> {
+    let reader = plan.readers.get(1).ok_or("reader")?;
+    let refresher = plan.refreshers.first().ok_or("refresher")?;
+    let (group, turns) = (refresher.group, refresher.turns);
+    Ok(format!(in alloc; "{} {group} {turns}", reader.text())?)
+}
+
+#[test]
+fn a_plan_holds_what_its_text_says(rt: HostRuntime) -> Result<(), Fail> {
+    let base = read_base(rt.alloc(), BASE.as_bytes()).map_err(|_| "base")?;
+    let plan = read_plan(rt.alloc(), PLAN.as_bytes(), &base).map_err(|_| "plan")?;
+    let told = second_told(rt.alloc(), &plan)?;
+    same(&rt, told.as_str(), "r2.csv 1 4", "plan");
+    Ok(())
+}
+
+// The refusals, as texts.
+fn refusals(alloc: Global) -> Result<String, Fail> {
     let broken = TextNo::BadText {
         rule: 11,
         place: 1,
@@ -408,10 +427,12 @@ fn refusals_have_texts(rt: HostRuntime) -> Result<(), Fail> {
         what: What::Tags,
         number: 1025,
     };
-    let texts = format!(in rt.alloc(); "{broken}; {many}; {}", TextNo::WantOfMemory)?;
-    assert_eq!(rt;
-        texts.as_str(),
-        "rule 11 is broken at table 1, byte 8; too many of Tags: 1025; out of memory"
-    );
+    Ok(format!(in alloc; "{broken}; {many}; {}", TextNo::WantOfMemory)?)
+}
+
+#[test]
+fn refusals_have_texts(rt: HostRuntime) -> Result<(), Fail> {
+    let want = "rule 11 is broken at table 1, byte 8; too many of Tags: 1025; out of memory";
+    same(&rt, refusals(rt.alloc())?.as_str(), want, "refusals");
     Ok(())
 }

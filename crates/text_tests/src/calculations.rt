@@ -2,7 +2,7 @@
 ghost use Rattle.std.specs.Prelude.{◌≡◌, ◌<◌, ◌≤◌, length, IfOk};
 ghost use Rattle.trend_num.specs.Ranges.{last_time};
 
-use crate::spelled::number;
+use crate::spelled::{number, rows_tell};
 use calc_eval::{CalcDef, CalcValue, CheckNo, Checked, check, eval};
 use calc_parser::parse;
 use late_insert::{Content, Kind, Point, Rec};
@@ -143,19 +143,21 @@ fn value_in(
     }
 }
 
+// The value of a row's formula in its window.
+fn value_told(rt: &impl Abort, alloc: Global, given: &str) -> Result<String, Fail> {
+    let (from, rest) = given.split_once(' ').ok_or("from")?;
+    let (to, formula) = rest.split_once(' ').ok_or("to")?;
+    let (from, to) = (number(rt, from), number(rt, to));
+    assert!(rt; from < to && to <= MAX_T);
+    let value = value_in(rt, alloc, formula, from, to)?;
+    Ok(format!(in alloc; "{value:?}")?)
+}
+
 #[test]
 fn formulas_have_values(rt: HostRuntime) -> Result<(), Fail> {
-    for row in VALUES.lines() {
-        let (given, want) = row.split_once(" => ").ok_or("row")?;
-        let (from, rest) = given.split_once(' ').ok_or("from")?;
-        let (to, formula) = rest.split_once(' ').ok_or("to")?;
-        let (from, to) = (number(&rt, from), number(&rt, to));
-        assert!(rt; from < to && to <= MAX_T);
-        let value = value_in(&rt, rt.alloc(), formula, from, to)?;
-        let told = format!(in rt.alloc(); "{value:?}")?;
-        assert_eq!(rt; told.as_str(), want, "{given}");
-    }
-    Ok(())
+    rows_tell(&rt, VALUES, " => ", |given| {
+        value_told(&rt, rt.alloc(), given)
+    })
 }
 
 // The answer for calculations that are refused.
@@ -169,15 +171,14 @@ fn refusal(alloc: Global, no: CheckNo) -> Result<String, Fail> {
     Ok(format!(in alloc; "{word} {calc} {name}")?)
 }
 
+// Why the formulas of m and n in a row are refused.
+fn refused(rt: &impl Abort, alloc: Global, given: &str) -> Result<String, Fail> {
+    let (first, second) = given.split_once(" ; ").ok_or("second")?;
+    let no = group_of(rt, alloc, first, second)?.err().ok_or("checked")?;
+    refusal(alloc, no)
+}
+
 #[test]
 fn the_first_name_that_stands_for_nothing_is_told(rt: HostRuntime) -> Result<(), Fail> {
-    for row in NAMES.lines() {
-        let (given, want) = row.split_once(" => ").ok_or("row")?;
-        let (first, second) = given.split_once(" ; ").ok_or("second")?;
-        let no = group_of(&rt, rt.alloc(), first, second)?
-            .err()
-            .ok_or("checked")?;
-        assert_eq!(rt; refusal(rt.alloc(), no)?.as_str(), want, "{given}");
-    }
-    Ok(())
+    rows_tell(&rt, NAMES, " => ", |given| refused(&rt, rt.alloc(), given))
 }

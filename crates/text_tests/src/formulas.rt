@@ -1,5 +1,5 @@
 // Formulas that are read and printed, and the first token because of which a text is refused.
-use crate::spelled::number;
+use crate::spelled::{number, rows_tell};
 use calc_parser::{ParseNo, parse, print};
 use std::alloc::{AllocError, Global};
 use std::process::Abort;
@@ -189,22 +189,34 @@ fn told(alloc: Global, no: ParseNo) -> Result<String, Fail> {
     })
 }
 
+// The canonical text of a formula.
+fn printed(alloc: Global, given: &str) -> Result<String, Fail> {
+    let e = parse(alloc, given)?;
+    Ok(print(alloc, &e)?)
+}
+
 #[test]
 fn formulas_are_read_and_printed(rt: HostRuntime) -> Result<(), Fail> {
-    for row in PRINTED.lines() {
-        let (given, want) = row.split_once(" => ").ok_or("row")?;
-        let e = parse(rt.alloc(), given)?;
-        assert_eq!(rt; print(rt.alloc(), &e)?.as_str(), want, "{given}");
+    rows_tell(&rt, PRINTED, " => ", |given| printed(rt.alloc(), given))
+}
+
+// Why a text is no formula.
+fn refused(alloc: Global, given: &str) -> Result<String, Fail> {
+    match parse(alloc, given) {
+        Ok(_) => Err(Fail::new("a formula")),
+        Err(no) => told(alloc, no),
     }
-    Ok(())
 }
 
 #[test]
 fn the_first_token_that_decides_is_told(rt: HostRuntime) -> Result<(), Fail> {
-    for row in REFUSED.lines() {
-        let (given, want) = row.split_once(" => ").ok_or("row")?;
-        let no = parse(rt.alloc(), given).err().ok_or("a formula")?;
-        assert_eq!(rt; told(rt.alloc(), no)?.as_str(), want, "{given}");
+    rows_tell(&rt, REFUSED, " => ", |given| refused(rt.alloc(), given))
+}
+
+// Appends a text so many times.
+fn push_times(text: &mut String, times: u64, piece: &str) -> Result<(), AllocError> {
+    for _ in 0..times {
+        text.push_str(piece)?;
     }
     Ok(())
 }
@@ -216,26 +228,23 @@ fn nested(rt: &impl Abort, alloc: Global, given: &str) -> Result<String, AllocEr
     let (inner, close) = given.split_once('|').expect(rt, "inner");
     let times = number(rt, times);
     let mut text = String::new(alloc);
-    for _ in 0..times {
-        text.push_str(open)?;
-    }
+    push_times(&mut text, times, open)?;
     text.push_str(inner)?;
-    for _ in 0..times {
-        text.push_str(close)?;
-    }
+    push_times(&mut text, times, close)?;
     Ok(text)
+}
+
+// How long a formula is when it is printed, or why a text is no formula.
+fn length_told(alloc: Global, text: &str) -> Result<String, Fail> {
+    match parse(alloc, text) {
+        Ok(e) => Ok(format!(in alloc; "prints {}", print(alloc, &e)?.len())?),
+        Err(no) => told(alloc, no),
+    }
 }
 
 #[test]
 fn length_and_nesting_have_limits(rt: HostRuntime) -> Result<(), Fail> {
-    let alloc = rt.alloc();
-    for row in NESTED.lines() {
-        let (given, want) = row.split_once(" => ").ok_or("row")?;
-        let told = match parse(alloc, nested(&rt, alloc, given)?.as_str()) {
-            Ok(e) => format!(in alloc; "prints {}", print(alloc, &e)?.len())?,
-            Err(no) => told(alloc, no)?,
-        };
-        assert_eq!(rt; told.as_str(), want, "{given}");
-    }
-    Ok(())
+    rows_tell(&rt, NESTED, " => ", |given| {
+        length_told(rt.alloc(), nested(&rt, rt.alloc(), given)?.as_str())
+    })
 }

@@ -1,5 +1,5 @@
 // Lines of points, and printed archives.
-use crate::spelled::text;
+use crate::spelled::{rows_tell, same, text};
 use byte_io::MemSink;
 use point_text::{
     Front, Kind, Point, Reason, Rec, first_point, plain_point, point_of_line, short_line,
@@ -75,61 +75,64 @@ fn told(alloc: Global, answer: Result<Point, Reason>) -> Result<String, Fail> {
 // The answer for the first line of a text, after which `left` bytes remain.
 fn first_told(rt: &impl Abort, alloc: Global, text: &str, left: usize) -> Result<String, Fail> {
     let (answer, rest) = first_point(text.as_bytes()).expect(rt, "a line");
-    assert_eq!(rt; rest.len(), left);
+    assert!(rt; rest.len() == left);
     told(alloc, answer)
+}
+
+// The answer for a line, which is the same alone and with more lines behind it.
+fn line_told(rt: &impl Abort, alloc: Global, given: &str) -> Result<String, Fail> {
+    let line = text(alloc, given)?;
+    let short = format!(in alloc; "{line}\n")?;
+    let long = format!(in alloc; "{line}\n1700000000986,5005\n1700000001518,-4998\n")?;
+    let told = first_told(rt, alloc, short.as_str(), 0)?;
+    let again = first_told(rt, alloc, long.as_str(), 39)?;
+    same(rt, again.as_str(), told.as_str(), given);
+    Ok(told)
 }
 
 #[test]
 fn the_first_line_of_a_text_is_read(rt: HostRuntime) -> Result<(), Fail> {
-    let alloc = rt.alloc();
-    for row in LINES.lines() {
-        let (given, want) = row.split_once(" => ").ok_or("row")?;
-        let line = text(alloc, given)?;
-        let short = format!(in alloc; "{line}\n")?;
-        let long = format!(in alloc; "{line}\n1700000000986,5005\n1700000001518,-4998\n")?;
-        assert_eq!(rt;
-            first_told(&rt, alloc, short.as_str(), 0)?.as_str(),
-            want,
-            "{given}"
-        );
-        assert_eq!(rt;
-            first_told(&rt, alloc, long.as_str(), 39)?.as_str(),
-            want,
-            "{given}"
-        );
-    }
-    assert_eq!(rt; first_point(b"1,2"), None);
-    assert_eq!(rt; point_of_line(b"1,2").err(), None);
-    assert_eq!(rt; point_of_line(b"1,2\r"), Err(Reason::Number));
-    Ok(())
+    rows_tell(&rt, LINES, " => ", |given| {
+        line_told(&rt, rt.alloc(), given)
+    })
+}
+
+#[test]
+fn a_line_without_its_end_is_no_first_line(rt: HostRuntime) {
+    assert!(rt; first_point(b"1,2").is_none());
+    assert!(rt; point_of_line(b"1,2").is_ok());
+    assert!(rt; point_of_line(b"1,2\r") == Err(Reason::Number));
+}
+
+// The short line that stands for a long one, which has no point.
+fn short_told(rt: &impl Abort, alloc: Global, line: &str) -> Result<String, Fail> {
+    let line = line.as_bytes();
+    assert!(rt; line.len() > 44);
+    assert!(rt; first_point(line).is_none());
+    Ok(String::from_utf8(short_line(line).to_vec(alloc)?).map_err(|_| "text")?)
 }
 
 #[test]
 fn a_short_line_stands_for_a_long_one(rt: HostRuntime) -> Result<(), Fail> {
-    for row in LONG.lines() {
-        let (line, want) = row.split_once(" => ").ok_or("row")?;
-        let line = line.as_bytes();
-        assert!(rt; line.len() > 44);
-        match first_point(line) {
-            None => assert_eq!(rt; short_line(line), want.as_bytes()),
-            Some(_) => assert!(rt; false),
-        }
-    }
-    Ok(())
+    rows_tell(&rt, LONG, " => ", |line| {
+        short_told(&rt, rt.alloc(), line)
+    })
+}
+
+// The point of a line, in a text that goes on behind it.
+fn plain_told(alloc: Global, front: &mut Front, given: &str) -> Result<String, Fail> {
+    let line = text(alloc, given)?;
+    let long = format!(in alloc; "{line}--------------------------------")?;
+    let (point, _) = plain_point(long.as_bytes(), front).ok_or("a point")?;
+    told(alloc, Ok(point))
 }
 
 #[test]
 fn a_front_serves_the_lines_that_begin_alike(rt: HostRuntime) -> Result<(), Fail> {
-    let alloc = rt.alloc();
     let mut front = Front::new();
-    for row in FRONTS.lines() {
-        let (given, want) = row.split_once(" => ").ok_or("row")?;
-        let line = text(alloc, given)?;
-        let long = format!(in alloc; "{line}--------------------------------")?;
-        let (point, _) = plain_point(long.as_bytes(), &mut front).ok_or("a point")?;
-        assert_eq!(rt; told(alloc, Ok(point))?.as_str(), want, "{given}");
-    }
-    Ok(())
+    rows_tell(&rt, FRONTS, " => ", |given| {
+        plain_told(rt.alloc(), &mut front, given)
+    })
 }
 
 #[test]
@@ -149,9 +152,9 @@ fn an_archive_is_printed(rt: HostRuntime) -> Result<(), Fail> {
         v: i64::MIN,
     };
     let mut out = MemSink::new(rt.alloc(), Vec::new(rt.alloc()));
-    assert_eq!(rt; write_archive(&mut out, &recs, Some(widest)), Ok(()));
-    assert_eq!(rt; write_archive(&mut out, &[], None), Ok(()));
+    assert!(rt; write_archive(&mut out, &recs, Some(widest)).is_ok());
+    assert!(rt; write_archive(&mut out, &[], None).is_ok());
     let want = b"late,0,30\nkept,1,-2\nheld,18446744073709551615,-9223372036854775808\n";
-    assert_eq!(rt; out.bytes(), want.as_slice());
+    assert!(rt; out.bytes() == want.as_slice());
     Ok(())
 }

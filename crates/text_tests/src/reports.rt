@@ -1,5 +1,6 @@
 // Lines of a report, as an independent program prints them.
 
+use crate::spelled::same;
 use std::alloc::Global;
 use std::process::Abort;
 use std::test::Fail;
@@ -20,7 +21,7 @@ fn a_tag_is_told(rt: HostRuntime) -> Result<(), Fail> {
         held: Some(Point { t: 4000, v: -9 }),
     };
     let want = "tag FIC101.PV taken=18446744073709551615 records=3 kept=2 late=1 held=4000,-9\n";
-    assert_eq!(rt; tag_text(rt.alloc(), &line)?.as_str(), want);
+    same(&rt, tag_text(rt.alloc(), &line)?.as_str(), want, "a tag");
     let line = TagLine { held: None, ..line };
     assert!(rt;
         tag_text(rt.alloc(), &line)?
@@ -47,28 +48,34 @@ fn group_told(alloc: Global, windows: u32, value: Option<CalcValue>) -> Result<S
     Ok(group_text(alloc, &line)?)
 }
 
+// Checks the lines of the group `g` with so many windows and this last value.
+fn tells_group(
+    rt: &impl Abort,
+    alloc: Global,
+    windows: u32,
+    value: Option<CalcValue>,
+    want: &str,
+) -> Result<(), Fail> {
+    let told = group_told(alloc, windows, value)?;
+    same(rt, told.as_str(), want, "a group");
+    Ok(())
+}
+
 #[test]
 fn a_group_is_told(rt: HostRuntime) -> Result<(), Fail> {
-    let alloc = rt.alloc();
-    assert_eq!(rt;
-        group_told(alloc, 3, Some(CalcValue::Num(-20)))?.as_str(),
-        "group g windows=3 refreshes=1 evals=3\ncalc g m 2 -20\n"
-    );
-    assert_eq!(rt;
-        group_told(alloc, 1, Some(CalcValue::Bad(Bad::DivZero)))?.as_str(),
-        "group g windows=1 refreshes=1 evals=1\ncalc g m 0 bad divzero\n"
-    );
-    assert_eq!(rt;
-        group_told(alloc, 0, None)?.as_str(),
-        "group g windows=0 refreshes=1 evals=0\ncalc g m none\n"
-    );
-    Ok(())
+    let (some, bad) = (CalcValue::Num(-20), CalcValue::Bad(Bad::DivZero));
+    let want = "group g windows=3 refreshes=1 evals=3\ncalc g m 2 -20\n";
+    tells_group(&rt, rt.alloc(), 3, Some(some), want)?;
+    let want = "group g windows=1 refreshes=1 evals=1\ncalc g m 0 bad divzero\n";
+    tells_group(&rt, rt.alloc(), 1, Some(bad), want)?;
+    let want = "group g windows=0 refreshes=1 evals=0\ncalc g m none\n";
+    tells_group(&rt, rt.alloc(), 0, None, want)
 }
 
 // Checks that this is the line of a reply to the query in row 5 of reader 1.
 fn tells(rt: &impl Abort, alloc: Global, reply: ReplyText, want: &str) -> Result<(), Fail> {
     let text = reply_text(alloc, 1, 5, &reply)?;
-    assert_eq!(rt; text.as_str(), want);
+    same(rt, text.as_str(), want, "a reply");
     Ok(())
 }
 
@@ -188,16 +195,20 @@ const DRILLS: &str = "\
 2147483647 2 17 => 838,-20 1398,-9 2267,10 3095,18 3313,27 3913,21 4833,27 5156,32 5824,44 6527,58 7129,73 8075,76 8899,57 9478,51 10355,65 9576,81 10498,50
 ";
 
+// The points of the drill of a row, as a reply prints them.
+fn drill_told(alloc: Global, words: &str) -> Result<String, Fail> {
+    let (number, words) = words.split_once(' ').ok_or("number")?;
+    let (tag, events) = words.split_once(' ').ok_or("tag")?;
+    drilled(alloc, number.parse()?, tag.parse()?, events.parse()?)
+}
+
 #[test]
 fn drills_are_generated(rt: HostRuntime) -> Result<(), Fail> {
-    let alloc = rt.alloc();
     for row in DRILLS.lines() {
         let (words, points) = row.split_once(" => ").ok_or("row")?;
-        let (number, words) = words.split_once(' ').ok_or("number")?;
-        let (tag, events) = words.split_once(' ').ok_or("tag")?;
-        let told = drilled(alloc, number.parse()?, tag.parse()?, events.parse()?)?;
-        let want = format!(in alloc; "reply 1 5 {points} end\n")?;
-        assert_eq!(rt; told.as_str(), want.as_str());
+        let told = drill_told(rt.alloc(), words)?;
+        let want = format!(in rt.alloc(); "reply 1 5 {points} end\n")?;
+        same(&rt, told.as_str(), want.as_str(), words);
     }
     Ok(())
 }

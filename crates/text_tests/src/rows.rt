@@ -1,5 +1,5 @@
 // Rows of files, as an independent program reads them.
-use crate::spelled::{number, text};
+use crate::spelled::{number, rows_tell, text};
 use std::alloc::Global;
 use std::fmt::Write;
 use std::process::Abort;
@@ -27,6 +27,11 @@ const RAW: &str = "\
 3 T1,0,5,| => row 1 Fields
 3  | => row 1 Fields
 3 T1,0,5|||T1,5| => row 2 Fields
+3 T1,0,5|,,,,,,,|T1,0,6| => row 2 Fields
+3 T1,0,5|\"a.b\",1,6|\"T1,|\"\"\",,,,,\"7 => row 3 Fields
+3 #T1,0,5,,,\"|T1,0,6| => row 1 Fields
+3 \"T1,,,,,\",0,5|T1,0,6| => row 1 Name
+1 T1,0,5|,,,,,,,| => rows 2
 3 T2,0,5 => row 1 Name
 3 t1,0,5 => row 1 Name
 3  T1,0,5 => row 1 Name
@@ -91,6 +96,8 @@ x => row 1 Fields
 at,T1,0,0,0 => row 1 Fields
 x,T1,0,5,6 => row 1 Fields
 at,T1 => row 1 Fields
+at,T1,0|at,T1,0,,,,, => row 2 Fields
+snap,\"T1,,,,,\" => row 1 Name
 at,T1,0,0 => row 1 Fields
 points,T1,0 => row 1 Fields
 snap => row 1 Fields
@@ -154,14 +161,11 @@ fn raw_told(rt: &impl Abort, alloc: Global, text: &str, most: u64) -> Result<Str
 
 #[test]
 fn raw_rows_are_read(rt: HostRuntime) -> Result<(), Fail> {
-    let alloc = rt.alloc();
-    for row in RAW.lines() {
-        let (given, want) = row.split_once(" =>").ok_or("row")?;
+    rows_tell(&rt, RAW, " =>", |given| {
         let (most, field) = given.split_once(' ').ok_or("most")?;
-        let told = raw_told(&rt, alloc, text(alloc, field)?.as_str(), number(&rt, most))?;
-        assert_eq!(rt; told.as_str(), want, "{given}");
-    }
-    Ok(())
+        let text = text(rt.alloc(), field)?;
+        raw_told(&rt, rt.alloc(), text.as_str(), number(&rt, most))
+    })
 }
 
 // The answer for the queries of a text.
@@ -191,11 +195,7 @@ fn queries_told(rt: &impl Abort, alloc: Global, text: &str) -> Result<String, Fa
 
 #[test]
 fn queries_are_read(rt: HostRuntime) -> Result<(), Fail> {
-    let alloc = rt.alloc();
-    for row in QUERIES.lines() {
-        let (given, want) = row.split_once(" =>").ok_or("row")?;
-        let told = queries_told(&rt, alloc, text(alloc, given)?.as_str())?;
-        assert_eq!(rt; told.as_str(), want, "{given}");
-    }
-    Ok(())
+    rows_tell(&rt, QUERIES, " =>", |given| {
+        queries_told(&rt, rt.alloc(), text(rt.alloc(), given)?.as_str())
+    })
 }
