@@ -226,7 +226,7 @@ def init(plant):
             'future_ms = 60_000        # a value that is later than the clock by more is refused\n',
             'not_before = 2000-01-01T00:00:00Z  # an earlier one is refused: a clock that was reset, seconds for milliseconds\n',
             '# zone = "Europe/Berlin"  # for times without an offset\n# separator = ";"         # between the fields of a line\n'
-            '# decimal = ","           # in place of the point\n# rows_a_run = 1_000_000  # each takes the program 190 bytes of memory\n'
+            '# decimal = ","           # in place of the point\n# rows_a_run = 1_000_000  # each takes the program 155 bytes of memory\n'
             '# settle_seconds = 2      # how long a file has to be unchanged before it is taken\n',
             '\n# By what a value is multiplied to be stored: with scale = 100, 48.703 is stored as 4870. A tag without it takes whole'
             ' numbers alone.\n']

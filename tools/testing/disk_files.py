@@ -1,7 +1,7 @@
 """disk_files.py: tests of files that are damaged or of another kind; test_disk.py runs them.
 
 The program reads a folder that it may not write to. Within seconds it refuses a link, a file with two names, what is no file, a file of
-more than 1 GB, and a file whose first byte is damaged. These stay as they are."""
+more than 1 GB, and a file whose first byte is damaged. These stay as they are. It refuses a record of many fields in little memory."""
 import os
 import random
 import shutil
@@ -179,6 +179,27 @@ def large_files(folder, program, settings):
     return "%d refusals, at most %d MB of memory" % (count, most // 1000)
 
 
+def wide_records(folder, program, settings):
+    """A record of eight million fields is refused, with less than 40 MB of memory: commas alone, or behind a row, quotes and line ends."""
+    count, most = 0, 0
+    plant = Plant(os.path.join(folder, "plant"), program)
+    for name, first in (("c1.csv", b"T1,0,500\n"), ("asks.csv", b"snap,T1\n")):
+        good = plant.read(name)
+        for row, begin in ((1, b""), (2, first + b'"a\n,""b"'), (3, first + first + b'\r\n\n"",x')):
+            plant.write(name, begin)
+            with open(plant.path(name), "ab") as out:  # in pieces, because a child counts the memory of its parent
+                for _ in range(1000):
+                    out.write(b"," * 8000)
+            for verb in ("run", "log") if name == "c1.csv" else ("run", "trend"):
+                status, text = plant.call(*COMMANDS[verb])
+                assert status == 4 and text.endswith(" %d fields\n" % row), (verb, name, status, text)
+                most = max(most, memory_of(plant, COMMANDS[verb]))
+                count += 1
+        plant.write(name, good)
+    assert most < 40_000, "%d KB of memory" % most
+    return "%d refusals, at most %d MB of memory" % (count, most // 1000)
+
+
 def memory_of(plant, words):
     """Runs a command: its peak memory in KB."""
     child = plant.start(*words)
@@ -274,5 +295,5 @@ def read_only_mount(folder, program, settings):
     return "8 commands"
 
 
-CASES = [unknown_word, damaged_first_bytes, closed_first_bytes, zeroed_first_sectors, links_and_names, large_files, strangers, read_only_files,
-         read_only_mount]
+CASES = [unknown_word, damaged_first_bytes, closed_first_bytes, zeroed_first_sectors, links_and_names, large_files, wide_records, strangers,
+         read_only_files, read_only_mount]
