@@ -47,6 +47,12 @@ read_by pool pages k id f paged within same there =
     is_read pool pages k (get_or pages k no_page) f paged within
     (get_or_default pages k no_page (get_or pages k no_page) within) (ap (frame_at pool) same ∙ there)
 
+-- the last page is read, where they were counted
+pub read_last : (pool : List (Option Frame)) (pages : List Page) (n : ℕ) (f : Frame) → n ≡ length pages
+    → IsPageRead pool pages (n - 1) (get_or pages (n - 1) no_page) f
+    → IsPageRead pool pages (length pages - 1) (get_or pages (length pages - 1) no_page) f
+read_last pool pages n f counted is = subst (λ m. IsPageRead pool pages (m - 1) (get_or pages (m - 1) no_page) f) counted is
+
 -- its frame is there
 pub held_by : (pool : List (Option Frame)) (pages : List Page) (k id : ℕ) → ArePages pool pages
     → k < length pages → (get_or pages k no_page).id ≡ id → IsHeld pool id

@@ -1,14 +1,14 @@
 -- What the code makes of a list of pages.
-use Rattle.std.proofs.Common.{◌≡◌, true, ℕ, ℤ, zero, suc, ◌+◌, ◌^◌, ◌<◌, ◌≤◌, List, [], ◌∷◌, ◌++◌, length}
+use Rattle.std.proofs.Common.{◌≡◌, true, ℕ, ℤ, zero, suc, ◌+◌, ◌-◌, ◌^◌, ◌<◌, ◌≤◌, List, [], ◌∷◌, ◌++◌, length}
 use Rattle.std.proofs.Common.{map, get_or, set, take, drop, Option, Some, All, sym, ap, ap₂, ◌∙◌}
-use Rattle.std.proofs.Common.{subst, arith, append_assoc, length-append, add-one, inl, inr}
+use Rattle.std.proofs.Common.{subst, arith, append_assoc, append-nil, length-append, add-one, inl, inr}
 use Rattle.std.proofs.lemmas.List.{take_more_set, drop-set-lt, get_or_default}
-use Rattle.std.proofs.lemmas.List.{length-set, length-take-le, get_or_at, get_or-set_same}
+use Rattle.std.proofs.lemmas.List.{length-set, length-take-le, get_or_at, get_or-set_same, drop_all, take_all}
 use Rattle.std.proofs.lemmas.List.{get_or-set_other}
 use Rattle.std.proofs.lemmas.List.Edits.{get_or-insert_at, get_or-insert_below, get_or-insert_above}
 use Rattle.std.proofs.lemmas.List.Edits.{length-insert}
 use Rattle.std.proofs.lemmas.Bool.{cases_eq, cases_lt}
-use Rattle.late_insert.proofs.Finding.{found_for}
+use Rattle.late_insert.proofs.Finding.{found_for, no_page}
 use Rattle.std.specs.Prelude.{insert}
 use Rattle.std.proofs.lemmas.List.Elements.{All-nil, All-cons, All-set}
 use Rattle.trend_num.specs.declared.archive.Rec.{Rec}
@@ -22,13 +22,32 @@ use Rattle.late_insert.specs.Moves.{IsLastUpto, moved}
 use Rattle.late_insert.specs.Pages.{frame_records_in, records_at, page_in, page_records_of, IsPage, ArePagesFrom, IsPageRead}
 use Rattle.late_insert.specs.Pages.{ArePages, IsFor, IsHalfFor, IsSplit, lengths_of}
 use Rattle.late_insert.specs.PageLengths.{IsGrown, place_in}
-use Rattle.trend_model.proofs.Placing.{time, placed_middle}
+use Rattle.trend_model.proofs.Placing.{time, placed_middle, AllBefore}
 use Rattle.late_insert.proofs.Summing.{length-records_in}
-use Rattle.late_insert.proofs.Joining.{pages_around, records-around, lengths-around}
+use Rattle.late_insert.proofs.Joining.{all_left, pages_around, records-around, lengths-around}
 use Rattle.late_insert.proofs.Replacing.{pages_put, records-put, lengths-put, pages_in_halves, records-split}
 use Rattle.late_insert.proofs.Replacing.{lengths-split, low_len, high_len}
 use Rattle.late_insert.proofs.Growing.{place_from, place_upto}
 use Rattle.late_insert.proofs.Reading.{end_within}
+
+-- the last of n pages is the one for a time after all records
+pub last_for : (pool : List (Option Frame)) (pages : List Page) (n t : ℕ) → ArePages pool pages → n ≡ length pages
+    → AllBefore (page_records_of pool pages) t → IsFor pool pages (n - 1) t
+last_for pool pages n t paged counted before =
+    let within : n - 1 < length pages = omega (arith, paged.some) in
+    let front = page_records_of pool (take (n - 1) pages) in
+    let rest = page_in pool (get_or pages (n - 1) no_page) ++ page_records_of pool (drop (n - 1 + 1) pages) in
+    record {
+      within = within;
+      before = all_left (λ r. time r < t) front rest
+          (subst (λ l. AllBefore l t) (records-around pool pages (n - 1) no_page within) before);
+      after = rw (drop_all (n - 1 + 1) pages (omega arith)) (All-nil (λ r. t < time r));
+    }
+
+-- no page is after it
+pub none_moved : (by : ℕ) (S : List Page) (k : ℕ) → length S ≤ k + 1 → S ≡ take (k + 1) S ++ map (moved by) (drop (k + 1) S)
+none_moved by S k last =
+    rw (take_all (k + 1) S last, drop_all (k + 1) S last) (sym (append-nil S))
 
 -- the pages after a record was put into the page at k: its start and stair are written, and the others are
 -- moved on

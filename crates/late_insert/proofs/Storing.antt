@@ -1,17 +1,19 @@
 -- A frame with one record more, and one with a record changed.
-use Rattle.std.proofs.Common.{◌≡◌, ◌≢◌, ℕ, zero, suc, ◌+◌, ◌-◌, ◌^◌, ◌<◌, ◌≤◌, ◌⊎◌, inl, inr, ℤ, List, ◌∷◌}
+use Rattle.std.proofs.Common.{◌≡◌, ◌≢◌, ℕ, zero, suc, ◌+◌, ◌-◌, ◌^◌, ◌<◌, ◌≤◌, ◌⊎◌, inl, inr, ℤ, List, [], ◌∷◌, ◌++◌}
 use Rattle.std.proofs.Common.{length, get_or, set, take, drop, All, refl, sym, ap, ◌∙◌, subst, arith, add-one}
 use Rattle.std.specs.Prelude.{insert, pos, bit_and, min, ◌/◌, ◌%◌}
 use Rattle.std.proofs.lemmas.Nat.{and_mask, mod_below, div-add-mod', shr_below}
-use Rattle.std.proofs.lemmas.Nat.Bits.{bit_at_and, bit_at_ones, bit_at-lt, bit_at_cat_high}
+use Rattle.std.proofs.lemmas.Nat.Bits.{bit_at_above, bit_at_and, bit_at_ones, bit_at-lt, bit_at_cat_high}
+use Rattle.std.proofs.Math.Pow.{pow_mono}
 use Rattle.std.specs.Int.{bit_at}
 use Rattle.std.proofs.lemmas.List.{same_lists, get_or-set_same, get_or-set_other, length-set, get_or-take}
 use Rattle.std.proofs.lemmas.List.{get_or-drop, length-take-le, length-drop}
 use Rattle.std.proofs.lemmas.List.Edits.{length-insert, get_or-insert_below, get_or-insert_at}
-use Rattle.std.proofs.lemmas.List.Edits.{get_or-insert_above}
+use Rattle.std.proofs.lemmas.List.Edits.{get_or-insert_above, insert_end}
 use Rattle.std.proofs.lemmas.List.Elements.{All-append, All-cons, All-take, All-drop, All-set}
 use Rattle.std.proofs.lemmas.Bool.{cases_order, cases_eq}
 use Rattle.trend_num.specs.declared.archive.Kind.{Kind}
+use Rattle.trend_num.specs.declared.archive.Kind.TheVariants.{Kept}
 use Rattle.trend_num.specs.declared.archive.Rec.{Rec}
 use Rattle.trend_num.specs.Ranges.{InRange}
 use Rattle.page_pool.specs.declared.frame.Frame.{Frame}
@@ -85,6 +87,58 @@ range-inserted f g i r is recorded range =
     subst (All Each) (sym is)
     (All-append Each (take i l) (r ∷ drop i l) (All-take Each i l recorded.range)
     (All-cons Each r (drop i l) range (All-drop Each i l recorded.range)))
+
+-- g has the records of f, and r after them
+pub record IsAppended (f g : Frame) (r : Rec) : Type 0 where
+  pub recorded : IsRecorded g
+  pub records : frame_records_in g ≡ frame_records_in f ++ r ∷ []
+
+-- a record is written behind the others
+module _ (f : Frame) (r : Rec) (v : ℤ) (late : ℕ) (recorded : IsRecorded f) (room : f.len < 128)
+    (range : InRange r.point) (value : v ≡ r.point.v) (marks : late < 2 ^ (f.len + 1))
+    (there : kind_of (bit_at late f.len) ≡ r.kind)
+    (others : (k : ℕ) → k ≢ f.len → bit_at late k ≡ bit_at f.late k) where
+  -- the frame then
+  abbrev behind : Frame
+  behind = one_more f (set f.times f.len r.point.t) (set f.values f.len v) late
+
+  inserted : IsInserted f behind f.len r
+  inserted = record {
+    len = refl;
+    within = omega arith;
+    before = λ k less. same_rec _ _ _ _ _ _ (ap kind_of (others k (omega arith)))
+        (get_or-set_other f.times f.len k r.point.t 0 (omega arith))
+        (get_or-set_other f.values f.len k v (pos 0) (omega arith));
+    there = same_rec _ _ _ _ _ _ there (get_or-set_same f.times f.len r.point.t 0 (omega (arith, recorded.times)))
+        (get_or-set_same f.values f.len v (pos 0) (omega (arith, recorded.values)) ∙ value);
+    after = λ k from inside. absurd (omega arith);
+  }
+
+  put_in : frame_records_in behind ≡ insert (frame_records_in f) f.len r
+  put_in = records-inserted f behind f.len r inserted
+
+  pub appended : IsAppended f behind r
+  appended = record {
+    recorded = record {
+      few = omega arith;
+      times = length-set f.times f.len r.point.t ∙ recorded.times;
+      values = length-set f.values f.len v ∙ recorded.values;
+      marks = marks;
+      range = range-inserted f behind f.len r put_in recorded range;
+    };
+    records = put_in ∙ (ap (λ n. insert (frame_records_in f) n r) (sym (length-records_in f))
+        ∙ insert_end (frame_records_in f) r);
+  }
+
+-- a Kept one has no mark
+pub appended_kept : (f : Frame) (r : Rec) (v : ℤ) → IsRecorded f → f.len < 128 → InRange r.point → v ≡ r.point.v
+    → Kept ≡ r.kind
+    → IsAppended f (one_more f (set f.times f.len r.point.t) (set f.values f.len v) f.late) r
+appended_kept f r v recorded room range value kept =
+    let none : bit_at f.late f.len ≡ 0 = bit_at_above f.late f.len f.len recorded.marks (omega arith) in
+    let more : 2 ^ f.len ≤ 2 ^ (f.len + 1) = pow_mono {i = f.len} {j = f.len + 1} (omega arith) in
+    appended f r v f.late recorded room range value (omega (arith, recorded.marks)) (ap kind_of none ∙ kept)
+    (λ k other. refl)
 
 -- f with a value and a mark changed
 abbrev pub rewritten : Frame → ℕ → ℤ → ℕ → Frame

@@ -2,12 +2,11 @@
 use Rattle.std.proofs.Common.{◌≡◌, Bool, false, ℕ, ◌+◌, ◌-◌, ◌<◌, ◌≤◌, ℤ, ◌+ℤ◌, List, [], ◌∷◌, ◌++◌, length}
 use Rattle.std.proofs.Common.{get_or, take, drop}
 use Rattle.std.proofs.Common.{All, refl, sym, ap, ap₂, ◌∙◌, subst, arith}
-use Rattle.std.specs.Prelude.{FitsSigned, insert}
+use Rattle.std.specs.Prelude.{FitsSigned}
 use Rattle.std.specs.Int.{int_min, int_max, w128, w64}
 use Rattle.std.proofs.lemmas.Int.{fits_signed_from_abs}
 use Rattle.std.proofs.lemmas.List.{take_all, drop_more, get_or-drop, length-take, length-drop, length-map}
 use Rattle.std.proofs.lemmas.List.{get_or-map, map_push}
-use Rattle.std.proofs.lemmas.List.Edits.{insert_end}
 use Rattle.std.proofs.lemmas.List.FromFn.{length-map-range_with_len, get_or-map-range_with_len}
 use Rattle.std.proofs.lemmas.List.Elements.{All-take, All-drop, All-map}
 use Rattle.trend_num.specs.declared.point.Point.{Point}
@@ -176,7 +175,7 @@ pub record IsPushed (f g : Frame) (r : Rec) (last : Point) : Type 0 where
   pub page : IsPage f
   pub some : 0 < f.len
   pub recorded : IsRecorded g
-  pub records : frame_records_in g ≡ insert (frame_records_in f) f.len r
+  pub records : frame_records_in g ≡ frame_records_in f ++ r ∷ []
   pub end : last ≡ (rec_in f (f.len - 1)).point
   pub area : g.area ≡ f.area
   pub low : g.low ≡ f.low
@@ -184,7 +183,7 @@ pub record IsPushed (f g : Frame) (r : Rec) (last : Point) : Type 0 where
 
 -- it is what a store at the end says
 pub is_pushed : (f g : Frame) (r : Rec) (last : Point) → IsPage f → 0 < f.len → last ≡ (rec_in f (f.len - 1)).point
-    → IsRecorded g → frame_records_in g ≡ insert (frame_records_in f) f.len r → g.area ≡ f.area → g.low ≡ f.low → g.high ≡ f.high
+    → IsRecorded g → frame_records_in g ≡ frame_records_in f ++ r ∷ [] → g.area ≡ f.area → g.low ≡ f.low → g.high ≡ f.high
     → IsPushed f g r last
 is_pushed f g r last page some end recorded records area low high = record {
   page = page;
@@ -200,11 +199,7 @@ is_pushed f g r last page some end recorded records area low high = record {
 module _ (f g : Frame) (r : Rec) (last : Point) (push : IsPushed f g r last) where
   -- its points
   points_pushed : points_in g ≡ points_in f ++ r.point ∷ []
-  points_pushed =
-      let recs = length-records_in f in
-      ap points_of (push.records ∙ (ap (λ n. insert (frame_records_in f) n r) (sym recs)
-      ∙ insert_end (frame_records_in f) r))
-      ∙ map_push (λ (x : Rec). x.point) (frame_records_in f) r
+  points_pushed = ap points_of push.records ∙ map_push (λ (x : Rec). x.point) (frame_records_in f) r
 
   -- an area with one piece more
   pub area_pushed : (step : Bool) (a line : ℤ) → a ≡ area step (points_in f) → line ≡ piece step last r.point

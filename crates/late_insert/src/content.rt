@@ -15,7 +15,9 @@ ghost use Rattle.late_insert.specs.PageLengths.{AreBefore, AreFull, ArePagesFill
 use crate::directory::Directory;
 use crate::gap::{Around, around_in, frame_of, gap_in, rec_in};
 use crate::page::{HALF, run_len};
-use crate::shelf::{first_page, is_full_before, make_room, open_page, put_at};
+use crate::shelf::{
+    first_page, is_full_before, is_open_before, make_room, open_page, put_at, put_behind,
+};
 use crate::walk::{Runs, runs_in};
 use page_pool::Pool;
 use std::alloc::Global;
@@ -127,9 +129,36 @@ impl Content {
         self.put_front(&[rec]);
     }
 
+    // Puts the first of these records in, and returns how many. Most records come after all others, so the last page is
+    // tried before any search.
+    fn put_front(&mut self, recs: &[Rec]) -> usize
+        requires some { 0 < length recs.now }
+        requires spare { length recs.now ≤ self.old.spare }
+        requires range { All (λ r. InRange r.point) recs.now }
+        ensures some { 0 < result }
+        ensures within { result ≤ length recs.now }
+        ensures records { self.new.records ≡ fold (λ l r. placed r l) self.old.records (take result recs.now) }
+        ensures spare { self.old.spare ≤ self.new.spare + result }
+        ensures room { length self.new.records + self.new.spare ≡ length self.old.records + self.old.spare }
+        ensures behind { (d : Rec) → AreBefore self.old.records (slice_index_or recs.now 0 d).point.t
+            → ArePagesFilled self.old.pages result self.new.pages }
+        ensures among { (d : Rec) → (AreBefore self.old.records (slice_index_or recs.now 0 d).point.t → ⊥)
+            → IsPutAmong self.old.pages (place_in self.old.records (slice_index_or recs.now 0 d).point.t)
+            (length self.new.records - length self.old.records) self.new.pages }
+    {
+        let rec = recs[0];
+        if is_open_before(&self.pool, &self.pages, rec.point.t) {
+            put_behind(&mut self.pool, &mut self.pages, rec);
+            self.len += 1;
+            return 1;
+        }
+        self.put_elsewhere(recs)
+    }
+
     // Puts the first of these records in, and returns how many. It puts in a run of them, on a page of its own, if they
     // come after all others and the last page is full. Otherwise it puts in one.
-    fn put_front(&mut self, recs: &[Rec]) -> usize
+    #[inline(never)]
+    fn put_elsewhere(&mut self, recs: &[Rec]) -> usize
         requires some { 0 < length recs.now }
         requires spare { length recs.now ≤ self.old.spare }
         requires range { All (λ r. InRange r.point) recs.now }

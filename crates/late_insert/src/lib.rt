@@ -10,12 +10,12 @@
 //! goes on the last page, or on a fresh page if the last one is full. So records in order fill page after page. Any
 //! other record goes on the page of its place. If that page is full, it is first split into two halves.
 //!
-//! No contract says how a content is kept. Each page is a frame of a pool. So a put moves the records of one page, and
-//! the places of the pages after it: four bytes a page. A split also moves their numbers: four more bytes a page. A run
-//! of records after all others is written into a fresh page at once. Each page keeps totals of its points: the areas
-//! under their line and under their stair, the least value and the greatest. A run that is a whole page answers with
-//! these totals. The list of pages keeps the place and the time of each page's first record, so a look-up is a search
-//! in it.
+//! No contract says how a content is kept. Each page is a frame of a pool. A put tries the last page first: a record
+//! after all others moves nothing there. Any other put moves the records of one page, and the places of the pages after
+//! it: four bytes a page. A split also moves their numbers: four more bytes a page. A run of records after all others is
+//! written into a fresh page at once. Each page keeps totals of its points: the areas under their line and under their
+//! stair, the least value and the greatest. A run that is a whole page answers with these totals. The list of pages
+//! keeps the place and the time of each page's first record, so a look-up is a search in it.
 #![tactic(auto)]
 
 mod array;

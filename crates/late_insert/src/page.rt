@@ -66,7 +66,7 @@ pub(crate) fn rec_at(frame: &Frame, i: usize) -> Rec
 
 // Puts a record after the others of a page, and adds it to the totals. Takes and returns twice the area under the
 // page's stair.
-fn append(frame: &mut Frame, stair: i128, rec: Rec) -> i128
+pub(crate) fn append(frame: &mut Frame, stair: i128, rec: Rec) -> i128
     requires page { IsPage frame.old }
     requires some { 0 < frame.old.len }
     requires room { frame.old.len < full_page }
@@ -76,13 +76,34 @@ fn append(frame: &mut Frame, stair: i128, rec: Rec) -> i128
     ensures records { frame_records_in frame.new ≡ frame_records_in frame.old ++ rec ∷ [] }
     ensures stair { result ≡ area true (points_of (frame_records_in frame.new)) }
 {
-    let n = frame.len as usize;
-    let last = point_at(frame, n - 1);
-    store(frame, n, rec);
+    let last = point_at(frame, frame.len as usize - 1);
+    store_behind(frame, rec);
     frame.area += piece(false, last, rec.point);
     frame.low = frame.low.min(rec.point.v);
     frame.high = frame.high.max(rec.point.v);
     stair + piece(true, last, rec.point)
+}
+
+// Stores a record after the others of a page. The totals stay as they were.
+fn store_behind(frame: &mut Frame, rec: Rec)
+    requires recorded { IsRecorded frame.old }
+    requires room { frame.old.len < full_page }
+    requires range { InRange rec.point }
+    ensures recorded { IsRecorded frame.new }
+    ensures records { frame_records_in frame.new ≡ frame_records_in frame.old ++ rec ∷ [] }
+    ensures area { frame.new.area ≡ frame.old.area }
+    ensures low { frame.new.low ≡ frame.old.low }
+    ensures high { frame.new.high ≡ frame.old.high }
+{
+    let n = frame.len as usize;
+    frame.times[n] = rec.point.t;
+    frame.values[n] = rec.point.v;
+    // Most records are Kept, and need no mark.
+    match rec.kind {
+        Kind::Kept => {}
+        Kind::Late => frame.late = mark_put(frame.late, n + 1, n, Kind::Late),
+    }
+    frame.len += 1;
 }
 
 // Stores a record at the place i of a page. The totals stay as they were.
@@ -171,7 +192,7 @@ pub(crate) fn push(frame: &mut Frame, stair: i128, rec: Rec) -> i128
     if frame.len > 0 {
         return append(frame, stair, rec);
     }
-    store(frame, 0, rec);
+    store_behind(frame, rec);
     refresh(frame)
 }
 

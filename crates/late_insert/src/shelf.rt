@@ -11,7 +11,7 @@ ghost use Rattle.late_insert.specs.PageLengths.{AreBefore, IsGrown, IsHalved, pl
 
 use crate::directory::{Directory, Page};
 use crate::gap::frame_of;
-use crate::page::{HALF, cut, put_rec, store_run};
+use crate::page::{HALF, append, cut, put_rec, store_run};
 use crate::total::refresh;
 use page_pool::{PAGE, Pool};
 use trend_num::Rec;
@@ -48,6 +48,20 @@ pub(crate) fn is_full_before(pool: &Pool, pages: &Directory, t: u64) -> bool
 {
     let frame = frame_of(pool, pages, pages.len() - 1);
     frame.len as usize == PAGE && frame.times[PAGE - 1] < t
+}
+
+// Whether the last page has a record and room for one more, and all records are before the time t.
+pub(crate) fn is_open_before(pool: &Pool, pages: &Directory, t: u64) -> bool
+    requires pages { ArePages pool.now pages.now.items }
+    ensures before { IsTrue result → AreBefore (page_records_of pool.now pages.now.items) t }
+    ensures some { IsTrue result → (d : Page)
+        → 0 < length (page_in pool.now (slice_index_or pages.now.items (length pages.now.items - 1) d)) }
+    ensures room { IsTrue result → (d : Page)
+        → length (page_in pool.now (slice_index_or pages.now.items (length pages.now.items - 1) d)) < full_page }
+{
+    let frame = frame_of(pool, pages, pages.len() - 1);
+    let n = frame.len as usize;
+    0 < n && n < PAGE && frame.times[n - 1] < t
 }
 
 // Puts a run of records after all others, on a page of its own. So records in order fill whole pages.
@@ -145,6 +159,31 @@ fn split(pool: &mut Pool, pages: &mut Directory, k: usize)
         stair: halves.upper_stair,
     };
     pages.insert(k + 1, page);
+}
+
+// Puts a record after all others on the last page, which has a record and room for one more.
+pub(crate) fn put_behind(pool: &mut Pool, pages: &mut Directory, rec: Rec)
+    requires pages { ArePages pool.old pages.old.items }
+    requires before { AreBefore (page_records_of pool.old pages.old.items) rec.point.t }
+    requires some { (d : Page)
+        → 0 < length (page_in pool.old (slice_index_or pages.old.items (length pages.old.items - 1) d)) }
+    requires room { (d : Page)
+        → length (page_in pool.old (slice_index_or pages.old.items (length pages.old.items - 1) d)) < full_page }
+    requires range { InRange rec.point }
+    ensures pages { ArePages pool.new pages.new.items }
+    ensures records { page_records_of pool.new pages.new.items ≡ placed rec (page_records_of pool.old pages.old.items) }
+    ensures grown { length (page_records_of pool.new pages.new.items) ≡ length (page_records_of pool.old pages.old.items) + 1 }
+    ensures lengths { IsGrown (lengths_of pool.old pages.old.items)
+        (place_in (page_records_of pool.old pages.old.items) rec.point.t) 1 (lengths_of pool.new pages.new.items) }
+    ensures pages_len { length pages.new.items ≡ length pages.old.items }
+    ensures frames { spare_of pool.new ≡ spare_of pool.old }
+    ensures capacity { pages.new.places ≡ pages.old.places }
+{
+    let last = pages.len() - 1;
+    let frame = pool.frame_mut(pages.id(last));
+    let stair = append(frame, pages.stair(last), rec);
+    let start = frame.times[0];
+    pages.write(last, start, stair);
 }
 
 // Puts a record into page k, which is the page for its time. Returns how many records were added: 0 or 1.

@@ -1,8 +1,8 @@
-use Rattle.std.proofs.Common.{◌-◌, length, get_or, subst, arith}
+use Rattle.std.proofs.Common.{◌-◌, length, get_or, arith}
 use Rattle.std.proofs.lemmas.Bool.{ltb-true, ltb-false}
 use Rattle.late_insert.specs.Pages.{IsPageRead}
 use Rattle.late_insert.proofs.Finding.{no_page}
-use Rattle.late_insert.proofs.Reading.{before_on, frame_page, last_before, page_len}
+use Rattle.late_insert.proofs.Reading.{before_on, frame_page, last_before, page_len, read_last}
 use Rattle.late_insert.proofs.shelf.is_full_before.Goals as goal
 use Rattle.late_insert.proofs.shelf.is_full_before.Goals.{After-frame_of-frame}
 
@@ -10,8 +10,7 @@ use Rattle.late_insert.proofs.shelf.is_full_before.Goals.{After-frame_of-frame}
 read : (c : After-frame_of-frame)
     → IsPageRead c.args.pool.now c.args.pages.now.items (length c.args.pages.now.items - 1)
     (get_or c.args.pages.now.items (length c.args.pages.now.items - 1) no_page) c.frame_of-frame.result.now
-read c = subst (λ n. IsPageRead c.args.pool.now c.args.pages.now.items (n - 1) (get_or c.args.pages.now.items (n - 1) no_page)
-    c.frame_of-frame.result.now) c.len.ensures (c.frame_of-frame.ensures.read no_page)
+read c = read_last _ _ _ _ c.len.ensures (c.frame_of-frame.ensures.read no_page)
 
 pub returns-then-frame-eq-PAGE-clause-before : goal.returns-then-frame-eq-PAGE-clause-before
 returns-then-frame-eq-PAGE-clause-before c = λ early.
