@@ -196,7 +196,7 @@ fn counts(rt: &impl Abort, dev: &impl Disk, clock: u64, faults: u64) {
     assert!(rt; dev.faults() == faults);
 }
 
-// Makes a device of two bytes, and gives it back. Until then the store does not hand it out again.
+// Makes a device of two bytes, and gives it back. The store does not hand it out again, before that or after it.
 fn make<S: Store>(rt: &impl Abort, store: &mut S) -> Result<(), Fail>
 where
     S::Dev: Drop,
@@ -205,8 +205,10 @@ where
     assert!(rt; made.write_at(0, b"\xa5bc").is_ok());
     assert!(rt; made.cut(2).is_ok());
     assert!(rt; made.sync().is_ok());
+    counts(rt, &made, 3, 0);
     assert!(rt; store.device("a.tag").is_err());
     store.give_back("a.tag", made);
+    assert!(rt; store.device("a.tag").is_err());
     Ok(())
 }
 
@@ -217,7 +219,7 @@ where
 {
     let mut again = handed(store, "a.tag")?;
     holds(rt, alloc, &mut again, b"\xa5b")?;
-    counts(rt, &again, 3, 0);
+    counts(rt, &again, 0, 0);
     let len = again.len().map_err(|_| "length")?;
     assert!(rt; again.write_at(len, b"-").is_ok());
     store.give_back("a.tag", again);
@@ -241,6 +243,8 @@ fn files_of_a_folder_are_devices(rt: HostRuntime) -> Result<(), Fail> {
     end(&rt)?;
     let mut store = DirStore::read(&rt, Wanted::Archives);
     make(&rt, &mut store)?;
+    drop(store);
+    let mut store = DirStore::read(&rt, Wanted::Archives);
     add(&rt, rt.alloc(), &mut store)?;
     drop(store);
     let mut store = DirStore::read(&rt, Wanted::Archives);

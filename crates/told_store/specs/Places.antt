@@ -1,5 +1,5 @@
 -- The traces that a store of files has at each name.
-use Rattle.std.specs.Prelude.{ℕ, Bool, false, List, Option, None, Some, String, is_some}
+use Rattle.std.specs.Prelude.{ℕ, Bool, false, List, Option, None, Some, String, is_none, is_some}
 use Rattle.std.specs.BTreeMap.{BTreeMap, get_by_text}
 use Rattle.std.specs.declared.alloc.Global.{Global}
 use Rattle.disk_model.specs.Traces.{Trace}
@@ -24,10 +24,10 @@ told_in places name = told_of (get_by_text places name)
 abbrev pub is_placed : Places → List ℕ → Bool
 is_placed places name = is_some (get_by_text places name)
 
--- a device is not handed out: it is out, it has failed, or its file is refused
+-- a device is not handed out: it is out, it was given back, or its file is refused
 abbrev pub stops : Option Kept → Bool
 stops None = false
-stops (Some kept) = kept.is_stopped
+stops (Some kept) = is_none kept.bytes
 
 -- the same of the device of a name
 abbrev pub is_stopped_in : Places → List ℕ → Bool

@@ -7,7 +7,7 @@ ghost use Rattle.told_store.specs.Places.{AllFresh, is_placed, is_stopped_in, to
 use crate::folder::{FOLDER, Folder, MOST_TRIES};
 use crate::host::Host;
 use crate::kept::Kept;
-use crate::places::{exchange, insert, is_stopped, len_of, make_place};
+use crate::places::{insert, is_stopped, len_of, make_place, put_back, take};
 use crate::told_disk::DirDisk;
 use disk_model::{Failed, Store};
 use std::collections::BTreeMap;
@@ -35,8 +35,8 @@ impl Wanted {
 }
 
 /// The files of the folder `historian.d` in the working folder. The store makes the folder if it is missing. The name
-/// of a device is the name of its file. The store does not hand out a device that is out, that has failed, or whose
-/// file is refused.
+/// of a device is the name of its file. The store hands out each device once, and none whose file is refused. Once a
+/// device is given back, the store keeps the record of its calls alone.
 #[derive(Drop)]
 pub struct DirStore<R> {
     folder: Folder<R>,
@@ -115,11 +115,10 @@ impl<R: Files<File = File> + AllocGlobal> DirStore<R> {
             return Err(ErrorKind::ResourceBusy.into());
         }
         self.folder.lock()?;
-        let alloc = self.folder.rt.alloc();
-        make_place(alloc, &mut self.places, name)?;
+        make_place(self.folder.rt.alloc(), &mut self.places, name)?;
         let file = self.folder.open(name, len_of(&self.places, name))?;
-        match exchange(&mut self.places, name, Kept::stopped(alloc)) {
-            Some(kept) => Ok(kept.over(file)),
+        match take(&mut self.places, name) {
+            Some((log, bytes)) => Ok(DirDisk::new(Host { file, log }, bytes)),
             None => Err(ErrorKind::NotFound.into()),
         }
     }
@@ -160,9 +159,8 @@ fn keep<R: Files<File = File> + AllocGlobal>(
     if places.contains_key(name) {
         return Ok(());
     }
-    let alloc = folder.rt.alloc();
-    let kept = Kept::of_file(alloc, name, folder.read(name));
-    insert(alloc, places, name, kept)?;
+    let kept = Kept::of_file(name, folder.read(name));
+    insert(folder.rt.alloc(), places, name, kept)?;
     Ok(())
 }
 
@@ -186,11 +184,17 @@ impl<R: Files<File = File> + AllocGlobal> Store for DirStore<R> {
     }
 
     fn give_back(&mut self, name: &str, dev: DirDisk<Host<File>>) {
-        self.faults = self.faults.saturating_add(dev.counts.faults);
-        let kept = Kept::of(dev);
-        if kept.is_stopped {
-            self.folder.settle(name, &kept.mirror, kept.is_unsynced);
+        let DirDisk {
+            calls,
+            mirror,
+            counts,
+        } = dev;
+        let Host { file, log } = calls;
+        drop(file);
+        if counts.is_stopped {
+            self.folder.settle(name, &mirror, counts.is_unsynced);
         }
-        let _ = exchange(&mut self.places, name, kept);
+        self.faults = self.faults.saturating_add(counts.faults);
+        put_back(&mut self.places, name, Kept::used(log));
     }
 }

@@ -9,8 +9,8 @@
 //! (`IsFresh`). A name without a device has an empty trace. A [`DirDisk`] is a [`disk_model::Disk`] and a [`DirStore`]
 //! a [`disk_model::Store`]. They keep all promises of these traits on the trace, the clock and the faults: a read
 //! returns what the calls so far make of the bytes that were read. Once a write, a cut or a sync has failed, each later
-//! call on that device fails, in this run. The store does not hand out a device that is out, that has failed, or whose
-//! file was refused.
+//! call on that device fails, in this run. The store hands out each device once, and none whose file was refused. Once
+//! a device is given back, the store keeps the record of its calls, and frees its bytes.
 //!
 //! **Only trusted, and to be read**, because no clause knows what the system does:
 //!

@@ -1,9 +1,11 @@
 // The devices that a store keeps, by name.
-ghost use Rattle.std.specs.Prelude.{◌≡◌, ◌≢◌, ℕ, List, None, OnOk, OnErr, OnSome, Some, IsTrue, bytes_eq, is_some, if◌then◌else◌};
+ghost use Rattle.std.specs.Prelude.{◌≡◌, ◌≢◌, ℕ, List, IfNone, IfSome, IsNone, OnOk, OnErr, OnSome, Some, IsTrue, bytes_eq, if◌then◌else◌};
 ghost use Rattle.std.specs.BTreeMap.{get_by_text};
+ghost use Rattle.told_store.specs.Notes.{read_as, told_by};
 ghost use Rattle.told_store.specs.Places.{told_in, is_placed, is_stopped_in};
 
 use crate::kept::Kept;
+use crate::record::Record;
 use std::alloc::{AllocError, Global};
 use std::collections::BTreeMap;
 use std::mem;
@@ -41,15 +43,34 @@ pub(crate) fn make_place(
     insert(alloc, places, name, Kept::read(Vec::new(alloc)))
 }
 
-// Puts a device in the place of the device of a name, and returns that one. If there is no place, it puts nothing.
-pub(crate) fn exchange(places: &mut BTreeMap<String, Kept>, name: &str, kept: Kept) -> Option<Kept>
-    ensures old { result ≡ get_by_text places.old name.now }
-    ensures put { OnSome result (get_by_text places.new name.now ≡ Some kept) }
+// Takes the device of a name to hand it out: the record of its reading, and the bytes that were read. It is not handed
+// out again. If it must not be handed out, nothing changes.
+#[tactic(auto, using(std::proofs::lemmas::Map::Text::text_keys))]
+pub(crate) fn take(places: &mut BTreeMap<String, Kept>, name: &str) -> Option<(Record, Vec<u8>)>
+    ensures told { IfSome result (λ dev. told_by dev.0.notes ≡ told_in places.old name.now) }
+    ensures read { IfSome result (λ dev. told_by dev.0.notes ≡ read_as dev.1.items) }
+    ensures stopped { IsTrue (is_stopped_in places.old name.now) → IsNone result }
+    ensures out { OnSome result (IsTrue (is_stopped_in places.new name.now)) }
+    ensures others { (n : List ℕ) → n ≢ name.now → get_by_text places.new n ≡ get_by_text places.old n }
+    ensures same { (n : List ℕ) → is_placed places.new n ≡ is_placed places.old n }
+    ensures unchanged { IfNone result ((n : List ℕ) → told_in places.new n ≡ told_in places.old n) }
+{
+    let place = places.get_mut(name)?;
+    let bytes = place.bytes.take()?;
+    let log = mem::replace(&mut place.log, Record::new());
+    Some((log, bytes))
+}
+
+// Puts a device in the place of the device of a name. If there is no place, it puts nothing.
+#[tactic(auto, using(std::proofs::lemmas::Map::Text::text_keys))]
+pub(crate) fn put_back(places: &mut BTreeMap<String, Kept>, name: &str, kept: Kept)
+    ensures put { IsTrue (is_placed places.old name.now) → get_by_text places.new name.now ≡ Some kept }
     ensures others { (n : List ℕ) → n ≢ name.now → get_by_text places.new n ≡ get_by_text places.old n }
     ensures same { (n : List ℕ) → is_placed places.new n ≡ is_placed places.old n }
 {
-    let place = places.get_mut(name)?;
-    Some(mem::replace(place, kept))
+    if let Some(place) = places.get_mut(name) {
+        *place = kept;
+    }
 }
 
 // Returns whether the device of a name must not be handed out.
@@ -57,15 +78,15 @@ pub(crate) fn is_stopped(places: &BTreeMap<String, Kept>, name: &str) -> bool
     ensures { result ≡ is_stopped_in places.now name.now }
 {
     match places.get(name) {
-        Some(kept) => kept.is_stopped,
+        Some(kept) => kept.bytes.is_none(),
         None => false,
     }
 }
 
-// How many bytes the device of a name has, or 0 if there is none.
+// How many bytes were read of the device of a name, or 0 if there are none.
 pub(crate) fn len_of(places: &BTreeMap<String, Kept>, name: &str) -> usize {
     match places.get(name) {
-        Some(kept) => kept.mirror.len(),
+        Some(kept) => kept.len(),
         None => 0,
     }
 }

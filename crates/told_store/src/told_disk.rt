@@ -2,6 +2,7 @@
 ghost use Rattle.std.specs.Prelude.{◌≡◌, ◌+◌, ◌-◌, ◌^◌, ◌<◌, ◌≤◌, ◌↔◌, length, vec_len, vec_capacity, IsTrue, IsFalse, IsErr, IfOk, OnOk, OnErr, Some};
 ghost use Rattle.disk_model.specs.Traces.{Wrote, WroteInPart, Resized, ResizedInPart, Synced, Idle, seen, written};
 ghost use Rattle.disk_model.specs.Calls.{next_count, Rose, HasCause, HasLength, IsNoted, IsTimed, Reaches, Reads};
+ghost use Rattle.told_store.specs.Notes.{read_as};
 
 use crate::calls::Calls;
 use disk_model::{Disk, Failed};
@@ -63,6 +64,26 @@ pub struct DirDisk<C: Calls> {
     pub(crate) counts: Counts,
     ghost mirrored: { mirror.items ≡ seen (Some (C.told calls)) },
     ghost counted: { length (C.told calls).calls ≡ counts.ticks },
+}
+
+impl<C: Calls> DirDisk<C> {
+    // A device of which these bytes were read, with no call since.
+    pub(crate) fn new(calls: C, bytes: Vec<u8>) -> DirDisk<C>
+        requires { C.told calls ≡ read_as bytes.items }
+        ensures calls { result.calls ≡ calls }
+        ensures faultless { result.counts.faults ≡ 0 }
+    {
+        DirDisk {
+            calls,
+            mirror: bytes,
+            counts: Counts {
+                ticks: 0,
+                faults: 0,
+                is_stopped: false,
+                is_unsynced: false,
+            },
+        }
+    }
 }
 
 // How many of the `count` bytes from `at` on lie past the end.
