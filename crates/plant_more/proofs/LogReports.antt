@@ -1,17 +1,18 @@
 -- Archives that stand for the points of the first rows of a log, row by row.
-use Rattle.std.proofs.Common.{◌≡◌, ℕ, suc, ◌+◌, ◌^◌, ◌<◌, ◌≤◌, Bool, true, false, List, [], ◌∷◌, ◌++◌, length, get_or, map, take, refl, sym, ap, ◌∙◌, subst, inl, inr, arith, append_assoc, length-take}
-use Rattle.std.specs.Prelude.{◌≢◌, ◌⊎◌, All, filter, nat_eq, slice_set, Result, Ok, Err, IsErr}
+use Rattle.std.proofs.Common.{◌≡◌, ℕ, zero, suc, ◌+◌, ◌^◌, ◌<◌, ◌≤◌, Bool, true, false, List, [], ◌∷◌, ◌++◌, length, get_or, map, take, refl, sym, ap, ◌∙◌, subst, inl, inr, arith, length-take}
+use Rattle.std.specs.Prelude.{◌≢◌, ◌⊎◌, All, filter, nat_eq, slice_get, slice_set, Some, Result, Ok, Err, IsErr}
 use Rattle.std.proofs.Math.Seq.{get_or-append_seam}
 use Rattle.std.proofs.lemmas.Bool.{cases_eq, cases_lt}
-use Rattle.std.proofs.lemmas.List.{append-nil, get_or_append_left, get_or-set_other, get_or-set_same, length-append, length-map, length-set, map-append, take_more}
+use Rattle.std.proofs.lemmas.List.{append-nil, get_or-append-add, get_or_append_left, get_or-set_other, get_or-set_same, length-append, length-map, length-set, map-append, take_more}
 use Rattle.std.proofs.lemmas.List.Elements.{filter-append}
-use Rattle.std.proofs.lemmas.Option.{slice_get-get_or}
+use Rattle.std.proofs.lemmas.Option.{get_or_from_slice_get, slice_get_read, slice_get_within}
 use Rattle.trend_num.specs.Limits.{most_records}
 use Rattle.trend_num.specs.declared.point.Point.{Point}
 use Rattle.trend_num.specs.declared.tag_def.TagDef.{TagDef}
 use Rattle.trend_model.specs.History.{Event, Origin, Raw}
 use Rattle.trend_model.specs.State.{Stands, followed}
 use Rattle.tag_core.specs.Core.{Core}
+use Rattle.commit_log.specs.declared.history.LogHistory.{LogHistory}
 use Rattle.commit_log.specs.declared.history.LogTurn.{LogTurn}
 use Rattle.commit_log.specs.declared.history.LogTurn.TheVariants.{Put, Commit}
 use Rattle.commit_log.specs.declared.row.LogRow.{LogRow}
@@ -20,7 +21,7 @@ use Rattle.commit_log.specs.Images.{log_points_of}
 use Rattle.commit_log.specs.Tapes.{puts}
 use Rattle.commit_log.proofs.Tapes.{puts-append}
 use Rattle.plant_status.proofs.Elements.{element}
-use Rattle.plant_more.specs.LogReports.{AreStanding, HasRoomAt, HasRoomBelow, IsTagFull, log_history_of, log_origin_of}
+use Rattle.plant_more.specs.LogReports.{AreStanding, HasRoomAt, HasRoomBelow, IsTagFull, log_history_of, log_origin_of, log_rows}
 
 -- one event more
 followed-push : (h events : List Event) (e : Event) → followed h (events ++ e ∷ []) ≡ e ∷ followed h events
@@ -69,21 +70,96 @@ filter_few p (x ∷ xs) = by_test (p x) refl (filter_few p xs)
     by_test true is rest = rw is (omega (arith, rest))
     by_test false is rest = rw is (omega (arith, rest))
 
--- a tag has taken fewer values than can be counted
-pub taken_count : (tags : List TagDef) (rows : List LogRow) (cores : List Core) (place : ℕ) (d : LogRow) (core : Core)
-    → All (IsLogRow (length tags)) rows → place < length rows → AreStanding tags (take place rows) cores → place + 1 < 2 ^ 64
-    → (get_or cores (get_or rows place d).tag core).state.summary.taken < 18446744073709551615
-taken_count tags rows cores place d core all within standing small =
-    let tag : ℕ = (get_or rows place d).tag in
-    let there : tag < length tags = (all place d within).tag in
-    let points : List Point = log_points_of tag (take place rows) in
+-- ---- the places of rows
+
+-- the row at a place has a known tag
+pub row_known : (tags : ℕ) (rows : List LogRow) (place : ℕ) (row : LogRow) → All (IsLogRow tags) rows → slice_get rows place ≡ Some row
+    → row.tag < tags
+row_known tags rows place row all there =
+    subst (λ (r : LogRow). r.tag < tags) (get_or_from_slice_get rows place row row there)
+    (all place row (slice_get_within rows place row there)).tag
+
+-- the rows before it, and the row
+rows_more : (rows : List LogRow) (place : ℕ) (row : LogRow) → slice_get rows place ≡ Some row
+    → take (place + 1) rows ≡ take place rows ++ row ∷ []
+rows_more rows place row there =
+    take_more rows place row (slice_get_within rows place row there)
+    ∙ ap (λ (r : LogRow). take place rows ++ r ∷ []) (get_or_from_slice_get rows place row row there)
+
+-- a row that was put
+put_there : (opening : List LogRow) (tape : List LogTurn) (turn : ℕ) (row : LogRow) (d : LogTurn) → turn < length tape
+    → get_or tape turn d ≡ Put row → slice_get (opening ++ puts tape) (length opening + length (puts (take turn tape))) ≡ Some row
+put_there opening tape turn row d few is =
+    let place : ℕ = length (puts (take turn tape)) in
+    let there : slice_get (puts tape) place ≡ Some row = among tape turn few is in
+    slice_get_read (opening ++ puts tape) (length (opening ++ puts tape)) (length opening + place) row refl
+    (omega (arith, length-append opening (puts tape), slice_get_within (puts tape) place row there))
+    (sym (get_or-append-add opening (puts tape) place row ∙ get_or_from_slice_get (puts tape) place row row there))
+  where
+    among : (tape : List LogTurn) (turn : ℕ) → turn < length tape → get_or tape turn d ≡ Put row
+        → slice_get (puts tape) (length (puts (take turn tape))) ≡ Some row
+    among [] turn few is = absurd (omega (arith, few))
+    among (e ∷ tape) zero few is = rw is refl
+    among (Put first ∷ tape) (suc turn) few is = among tape turn (omega (arith, few)) is
+    among (Commit moment acked ∷ tape) (suc turn) few is = among tape turn (omega (arith, few)) is
+
+-- it is in the log at the place that was reached
+pub log_there : (log : LogHistory) (turn place : ℕ) (row : LogRow) (d : LogTurn) → turn < length log.tape.items
+    → get_or log.tape.items turn d ≡ Put row → place ≡ length log.opening.items + length (puts (take turn log.tape.items))
+    → slice_get (log_rows log) place ≡ Some row
+log_there log turn place row d few is reached = rw reached (put_there log.opening.items log.tape.items turn row d few is)
+
+-- the place that is reached with one turn more
+turn_counts : (tape : List LogTurn) (turn : ℕ) (e d : LogTurn) → turn < length tape → get_or tape turn d ≡ e
+    → length (puts (take (turn + 1) tape)) ≡ length (puts (take turn tape)) + length (puts (e ∷ []))
+turn_counts tape turn e d few is =
+    ap (λ (l : List LogTurn). length (puts l)) (take_more tape turn d few ∙ ap (λ (x : LogTurn). take turn tape ++ x ∷ []) is)
+    ∙ (ap length (puts-append (take turn tape) (e ∷ [])) ∙ length-append (puts (take turn tape)) (puts (e ∷ [])))
+
+pub put_reached : (log : LogHistory) (turn place : ℕ) (row : LogRow) (d : LogTurn) → turn < length log.tape.items
+    → get_or log.tape.items turn d ≡ Put row → place ≡ length log.opening.items + length (puts (take turn log.tape.items))
+    → place + 1 ≡ length log.opening.items + length (puts (take (turn + 1) log.tape.items))
+put_reached log turn place row d few is reached = omega (arith, reached, turn_counts log.tape.items turn (Put row) d few is)
+
+pub commit_reached : (log : LogHistory) (turn place moment acked : ℕ) (d : LogTurn) → turn < length log.tape.items
+    → get_or log.tape.items turn d ≡ Commit moment acked → place ≡ length log.opening.items + length (puts (take turn log.tape.items))
+    → place ≡ length log.opening.items + length (puts (take (turn + 1) log.tape.items))
+commit_reached log turn place moment acked d few is reached =
+    omega (arith, reached, turn_counts log.tape.items turn (Commit moment acked) d few is)
+
+-- fewer rows are before a row of a log than can be counted
+pub few_before : (log : LogHistory) (place : ℕ) (row : LogRow) → slice_get (log_rows log) place ≡ Some row → place + 1 < 2 ^ 64
+few_before log place row there =
     omega (
       arith,
-      (standing.stand tag (element tags tag there) core there).taken,
+      log.opening.ok,
+      log.opening.small,
+      log.tape.ok,
+      log.tape.small,
+      slice_get_within (log_rows log) place row there,
+      length-append log.opening.items (puts log.tape.items),
+      puts_few log.tape.items,
+    )
+  where
+    puts_few : (tape : List LogTurn) → length (puts tape) ≤ length tape
+    puts_few [] = omega arith
+    puts_few (Put row ∷ tape) = omega (arith, puts_few tape)
+    puts_few (Commit moment acked ∷ tape) = omega (arith, puts_few tape)
+
+-- a tag has taken fewer values than can be counted
+pub taken_count : (tags : List TagDef) (rows : List LogRow) (cores : List Core) (place : ℕ) (row : LogRow) (core : Core)
+    → All (IsLogRow (length tags)) rows → slice_get rows place ≡ Some row → AreStanding tags (take place rows) cores → place + 1 < 2 ^ 64
+    → (get_or cores row.tag core).state.summary.taken < 18446744073709551615
+taken_count tags rows cores place row core all there standing small =
+    let known : row.tag < length tags = row_known (length tags) rows place row all there in
+    let points : List Point = log_points_of row.tag (take place rows) in
+    omega (
+      arith,
+      (standing.stand row.tag (element tags row.tag known) core known).taken,
       followed-length [] (map Raw points),
       length-map points Raw,
-      length-map (filter (λ (r : LogRow). nat_eq r.tag tag) (take place rows)) (λ (r : LogRow). r.point),
-      filter_few (λ (r : LogRow). nat_eq r.tag tag) (take place rows),
+      length-map (filter (λ (r : LogRow). nat_eq r.tag row.tag) (take place rows)) (λ (r : LogRow). r.point),
+      filter_few (λ (r : LogRow). nat_eq r.tag row.tag) (take place rows),
       length-take place rows,
       small,
     )
@@ -122,38 +198,36 @@ standing_more tags rows more row old new core standing within more_is changed st
         rw (other tag d differs, history_other tag rows row differs) (standing.stand tag def d few)
 
 -- the core of the row at a place has taken its point
-pub row_taken : (tags : List TagDef) (rows : List LogRow) (cores : List Core) (place : ℕ) (d : LogRow) (old core : Core)
-    → All (IsLogRow (length tags)) rows → place < length rows → AreStanding tags (take place rows) cores
-    → core.step ≡ (get_or cores (get_or rows place d).tag old).step
-    → ((o : Origin) (h : List Event) → o.step ≡ (get_or cores (get_or rows place d).tag old).step
-    → Stands o h (get_or cores (get_or rows place d).tag old).state → Stands o (Raw (get_or rows place d).point ∷ h) core.state)
-    → AreStanding tags (take (place + 1) rows) (slice_set cores (get_or rows place d).tag core)
-row_taken tags rows cores place d old core all within standing step stands =
-    let row : LogRow = get_or rows place d in
-    let there : row.tag < length tags = (all place d within).tag in
-    standing_more tags (take place rows) (take (place + 1) rows) row cores (slice_set cores row.tag core) core standing there
-    (take_more rows place d within) refl
-    (λ def. step ∙ standing.steps row.tag def old there)
-    (λ def. stands (log_origin_of (get_or tags row.tag def)) (log_history_of row.tag (take place rows)) (sym (standing.steps row.tag def old there))
-    (standing.stand row.tag def old there))
+pub row_taken : (tags : List TagDef) (rows : List LogRow) (cores : List Core) (place : ℕ) (row : LogRow) (old core : Core)
+    → All (IsLogRow (length tags)) rows → slice_get rows place ≡ Some row → AreStanding tags (take place rows) cores
+    → core.step ≡ (get_or cores row.tag old).step
+    → ((o : Origin) (h : List Event) → o.step ≡ (get_or cores row.tag old).step
+    → Stands o h (get_or cores row.tag old).state → Stands o (Raw row.point ∷ h) core.state)
+    → AreStanding tags (take (place + 1) rows) (slice_set cores row.tag core)
+row_taken tags rows cores place row old core all there standing step stands =
+    let known : row.tag < length tags = row_known (length tags) rows place row all there in
+    standing_more tags (take place rows) (take (place + 1) rows) row cores (slice_set cores row.tag core) core standing known
+    (rows_more rows place row there) refl
+    (λ def. step ∙ standing.steps row.tag def old known)
+    (λ def. stands (log_origin_of (get_or tags row.tag def)) (log_history_of row.tag (take place rows)) (sym (standing.steps row.tag def old known))
+    (standing.stand row.tag def old known))
 
 -- the core of the row at a place could have too many records
-pub row_full : (tags : List TagDef) (rows : List LogRow) (cores : List Core) (place : ℕ) (d : LogRow) (old : Core) (number records : ℕ)
-    → All (IsLogRow (length tags)) rows → place < length rows → AreStanding tags (take place rows) cores → HasRoomBelow tags rows place
-    → number ≡ records → records ≡ length (get_or cores (get_or rows place d).tag old).state.records
-    → most_records < length (get_or cores (get_or rows place d).tag old).state.records + 2 → IsTagFull tags rows number
-row_full tags rows cores place d old number records all within standing room same records_are many =
-    let row : LogRow = get_or rows place d in
-    let there : row.tag < length tags = (all place d within).tag in
+pub row_full : (tags : List TagDef) (rows : List LogRow) (cores : List Core) (place : ℕ) (row : LogRow) (old : Core) (number records : ℕ)
+    → All (IsLogRow (length tags)) rows → slice_get rows place ≡ Some row → AreStanding tags (take place rows) cores
+    → HasRoomBelow tags rows place → number ≡ records → records ≡ length (get_or cores row.tag old).state.records
+    → most_records < length (get_or cores row.tag old).state.records + 2 → IsTagFull tags rows number
+row_full tags rows cores place row old number records all there standing room same records_are many =
+    let known : row.tag < length tags = row_known (length tags) rows place row all there in
     record {
       tag = row.tag;
       count = place;
       next = row;
       state = (get_or cores row.tag old).state;
-      known = there;
-      there = slice_get-get_or rows place d within;
+      known = known;
+      there = there;
       of_tag = refl;
-      stands = λ def. standing.stand row.tag def old there;
+      stands = λ def. standing.stand row.tag def old known;
       number_is = same ∙ records_are;
       many = rw (same ∙ records_are) many;
       first = room;
@@ -165,47 +239,29 @@ no_err (Ok y) x is refused = cc
 no_err (Err why) x is refused = cc
 
 -- the core of the row at a place had room, as had those of the rows before it
-pub row_fits : {T E : Type 0} (r : Result T E) (x : T) (tags : List TagDef) (rows : List LogRow) (cores : List Core) (place : ℕ) (d : LogRow) (old : Core)
-    → All (IsLogRow (length tags)) rows → place < length rows → AreStanding tags (take place rows) cores → HasRoomBelow tags rows place
-    → r ≡ Ok x → (most_records < length (get_or cores (get_or rows place d).tag old).state.records + 2 → IsErr r)
+pub row_fits : {T E : Type 0} (r : Result T E) (x : T) (tags : List TagDef) (rows : List LogRow) (cores : List Core) (place : ℕ) (row : LogRow) (old : Core)
+    → All (IsLogRow (length tags)) rows → slice_get rows place ≡ Some row → AreStanding tags (take place rows) cores
+    → HasRoomBelow tags rows place → r ≡ Ok x → (most_records < length (get_or cores row.tag old).state.records + 2 → IsErr r)
     → HasRoomBelow tags rows (place + 1)
-row_fits r x tags rows cores place d old all within standing room is refused = λ k less. elim (cases_lt k place) [
+row_fits r x tags rows cores place row old all there standing room is refused = λ k less. elim (cases_lt k place) [
   | inl below ↦ room k below
   | inr above ↦ subst (HasRoomAt tags rows) (omega (arith, less, above)) here
 ]
   where
-    row : LogRow
-    row = get_or rows place d
-
     known : row.tag < length tags
-    known = (all place d within).tag
+    known = row_known (length tags) rows place row all there
 
     here : HasRoomAt tags rows place
     here = record {
       row = row;
       state = (get_or cores row.tag old).state;
-      there = slice_get-get_or rows place d within;
+      there = there;
       stands = λ def. standing.stand row.tag def old known;
       few = elim (cases_lt most_records (length (get_or cores row.tag old).state.records + 2)) [
         | inl many ↦ absurd (no_err r x is (refused many))
         | inr most ↦ most
       ];
     }
-
--- the rows of the first turns and of one more
-pub put_more : (opening rows : List LogRow) (tape : List LogTurn) (place : ℕ) (row : LogRow) (d : LogTurn) → place < length tape
-    → get_or tape place d ≡ Put row → rows ≡ opening ++ puts (take place tape)
-    → rows ++ row ∷ [] ≡ opening ++ puts (take (place + 1) tape)
-put_more opening rows tape place row d within is was =
-    (ap (λ (l : List LogRow). l ++ row ∷ []) was ∙ (append_assoc opening (puts (take place tape)) (row ∷ [])
-    ∙ ap (λ (l : List LogRow). opening ++ l) (sym (ap puts (take_more tape place d within ∙ ap (λ (e : LogTurn). take place tape ++ e ∷ []) is)
-    ∙ puts-append (take place tape) (Put row ∷ [])))))
-
-pub commit_more : (opening rows : List LogRow) (tape : List LogTurn) (place moment acked : ℕ) (d : LogTurn) → place < length tape
-    → get_or tape place d ≡ Commit moment acked → rows ≡ opening ++ puts (take place tape) → rows ≡ opening ++ puts (take (place + 1) tape)
-commit_more opening rows tape place moment acked d within is was =
-    (was ∙ ap (λ (l : List LogRow). opening ++ l) (sym (ap puts (take_more tape place d within ∙ ap (λ (e : LogTurn). take place tape ++ e ∷ []) is)
-    ∙ (puts-append (take place tape) (Commit moment acked ∷ []) ∙ append-nil (puts (take place tape))))))
 
 -- a core for one tag more
 pub fresh_more : (tags : List TagDef) (place : ℕ) (d : TagDef) (old new : List Core) (core : Core) → place < length tags

@@ -1,5 +1,5 @@
 // The report of a log: one line for each tag.
-ghost use Rattle.std.specs.Prelude.{◌≡◌, ◌+◌, ◌^◌, ◌<◌, [], All, IfErr, IfOk, OnOk, length, string_bytes, take, vec_len};
+ghost use Rattle.std.specs.Prelude.{◌≡◌, ◌+◌, ◌^◌, ◌<◌, [], All, IfErr, IfOk, OnOk, Some, length, slice_get, string_bytes, take, vec_len};
 ghost use Rattle.trend_num.specs.Ranges.{TuningInRange};
 ghost use Rattle.trend_model.specs.State.{Stands};
 ghost use Rattle.commit_log.specs.Blocks.{IsLogRow};
@@ -7,7 +7,7 @@ ghost use Rattle.plant_more.specs.LogReports.{AreStanding, HasRoomBelow, IsRepor
 
 use commit_log::{LogHistory, LogRow, LogTurn};
 use plant_status::{Status, What};
-use std::alloc::{AllocError, Global};
+use std::alloc::Global;
 use std::marker::Brand;
 use std::sync::ledger::{Blank, Ledger};
 use tag_core::TagCore;
@@ -22,40 +22,23 @@ pub(crate) fn report(alloc: Global, tags: &[TagDef], log: &LogHistory) -> Result
     ensures told { IfOk result (λ text. IsLineToldOf tags.now (log_rows log.now) (string_bytes text)) }
     ensures refused { IfErr result (IsReportRefusal tags.now (log_rows log.now)) }
 {
-    let Ok(rows) = all_rows(alloc, log) else {
+    let Ok(mut cores) = new_cores(alloc, tags, log) else {
         return Err(Status::WantOfMemory);
     };
-    let Ok(mut cores) = new_cores(alloc, tags, &rows) else {
-        return Err(Status::WantOfMemory);
-    };
-    take_all(&mut cores, tags, &rows)?;
+    take_all(&mut cores, tags, log)?;
     match check_text(alloc, tags, &cores) {
         Ok(text) => Ok(text),
         Err(_) => Err(Status::WantOfMemory),
     }
 }
 
-// Returns all rows of a log: those of the opening, then those that were put.
-fn all_rows(alloc: Global, log: &LogHistory) -> Result<Vec<LogRow>, AllocError>
-    ensures { IfOk result (λ rows. rows.items ≡ log_rows log.now) }
-{
-    let mut rows = Vec::from_slice(alloc, log.opening.as_slice())?;
-    for place in 0..log.tape.len() {
-        match log.tape[place] {
-            LogTurn::Put(row) => rows.push(row)?,
-            LogTurn::Commit { .. } => {}
-        }
-    }
-    Ok(rows)
-}
-
-// Returns a core for each tag that has taken nothing yet, with room for the tag's values in these rows.
-fn new_cores(alloc: Global, tags: &[TagDef], rows: &[LogRow]) -> Result<Vec<TagCore>, WantOfMemory>
+// Returns a core for each tag that has taken nothing yet, with room for the tag's values in the log.
+fn new_cores(alloc: Global, tags: &[TagDef], log: &LogHistory) -> Result<Vec<TagCore>, WantOfMemory>
     requires tuned { All (λ def. TuningInRange def.tuning) tags.now }
-    requires rows { All (IsLogRow (length tags.now)) rows.now }
+    requires rows { All (IsLogRow (length tags.now)) (log_rows log.now) }
     ensures { IfOk result (λ cores. AreStanding tags.now [] cores.items) }
 {
-    let rooms = rooms_of(alloc, rows, tags.len())?;
+    let rooms = rooms_of(alloc, log, tags.len())?;
     let mut cores = Vec::with_capacity(alloc, tags.len())?;
     for tag in 0..tags.len() {
         let core = new_core(alloc, &tags[tag], rooms[tag])?;
@@ -73,71 +56,146 @@ fn new_core(alloc: Global, tag: &TagDef, room: u32) -> Result<TagCore, WantOfMem
     TagCore::new(alloc, tag.tuning, tag.step, room)
 }
 
-// Counts, for each of so many tags, how many of these rows are its own.
-fn rooms_of(alloc: Global, rows: &[LogRow], tags: usize) -> Result<Vec<u32>, WantOfMemory>
-    requires { All (IsLogRow tags) rows.now }
+// Counts, for each of so many tags, how many rows of the log are its own.
+fn rooms_of(alloc: Global, log: &LogHistory, tags: usize) -> Result<Vec<u32>, WantOfMemory>
+    requires { All (IsLogRow tags) (log_rows log.now) }
     ensures { IfOk result (λ rooms. vec_len rooms ≡ tags) }
 {
     let mut rooms = vec![in alloc; 0u32; tags]?;
-    for place in 0..rows.len() {
-        let tag = rows[place].tag as usize;
-        rooms[tag] = rooms[tag].checked_add(1).ok_or(WantOfMemory)?;
-    }
+    count_opening(&mut rooms, log)?;
+    count_puts(&mut rooms, log)?;
     Ok(rooms)
 }
 
-// Takes the points of the rows, each with the core of its tag.
-fn take_all(cores: &mut [TagCore], tags: &[TagDef], rows: &[LogRow]) -> Result<(), Status>
-    requires rows { All (IsLogRow (length tags.now)) rows.now }
-    requires standing { AreStanding tags.now [] cores.old }
-    ensures standing { OnOk result (AreStanding tags.now rows.now cores.new) }
-    ensures room { OnOk result (HasRoomBelow tags.now rows.now (length rows.now)) }
-    ensures refused { IfErr result (IsReportRefusal tags.now rows.now) }
+// Counts each row of the opening at its tag.
+fn count_opening(rooms: &mut [u32], log: &LogHistory) -> Result<(), WantOfMemory>
+    requires { All (IsLogRow (length rooms.old)) (log_rows log.now) }
 {
-    take_on::<Brand>(cores, tags, rows, Blank::new(1))
+    for place in 0..log.opening.len() {
+        count(rooms, log.opening[place].tag)?;
+    }
+    Ok(())
+}
+
+// Counts each row that was put at its tag.
+fn count_puts(rooms: &mut [u32], log: &LogHistory) -> Result<(), WantOfMemory>
+    requires { All (IsLogRow (length rooms.old)) (log_rows log.now) }
+{
+    for turn in 0..log.tape.len() {
+        match log.tape[turn] {
+            LogTurn::Put(row) => count(rooms, row.tag)?,
+            LogTurn::Commit { .. } => {}
+        }
+    }
+    Ok(())
+}
+
+// Counts one row more of a tag.
+fn count(rooms: &mut [u32], tag: u32) -> Result<(), WantOfMemory>
+    requires { tag < length rooms.old }
+{
+    let room = &mut rooms[tag as usize];
+    *room = room.checked_add(1).ok_or(WantOfMemory)?;
+    Ok(())
+}
+
+// Takes the points of the rows of a log, each with the core of its tag.
+fn take_all(cores: &mut [TagCore], tags: &[TagDef], log: &LogHistory) -> Result<(), Status>
+    requires rows { All (IsLogRow (length tags.now)) (log_rows log.now) }
+    requires standing { AreStanding tags.now [] cores.old }
+    ensures standing { OnOk result (AreStanding tags.now (log_rows log.now) cores.new) }
+    ensures room { OnOk result (HasRoomBelow tags.now (log_rows log.now) (length (log_rows log.now))) }
+    ensures refused { IfErr result (IsReportRefusal tags.now (log_rows log.now)) }
+{
+    take_on::<Brand>(cores, tags, log, Blank::new(1))
 }
 
 // Does the same on the ledger of a blank.
 fn take_on<L: Ledger>(
     cores: &mut [TagCore],
     tags: &[TagDef],
-    rows: &[LogRow],
+    log: &LogHistory,
     blank: Blank,
 ) -> Result<(), Status>
     requires name { blank.name ≡ L.name }
     requires parts { blank.parts ≡ L.parts }
     requires some { 0 < L.parts }
-    requires rows { All (IsLogRow (length tags.now)) rows.now }
+    requires rows { All (IsLogRow (length tags.now)) (log_rows log.now) }
     requires standing { AreStanding tags.now [] cores.old }
-    ensures standing { OnOk result (AreStanding tags.now rows.now cores.new) }
-    ensures room { OnOk result (HasRoomBelow tags.now rows.now (length rows.now)) }
-    ensures refused { IfErr result (IsReportRefusal tags.now rows.now) }
+    ensures standing { OnOk result (AreStanding tags.now (log_rows log.now) cores.new) }
+    ensures room { OnOk result (HasRoomBelow tags.now (log_rows log.now) (length (log_rows log.now))) }
+    ensures refused { IfErr result (IsReportRefusal tags.now (log_rows log.now)) }
 {
     let mut steps = Steps::<L>::new(blank);
-    for place in 0..rows.len() {
-        take_row(cores, tags, rows, place, &mut steps)?;
+    take_opening(cores, tags, log, &mut steps)?;
+    take_puts(cores, tags, log, &mut steps)
+}
+
+// Takes the points of the rows of the opening.
+fn take_opening<L: Ledger>(
+    cores: &mut [TagCore],
+    tags: &[TagDef],
+    log: &LogHistory,
+    steps: &mut Steps<L>,
+) -> Result<(), Status>
+    requires rows { All (IsLogRow (length tags.now)) (log_rows log.now) }
+    requires standing { AreStanding tags.now [] cores.old }
+    ensures standing { OnOk result (AreStanding tags.now (take (length log.now.opening.items) (log_rows log.now)) cores.new) }
+    ensures room { OnOk result (HasRoomBelow tags.now (log_rows log.now) (length log.now.opening.items)) }
+    ensures refused { IfErr result (IsReportRefusal tags.now (log_rows log.now)) }
+{
+    for place in 0..log.opening.len() {
+        take_row(cores, tags, log, place, log.opening[place], steps)?;
     }
     Ok(())
 }
 
-// Takes the point of the row at this place with the core of its tag. The rows before it were taken already.
+// Takes the points of the rows that were put. Those of the opening were taken already.
+fn take_puts<L: Ledger>(
+    cores: &mut [TagCore],
+    tags: &[TagDef],
+    log: &LogHistory,
+    steps: &mut Steps<L>,
+) -> Result<(), Status>
+    requires rows { All (IsLogRow (length tags.now)) (log_rows log.now) }
+    requires standing { AreStanding tags.now (take (length log.now.opening.items) (log_rows log.now)) cores.old }
+    requires room { HasRoomBelow tags.now (log_rows log.now) (length log.now.opening.items) }
+    ensures standing { OnOk result (AreStanding tags.now (log_rows log.now) cores.new) }
+    ensures room { OnOk result (HasRoomBelow tags.now (log_rows log.now) (length (log_rows log.now))) }
+    ensures refused { IfErr result (IsReportRefusal tags.now (log_rows log.now)) }
+{
+    let mut place = log.opening.len();
+    for turn in 0..log.tape.len() {
+        match log.tape[turn] {
+            LogTurn::Put(row) => {
+                take_row(cores, tags, log, place, row, steps)?;
+                place += 1;
+            }
+            LogTurn::Commit { .. } => {}
+        }
+    }
+    Ok(())
+}
+
+// Takes the point of a row with the core of its tag. It is the row at this place of the log, and the rows before it
+// were taken already.
 fn take_row<L: Ledger>(
     cores: &mut [TagCore],
     tags: &[TagDef],
-    rows: &[LogRow],
+    log: &LogHistory,
     place: usize,
+    row: LogRow,
     steps: &mut Steps<L>,
 ) -> Result<(), Status>
-    requires rows { All (IsLogRow (length tags.now)) rows.now }
-    requires within { place < length rows.now }
-    requires countable { place + 1 < 2 ^ 64 }
-    requires standing { AreStanding tags.now (take place rows.now) cores.old }
-    requires room { HasRoomBelow tags.now rows.now place }
-    ensures standing { OnOk result (AreStanding tags.now (take (place + 1) rows.now) cores.new) }
-    ensures room { OnOk result (HasRoomBelow tags.now rows.now (place + 1)) }
-    ensures refused { IfErr result (IsReportRefusal tags.now rows.now) }
+    requires rows { All (IsLogRow (length tags.now)) (log_rows log.now) }
+    requires there { slice_get (log_rows log.now) place ≡ Some row }
+    requires standing { AreStanding tags.now (take place (log_rows log.now)) cores.old }
+    requires room { HasRoomBelow tags.now (log_rows log.now) place }
+    ensures standing { OnOk result (AreStanding tags.now (take (place + 1) (log_rows log.now)) cores.new) }
+    ensures room { OnOk result (HasRoomBelow tags.now (log_rows log.now) (place + 1)) }
+    ensures refused { IfErr result (IsReportRefusal tags.now (log_rows log.now)) }
 {
-    let LogRow { tag, point, .. } = rows[place];
+    let LogRow { tag, point, .. } = row;
     let core = &mut cores[tag as usize];
     if core.spare() < 2 {
         return Err(Status::WantOfMemory);
