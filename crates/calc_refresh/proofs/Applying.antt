@@ -5,8 +5,7 @@ use Rattle.std.specs.List.{range_with_len}
 use Rattle.std.proofs.Math.Nat.{mul-le-mul_left, mul-le-mul_right}
 use Rattle.std.proofs.lemmas.Bool.{cases_lt, le-ltb, lt-ltb}
 use Rattle.std.proofs.lemmas.List.Elements.{All-append, All-cons, All-head, All-nil, All-tail}
-use Rattle.std.proofs.lemmas.List.FromFn.{length-range_with_len}
-use Rattle.std.proofs.lemmas.List.Sums.{count_by-le-length}
+use Rattle.std.proofs.lemmas.List.Sums.{length-filter}
 use Rattle.trend_num.specs.declared.archive.Rec.{Rec}
 use Rattle.trend_num.specs.Ranges.{InRange, last_time}
 use Rattle.sheet_law.specs.declared.grid.Grid.{Grid}
@@ -16,8 +15,9 @@ use Rattle.sheet_law.specs.Scratch.{due_below, is_due}
 use Rattle.calc_refresh.specs.declared.refusal.SheetNo.{SheetNo}
 use Rattle.calc_refresh.specs.declared.refusal.SheetNo.TheVariants.{CellLimit, CopyLimit}
 use Rattle.calc_refresh.specs.Lists.{total_length}
-use Rattle.calc_refresh.specs.Refreshed.{limit_fault, most_cells, most_copies}
+use Rattle.calc_refresh.specs.Refreshed.{due_windows, limit_fault, most_cells, most_copies}
 use Rattle.calc_refresh.specs.Sheet.{IsCopy}
+use Rattle.calc_refresh.proofs.Passing.{passing_few}
 use Rattle.calc_refresh.proofs.Refreshing.{complete_ends}
 
 -- there are no more complete windows than times
@@ -85,9 +85,12 @@ copies_longer rss mores each also few = λ k d within.
     record { short = omega arith; range = ranges_longer rss mores each also k d within }
 
 -- no more windows are due than there are
-pub due_few : (w : Grid) (rss mores : List (List Rec)) (n : ℕ) → due_below w rss mores n ≤ n
-due_few w rss mores n =
-    omega (arith, count_by-le-length (is_due w rss mores) (range_with_len 0 n), length-range_with_len 0 n)
+pub due_few : (w : Grid) (rss mores : List (List Rec)) (n : ℕ) → length (due_windows w rss mores n) ≤ n
+due_few w rss mores n = passing_few (is_due w rss mores) n
+
+-- as many are listed as are counted
+pub due_counted : (w : Grid) (rss mores : List (List Rec)) (n : ℕ) → length (due_windows w rss mores n) ≡ due_below w rss mores n
+due_counted w rss mores n = length-filter (is_due w rss mores) (range_with_len 0 n)
 
 -- a part of a product
 pub part_fits : (a b n m : ℕ) → a ≤ n → n * b ≤ m → a * b ≤ m

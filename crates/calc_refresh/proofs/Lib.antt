@@ -1,4 +1,5 @@
 pub mod Spans
+pub mod Passing
 pub mod Marking
 pub mod Turns
 pub mod Inputs

@@ -1,11 +1,9 @@
 -- Marks of windows.
-use Rattle.std.proofs.Common.{◌≡◌, ℕ, zero, suc, ◌+◌, ◌<◌, ◌≤◌, inl, inr, Bool, true, false, cond, nat_lt, nat_le, List, [], ◌∷◌, ◌++◌, length, get_or, take, set, replicate, refl, sym, ap, ◌∙◌, arith}
-use Rattle.std.specs.Prelude.{◌&&◌, ◌||◌, count_by, max}
-use Rattle.std.specs.List.{range_with_len}
+use Rattle.std.proofs.Common.{◌≡◌, ℕ, zero, suc, ◌+◌, ◌<◌, ◌≤◌, inl, inr, true, false, nat_lt, nat_le, List, [], ◌∷◌, ◌++◌, length, get_or, take, drop, set, replicate, refl, ap, ◌∙◌, arith}
+use Rattle.std.specs.Prelude.{◌&&◌, ◌||◌, max, min}
 use Rattle.std.proofs.lemmas.Bool.{cases_lt, lt-ltb, le-ltb}
 use Rattle.std.proofs.lemmas.Bool.Decides.{nat_tests}
-use Rattle.std.proofs.lemmas.List.{map-id, take-set-le, take_more}
-use Rattle.std.proofs.lemmas.List.FromFn.{sum_by-map-range_with_len_more}
+use Rattle.std.proofs.lemmas.List.{take-set-le, take_more}
 use Rattle.calc_refresh.specs.Marks.{furthest, is_marked}
 
 -- how far marks reach with one more of them
@@ -43,6 +41,10 @@ marks_span ms i b c k within is =
     seen : (k i b f : ℕ) → i ≤ k → nat_lt k (max f b) ≡ (nat_lt k f || (nat_le i k && nat_lt k b))
     seen k i b f after = grind (arith, nat_tests)
 
+-- a mark that reaches beyond all windows may be cut
+pub cut_end : (k b c most : ℕ) → k < most → c ≡ min b most → nat_lt k c ≡ nat_lt k b
+cut_end k b c most below is = grind (arith, nat_tests)
+
 -- a span that begins after all windows marks none
 pub marks_none : (ms : List ℕ) (i b k : ℕ) → length ms ≤ i → k < length ms
     → is_marked ms k ≡ (is_marked ms k || (nat_le i k && nat_lt k b))
@@ -70,10 +72,32 @@ marked_now ms k b is below = lt-ltb k (furthest (take (k + 1) ms)) (omega arith)
 pub unmarked_now : (ms : List ℕ) (k b : ℕ) → b ≡ furthest (take (k + 1) ms) → b ≤ k → is_marked ms k ≡ false
 unmarked_now ms k b is above = le-ltb k (furthest (take (k + 1) ms)) (omega arith)
 
--- a count of numbers with the next one
-pub count_more : (p : ℕ → Bool) (n : ℕ)
-    → count_by p (range_with_len 0 (n + 1)) ≡ count_by p (range_with_len 0 n) + cond (p n) 1 0
-count_more p n =
-    ap (count_by p) (sym (map-id (range_with_len 0 (n + 1))))
-    ∙ (sum_by-map-range_with_len_more (λ x. cond (p x) 1 0) (λ (i : ℕ). i) 0 n n (omega arith)
-    ∙ ap (λ l. count_by p l + cond (p n) 1 0) (map-id (range_with_len 0 n)))
+-- more marks reach further
+reaches_more : (ms : List ℕ) (k n : ℕ) → k ≤ n → furthest (take k ms) ≤ furthest (take n ms)
+reaches_more ms zero n low = omega arith
+reaches_more [] (suc k) n low = omega arith
+reaches_more (m ∷ ms) (suc k) zero low = absurd (omega arith)
+reaches_more (m ∷ ms) (suc k) (suc n) low = (let rest = reaches_more ms k n (omega arith) in omega arith)
+
+-- how far marks reach with a block of them
+block_reaches : (ms : List ℕ) (from n k : ℕ) → k ≤ from + n
+    → furthest (take k ms) ≤ max (furthest (take from ms)) (furthest (take n (drop from ms)))
+block_reaches ms zero n k low = (let all = reaches_more ms k n (omega arith) in omega arith)
+block_reaches ms (suc from) n zero low = omega arith
+block_reaches [] (suc from) n (suc k) low = omega arith
+block_reaches (m ∷ ms) (suc from) n (suc k) low = (let rest = block_reaches ms from n k (omega arith) in omega arith)
+
+-- a block without a mark marks no window, where the marks before it do not reach into it
+pub unmarked_block : (ms : List ℕ) (from n b k : ℕ) → b ≡ furthest (take from ms) → b ≤ from
+    → furthest (take n (drop from ms)) ≡ 0 → from ≤ k → k < from + n → is_marked ms k ≡ false
+unmarked_block ms from n b k is low blank after below =
+    let reach = block_reaches ms from n (k + 1) (omega arith) in
+    le-ltb k (furthest (take (k + 1) ms)) (omega arith)
+
+-- and the marks reach no further then
+pub same_reach : (ms : List ℕ) (from n : ℕ) → furthest (take n (drop from ms)) ≡ 0
+    → furthest (take (from + n) ms) ≡ furthest (take from ms)
+same_reach ms from n blank =
+    let some = reaches_more ms from (from + n) (omega arith) in
+    let reach = block_reaches ms from n (from + n) (omega arith) in
+    omega arith

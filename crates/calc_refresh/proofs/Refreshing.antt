@@ -1,8 +1,8 @@
 -- A sheet whose due windows were evaluated is from scratch again.
-use Rattle.std.proofs.Common.{◌≡◌, ◌⊎◌, ℕ, zero, suc, ◌+◌, ◌<◌, ◌≤◌, inl, inr, Bool, true, false, cond, nat_lt, nat_le, List, [], ◌∷◌, Some, length, map, replicate, All, refl, sym, subst, ap, ap₂, ◌∙◌, arith}
-use Rattle.std.specs.Prelude.{◌&&◌, ◌||◌, not, count_by, Vec, vec_len}
+use Rattle.std.proofs.Common.{◌≡◌, ◌⊎◌, ℕ, zero, suc, ◌<◌, ◌≤◌, inl, inr, Bool, true, false, nat_lt, nat_le, List, [], ◌∷◌, Some, Contains, length, map, replicate, All, refl, sym, subst, ap, ap₂, ◌∙◌, arith}
+use Rattle.std.specs.Prelude.{◌&&◌, ◌||◌, not, Vec, vec_len}
 use Rattle.std.specs.declared.alloc.Global.{Global}
-use Rattle.std.specs.List.{range_with_len}
+use Rattle.std.specs.List.{filter, range_with_len}
 use Rattle.std.proofs.lemmas.Bool.{and_parts, cases_Bool, false≢true, lt-ltb}
 use Rattle.std.proofs.lemmas.Bool.Decides.{nat_tests}
 use Rattle.std.proofs.lemmas.List.{length-map}
@@ -17,14 +17,15 @@ use Rattle.sheet_law.specs.Value.{points_in, values}
 use Rattle.sheet_law.specs.declared.grid.Grid.{Grid}
 use Rattle.sheet_law.specs.Windows.{complete_windows, is_complete, reaches, window_from, window_to}
 use Rattle.sheet_law.specs.Touched.{any_touched, longer}
-use Rattle.sheet_law.specs.Scratch.{IsScratch, column, due_below, is_due, points_by, values_at}
+use Rattle.sheet_law.specs.Scratch.{IsScratch, column, is_due, points_by, values_at}
 use Rattle.sheet_law.proofs.Complete.{complete_are}
 use Rattle.sheet_law.proofs.Formulas.{values_stay}
 use Rattle.calc_refresh.specs.Lists.{lists_of}
 use Rattle.calc_refresh.specs.Marks.{is_marked}
-use Rattle.calc_refresh.specs.Refreshed.{IsSheetAfter}
+use Rattle.calc_refresh.specs.Refreshed.{IsSheetAfter, due_windows}
 use Rattle.calc_refresh.specs.Sheet.{IsCopy}
-use Rattle.calc_refresh.proofs.Marking.{count_more, unmarked}
+use Rattle.calc_refresh.proofs.Marking.{unmarked}
+use Rattle.calc_refresh.proofs.Passing.{passing_agree, passing_are, passing_has}
 
 -- ---- windows that are complete end at a time
 
@@ -80,18 +81,6 @@ due_is w rss mores marks first last n k none within touched_are new_are =
     swapped false true = refl
     swapped false false = refl
 
--- tests that agree below a number count the same numbers
-count_same : (p q : ℕ → Bool) (n : ℕ) → ((k : ℕ) → k < n → p k ≡ q k)
-    → count_by p (range_with_len 0 n) ≡ count_by q (range_with_len 0 n)
-count_same p q zero same = refl
-count_same p q (suc n) same =
-    let next : suc n ≡ n + 1 = omega arith in
-    let rest = count_same p q n (λ k below. same k (omega arith)) in
-    let here : cond {A = ℕ} (p n) 1 0 ≡ cond {A = ℕ} (q n) 1 0 = ap (λ b. cond {A = ℕ} b 1 0) (same n (omega arith)) in
-    ap (λ m. count_by p (range_with_len 0 m)) next
-    ∙ (count_more p n ∙ (ap₂ (λ a b. a + b) rest here
-    ∙ (sym (count_more q n) ∙ ap (λ m. count_by q (range_with_len 0 m)) (sym next))))
-
 -- ---- the rows
 
 -- contents that read as records have their points
@@ -109,7 +98,7 @@ points_same contents rss same = sym (one contents) ∙ (ap (map points_of) same 
 
 -- what is known once the due windows were evaluated
 pub record Swept (g : Group) (w : Grid) (copies mores : List (List Rec)) (rows wider after : List (Vec CalcValue Global))
-    (contents : List ContentState) (marks : List ℕ) (due : ℕ) : Type 0 where
+    (contents : List ContentState) (marks due : List ℕ) : Type 0 where
   pub some : 0 < w.period
   pub input : 0 < length copies
   pub windows : length marks ≡ complete_windows w (longer copies mores)
@@ -119,12 +108,12 @@ pub record Swept (g : Group) (w : Grid) (copies mores : List (List Rec)) (rows w
   pub read : map (λ c. c.records) contents ≡ map listed (longer copies mores)
   pub widened : (k : ℕ) → All (λ row. k < vec_len row) rows → k < length marks
       → column k (lists_of wider) ≡ column k (lists_of rows)
-  pub filled : (k : ℕ) → k < length marks → is_marked marks k ≡ true
+  pub listed : due ≡ filter (is_marked marks) (range_with_len 0 (length marks))
+  pub filled : (k : ℕ) → Contains due k
       → column k (lists_of after) ≡ map Some (values g (points_in contents) (window_from w k) (window_to w k))
-  pub others : (k : ℕ) → k < length marks → is_marked marks k ≡ false → column k (lists_of after) ≡ column k (lists_of wider)
+  pub others : (k : ℕ) → (Contains due k → ⊥) → column k (lists_of after) ≡ column k (lists_of wider)
   pub calcs : length after ≡ length g.calcs
   pub long : All (λ row. vec_len row ≡ length marks) after
-  pub counted : due ≡ count_by (is_marked marks) (range_with_len 0 (length marks))
 
 -- rows as lists are as long as their vectors
 pub long_lists : (rows : List (Vec CalcValue Global)) (n : ℕ) → All (λ row. vec_len row ≡ n) rows
@@ -148,7 +137,7 @@ either_none false b h = (refl, h)
 
 -- the sheet then is that with these records more
 pub swept : (g : Group) (w : Grid) (copies mores : List (List Rec)) (rows wider after : List (Vec CalcValue Global))
-    (contents : List ContentState) (marks : List ℕ) (due : ℕ)
+    (contents : List ContentState) (marks due : List ℕ)
     → Swept g w copies mores rows wider after contents marks due
     → IsSheetAfter g w copies (lists_of rows) (longer copies mores) (lists_of after) mores due
 swept g w [] mores rows wider after contents marks due s = absurd (omega (arith, s.input))
@@ -156,18 +145,27 @@ swept g w (rs ∷ rss) mores rows wider after contents marks due s = record {
   copied = refl;
   due_are = λ k within due_now.
       let inside : k < length marks = omega (arith, within, s.windows) in
-      s.filled k inside (s.marked k inside ∙ due_now) ∙ ap (map Some) (at k);
+      s.filled k (told k inside due_now) ∙ ap (map Some) (at k);
   scratch = λ was. record {
     calcs = length-map after (λ v. v.items) ∙ s.calcs;
     windows = subst (λ n. All (λ row. length row ≡ n) (lists_of after)) s.windows (long_lists after (length marks) s.long);
     values = λ k within. by_due k (omega (arith, within, s.windows)) was (cases_Bool (is_due w (rs ∷ rss) mores k));
   };
   others = λ k within apart. stays k within apart;
-  counted = s.counted
-      ∙ (count_same (is_marked marks) (is_due w (rs ∷ rss) mores) (length marks) s.marked
-      ∙ ap (λ n. due_below w (rs ∷ rss) mores n) s.windows);
+  told = s.listed
+      ∙ (passing_agree (is_marked marks) (is_due w (rs ∷ rss) mores) (length marks) s.marked
+      ∙ ap (λ n. due_windows w (rs ∷ rss) mores n) s.windows);
 }
   where
+    told : (k : ℕ) → k < length marks → is_due w (rs ∷ rss) mores k ≡ true → Contains due k
+    told k inside due_now =
+        subst (λ l. Contains l k) (sym s.listed) (passing_has (is_marked marks) (length marks) k inside (s.marked k inside ∙ due_now))
+
+    untold : (k : ℕ) → k < length marks → is_due w (rs ∷ rss) mores k ≡ false → Contains due k → ⊥
+    untold k inside not_due has =
+        false≢true (sym (s.marked k inside ∙ not_due)
+        ∙ (passing_are (is_marked marks) (length marks) k (subst (λ l. Contains l k) s.listed has)).1)
+
     stays : (k : ℕ) → k < complete_windows w (rs ∷ rss)
         → any_touched (rs ∷ rss) mores (window_from w k) (window_to w k) ≡ false
         → column k (lists_of after) ≡ column k (lists_of rows)
@@ -175,7 +173,7 @@ swept g w (rs ∷ rss) mores rows wider after contents marks due s = record {
         let inside : k < length marks = omega (arith, within, s.grow) in
         let known = long_vecs rows (complete_windows w (rs ∷ rss)) s.known in
         let not_new : nat_le (complete_windows w (rs ∷ rss)) k ≡ false = grind (arith, nat_tests) in
-        s.others k inside (s.marked k inside ∙ ap₂ (λ a b. a || b) not_new apart)
+        s.others k (untold k inside (ap₂ (λ a b. a || b) not_new apart))
         ∙ s.widened k (λ i d at. let h = known i d at in omega arith) inside
 
     at : (k : ℕ) → values g (points_in contents) (window_from w k) (window_to w k) ≡ values_at g w (longer (rs ∷ rss) mores) k
@@ -185,7 +183,7 @@ swept g w (rs ∷ rss) mores rows wider after contents marks due s = record {
         → (is_due w (rs ∷ rss) mores k ≡ true) ⊎ (is_due w (rs ∷ rss) mores k ≡ false)
         → column k (lists_of after) ≡ map Some (values_at g w (longer (rs ∷ rss) mores) k)
     by_due k inside was (inl due_now) =
-        s.filled k inside (s.marked k inside ∙ due_now) ∙ ap (map Some) (at k)
+        s.filled k (told k inside due_now) ∙ ap (map Some) (at k)
     by_due k inside was (inr not_due) =
         let both = either_none (nat_le (complete_windows w (rs ∷ rss)) k)
         (any_touched (rs ∷ rss) mores (window_from w k) (window_to w k)) not_due in

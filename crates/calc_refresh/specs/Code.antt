@@ -18,7 +18,8 @@ abbrev rows_code : Coded (List (List CalcValue))
 rows_code = coded_list (coded_list value.the_row.coded)
 
 abbrev pub sheet_code : Coded SheetState
-sheet_code = code_by (Group × (Grid × (List (List Rec) × (List (List CalcValue) × ℕ))))
-    (coded× group_code (coded× grid.the_row.coded (coded× copies_code (coded× rows_code coded_ℕ))))
-    (λ s. (s.group, (s.grid, (s.copies, (s.rows, s.evals)))))
-    (λ p. record { group = p.0; grid = p.1.0; copies = p.1.1.0; rows = p.1.1.1.0; evals = p.1.1.1.1 }) (λ _. refl)
+sheet_code = code_by (Group × (Grid × (List (List Rec) × (List (List CalcValue) × (ℕ × List ℕ)))))
+    (coded× group_code (coded× grid.the_row.coded (coded× copies_code (coded× rows_code (coded× coded_ℕ (coded_list coded_ℕ))))))
+    (λ s. (s.group, (s.grid, (s.copies, (s.rows, (s.evals, s.due))))))
+    (λ p. record { group = p.0; grid = p.1.0; copies = p.1.1.0; rows = p.1.1.1.0; evals = p.1.1.1.1.0; due = p.1.1.1.1.1 })
+    (λ _. refl)

@@ -1,5 +1,6 @@
 -- What more records do to a sheet, and when the sheet refuses them.
-use Rattle.std.specs.Prelude.{◌≡◌, ℕ, ◌+◌, ◌-◌, ◌*◌, ◌^◌, ◌<◌, ◌≤◌, min, true, false, not, ◌==◌, List, length, map, find, Option, None, Some, nat_lt, if◌then◌else◌, All, Vec, vec_len, vec_capacity, slice_index_or}
+use Rattle.std.specs.Prelude.{◌≡◌, ℕ, ◌+◌, ◌-◌, ◌*◌, ◌^◌, ◌<◌, ◌≤◌, min, true, false, not, ◌==◌, List, [], length, map, filter, find, Option, None, Some, nat_lt, if◌then◌else◌, All, Vec, vec_len, vec_capacity, slice_index_or}
+use Rattle.std.specs.List.{range_with_len}
 use Rattle.std.specs.Option.{option_map}
 use Rattle.std.specs.declared.alloc.Global.{Global}
 use Rattle.trend_num.specs.declared.archive.Rec.{Rec}
@@ -24,7 +25,7 @@ most_copies = 2097152
 
 -- a sheet that has just been made: nothing is evaluated yet
 abbrev pub fresh : Group → Grid → List (List Rec) → List (List CalcValue) → SheetState
-fresh g w copies rows = record { group = g; grid = w; copies = copies; rows = rows; evals = 0 }
+fresh g w copies rows = record { group = g; grid = w; copies = copies; rows = rows; evals = 0; due = [] }
 
 -- the fault of saved rows: that of the first row that does not have exactly so many values
 abbrev pub shape_fault : ℕ → List (List CalcValue) → Option SheetNo
@@ -55,6 +56,10 @@ IsRefreshToldOf fault (CellLimit cells) = fault ≡ Some (CellLimit cells)
 IsRefreshToldOf fault (CopyLimit records) = fault ≡ Some (CopyLimit records)
 IsRefreshToldOf fault WantOfMemory = Unit {0}
 
+-- those of the first n windows that more records make due
+abbrev pub due_windows : Grid → List (List Rec) → List (List Rec) → ℕ → List ℕ
+due_windows w rss mores n = filter (is_due w rss mores) (range_with_len 0 n)
+
 -- how many values more records make a sheet evaluate: one for each calculation in each window that is due
 abbrev pub evaluated : SheetState → List (List Rec) → ℕ
 evaluated s mores =
@@ -77,10 +82,12 @@ pub record IsRefreshed (s t : SheetState) (mores : List (List Rec)) : Type 0 whe
       → any_touched s.copies mores (window_from s.grid k) (window_to s.grid k) ≡ false
       → column k t.rows ≡ column k s.rows
   pub evals : t.evals ≡ min (s.evals + evaluated s mores) (2 ^ 64 - 1)
+  -- the windows that were due are told, each once and in rising order
+  pub due_told : t.due ≡ due_windows s.grid s.copies mores (complete_windows t.grid t.copies)
 
--- rows and copies of a group with these additional records, for which so many windows were due
+-- rows and copies of a group with these additional records, for which these windows were due
 pub record IsSheetAfter (g : Group) (w : Grid) (copies : List (List Rec)) (rows : List (List CalcValue))
-    (copies_after : List (List Rec)) (rows_after : List (List CalcValue)) (mores : List (List Rec)) (due : ℕ) : Type 0 where
+    (copies_after : List (List Rec)) (rows_after : List (List CalcValue)) (mores : List (List Rec)) (due : List ℕ) : Type 0 where
   pub copied : copies_after ≡ longer copies mores
   pub due_are : (k : ℕ) → k < complete_windows w copies_after → is_due w copies mores k ≡ true
       → column k rows_after ≡ map Some (values_at g w copies_after k)
@@ -88,7 +95,7 @@ pub record IsSheetAfter (g : Group) (w : Grid) (copies : List (List Rec)) (rows 
   pub others : (k : ℕ) → k < complete_windows w copies
       → any_touched copies mores (window_from w k) (window_to w k) ≡ false
       → column k rows_after ≡ column k rows
-  pub counted : due ≡ due_below w copies mores (complete_windows w (longer copies mores))
+  pub told : due ≡ due_windows w copies mores (complete_windows w copies_after)
 
 -- there is room for more records of each input, and for so many windows
 pub record HasRoomForRecords (copies : List (Vec Rec Global)) (contents : List ContentState) (rows : List (Vec CalcValue Global))

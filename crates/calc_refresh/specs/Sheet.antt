@@ -8,14 +8,15 @@ use Rattle.calc_check.specs.Group.{Group}
 use Rattle.sheet_law.specs.declared.grid.Grid.{Grid}
 use Rattle.sheet_law.specs.Windows.{complete_windows, kept_end}
 
--- a group's calculations, its grid, the records of its inputs that were taken into account, its rows, and how many
--- values were evaluated since the sheet was made
+-- a group's calculations, its grid, the records of its inputs that were taken into account, its rows, how many values
+-- were evaluated since the sheet was made, and the windows that the last refresh evaluated, rising
 pub record SheetState : Type 0 where
   pub group : Group
   pub grid : Grid
   pub copies : List (List Rec)
   pub rows : List (List CalcValue)
   pub evals : ℕ
+  pub due : List ℕ
 
 -- there is a row for each calculation, with one value for each complete window
 pub record AreRowsWhole (s : SheetState) : Type 0 where

@@ -1,13 +1,11 @@
-// Rows: making them longer, and evaluating the windows that are marked.
-ghost use Rattle.std.specs.Prelude.{◌≡◌, ◌≢◌, ℕ, ◌+◌, ◌*◌, ◌^◌, ◌<◌, ◌≤◌, true, false, List, length, map, All, Some, count_by};
+// Rows: making them longer, and evaluating windows.
+ghost use Rattle.std.specs.Prelude.{◌≡◌, ◌≢◌, ℕ, ◌+◌, ◌*◌, ◌<◌, ◌≤◌, List, length, map, All, Contains, Some};
 ghost use Rattle.std.specs.Prelude.{vec_len, vec_capacity};
-ghost use Rattle.std.specs.List.{range_with_len};
 ghost use Rattle.trend_num.specs.Ranges.{last_time};
 ghost use Rattle.sheet_law.specs.Value.{points_in, values};
 ghost use Rattle.sheet_law.specs.Windows.{window_from, window_to};
 ghost use Rattle.sheet_law.specs.Scratch.{column};
 ghost use Rattle.calc_refresh.specs.Lists.{lists_of};
-ghost use Rattle.calc_refresh.specs.Marks.{is_marked};
 ghost use Rattle.calc_refresh.specs.Sheet.{IsGrid};
 
 use calc_eval::{CalcValue, Checked, eval};
@@ -59,40 +57,32 @@ fn evaluate_window<L: Ledger>(
     }
 }
 
-// Evaluates the windows that are marked. Returns how many there were.
+// Evaluates the windows of a list.
 pub(crate) fn evaluate<L: Ledger>(
     calcs: &Checked,
     grid: Grid,
     contents: &[Content],
     rows: &mut [Vec<CalcValue>],
-    marks: &[u64],
+    due: &[u32],
     steps: &mut Steps<L>,
-) -> u64
+)
     requires grid { IsGrid grid }
-    requires complete { (k : ℕ) → k < length marks.now → window_to grid k ≤ last_time }
+    requires complete { All (λ k. window_to grid k ≤ last_time) due.now }
     requires inputs { length contents.now ≡ length calcs.now.inputs }
     requires calcs { length rows.old ≡ length calcs.now.calcs }
     requires few { length rows.old ≤ 64 }
-    requires windows { All (λ row. vec_len row ≡ length marks.now) rows.old }
-    ensures values { (k : ℕ) → k < length marks.now → is_marked marks.now k ≡ true
+    requires within { All (λ k. All (λ row. k < vec_len row) rows.old) due.now }
+    ensures values { (k : ℕ) → Contains due.now k
         → column k (lists_of rows.new)
         ≡ map Some (values calcs.now (points_in contents.now) (window_from grid k) (window_to grid k)) }
-    ensures others { (k : ℕ) → k < length marks.now → is_marked marks.now k ≡ false
-        → column k (lists_of rows.new) ≡ column k (lists_of rows.old) }
-    ensures windows { All (λ row. vec_len row ≡ length marks.now) rows.new }
-    ensures count { result ≡ count_by (is_marked marks.now) (range_with_len 0 (length marks.now)) }
-    ensures steps { steps.new ≡ steps.old + result * length rows.old }
+    ensures others { (k : ℕ) → (Contains due.now k → ⊥) → column k (lists_of rows.new) ≡ column k (lists_of rows.old) }
+    ensures lengths { map (λ row. vec_len row) rows.new ≡ map (λ row. vec_len row) rows.old }
+    ensures steps { steps.new ≡ steps.old + length due.now * length rows.old }
 {
-    let mut behind = 0;
-    let mut due = 0;
-    for k in 0..marks.len() {
-        behind = marks[k].max(behind);
-        if (k as u64) < behind {
-            let from = grid.start + k as u64 * grid.period;
-            let to = grid.start + (k as u64 + 1) * grid.period;
-            evaluate_window(calcs, contents, from, to, rows, k, steps);
-            due += 1;
-        }
+    for k in due {
+        let k = *k as usize;
+        let from = grid.start + k as u64 * grid.period;
+        let to = grid.start + (k as u64 + 1) * grid.period;
+        evaluate_window(calcs, contents, from, to, rows, k, steps);
     }
-    due
 }

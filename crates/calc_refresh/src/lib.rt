@@ -8,9 +8,9 @@
 //! its records. The content gives the stretch of a late record before the record is put in. `apply` takes all memory
 //! before it changes anything, so a refused call leaves the sheet as it was.
 //!
-//! No clause states how long a call takes. The code goes once over the new records and once over the complete windows,
-//! and evaluates the windows that are due. A content without room for the new records is made anew from all records of
-//! its input, with room for a quarter more.
+//! No clause states how long a call takes. The code goes once over the new records, and once over a row of marks, one for
+//! each complete window. It evaluates the windows that are due, and `due` tells which these were. A content without room
+//! for the new records is made anew from all records of its input, with room for a quarter more.
 #![tactic(auto)]
 
 mod definition;

@@ -1,6 +1,6 @@
 // A sheet with more records, once there is memory for all of them.
 ghost use Rattle.std.specs.Prelude.{◌≡◌, ℕ, ◌+◌, ◌*◌, ◌^◌, ◌<◌, ◌≤◌, false, List, length, map, All};
-ghost use Rattle.std.specs.Prelude.{replicate, IfOk, OnErr};
+ghost use Rattle.std.specs.Prelude.{replicate, OnErr, OnOk, vec_capacity};
 ghost use Rattle.trend_model.specs.Contents.{ContentState, listed};
 ghost use Rattle.sheet_law.specs.Windows.{complete_windows};
 ghost use Rattle.sheet_law.specs.Touched.{longer};
@@ -9,7 +9,7 @@ ghost use Rattle.calc_refresh.specs.Sheet.{IsCopy, IsSheet};
 ghost use Rattle.calc_refresh.specs.Refreshed.{HasRoomForRecords, IsSheetAfter};
 
 use crate::evaluation::{evaluate, lengthen};
-use crate::mark::mark;
+use crate::mark::{list_marked, mark};
 use crate::room::make_room;
 use crate::taking::take_all;
 use crate::window::Span;
@@ -20,8 +20,8 @@ use std::alloc::{AllocError, Global};
 use std::sync::ledger::Ledger;
 use trend_num::{Rec, Steps};
 
-// Takes more records and evaluates the windows that they make due. Returns how many these are. `marks` has a place for
-// each window that is then complete, and no window is marked yet.
+// Takes more records, and lists and evaluates the windows that they make due. `marks` has a place for each window that
+// is then complete, and no window is marked yet.
 pub(crate) fn refreshed<L: Ledger>(
     calcs: &Checked,
     grid: Grid,
@@ -30,9 +30,10 @@ pub(crate) fn refreshed<L: Ledger>(
     ends: &mut [u64],
     rows: &mut [Vec<CalcValue>],
     deltas: &[Vec<Rec>],
-    marks: &mut [u64],
+    marks: &mut [u32],
+    due: &mut Vec<u32>,
     steps: &mut Steps<L>,
-) -> u64
+)
     requires sheet { IsSheet calcs.now grid (lists_of copies.old) contents.old ends.old (lists_of rows.old) }
     requires inputs { length deltas.now ≡ length copies.old }
     requires copied { All IsCopy (lists_of deltas.now) }
@@ -41,9 +42,10 @@ pub(crate) fn refreshed<L: Ledger>(
     requires windows { length marks.old ≡ complete_windows grid (longer (lists_of copies.old) (lists_of deltas.now)) }
     requires unmarked { marks.old ≡ replicate (length marks.old) 0 }
     requires few { length marks.old < 2 ^ 32 }
+    requires listable { length marks.old ≤ vec_capacity due.old }
     ensures sheet { IsSheet calcs.now grid (lists_of copies.new) contents.new ends.new (lists_of rows.new) }
-    ensures after { IsSheetAfter calcs.now grid (lists_of copies.old) (lists_of rows.old) (lists_of copies.new) (lists_of rows.new) (lists_of deltas.now) result }
-    ensures steps { steps.new ≡ steps.old + result * length calcs.now.calcs }
+    ensures after { IsSheetAfter calcs.now grid (lists_of copies.old) (lists_of rows.old) (lists_of copies.new) (lists_of rows.new) (lists_of deltas.now) due.new.items }
+    ensures steps { steps.new ≡ steps.old + length due.new.items * length calcs.now.calcs }
 {
     let known = rows[0].len();
     take_all(grid, copies, contents, ends, deltas, marks);
@@ -56,11 +58,12 @@ pub(crate) fn refreshed<L: Ledger>(
         },
     );
     lengthen(rows, windows);
-    evaluate(calcs, grid, contents, rows, marks, steps)
+    list_marked(marks, due);
+    evaluate(calcs, grid, contents, rows, due, steps);
 }
 
-// Takes more records, with which so many windows are complete, and evaluates the windows that they make due. Returns
-// how many these are. It takes all memory before it changes anything.
+// Takes more records, with which so many windows are complete, and lists and evaluates the windows that they make due.
+// It takes all memory before it changes anything.
 pub(crate) fn bring<L: Ledger>(
     alloc: Global,
     calcs: &Checked,
@@ -71,8 +74,9 @@ pub(crate) fn bring<L: Ledger>(
     rows: &mut [Vec<CalcValue>],
     deltas: &[Vec<Rec>],
     windows: usize,
+    due: &mut Vec<u32>,
     steps: &mut Steps<L>,
-) -> Result<u64, AllocError>
+) -> Result<(), AllocError>
     requires sheet { IsSheet calcs.now grid (lists_of copies.old) contents.old ends.old (lists_of rows.old) }
     requires inputs { length deltas.now ≡ length copies.old }
     requires copied { All IsCopy (lists_of deltas.now) }
@@ -80,15 +84,17 @@ pub(crate) fn bring<L: Ledger>(
     requires windows { windows ≡ complete_windows grid (longer (lists_of copies.old) (lists_of deltas.now)) }
     requires few { windows < 2 ^ 32 }
     ensures sheet { IsSheet calcs.now grid (lists_of copies.new) contents.new ends.new (lists_of rows.new) }
-    ensures after { IfOk result (IsSheetAfter calcs.now grid (lists_of copies.old) (lists_of rows.old) (lists_of copies.new) (lists_of rows.new) (lists_of deltas.now)) }
-    ensures steps { IfOk result (λ due. steps.new ≡ steps.old + due * length calcs.now.calcs) }
+    ensures after { OnOk result (IsSheetAfter calcs.now grid (lists_of copies.old) (lists_of rows.old) (lists_of copies.new) (lists_of rows.new) (lists_of deltas.now) due.new.items) }
+    ensures steps { OnOk result (steps.new ≡ steps.old + length due.new.items * length calcs.now.calcs) }
     ensures same_copies { OnErr result (lists_of copies.new ≡ lists_of copies.old) }
     ensures same_rows { OnErr result (lists_of rows.new ≡ lists_of rows.old) }
+    ensures same_due { OnErr result (due.new.items ≡ due.old.items) }
     ensures no_steps { OnErr result (steps.new ≡ steps.old) }
 {
-    let mut marks = vec![in alloc; 0u64; windows]?;
+    let mut marks = vec![in alloc; 0u32; windows]?;
     make_room(alloc, copies, contents, rows, deltas, windows)?;
-    Ok(refreshed(
+    due.reserve(windows.saturating_sub(due.len()))?;
+    refreshed(
         calcs,
         grid,
         copies,
@@ -97,6 +103,8 @@ pub(crate) fn bring<L: Ledger>(
         rows,
         deltas,
         marks.as_mut_slice(),
+        due,
         steps,
-    ))
+    );
+    Ok(())
 }

@@ -85,6 +85,7 @@ pub(crate) fn restored(
             ends,
             rows,
             evals: 0,
+            due: Vec::new(alloc),
         }),
     }
 }

@@ -37,6 +37,8 @@ pub struct Sheet {
     // The values of each calculation, window by window.
     pub(crate) rows: Vec<Vec<CalcValue>>,
     pub(crate) evals: u64,
+    // The windows that the last `apply` evaluated.
+    pub(crate) due: Vec<u32>,
 }
 
 impl Model for Sheet {
@@ -54,6 +56,7 @@ impl Model for Sheet {
       copies = lists_of s.copies.items;
       rows = lists_of s.rows.items;
       evals = s.evals;
+      due = s.due.items;
     } };
 
     ghost invariant = { λ s. IsSheet s.calcs s.grid (lists_of s.copies.items) s.contents.items s.ends.items (lists_of s.rows.items) };
@@ -141,7 +144,7 @@ impl Sheet {
         let windows = windows_after(self.grid, &self.ends, deltas);
         let calcs = self.rows.len() as u64;
         within_limits(windows * calcs, records_after(&self.copies, deltas))?;
-        let due = bring(
+        bring(
             self.alloc,
             &self.calcs,
             self.grid,
@@ -151,8 +154,10 @@ impl Sheet {
             self.rows.as_mut_slice(),
             deltas,
             windows as usize,
+            &mut self.due,
             steps,
         )?;
+        let due = self.due.len() as u64;
         self.evals = self.evals.saturating_add(due * calcs);
         Ok(())
     }
@@ -203,6 +208,14 @@ impl Sheet {
         ensures { result ≡ self.now.evals }
     {
         self.evals
+    }
+
+    /// Returns the windows whose values the last `apply` evaluated, in rising order. There are none before the first
+    /// one.
+    pub fn due(&self) -> &[u32]
+        ensures { result.now ≡ self.now.due }
+    {
+        &self.due
     }
 
     /// Returns the copies and the rows.

@@ -64,7 +64,7 @@ fn take_records(
     content: &mut Content,
     end: u64,
     recs: &[Rec],
-    marks: &mut [u64],
+    marks: &mut [u32],
 ) -> u64
     requires grid { IsGrid grid }
     requires range { All (λ r. InRange r.point) recs.now }
@@ -98,7 +98,7 @@ pub(crate) fn take_all(
     contents: &mut [Content],
     ends: &mut [u64],
     deltas: &[Vec<Rec>],
-    marks: &mut [u64],
+    marks: &mut [u32],
 )
     requires grid { IsGrid grid }
     requires range { All IsCopy (lists_of deltas.now) }

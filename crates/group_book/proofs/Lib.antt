@@ -1,6 +1,8 @@
 pub mod Cuts
 pub mod Turns
+pub mod Columns
 pub mod Listing
+pub mod Flags
 pub mod Fresh
 pub mod LegalTurns
 pub mod Pulls

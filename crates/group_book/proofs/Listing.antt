@@ -1,5 +1,5 @@
 -- The cells that changed, listed one after the other.
-use Rattle.std.proofs.Common.{◌≡◌, inl, inr, ◌⊎◌, ℕ, ◌+◌, ◌<◌, true, false, List, [], ◌∷◌, ◌++◌, get_or, IfSome, IsSome, Option, None, Some, nat_eq, ◌&&◌, refl, sym, ap, ◌∙◌, subst, arith, le-leb, if◌then◌else◌}
+use Rattle.std.proofs.Common.{◌≡◌, inl, inr, ◌⊎◌, ℕ, zero, suc, ◌+◌, ◌-◌, ◌<◌, ◌≤◌, true, false, List, [], ◌∷◌, ◌++◌, get_or, IfSome, IsSome, Option, None, Some, nat_eq, ◌&&◌, refl, sym, ap, ◌∙◌, subst, arith, le-leb, if◌then◌else◌}
 use Rattle.std.proofs.lemmas.Bool.{cases_lt}
 use Rattle.std.proofs.lemmas.Bool.Decides.{nat_tests}
 use Rattle.std.proofs.lemmas.List.Elements.{All-nil, All-push, All-weaker}
@@ -8,11 +8,13 @@ use Rattle.trend_num.specs.declared.value.Bad.TheVariants.{NoData, DivZero, Rang
 use Rattle.trend_num.specs.declared.value.CalcValue.{CalcValue}
 use Rattle.trend_num.specs.declared.value.CalcValue.TheVariants.{Num, Bad}
 use Rattle.sheet_law.specs.Number.{IsInRange}
+use Rattle.sheet_law.specs.Scratch.{column}
 use Rattle.group_layout.specs.declared.block.BlockRow.{BlockRow}
 use Rattle.group_layout.specs.Blocks.{IsBefore, IsRow, comes_before}
 use Rattle.group_layout.specs.Rows.{cell_of, listed_from, value_of}
 use Rattle.group_layout.proofs.SavedRows.{listed-append}
-use Rattle.group_book.specs.Saves.{IsListed, IsOther, IsSame, ListedUpTo, ListsChanges, row_of}
+use Rattle.group_book.specs.Saves.{HasAllChanges, IsListed, IsOther, IsSame, ListedUpTo, ListsChanges, row_of}
+use Rattle.group_book.proofs.Columns.{same_cells}
 
 -- ---- places in order
 
@@ -212,3 +214,58 @@ list_cell old new calcs windows calc k rows rows' (Some v) was so_far calc_low k
     (list_added old new calcs windows calc k rows so_far v calc_low k_low (sym now_is)
     (λ e. changed.0 (now_is ∙ e ∙ sym was_is)))
 list_cell old new calcs windows calc k rows rows' None was so_far calc_low k_low now_is was_is some (inr changed) = absurd (cc (some))
+
+-- ---- one window after the other
+
+-- windows that did not change
+list_passed : (old new : List (List CalcValue)) (calcs windows calc k n : ℕ) (rows : List BlockRow)
+    → ListedUpTo old new calcs windows calc k rows → ((j : ℕ) → k ≤ j → j < k + n → column j old ≡ column j new)
+    → ListedUpTo old new calcs windows calc (k + n) rows
+list_passed old new calcs windows calc k zero rows so_far same =
+    (let end : k ≡ k + 0 = omega arith in subst (λ j. ListedUpTo old new calcs windows calc j rows) end so_far)
+list_passed old new calcs windows calc k (suc n) rows so_far same =
+    let end : k + n + 1 ≡ k + suc n = omega arith in
+    let before = list_passed old new calcs windows calc k n rows so_far (λ j low below. same j low (omega arith)) in
+    subst (λ j. ListedUpTo old new calcs windows calc j rows) end
+    (list_kept old new calcs windows calc (k + n) rows before
+    (sym (same_cells old new calc (k + n) (same (k + n) (omega arith) (omega arith)))))
+
+-- what changed in a calculation is listed up to a place, and no window behind it has changed but these
+pub record ListedBefore (old new : List (List CalcValue)) (calcs windows calc : ℕ) (ahead : List ℕ) (rows : List BlockRow) : Type 0 where
+  pub place : ℕ
+  pub within : place ≤ windows
+  pub so_far : ListedUpTo old new calcs windows calc place rows
+  pub changes : HasAllChanges old new place windows ahead
+
+module _ (old new : List (List CalcValue)) (calcs windows calc : ℕ) (rows : List BlockRow) where
+  pub list_begun : (ks : List ℕ) → ListedUpTo old new calcs windows calc 0 rows → HasAllChanges old new 0 windows ks
+      → ListedBefore old new calcs windows calc ks rows
+  list_begun ks so_far changes = record { place = 0; within = omega arith; so_far = so_far; changes = changes }
+
+  -- the next of them
+  pub list_window : (k : ℕ) (ks : List ℕ) (rows' : List BlockRow) (now was : Option CalcValue)
+      → ListedBefore old new calcs windows calc (k ∷ ks) rows → calc < calcs → now ≡ cell_of new calc k → was ≡ cell_of old calc k
+      → (k < windows → IsSome now)
+      → (((now ≡ was) × (rows' ≡ rows)) ⊎ ((now ≡ was → ⊥) × IfSome now (λ v. rows' ≡ rows ++ row_of calc k v ∷ [])))
+      → ListedBefore old new calcs windows calc ks rows'
+  list_window k ks rows' now was before calc_low now_is was_is some added =
+      let low = before.changes.0 in
+      let end : before.place + (k - before.place) ≡ k = omega arith in
+      let here = subst (λ j. ListedUpTo old new calcs windows calc j rows) end
+      (list_passed old new calcs windows calc before.place (k - before.place) rows before.so_far
+      (λ j from below. before.changes.2 j from (omega arith))) in
+      record {
+        place = k + 1;
+        within = omega (arith, before.changes.1);
+        so_far = list_cell old new calcs windows calc k rows rows' now was here calc_low before.changes.1 now_is was_is
+            (some before.changes.1) added;
+        changes = before.changes.3;
+      }
+
+  -- behind the last of them nothing has changed
+  pub list_ended : ListedBefore old new calcs windows calc [] rows → ListedUpTo old new calcs windows (calc + 1) 0 rows
+  list_ended before =
+      let end : before.place + (windows - before.place) ≡ windows = omega (arith, before.within) in
+      list_next old new calcs windows calc rows (subst (λ j. ListedUpTo old new calcs windows calc j rows) end
+      (list_passed old new calcs windows calc before.place (windows - before.place) rows before.so_far
+      (λ j from below. before.changes j from (omega arith))))

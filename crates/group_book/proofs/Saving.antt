@@ -38,10 +38,10 @@ use Rattle.group_book.specs.declared.turn.Turn.{Turn}
 use Rattle.group_book.specs.declared.turn.Turn.TheVariants.{Refresh, Ask, Save}
 use Rattle.group_book.specs.declared.history.GroupOpening.{GroupOpening}
 use Rattle.group_book.specs.Tapes.{BookWalk, after_turn, cut, saved_at, book_start, versions_since, book_walked}
-use Rattle.group_book.specs.Histories.{IsBookLegal, IsRight, NeverFall}
+use Rattle.group_book.specs.Histories.{AreRowsEvaluated, IsBookLegal, IsRight, NeverFall}
 use Rattle.group_book.specs.Crashes.{IsBookSafe, StandsForOne}
 use Rattle.group_book.specs.Saves.{AreValuesInRange, IsListed, IsOther, IsSame, ListsChanges}
-use Rattle.group_book.specs.Told.{HoldsBlocks, IsKept, IsReady, Saved, count_of, trace_of}
+use Rattle.group_book.specs.Told.{AreFlagged, HoldsBlocks, IsDefined, IsKept, IsReady, Saved, count_of, trace_of}
 use Rattle.group_book.proofs.Cuts.{cut-all, never_refl}
 use Rattle.group_book.proofs.LegalTurns.{cell_scratch}
 use Rattle.group_book.proofs.Turns.{contains_last, contains_left, fit_push, saved_rises, walked-push}
@@ -418,3 +418,28 @@ module _ (text : List ℕ) (def : GroupDefParts) (o : GroupOpening) (tape : List
           (subst (λ f. IsKept text def o (tape ++ turn ∷ []) copies next_saved f new ticks' faults') (sym usable) (kept_saved faults' same))),
       subst (λ l. IsBookSafe text def.calcs (grid_of def.start def.period) o copies l (LeftSince new)) (sym longer) (safe_saved safe),
     )
+
+-- ---- what a book keeps of its parts
+
+-- all that the type keeps, of a device with this trace, this clock and this count of faults
+abbrev pub KeepsAll : (text : List ℕ) (def : GroupDefParts) (tags : List ℕ) (o : GroupOpening) (versions : List ℕ) (sheet : SheetState)
+    (saved : Saved) (failed : Bool) (trace : Option Trace) (ticks faults : ℕ) → Type 0 → (tape : List Turn)
+    (rows : List (List CalcValue)) (flags : List Bool) → Type 0
+KeepsAll text def tags o versions sheet saved failed trace ticks faults on tape rows flags = IsDefined def tags sheet
+    × IsBookLegal def.calcs (grid_of def.start def.period) o tape versions sheet.copies sheet.rows
+    × IsKept text def o tape sheet.copies (record saved { rows = rows }) failed trace ticks faults
+    × IsBookSafe text def.calcs (grid_of def.start def.period) o sheet.copies tape (LeftSince trace)
+    × on
+    × AreRowsEvaluated def.calcs (grid_of def.start def.period) o tape sheet.copies sheet.rows sheet.evals
+    × AreFlagged flags rows sheet
+
+-- it keeps the same of parts that are the same
+pub keeps_alike : (text : List ℕ) (def : GroupDefParts) (tags : List ℕ) (o : GroupOpening) (versions : List ℕ) (sheet : SheetState)
+    (saved : Saved) (failed : Bool) (trace : Option Trace) (ticks faults : ℕ) (on : Type 0) (tape tape' : List Turn)
+    (rows rows' : List (List CalcValue)) (flags flags' : List Bool) → tape' ≡ tape → rows' ≡ rows → flags' ≡ flags
+    → KeepsAll text def tags o versions sheet saved failed trace ticks faults on tape rows flags
+    → KeepsAll text def tags o versions sheet saved failed trace ticks faults on tape' rows' flags'
+keeps_alike text def tags o versions sheet saved failed trace ticks faults on tape tape' rows rows' flags flags' same old unset all =
+    subst (λ l. KeepsAll text def tags o versions sheet saved failed trace ticks faults on l rows' flags') (sym same)
+    (subst (λ l. KeepsAll text def tags o versions sheet saved failed trace ticks faults on tape l flags') (sym old)
+    (subst (KeepsAll text def tags o versions sheet saved failed trace ticks faults on tape rows) (sym unset) all))

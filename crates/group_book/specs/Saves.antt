@@ -1,5 +1,5 @@
 -- What a save writes: the rows that changed since the last one.
-use Rattle.std.specs.Prelude.{◌≡◌, ◌≢◌, ℕ, pos, ◌+◌, ◌<◌, true, false, List, ◌∷◌, ◌++◌, [], All, AllPairs, length, Option, None, Some}
+use Rattle.std.specs.Prelude.{◌≡◌, ◌≢◌, ℕ, pos, ◌+◌, ◌<◌, ◌≤◌, true, false, List, ◌∷◌, ◌++◌, [], All, AllPairs, length, Option, None, Some}
 use Rattle.trend_num.specs.declared.value.Bad.TheVariants.{NoData, DivZero, Range}
 use Rattle.trend_num.specs.declared.value.CalcValue.{CalcValue}
 use Rattle.trend_num.specs.declared.value.CalcValue.TheVariants.{Num, Bad}
@@ -7,6 +7,7 @@ use Rattle.sheet_law.specs.Number.{IsInRange}
 use Rattle.disk_model.specs.Calls.{Sees}
 use Rattle.disk_model.specs.Gates.{open_byte}
 use Rattle.disk_model.specs.Traces.{Trace, seen, written}
+use Rattle.sheet_law.specs.Scratch.{column}
 use Rattle.sheet_law.specs.Windows.{complete_windows}
 use Rattle.group_layout.specs.declared.block.BlockRow.{BlockRow}
 use Rattle.group_layout.specs.Blocks.{AreRows, IsBefore, IsRow, BlockParts, block_image, block_size, comes_before}
@@ -44,6 +45,13 @@ pub record ListedUpTo (old new : List (List CalcValue)) (calcs windows calc k : 
   pub each : AreValuesInRange new → All (IsRow calcs windows) rows
   pub sorted : AllPairs IsBefore rows
   pub low : All (λ r. comes_before r.calc r.window calc k ≡ true) rows
+
+-- these windows rise from one place on and lie before another one, and of the windows there that they leave out none has
+-- changed
+abbrev pub HasAllChanges : List (List CalcValue) → List (List CalcValue) → ℕ → ℕ → List ℕ → Type 0
+HasAllChanges old new from to [] = (k : ℕ) → from ≤ k → k < to → column k old ≡ column k new
+HasAllChanges old new from to (k ∷ ks) = (from ≤ k) × (k < to) × ((j : ℕ) → from ≤ j → j < k → column j old ≡ column j new)
+    × HasAllChanges old new (k + 1) to ks
 
 -- ---- what is saved
 

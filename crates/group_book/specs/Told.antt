@@ -1,5 +1,5 @@
 -- What a clause sees of a book, what the book's type keeps, and what its calls change.
-use Rattle.std.specs.Prelude.{◌≡◌, ◌≢◌, ◌⊎◌, ℕ, ◌+◌, ◌<◌, ◌≤◌, Bool, true, false, List, [], ◌∷◌, ◌++◌, length, map, Option, None, Some, IfSome, IsSome, slice_index, slice_index_or, Vec}
+use Rattle.std.specs.Prelude.{◌≡◌, ◌≢◌, ◌⊎◌, ℕ, ◌+◌, ◌<◌, ◌≤◌, Bool, true, false, List, [], ◌∷◌, ◌++◌, All, length, map, Option, None, Some, IfSome, IsSome, slice_index, slice_index_or, Vec}
 use Rattle.std.specs.declared.alloc.Global.{Global}
 use Rattle.trend_num.specs.declared.archive.Rec.{Rec}
 use Rattle.trend_num.specs.declared.value.CalcValue.{CalcValue}
@@ -13,7 +13,8 @@ use Rattle.calc_refresh.specs.declared.definition.GroupDefParts.{GroupDefParts}
 use Rattle.calc_refresh.specs.Lists.{lists_of}
 use Rattle.calc_refresh.specs.Refreshed.{IsRefreshed}
 use Rattle.calc_refresh.specs.Sheet.{IsGrid, IsGroup, SheetState, grid_of}
-use Rattle.sheet_law.specs.Scratch.{IsScratch}
+use Rattle.sheet_law.specs.Windows.{complete_windows}
+use Rattle.sheet_law.specs.Scratch.{IsScratch, column}
 use Rattle.group_layout.specs.Blocks.{BlockParts, end_of, last_of, unsaved}
 use Rattle.archive_file.specs.TextHeads.{blocks_at}
 use Rattle.group_layout.specs.Images.{HasSaved}
@@ -92,6 +93,18 @@ pub record IsKept (text : List ℕ) (def : GroupDefParts) (o : GroupOpening) (ta
   pub opened_before : o.moment ≤ ticks
   pub faultless : failed ≡ false → faults ≡ o.faults
   pub cause : failed ≡ true → Rose o.faults faults
+
+-- whether a window has no flag, or one that is set
+abbrev pub is_unsaved : List Bool → ℕ → Bool
+is_unsaved flags k = slice_index_or flags k true
+
+-- There is a saved row for each calculation, with a value for each window that has a flag. No window without a
+-- value in the sheet has one. Where the flag is not set, the sheet has the values that were saved.
+pub record AreFlagged (flags : List Bool) (saved : List (List CalcValue)) (s : SheetState) : Type 0 where
+  pub calcs : length saved ≡ length s.group.calcs
+  pub windows : All (λ row. length row ≡ length flags) saved
+  pub few : length flags ≤ complete_windows s.grid s.copies
+  pub kept : (k : ℕ) → is_unsaved flags k ≡ false → column k saved ≡ column k s.rows
 
 -- a book with a definition text, which is that of its device, has a device
 abbrev pub IsOnDevice : {D : Type 0} → List ℕ → Option D → Type 0

@@ -34,6 +34,8 @@ pub struct Book<D: Disk> {
     pub(crate) saved_versions: Vec<u32>,
     pub(crate) saved_rows: Vec<Vec<CalcValue>>,
     pub(crate) end: u64,
+    // For each window that the last save had, or else the opening: whether a refresh has evaluated it since.
+    pub(crate) unsaved: Vec<bool>,
     pub(crate) failed: bool,
 }
 
@@ -46,7 +48,7 @@ impl<D: Disk> Model for Book<D> {
     ghost use Rattle.calc_refresh.specs.Sheet.{grid_of};
     ghost use Rattle.group_book.specs.Crashes.{IsBookSafe};
     ghost use Rattle.group_book.specs.Histories.{AreRowsEvaluated, IsBookLegal};
-    ghost use Rattle.group_book.specs.Told.{ToldBook, Saved, IsDefined, IsKept, IsOnDevice, count_of, trace_of};
+    ghost use Rattle.group_book.specs.Told.{ToldBook, Saved, AreFlagged, IsDefined, IsKept, IsOnDevice, count_of, trace_of};
 
     ghost Value = { ToldBook D };
 
@@ -72,7 +74,8 @@ impl<D: Disk> Model for Book<D> {
         (trace_of D.trace b.dev) (count_of D.ticks b.dev) (count_of D.fault_count b.dev)
         × IsBookSafe b.text.items b.def.calcs (grid_of b.def.start b.def.period) b.opening b.sheet.copies b.tape.items (LeftSince (trace_of D.trace b.dev))
         × IsOnDevice b.text.items b.dev
-        × AreRowsEvaluated b.def.calcs (grid_of b.def.start b.def.period) b.opening b.tape.items b.sheet.copies b.sheet.rows b.sheet.evals };
+        × AreRowsEvaluated b.def.calcs (grid_of b.def.start b.def.period) b.opening b.tape.items b.sheet.copies b.sheet.rows b.sheet.evals
+        × AreFlagged b.unsaved.items (lists_of b.saved_rows.items) b.sheet };
 }
 
 impl<D: Disk> Book<D> {

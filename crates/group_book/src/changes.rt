@@ -3,26 +3,27 @@ ghost use Rattle.std.specs.Prelude.{◌≡◌, ◌≢◌, ◌⊎◌, ◌+◌, �
 ghost use Rattle.sheet_law.specs.Windows.{complete_windows};
 ghost use Rattle.calc_refresh.specs.Lists.{lists_of};
 ghost use Rattle.group_layout.specs.Rows.{cell_of};
-ghost use Rattle.group_book.specs.Saves.{ListedUpTo, ListsChanges, row_of};
+ghost use Rattle.group_book.specs.Saves.{HasAllChanges, ListedUpTo, ListsChanges, row_of};
 
 use calc_refresh::{Bad, CalcValue, Sheet};
 use group_layout::BlockRow;
 use std::alloc::{AllocError, Global};
 
-// Returns the rows that list the cells that changed since the last save.
+// Returns the rows that list the cells that changed since the last save. These are cells of the windows `unsaved`.
 pub(crate) fn changes(
     alloc: Global,
     sheet: &Sheet,
     saved: &[Vec<CalcValue>],
+    unsaved: &[u32],
 ) -> Result<Vec<BlockRow>, AllocError>
+    requires { HasAllChanges (lists_of saved.now) sheet.now.rows 0 (complete_windows sheet.now.grid sheet.now.copies) unsaved.now }
     ensures { IfOk result (λ v. ListsChanges (length sheet.now.group.calcs) (complete_windows sheet.now.grid sheet.now.copies)
         (lists_of saved.now) sheet.now.rows v.items) }
 {
     let mut rows = Vec::new(alloc);
     let calcs = sheet.rows().len() as u32;
-    let windows = sheet.windows();
     for calc in 0..calcs {
-        add_changes(&mut rows, sheet, saved, calc, windows)?;
+        add_changes(&mut rows, sheet, saved, calc, unsaved)?;
     }
     Ok(rows)
 }
@@ -33,16 +34,16 @@ fn add_changes(
     sheet: &Sheet,
     saved: &[Vec<CalcValue>],
     calc: u32,
-    windows: u32,
+    unsaved: &[u32],
 ) -> Result<(), AllocError>
     requires calc { calc < length sheet.now.group.calcs }
-    requires windows { windows ≡ complete_windows sheet.now.grid sheet.now.copies }
-    requires listed { ListedUpTo (lists_of saved.now) sheet.now.rows (length sheet.now.group.calcs) windows calc 0 rows.old.items }
-    ensures { OnOk result (ListedUpTo (lists_of saved.now) sheet.now.rows (length sheet.now.group.calcs) windows (calc + 1) 0 rows.new.items) }
+    requires unsaved { HasAllChanges (lists_of saved.now) sheet.now.rows 0 (complete_windows sheet.now.grid sheet.now.copies) unsaved.now }
+    requires listed { ListedUpTo (lists_of saved.now) sheet.now.rows (length sheet.now.group.calcs) (complete_windows sheet.now.grid sheet.now.copies) calc 0 rows.old.items }
+    ensures { OnOk result (ListedUpTo (lists_of saved.now) sheet.now.rows (length sheet.now.group.calcs) (complete_windows sheet.now.grid sheet.now.copies) (calc + 1) 0 rows.new.items) }
 {
-    for k in 0..windows {
-        let new = sheet.row(calc, u64::from(k));
-        add_change(rows, calc, k, new, saved_cell(saved, calc, k))?;
+    for k in unsaved {
+        let new = sheet.row(calc, u64::from(*k));
+        add_change(rows, calc, *k, new, saved_cell(saved, calc, *k))?;
     }
     Ok(())
 }

@@ -36,7 +36,9 @@ mod publish;
 mod refresh;
 mod refusal;
 mod save;
+mod saved_rows;
 mod turn;
+mod unsaved;
 
 pub use book::Book;
 pub use history::{GroupHistory, GroupOpening};

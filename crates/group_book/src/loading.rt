@@ -1,5 +1,5 @@
 // A book over the device of its group.
-ghost use Rattle.std.specs.Prelude.{◌≡◌, ℕ, ◌^◌, ◌<◌, ◌≤◌, [], All, Option, Some, IfErr, IfOk, IsErrOf, IsSome, OnOk, false, length, map, take, vec_len};
+ghost use Rattle.std.specs.Prelude.{◌≡◌, ℕ, ◌^◌, ◌<◌, ◌≤◌, [], All, Option, Some, IfErr, IfOk, IsErrOf, IsSome, OnOk, false, length, map, replicate, take, vec_len};
 ghost use Rattle.disk_model.specs.Calls.{CountsFault, Shows};
 ghost use Rattle.disk_model.specs.Gates.{IsShut};
 ghost use Rattle.disk_model.specs.Images.{IsSettled, Now};
@@ -11,13 +11,15 @@ ghost use Rattle.group_layout.specs.Readings.{GainsGroupSync, HasShape, IsReadOf
 ghost use Rattle.group_book.specs.declared.refusal.LoadNo.TheVariants.{Ahead, Damaged, DeviceFault, Shape};
 ghost use Rattle.group_book.specs.Openings.{CountsBookRefusal, IsAheadOrMemory, IsBookCause, IsRefused, StandsForGroup, BookStaysSame, scan_refusal};
 ghost use Rattle.group_book.specs.Tapes.{cut};
+ghost use Rattle.sheet_law.specs.Windows.{complete_windows};
 ghost use Rattle.group_book.specs.Told.{HoldsBlocks, count_of, trace_of, versions_of};
 
 use crate::book::Book;
 use crate::history::GroupOpening;
 use crate::making::copy_of as copy_of_def;
 use crate::refusal::{LoadFail, LoadNo};
-use crate::save::{copy_of, copy_rows};
+use crate::save::copy_of;
+use crate::unsaved::no_flags;
 use archive_file::ScanNo;
 use calc_refresh::{CalcValue, GroupDefParts, Sheet, SheetNo, from_saved};
 use disk_model::Disk;
@@ -131,6 +133,7 @@ pub fn load<D: Disk>(
         saved_versions: saved.versions,
         saved_rows: saved.rows,
         end: saved.end,
+        unsaved: restored.unsaved,
         failed: false,
     })
 }
@@ -155,6 +158,7 @@ struct Restored {
     versions: Vec<u32>,
     opening_versions: Vec<u32>,
     opening_rows: Vec<Vec<CalcValue>>,
+    unsaved: Vec<bool>,
 }
 
 // Makes these from what was saved, and from the records that the inputs' tags recovered.
@@ -180,9 +184,11 @@ fn restore(
     ensures versions { IfOk result (λ r. r.versions.items ≡ saved.now.versions.items) }
     ensures opening_versions { IfOk result (λ r. r.opening_versions.items ≡ saved.now.versions.items) }
     ensures opening_rows { IfOk result (λ r. lists_of r.opening_rows.items ≡ lists_of saved.now.rows.items) }
+    ensures flags { IfOk result (λ r. r.unsaved.items ≡ replicate (complete_windows r.sheet.grid r.sheet.copies) false) }
     ensures refused { IfErr result (IsRefused def.now (lists_of recovered.now) saved.now.versions.items (lists_of saved.now.rows.items)) }
 {
     let sheet = rebuild(alloc, def, saved, recovered)?;
+    let unsaved = no_flags(alloc, sheet.windows())?;
     Ok(Restored {
         def: copy_of_def(def)?,
         text: bytes_of(alloc, text)?,
@@ -190,6 +196,7 @@ fn restore(
         versions: copy_of(alloc, &saved.versions)?,
         opening_versions: copy_of(alloc, &saved.versions)?,
         opening_rows: copy_rows(alloc, &saved.rows)?,
+        unsaved,
     })
 }
 
@@ -264,4 +271,15 @@ fn records_of(alloc: Global, recs: &[Rec], count: u32) -> Result<Vec<Rec>, WantO
     ensures { IfOk result (λ v. v.items ≡ take count recs.now) }
 {
     Ok(Vec::from_slice(alloc, &recs[..count as usize])?)
+}
+
+// Copies rows.
+fn copy_rows(alloc: Global, rows: &[Vec<CalcValue>]) -> Result<Vec<Vec<CalcValue>>, WantOfMemory>
+    ensures { IfOk result (λ copy. lists_of copy.items ≡ lists_of rows.now) }
+{
+    let mut copy = Vec::with_capacity(alloc, rows.len())?;
+    for row in rows {
+        copy.push_reserved(Vec::from_slice(alloc, row)?);
+    }
+    Ok(copy)
 }

@@ -62,6 +62,7 @@ pub fn new_book<D: Disk>(
         saved_versions,
         saved_rows,
         end: 0,
+        unsaved: Vec::new(alloc),
         failed: false,
     })
 }

@@ -9,6 +9,7 @@ ghost use Rattle.group_book.specs.Refusals.{IsBookToldOf};
 use crate::book::Book;
 use crate::refusal::RefreshNo;
 use crate::turn::Turn;
+use crate::unsaved::set_flags;
 use calc_refresh::SheetNo;
 use disk_model::Disk;
 use std::alloc::Global;
@@ -69,6 +70,7 @@ impl<D: Disk> Book<D> {
         let deltas = records_of(self.alloc, pulled)?;
         make_place(&mut self.tape)?;
         self.sheet.apply(&deltas, steps)?;
+        set_flags(&mut self.unsaved, self.sheet.due());
         let place = self.tape.len() as u64;
         self.versions = versions;
         self.tape.push_reserved(Turn::Refresh { versions: entry });

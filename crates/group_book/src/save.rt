@@ -5,14 +5,16 @@ ghost use Rattle.calc_refresh.specs.Lists.{lists_of};
 ghost use Rattle.sheet_law.specs.Windows.{complete_windows};
 ghost use Rattle.group_layout.specs.Blocks.{parts_of};
 ghost use Rattle.group_book.specs.declared.refusal.SaveNo.TheVariants.{Broken, DeviceFault, WantOfMemory as NoMemory};
-ghost use Rattle.group_book.specs.Saves.{IsBookFaulted, IsSaved, ListsChanges};
+ghost use Rattle.group_book.specs.Saves.{HasAllChanges, IsBookFaulted, IsSaved, ListsChanges};
 ghost use Rattle.group_book.specs.Told.{count_of};
 
 use crate::book::Book;
 use crate::changes::changes;
 use crate::publish::make_place;
 use crate::refusal::SaveNo;
+use crate::saved_rows::{bring_rows, make_room};
 use crate::turn::Turn;
+use crate::unsaved::{clear_flags, unsaved_windows};
 use archive_file::PutNo;
 use calc_refresh::{CalcValue, Sheet};
 use disk_model::Disk;
@@ -53,16 +55,18 @@ impl<D: Disk> Book<D> {
         let Some(dev) = &mut self.dev else {
             return Ok(());
         };
-        let versions = copy_of(self.alloc, &self.versions)?;
-        let rows = copy_rows(self.alloc, self.sheet.rows())?;
+        let windows = self.sheet.windows();
+        let unsaved = unsaved_windows(self.alloc, &self.unsaved, windows)?;
         let block = next_block(
             self.alloc,
             &self.sheet,
             &self.versions,
             &self.saved_rows,
+            &unsaved,
             self.number,
         )?;
         make_place(&mut self.tape)?;
+        make_room(&mut self.saved_rows, &mut self.unsaved, windows as usize)?;
         match put_block(self.alloc, dev, self.end, &block) {
             Ok(end) => {
                 let moment = dev.clock();
@@ -71,8 +75,14 @@ impl<D: Disk> Book<D> {
                     moment,
                 });
                 self.number = block.number;
-                self.saved_versions = versions;
-                self.saved_rows = rows;
+                self.saved_versions = block.versions;
+                bring_rows(
+                    &mut self.saved_rows,
+                    self.sheet.rows(),
+                    &unsaved,
+                    windows as usize,
+                );
+                clear_flags(&mut self.unsaved, windows as usize);
                 self.end = end;
                 Ok(())
             }
@@ -93,14 +103,16 @@ pub(crate) fn copy_of(alloc: Global, versions: &[u32]) -> Result<Vec<u32>, WantO
 }
 
 // Makes the block of the next save. `versions` are those of the sheet. `saved` and `number` are the rows and the number
-// of the last save.
+// of the last save, and `unsaved` has the windows in which the rows may have changed since.
 fn next_block(
     alloc: Global,
     sheet: &Sheet,
     versions: &[u32],
     saved: &[Vec<CalcValue>],
+    unsaved: &[u32],
     number: u64,
 ) -> Result<Block, WantOfMemory>
+    requires { HasAllChanges (lists_of saved.now) sheet.now.rows 0 (complete_windows sheet.now.grid sheet.now.copies) unsaved.now }
     ensures number { IfOk result (λ b. b.number ≡ number + 1) }
     ensures versions { IfOk result (λ b. b.versions.items ≡ versions.now) }
     ensures windows { IfOk result (λ b. b.windows ≡ complete_windows sheet.now.grid sheet.now.copies) }
@@ -113,20 +125,6 @@ fn next_block(
         number,
         versions: copy_of(alloc, versions)?,
         windows: sheet.windows(),
-        rows: changes(alloc, sheet, saved)?,
+        rows: changes(alloc, sheet, saved, unsaved)?,
     })
-}
-
-// Copies rows.
-pub(crate) fn copy_rows(
-    alloc: Global,
-    rows: &[Vec<CalcValue>],
-) -> Result<Vec<Vec<CalcValue>>, WantOfMemory>
-    ensures { IfOk result (λ copy. lists_of copy.items ≡ lists_of rows.now) }
-{
-    let mut copy = Vec::with_capacity(alloc, rows.len())?;
-    for row in rows {
-        copy.push_reserved(Vec::from_slice(alloc, row)?);
-    }
-    Ok(copy)
 }

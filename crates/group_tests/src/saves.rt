@@ -49,6 +49,28 @@ a50000000000000001000000030000000300000003\
 0000000000000002000000000000000014\
 00";
 
+// What one book goes through, its saves separated by `/`. Before a save come refreshes, separated by `+`. A refresh has
+// the values that the tag takes before it. The first refresh evaluates three windows. The second one evaluates the
+// windows 1 and 2 anew, for late values, and only 2 changes. The third completes the window 3. The last evaluates none.
+const SAVES: &str = "\
+0,0 3000,0 4000,8 1500,60 commit / \
+2000,40 2500,40 commit + 5000,0 commit / \
+wait";
+
+// The device after these saves, in hexadecimal digits. Its second block has the two cells that changed, and its third
+// one has none.
+const SAVED: &str = "\
+a55048473100000017672c302c313030302c54310a6d3d617667282754312729\
+a50000000000000001000000030000000300000003\
+0000000000000000000000000000000014\
+0000000000000001000000000000000032\
+0000000000000002000000000000000014\
+a50000000000000002000000060000000400000002\
+000000000000000200000000000000001e\
+0000000000000003000000000000000004\
+a50000000000000003000000060000000400000000\
+00";
+
 // Returns a device with another byte at a place, if the text names one.
 fn changed(alloc: Global, dev: MemDisk, change: &str) -> Option<MemDisk> {
     let Some((at, byte)) = change.split_once('=') else {
@@ -254,15 +276,20 @@ fn text_of(alloc: Global) -> Option<Vec<u8>> {
     definition_text(alloc, &name, 0, 1000, &def.calcs).ok()
 }
 
-// Returns the bytes that a first save leaves, in hexadecimal digits.
-fn first(rt: &impl Wait, alloc: Global) -> Option<String> {
-    let dev = MemDisk::new(Vec::new(alloc), Vec::new(alloc));
-    let (dev, _) = session(rt, alloc, dev, "g - 0,0 3000,0 4000,9 1500,60 commit")?;
+// Returns the bytes of a device, in hexadecimal digits.
+fn digits(alloc: Global, dev: &MemDisk) -> Option<String> {
     let mut told = String::new(alloc);
     for b in dev.bytes() {
         write!(told, "{b:02x}").ok()?;
     }
     Some(told)
+}
+
+// Returns the bytes that a first save leaves, in hexadecimal digits.
+fn first(rt: &impl Wait, alloc: Global) -> Option<String> {
+    let dev = MemDisk::new(Vec::new(alloc), Vec::new(alloc));
+    let (dev, _) = session(rt, alloc, dev, "g - 0,0 3000,0 4000,9 1500,60 commit")?;
+    digits(alloc, &dev)
 }
 
 #[test]
@@ -298,4 +325,38 @@ fn first_save(rt: &impl Wait, alloc: Global) -> Option<(u64, u64)> {
 #[test]
 fn a_save_leaves_its_number_and_moment(rt: HostRuntime) {
     assert!(&rt; first_save(&rt, rt.alloc()) == Some((1, 4)));
+}
+
+// Refreshes a book as often as a text has values for it, and saves it.
+fn refresh_and_save(
+    rt: &impl Wait,
+    book: &mut Book<MemDisk>,
+    cells: &[Mutex<Cell<MemDisk>>],
+    text: &str,
+) -> Option<()> {
+    let cell = cells.first()?;
+    for values in text.split(" + ") {
+        take_all(rt, &mut cell.lock(rt), values)?;
+        refresh(rt, book, cells).ok()?;
+    }
+    book.save().ok()
+}
+
+// Makes all saves of one book on a new device. Returns the bytes of the device, in hexadecimal digits.
+fn all_saves(rt: &impl Wait, alloc: Global) -> Option<String> {
+    let cells = [Mutex::new(cell_of(rt, alloc)?)];
+    let dev = MemDisk::new(Vec::new(alloc), Vec::new(alloc));
+    let mut book = loaded(alloc, dev, TEXT, &cells[0].lock(rt))?.ok()?;
+    for text in SAVES.split(" / ") {
+        refresh_and_save(rt, &mut book, &cells, text)?;
+    }
+    let (dev, _) = device_of(book)?;
+    digits(alloc, &dev)
+}
+
+#[test]
+fn a_save_has_the_cells_that_changed_since_the_last(rt: HostRuntime) -> Result<(), Fail> {
+    let told = all_saves(&rt, rt.alloc()).ok_or("not saved")?;
+    same(&rt, told.as_str(), SAVED, "all saves");
+    Ok(())
 }

@@ -11,7 +11,7 @@ use denote.Struct.Declared.{shape}
 use denote.Enum.Enum.{Enum}
 use denote.Enum.Declared as E
 use denote.Param.Send.{IsSend, IsSync, sendable, recorded_send_of, enum_send_at, SendAt, cell_keyless, recorded_send, struct_send, view_send}
-use denote.Builtin.{u8, u32}
+use denote.Builtin.{bool, u8, u32}
 use Rattle.std.proofs.Crossing.{Vec-send, crosses, frees}
 use Rattle.disk_model.specs.declared.device.Disk.{Ghosts}
 use Rattle.trend_num.specs.contracts.measure.Measure as Measure
@@ -143,9 +143,12 @@ inside_send D k s = recorded_send (Inside.the_field D k).row _ _ (Inside.the_typ
                               (
                                 (search sendable),
                                 (
-                                  (search sendable),
+                                  (Vec-send bool (search sendable)),
                                   (
-                                      tt),
+                                    (search sendable),
+                                    (
+                                        tt),
+                                  ),
                                 ),
                               ),
                             ),

@@ -1,26 +1,37 @@
-use Rattle.std.proofs.Common.{◌≡◌, ℕ, length, ap, ◌∙◌, subst, arith}
+use Rattle.std.proofs.Common.{◌+◌, drop, get_or, length, ap, ◌∙◌, subst, arith}
+use Rattle.std.proofs.lemmas.List.{drop_all, drop_more}
+use Rattle.sheet_law.specs.Windows.{complete_windows}
 use Rattle.calc_refresh.specs.Lists.{lists_of}
 use Rattle.group_layout.specs.Rows.{cell_of}
-use Rattle.group_book.specs.Saves.{ListedUpTo}
-use Rattle.group_book.proofs.Listing.{list_cell, list_next}
+use Rattle.group_book.proofs.Listing.{ListedBefore, list_begun, list_ended, list_window}
 use Rattle.group_book.proofs.changes.add_changes.Goals as goal
 
-pub returns : goal.returns
-returns c =
-    let old = lists_of c.args.saved.now in
-    let new = c.args.sheet.now.rows in
-    let calcs = length c.args.sheet.now.group.calcs in
-    let place : c.loop-k.k ≡ c.args.windows = omega (arith, c.loop-k-test.false, c.loop-k.auto.k-end) in
-    list_next old new calcs c.args.windows c.args.calc c.loop-k.rows.items
-    (subst (λ (n : ℕ). ListedUpTo old new calcs c.args.windows c.args.calc n c.loop-k.rows.items) place c.loop-k.invariant)
+pub loop-k-init : goal.loop-k-init
+loop-k-init c =
+    let s = c.args.sheet.now in
+    list_begun (lists_of c.args.saved.now) s.rows (length s.group.calcs) (complete_windows s.grid s.copies) c.args.calc
+    c.args.rows.now.items c.args.unsaved.now c.requires.listed c.requires.unsaved
 
 pub loop-k-preserved : goal.loop-k-preserved
 loop-k-preserved c =
+    let s = c.args.sheet.now in
     let old = lists_of c.args.saved.now in
-    let new = c.args.sheet.now.rows in
-    let calcs = length c.args.sheet.now.group.calcs in
-    list_cell old new calcs c.args.windows c.args.calc c.loop-k.k c.loop-k.rows.items c.add_change.new.rows.items c.row-new.result
-    c.saved_cell.result c.loop-k.invariant c.requires.calc c.loop-k-test.true
-    (c.row-new.ensures.value ∙ ap (cell_of new c.args.calc) c.from.ensures) c.saved_cell.ensures
-    (c.row-new.ensures.there.1 (c.requires.calc, omega (arith, c.loop-k-test.true, c.from.ensures, c.requires.windows)))
-    c.in_ok-add_change.ensures
+    let windows = complete_windows s.grid s.copies in
+    let ks = c.args.unsaved.now in
+    let i = c.loop-k.k-index in
+    let k = get_or ks i 0 in
+    list_window old s.rows (length s.group.calcs) windows c.args.calc c.loop-k.rows.items k (drop (i + 1) ks) c.add_change.new.rows.items
+    c.row-new.result c.saved_cell.result
+    (subst (λ l. ListedBefore old s.rows (length s.group.calcs) windows c.args.calc l c.loop-k.rows.items)
+    (drop_more ks i 0 c.loop-k-test.true) c.loop-k.invariant)
+    c.requires.calc (c.row-new.ensures.value ∙ ap (cell_of s.rows c.args.calc) c.from.ensures) c.saved_cell.ensures
+    (λ within. c.row-new.ensures.there.1 (c.requires.calc, omega (arith, within, c.from.ensures))) c.in_ok-add_change.ensures
+
+pub returns : goal.returns
+returns c =
+    let s = c.args.sheet.now in
+    let old = lists_of c.args.saved.now in
+    let windows = complete_windows s.grid s.copies in
+    list_ended old s.rows (length s.group.calcs) windows c.args.calc c.loop-k.rows.items
+    (subst (λ l. ListedBefore old s.rows (length s.group.calcs) windows c.args.calc l c.loop-k.rows.items)
+    (drop_all c.loop-k.k-index c.args.unsaved.now c.loop-k-test.false) c.loop-k.invariant)

@@ -7,19 +7,18 @@ use Rattle.group_book.proofs.changes.changes.Goals as goal
 
 pub loop-calc-init : goal.loop-calc-init
 loop-calc-init c =
+    let s = c.args.sheet.now in
     let old = lists_of c.args.saved.now in
-    let new = c.args.sheet.now.rows in
-    let calcs = length c.args.sheet.now.group.calcs in
-    subst (ListedUpTo old new calcs c.windows-windows.result 0 0) (sym c.new-rows.ensures.items) (list_none old new calcs c.windows-windows.result)
+    let calcs = length s.group.calcs in
+    let windows = complete_windows s.grid s.copies in
+    subst (ListedUpTo old s.rows calcs windows 0 0) (sym c.new-rows.ensures.items) (list_none old s.rows calcs windows)
 
 pub returns : goal.returns
 returns c =
+    let s = c.args.sheet.now in
     let old = lists_of c.args.saved.now in
-    let new = c.args.sheet.now.rows in
-    let calcs = length c.args.sheet.now.group.calcs in
-    let windows = complete_windows c.args.sheet.now.grid c.args.sheet.now.copies in
+    let calcs = length s.group.calcs in
+    let windows = complete_windows s.grid s.copies in
     let place : c.loop-calc.calc ≡ calcs = omega (arith, c.loop-calc-test.false, c.loop-calc.auto.calc-end, c.rows.ensures.calcs) in
-    list_all_cells old new calcs windows c.loop-calc.rows.items
-    (subst (λ (n : ℕ). ListedUpTo old new calcs windows n 0 c.loop-calc.rows.items) place
-    (subst (λ (n : ℕ). ListedUpTo old new calcs n c.loop-calc.calc 0 c.loop-calc.rows.items) c.windows-windows.ensures
-    c.loop-calc.invariant))
+    list_all_cells old s.rows calcs windows c.loop-calc.rows.items
+    (subst (λ (n : ℕ). ListedUpTo old s.rows calcs windows n 0 c.loop-calc.rows.items) place c.loop-calc.invariant)

@@ -12,10 +12,11 @@ use Rattle.group_book.specs.declared.turn.Turn.{Turn}
 use Rattle.group_book.specs.Crashes.{IsBookSafe}
 use Rattle.group_book.specs.Histories.{AreRowsEvaluated, IsBookLegal}
 use Rattle.group_book.specs.Openings.{IsBookCause}
-use Rattle.group_book.specs.Told.{IsDefined, IsKept, IsOnDevice, Saved}
+use Rattle.group_book.specs.Told.{AreFlagged, IsDefined, IsKept, IsOnDevice, Saved}
 use Rattle.sheet_law.specs.declared.grid.Grid.{Grid}
 use Rattle.sheet_law.specs.Windows.{complete_windows}
 use Rattle.group_book.proofs.Evaluations.{evaluated_first}
+use Rattle.group_book.proofs.Flags.{flagged_saved}
 use Rattle.group_book.proofs.Loaded.{loaded_holds, loaded_ready, opened_kept, opened_legal, opened_safe, scan_cause}
 use Rattle.group_book.proofs.loading.load.Goals as goal
 
@@ -77,19 +78,22 @@ invariant_of-result g c =
     × IsKept r.text.items d o c.new.result.items s.copies saved false (D.trace dev) (D.ticks dev) (D.fault_count dev)
     × IsBookSafe r.text.items d.calcs (grid_of d.start d.period) o s.copies c.new.result.items left
     × IsOnDevice r.text.items (Some dev)
-    × AreRowsEvaluated d.calcs (grid_of d.start d.period) o c.new.result.items s.copies s.rows s.evals) (sym is.def)
+    × AreRowsEvaluated d.calcs (grid_of d.start d.period) o c.new.result.items s.copies s.rows s.evals
+    × AreFlagged r.unsaved.items saved.rows s) (sym is.def)
     (subst (λ (l : List Turn). IsDefined def c.args.tags.items s
     × IsBookLegal def.calcs (grid_of def.start def.period) o l vs s.copies s.rows
     × IsKept r.text.items def o l s.copies saved false (D.trace dev) (D.ticks dev) (D.fault_count dev)
     × IsBookSafe r.text.items def.calcs (grid_of def.start def.period) o s.copies l left
     × IsOnDevice r.text.items (Some dev)
-    × AreRowsEvaluated def.calcs (grid_of def.start def.period) o l s.copies s.rows s.evals) tape
+    × AreRowsEvaluated def.calcs (grid_of def.start def.period) o l s.copies s.rows s.evals
+    × AreFlagged r.unsaved.items saved.rows s) tape
     (subst (λ (t : List ℕ). IsDefined def c.args.tags.items s
     × IsBookLegal def.calcs (grid_of def.start def.period) o [] vs s.copies s.rows
     × IsKept t def o [] s.copies saved false (D.trace dev) (D.ticks dev) (D.fault_count dev)
     × IsBookSafe t def.calcs (grid_of def.start def.period) o s.copies [] left
     × IsOnDevice t (Some dev)
-    × AreRowsEvaluated def.calcs (grid_of def.start def.period) o [] s.copies s.rows s.evals) (sym is.text) (
+    × AreRowsEvaluated def.calcs (grid_of def.start def.period) o [] s.copies s.rows s.evals
+    × AreFlagged r.unsaved.items saved.rows s) (sym is.text) (
       defined,
       opened_legal c.args.text.now def o s.copies s.rows vs saved copied opened opened_rows saved_versions saved_rows,
       opened_kept c.args.text.now def o s.copies s.rows vs saved copied opened opened_rows saved_versions saved_rows (D.trace dev) ready
@@ -102,4 +106,5 @@ invariant_of-result g c =
           (subst (λ (w : Grid). All (λ row. length row ≡ complete_windows w s.copies) s.rows) (ap (λ (x : SheetState). x.grid) is.sheet)
           is.whole.windows)
           (ap (λ (x : SheetState). x.evals) is.sheet),
+      flagged_saved r.unsaved.items saved.rows s is.flags saved_rows is.whole,
     )))

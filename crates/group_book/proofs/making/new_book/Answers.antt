@@ -2,13 +2,14 @@ use Rattle.std.proofs.Common.{◌≡◌, ◌∙◌, [], false, None, refl, sym, 
 use Rattle.std.proofs.lemmas.List.{length-map}
 use Rattle.calc_check.specs.Group.{calculation}
 use Rattle.calc_refresh.specs.Lists.{lists_of}
-use Rattle.calc_refresh.specs.Sheet.{grid_of}
+use Rattle.calc_refresh.specs.Sheet.{SheetState, grid_of}
 use Rattle.disk_model.specs.Moments.{LeftSince}
 use Rattle.group_book.specs.Crashes.{IsBookSafe}
 use Rattle.group_book.specs.Histories.{AreRowsEvaluated, IsBookLegal}
 use Rattle.group_book.specs.Told.{IsKept, Saved}
 use Rattle.group_book.specs.declared.history.GroupOpening.{GroupOpening}
 use Rattle.group_book.proofs.Fresh.{fresh_defined, fresh_evaluated, fresh_kept, fresh_legal, fresh_safe}
+use Rattle.group_book.proofs.Flags.{flagged_fresh}
 use Rattle.group_book.proofs.making.new_book.Goals as goal
 
 pub invariant_of-result : goal.invariant_of-result
@@ -49,4 +50,6 @@ invariant_of-result g c =
       subst (λ tape. AreRowsEvaluated made.calcs (grid_of made.start made.period) o tape s.copies s.rows s.evals) empty
           (fresh_evaluated def made c.in_ok-def.ensures o s c.in_ok-versions.versions.items saved c.in_ok-sheet.ensures.empty
           c.in_ok-sheet.ensures.scratch versions c.in_ok-zeros.ensures rows saved_versions saved_rows c.in_ok-sheet.ensures.whole),
+      flagged_fresh c.new-3.result.items (lists_of c.in_ok-saved_rows.saved_rows.items) s c.new-3.ensures.items
+          (saved_rows ∙ sym (ap (λ (x : SheetState). replicate (length x.group.calcs) []) c.in_ok-sheet.ensures.empty)),
     )

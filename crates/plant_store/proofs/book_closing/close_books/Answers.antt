@@ -1,10 +1,34 @@
-use Rattle.std.proofs.Common.{◌≡◌, ◌∙◌, ◌≤◌, ◌∷◌, [], ap, arith, get_or, length, length-append, subst, sym}
+use Rattle.std.proofs.Common.{◌≡◌, ◌∙◌, ◌≤◌, ◌∷◌, [], IsTrue, ap, arith, get_or, length, length-append, string_bytes, subst, sym}
 use Rattle.std.specs.Vec.Iter.{into_iter_items}
 use Rattle.group_book.specs.declared.history.GroupHistory.{GroupHistory}
 use Rattle.group_book.specs.Told.{ToldBook}
 use Rattle.plant_store.specs.BookEndings.{HasFaultCountRisen, IsHistoryOfBook, counts_after}
-use Rattle.plant_store.proofs.BookReturns.{AreTold, counted_all, counts_later, counts_none, counts_rose, one_back_at, one_told, taken_is, taken_rest}
+use Rattle.plant_store.proofs.BookReturns.{AreTold, counted_all, counts_later, counts_none, counts_rose, none_back, one_back_at, one_told, taken_is, taken_rest}
 use Rattle.plant_store.proofs.book_closing.close_books.Goals as goal
+
+pub loop-book-init : goal.loop-book-init
+loop-book-init g c =
+    let none = ap (length {A = GroupHistory}) c.requires.none in
+    let many = ap (length {A = ToldBook g.row.S-Dev.Denot}) c.into_iter-rest.ensures.rest in
+    record {
+      rest = sym c.into_iter-rest.ensures.rest;
+      count = omega (arith, c.into_iter-rest.ensures.len, c.args.books.ok, many);
+      taken = omega (arith, c.into_iter-rest.ensures.len, c.args.books.ok);
+      room = omega (arith, none, c.into_iter-rest.ensures.len, c.requires.room);
+      told = λ i b h below. absurd (omega (arith, none, below));
+      as_many = none;
+      back = none_back g.S.Dev.Disk.trace c.args.names.now c.args.books.items (g.S.Store.device_at c.args.store.now);
+      places = λ i s below. c.requires.places i s (omega (arith, below, c.requires.as_many));
+      kept_places = λ n was. was;
+      faults = ap (λ l. counts_after g.S.Dev.Disk.fault_count l (g.S.Store.fault_count c.args.store.now)) (sym c.into_iter-rest.ensures.rest);
+    }
+
+pub close_book-history-requires-clause-place : goal.close_book-history-requires-clause-place
+close_book-history-requires-clause-place g c κs within =
+    subst (λ name. IsTrue (g.S.Store.has_place c.loop-book.store name)) (sym c.as_str.ensures.value)
+    (subst (λ s. IsTrue (g.S.Store.has_place c.loop-book.store (string_bytes s))) (sym c.index-names-place.is)
+    (c.loop-book.invariant.places c.loop-book.place c.index-names-place.result
+    (omega (arith, c.loop-book.invariant.taken, c.in-Some.ensures.len))))
 
 pub loop-book-preserved : goal.loop-book-preserved
 loop-book-preserved g c =
@@ -64,3 +88,7 @@ returns-clause-faultless g c = λ small none.
     counted_all fault_count c.args.books.items (into_iter_items c.loop-book.rest) first
     (g.S.Store.fault_count c.loop-book.store) _ c.in_default.ensures.variant c.loop-book.invariant.count c.loop-book.invariant.faults
     ∙ counts_none fault_count c.args.books.items first small none
+
+pub returns-clause-others : goal.returns-clause-others
+returns-clause-others g c = λ n other. c.loop-book.invariant.back.others n
+    (λ i s below. other i s (omega (arith, below, c.loop-book.invariant.as_many, c.requires.as_many, c.loop-book.invariant.taken)))

@@ -9,10 +9,10 @@ use Rattle.sheet_law.specs.Windows.{complete_windows}
 use Rattle.sheet_law.specs.Touched.{longer}
 use Rattle.sheet_law.specs.Scratch.{IsScratch, column, due_below, is_due, values_at}
 use Rattle.calc_refresh.specs.Lists.{lists_of, total_length}
-use Rattle.calc_refresh.specs.Refreshed.{IsSheetAfter, cells_after, evaluated, fault_after, limit_fault, most_cells}
+use Rattle.calc_refresh.specs.Refreshed.{IsSheetAfter, cells_after, due_windows, evaluated, fault_after, limit_fault, most_cells}
 use Rattle.calc_refresh.specs.Sheet.{IsCopy, SheetState}
 use Rattle.calc_refresh.proofs.Inputs.{length-longer}
-use Rattle.calc_refresh.proofs.Applying.{cells_fit, copies_longer, due_few, few_windows, limits_hold, part_fits, ranges_longer}
+use Rattle.calc_refresh.proofs.Applying.{cells_fit, copies_longer, due_counted, due_few, few_windows, limits_hold, part_fits, ranges_longer}
 use Rattle.calc_refresh.proofs.sheet.Sheet.apply.Goals as goal
 
 pub overflow_mul-windows : goal.overflow_mul-windows
@@ -52,9 +52,13 @@ overflow_mul-due g c =
     let held = lists_of c.as_mut_slice.result.now in
     let count : complete_windows s.grid (longer held mores) ≡ complete_windows s.grid (longer copies mores) =
     ap (λ (vs : List (Vec Rec Global)). complete_windows s.grid (longer (lists_of vs) mores)) c.as_mut_slice.ensures.value in
-    let few = due_few s.grid held mores (complete_windows s.grid (longer held mores)) in
-    let part = part_fits c.in_ok-due.due c.len-calcs.result c.windows_after-windows.result most_cells
-    (omega (arith, few, count, win, c.in_ok-due.ensures.after.counted)) within.0 in
+    let after = c.in_ok-bring.ensures.after in
+    let windows = lists_of c.bring.new.copies in
+    let few = due_few s.grid held mores (complete_windows s.grid windows) in
+    let many : length c.bring.new.due.items ≡ length (due_windows s.grid held mores (complete_windows s.grid windows)) =
+    ap length after.told in
+    let part = part_fits c.len-due.result c.len-calcs.result c.windows_after-windows.result most_cells
+    (omega (arith, c.len-due.ensures, c.bring.new.due.ok.0, many, few, ap (complete_windows s.grid) after.copied, count, win)) within.0 in
     omega (arith, part)
 
 pub returns-clause-refreshed : goal.returns-clause-refreshed
@@ -62,12 +66,12 @@ returns-clause-refreshed g c =
     let s = c.self.inside in
     let inv = c.self.invariant in
     let mores = lists_of c.args.deltas.now in
-    let due = c.in_ok-due.due in
+    let due = c.bring.new.due.items in
     let now = c.args.self.now in
     let copies = c.bring.new.copies in
     let rows = c.bring.new.rows in
     let one = subst (λ (vs : List (Vec Rec Global)). IsSheetAfter s.calcs s.grid (lists_of vs) (lists_of c.as_mut_slice-4.result.now) (lists_of copies) (lists_of rows) mores due)
-    c.as_mut_slice.ensures.value c.in_ok-due.ensures.after in
+    c.as_mut_slice.ensures.value c.in_ok-bring.ensures.after in
     let two = subst (λ (vs : List (Vec CalcValue Global)). IsSheetAfter s.calcs s.grid (lists_of s.copies.items) (lists_of vs) (lists_of copies) (lists_of rows) mores due)
     c.as_mut_slice-4.ensures.value one in
     let three = subst (λ (vs : List (Vec Rec Global)). IsSheetAfter s.calcs s.grid (lists_of s.copies.items) (lists_of s.rows.items) (lists_of vs) (lists_of rows) mores due)
@@ -82,7 +86,13 @@ returns-clause-refreshed g c =
     let calcs : c.len-calcs.result ≡ length s.calcs.calcs =
     omega (arith, c.len-calcs.ensures, s.rows.ok.0, inv.calcs, length-map s.rows.items (λ v. v.items)) in
     let count : c.len-calcs.result ≡ length now.group.calcs = calcs ∙ ap (λ (u : SheetState). length u.group.calcs) c.self.view_is in
-    let cells : due * c.len-calcs.result ≡ evaluated now mores = ap₂ (λ a b. a * b) five.counted count in
+    let many : c.len-due.result
+    ≡ due_below now.grid now.copies mores (complete_windows now.grid (longer now.copies mores)) =
+    omega (arith, c.len-due.ensures, c.bring.new.due.ok.0)
+    ∙ (ap length five.told
+    ∙ (due_counted now.grid now.copies mores (complete_windows now.grid (lists_of copies_new))
+    ∙ ap (λ (l : List (List Rec)). due_below now.grid now.copies mores (complete_windows now.grid l)) five.copied)) in
+    let cells : c.len-due.result * c.len-calcs.result ≡ evaluated now mores = ap₂ (λ a b. a * b) many count in
     let evals = ap (λ (u : SheetState). u.evals) c.self.view_is in
     let sheet = c.bring.ensures.sheet in
     let win = c.windows_after-windows.ensures (lists_of s.copies.items) (c.deref.ensures.value ∙ inv.ended) in
@@ -112,6 +122,8 @@ returns-clause-refreshed g c =
           (sym c.self.view_is) (five.scratch was);
       others = five.others;
       evals = omega (arith, c.saturating_add-self-inside.ensures, cells, evals);
+      due_told = subst (λ (u : SheetState). due ≡ due_windows now.grid now.copies mores (complete_windows u.grid (lists_of copies_new)))
+          (sym c.self.view_is) five.told;
     }
 
 pub returns-clause-steps : goal.returns-clause-steps
@@ -119,12 +131,16 @@ returns-clause-steps g c =
     let s = c.self.inside in
     let mores = lists_of c.args.deltas.now in
     let now = c.args.self.now in
-    let counted = c.in_ok-due.ensures.after.counted in
-    let held : due_below s.grid (lists_of c.as_mut_slice.result.now) mores (complete_windows s.grid (longer (lists_of c.as_mut_slice.result.now) mores))
+    let after = c.in_ok-bring.ensures.after in
+    let old = lists_of c.as_mut_slice.result.now in
+    let counted = ap length after.told
+    ∙ (due_counted s.grid old mores (complete_windows s.grid (lists_of c.bring.new.copies))
+    ∙ ap (λ (l : List (List Rec)). due_below s.grid old mores (complete_windows s.grid l)) after.copied) in
+    let held : due_below s.grid old mores (complete_windows s.grid (longer old mores))
     ≡ due_below now.grid now.copies mores (complete_windows now.grid (longer now.copies mores)) =
     ap (λ (vs : List (Vec Rec Global)). due_below s.grid (lists_of vs) mores (complete_windows s.grid (longer (lists_of vs) mores))) c.as_mut_slice.ensures.value
     ∙ ap (λ (u : SheetState). due_below u.grid u.copies mores (complete_windows u.grid (longer u.copies mores))) c.self.view_is in
-    c.in_ok-due.ensures.steps
+    c.in_ok-bring.ensures.steps
     ∙ ap (λ n. c.args.steps.now + n)
     (ap₂ (λ a b. a * b) (counted ∙ held) (ap (λ (u : SheetState). length u.group.calcs) c.self.view_is))
 

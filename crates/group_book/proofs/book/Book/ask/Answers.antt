@@ -46,4 +46,5 @@ invariant_of-self-2 g c =
       subst (λ l. AreRowsEvaluated b.def.calcs grid b.opening l b.sheet.copies b.sheet.rows b.sheet.evals) (sym told)
           (evaluated_asked b.def.calcs grid b.opening b.sheet.copies b.sheet.rows b.sheet.evals tape a.reader a.row a.calc a.k reply
           c.self.invariant.5),
+      c.self.invariant.6,
     )

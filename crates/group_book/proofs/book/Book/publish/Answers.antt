@@ -1,13 +1,15 @@
-use Rattle.std.proofs.Common.{◌≡◌, ℕ, ◌+◌, ◌++◌, ◌∷◌, [], List, map, length, refl, sym, ap, ◌∙◌, subst, arith}
-use Rattle.std.proofs.lemmas.List.{length-map}
+use Rattle.std.proofs.Common.{◌≡◌, ℕ, ◌+◌, ◌++◌, ◌∷◌, [], Bool, List, map, length, refl, sym, ap, ◌∙◌, subst, arith}
+use Rattle.std.proofs.lemmas.List.{length-map, with_items_is}
 use Rattle.calc_refresh.specs.Lists.{lists_of}
 use Rattle.calc_refresh.specs.Refreshed.{IsRefreshed, evaluated}
 use Rattle.group_book.specs.declared.turn.Turn.{Turn}
 use Rattle.group_book.specs.declared.turn.Turn.TheVariants.{Refresh}
-use Rattle.group_book.specs.Told.{GoesOn, ToldBook, pulled_records}
+use Rattle.group_book.specs.Told.{AreFlagged, GoesOn, is_unsaved, ToldBook, pulled_records}
 use Rattle.calc_refresh.specs.Sheet.{grid_of}
 use Rattle.group_book.specs.Histories.{AreRowsEvaluated}
 use Rattle.group_book.proofs.Evaluations.{evaluated_refreshed}
+use Rattle.sheet_law.specs.declared.grid.Grid.{Grid}
+use Rattle.group_book.proofs.Flags.{flagged_refreshed}
 use Rattle.group_book.proofs.Pulls.{book_refreshed, published_by, versions_reached}
 use Rattle.group_book.proofs.book.Book.publish.Given as given
 use Rattle.group_book.proofs.book.Book.publish.Goals as goal
@@ -67,6 +69,13 @@ invariant_of-self-2 g c =
           c.apply.new.self (pulled_records c.args.pulled.items) c.in_ok-entry.entry was.0.same_group was.0.same_grid was.1 was.5 done
           (length-map c.args.pulled.items (λ p. p.recs.items) ∙ inputs g at) was.0.grid.some
           (omega (arith, was.0.copies, was.0.group.some_inputs)) (entry ∙ ap (map length) done.copies)),
+      subst (λ l. AreFlagged l (lists_of b.saved_rows.items) c.apply.new.self)
+          (sym (with_items_is b.unsaved c.set_flags.new.flags (omega (arith, c.set_flags.auto.flags, c.deref_mut.ensures.len))))
+          (flagged_refreshed b.sheet c.apply.new.self (pulled_records c.args.pulled.items) done
+          (omega (arith, was.0.grid.some, ap (λ (w : Grid). w.period) was.0.same_grid)) b.unsaved.items c.set_flags.new.flags
+          (lists_of b.saved_rows.items) c.due.result.now was.6 c.due.ensures (c.set_flags.auto.flags ∙ ap length c.deref_mut.ensures.value)
+          c.set_flags.ensures.set
+          (λ k none. c.set_flags.ensures.others k none ∙ ap (λ (l : List Bool). is_unsaved l k) c.deref_mut.ensures.value)),
     )
 
 pub returns-clause-published : goal.returns-clause-published

@@ -1,21 +1,30 @@
-use Rattle.std.proofs.Common.{◌≡◌, ℕ, ◌+◌, ◌++◌, ◌∷◌, [], false, true, Some, Err, length, refl, sym, ap, ◌∙◌, subst, arith}
+use Rattle.std.proofs.Common.{◌≡◌, ℕ, ◌+◌, ◌≤◌, ◌++◌, ◌∷◌, [], All, List, false, true, Some, Err, length, replicate, refl, sym, ap, ◌∙◌, subst, arith, vec_capacity}
+use Rattle.std.specs.Prelude.{Vec}
+use Rattle.std.specs.declared.alloc.Global.{Global}
+use Rattle.std.specs.Vec.{with_items}
+use Rattle.std.proofs.lemmas.List.{length-map, with_items_is}
+use Rattle.trend_num.specs.declared.value.CalcValue.{CalcValue}
+use Rattle.calc_check.specs.Group.{Group}
 use Rattle.disk_model.specs.Gates.{IsShut}
 use Rattle.disk_model.specs.Images.{Now}
 use Rattle.disk_model.specs.Moments.{LeftSince}
+use Rattle.sheet_law.specs.declared.grid.Grid.{Grid}
 use Rattle.sheet_law.specs.Windows.{complete_windows}
 use Rattle.calc_refresh.specs.Lists.{lists_of}
-use Rattle.calc_refresh.specs.Sheet.{grid_of}
+use Rattle.calc_refresh.specs.Sheet.{AreRowsWhole, grid_of}
+use Rattle.calc_refresh.proofs.Refreshing.{long_vecs}
 use Rattle.group_layout.specs.Blocks.{block_size, parts_of}
 use Rattle.group_book.specs.declared.turn.Turn.TheVariants.{Save}
 use Rattle.group_book.specs.Crashes.{IsBookSafe}
-use Rattle.group_book.specs.Histories.{AreRowsEvaluated, IsBookLegal}
-use Rattle.group_book.specs.Saves.{IsSaved, ListsChanges}
-use Rattle.group_book.specs.Told.{IsKept, Saved, ToldBook, trace_of}
+use Rattle.group_book.specs.Histories.{AreRowsEvaluated}
+use Rattle.group_book.specs.Saves.{HasAllChanges, IsSaved, ListsChanges}
+use Rattle.group_book.specs.Told.{IsKept, IsOnDevice, Saved, ToldBook, count_of, trace_of}
 use Rattle.group_book.proofs.Evaluations.{evaluated_saved}
-use Rattle.group_book.proofs.Saving.{IsNextBlock, book_saved, kept_faulted, kept_there, next_block_is, safe_writing}
+use Rattle.group_book.proofs.Flags.{flagged_changes, flagged_saved}
+use Rattle.group_book.proofs.Saving.{IsNextBlock, KeepsAll, book_saved, keeps_alike, kept_faulted, kept_there, next_block_is, safe_writing}
 use Rattle.group_book.proofs.book.Book.save.Given as given
 use Rattle.group_book.proofs.book.Book.save.Goals as goal
-use Rattle.group_book.proofs.book.Book.save.Goals.{After-put_block, After-push_reserved}
+use Rattle.group_book.proofs.book.Book.save.Goals.{After-put_block, After-push_reserved, After-bring_rows}
 
 -- what was saved before
 abbrev saved_of : (g : given.Over) (c : After-put_block g) → Saved
@@ -56,6 +65,32 @@ next g c =
     was.0.same_group was.0.same_grid c.in_ok-block.ensures.number c.in_ok-block.ensures.versions c.deref-2.ensures.value
     c.in_ok-block.ensures.windows (ap lists_of c.deref-3.ensures.value) c.in_ok-block.ensures.rows
 
+-- the rows have a value for each complete window
+whole : (g : given.Over) (c : After-put_block g) → AreRowsWhole c.self.inside.sheet
+whole g c =
+    let s = c.self.inside in
+    let was = c.self.invariant in
+    record {
+      calcs = was.5.calcs ∙ ap (λ (h : Group). length h.calcs) (sym was.0.same_group);
+      windows = subst (λ (w : Grid). All (λ row. length row ≡ complete_windows w s.sheet.copies) s.sheet.rows) (sym was.0.same_grid)
+          was.5.windows;
+    }
+
+-- with room for more windows the saved rows are the same
+roomy : (v : Vec (Vec CalcValue Global) Global) (now new : List (Vec CalcValue Global)) → length new ≡ v.len
+    → lists_of new ≡ lists_of now → now ≡ v.items → lists_of (with_items v new).items ≡ lists_of v.items
+roomy v now new many same is = ap lists_of (with_items_is v new many) ∙ (same ∙ ap lists_of is)
+
+-- and then they are those of the sheet
+abbrev rows_after : (g : given.Over) (c : After-bring_rows g) → Vec (Vec CalcValue Global) Global
+rows_after g c = with_items (with_items c.self.inside.saved_rows c.make_room.new.rows) c.bring_rows.new.saved
+
+brought : (g : given.Over) (c : After-bring_rows g) → lists_of (rows_after g c).items ≡ c.self.inside.sheet.rows
+brought g c =
+    ap lists_of (with_items_is (with_items c.self.inside.saved_rows c.make_room.new.rows) c.bring_rows.new.saved
+    (omega (arith, c.bring_rows.auto.saved, c.deref_mut-in-Ok.ensures.len)))
+    ∙ (c.bring_rows.ensures ∙ c.rows.ensures.rows)
+
 -- the tape is longer by the save
 longer : (g : given.Over) (c : After-push_reserved g)
     → let b = parts_of c.in_ok-block.block in
@@ -82,14 +117,15 @@ invariant_of-self-in-Ok g c =
     let is = next g at in
     let moment : ℕ = D.ticks c.put_block.new.dev in
     let longer = longer g (goal.at.invariant_of-self-in-Ok g c).After-push_reserved in
+    let versions_are = c.in_ok-block.ensures.versions ∙ c.deref-2.ensures.value in
+    let rows = lists_of (rows_after g (goal.at.invariant_of-self-in-Ok g c).After-bring_rows).items in
+    let rows_are = brought g (goal.at.invariant_of-self-in-Ok g c).After-bring_rows in
     let next : Saved = record {
       number = b.number;
-      versions = c.in_ok-versions.versions.items;
-      rows = lists_of c.in_ok-rows.rows.items;
+      versions = b.versions;
+      rows = rows;
       end = c.in-Ok.end;
     } in
-    let versions_are = c.in_ok-versions.ensures ∙ c.deref.ensures.value in
-    let rows_are = c.in_ok-rows.ensures ∙ c.rows.ensures.rows in
     let end_is : c.in-Ok.end ≡ s.end + block_size b = c.in-Ok.ensures.next in
     let kept' = book_saved s.text.items s.def s.opening tape s.versions.items copies s.sheet.rows saved (D.trace c.in-Some.dev)
     (D.ticks c.in-Some.dev) (D.fault_count c.in-Some.dev) was.0.group was.0.grid was.0.copies was.1 kept b is (D.trace c.put_block.new.dev)
@@ -105,6 +141,9 @@ invariant_of-self-in-Ok g c =
       λ some. refl,
       subst (λ l. AreRowsEvaluated s.def.calcs grid s.opening l copies s.sheet.rows s.sheet.evals) (sym longer)
           (evaluated_saved s.def.calcs grid s.opening copies s.sheet.rows s.sheet.evals tape b.number moment was.5),
+      flagged_saved c.clear_flags.new.flags.items rows s.sheet
+          (c.clear_flags.ensures ∙ ap (λ (n : ℕ). replicate n false) c.windows-windows.ensures) rows_are
+          (whole g (goal.at.invariant_of-self-in-Ok g c).After-put_block),
     )
 
 pub returns-in-Ok-clause-saved : goal.returns-in-Ok-clause-saved
@@ -128,16 +167,17 @@ returns-in-Ok-clause-saved g c = λ d there.
     let same : Some before ≡ Some d = sym c.in-Some.is ∙ ap (λ (t : ToldBook _). t.dev) c.self.view_is ∙ there in
     let device : before ≡ d = cc (same) in
     let longer = longer g (goal.at.returns-in-Ok-clause-saved g c).After-push_reserved in
-    let versions_are = c.in_ok-versions.ensures ∙ c.deref.ensures.value ∙ c.self.invariant.1.copied in
-    let rows_are = c.in_ok-rows.ensures ∙ c.rows.ensures.rows in
+    let versions_are = c.in_ok-block.ensures.versions ∙ c.deref-2.ensures.value ∙ c.self.invariant.1.copied in
+    let rows = lists_of (rows_after g (goal.at.returns-in-Ok-clause-saved g c).After-bring_rows).items in
+    let rows_are = brought g (goal.at.returns-in-Ok-clause-saved g c).After-bring_rows in
     let end_is : c.in-Ok.end ≡ s.end + block_size b = c.in-Ok.ensures.next in
     let saved : ToldBook _ = record told {
       tape = c.push_reserved.new.self.items;
       dev = Some c.put_block.new.dev;
       saved = record {
         number = b.number;
-        versions = c.in_ok-versions.versions.items;
-        rows = lists_of c.in_ok-rows.rows.items;
+        versions = b.versions;
+        rows = rows;
         end = c.in-Ok.end;
       };
     } in
@@ -185,17 +225,93 @@ invariant_of-self-in-Err-DeviceFault g c =
     let new = D.trace c.put_block.new.dev in
     let ticks' : ℕ = D.ticks c.put_block.new.dev in
     let faults' : ℕ = D.fault_count c.put_block.new.dev in
-    let same = c.make_place.ensures.same in (
+    keeps_alike s.text.items s.def s.tags.items s.opening s.versions.items s.sheet saved true new ticks' faults' (IsOnDevice s.text.items (Some c.put_block.new.dev))
+    tape c.make_place.new.tape.items saved.rows
+    (lists_of (with_items s.saved_rows c.make_room.new.rows).items) s.unsaved.items c.make_room.new.flags.items c.make_place.ensures.same
+    (roomy s.saved_rows c.deref_mut.result.now c.make_room.new.rows (omega (arith, c.make_room.auto.rows, c.deref_mut.ensures.len))
+    c.make_room.ensures.same_rows c.deref_mut.ensures.value) c.make_room.ensures.same_flags (
       was.0,
-      subst (λ l. IsBookLegal s.def.calcs grid s.opening l s.versions.items copies s.sheet.rows) (sym same) was.1,
-      subst (λ l. IsKept s.text.items s.def s.opening l copies saved true new ticks' faults') (sym same)
-          (kept_faulted s.text.items s.def s.opening tape s.versions.items copies s.sheet.rows saved (D.trace c.in-Some.dev)
+      was.1,
+      kept_faulted s.text.items s.def s.opening tape s.versions.items copies s.sheet.rows saved (D.trace c.in-Some.dev)
           (D.ticks c.in-Some.dev) (D.fault_count c.in-Some.dev) was.0.group was.0.grid was.0.copies was.1 kept b is new ticks' faults'
-          c.put_block.ensures.later (c.in-Err-DeviceFault.ensures.cause.failed (ap Err c.in-Err-DeviceFault.field-0-is))),
-      subst (λ l. IsBookSafe s.text.items s.def.calcs grid s.opening copies l (LeftSince new)) (sym same)
-          (safe_writing s.text.items s.def s.opening tape s.versions.items copies s.sheet.rows saved (D.trace c.in-Some.dev)
+          c.put_block.ensures.later (c.in-Err-DeviceFault.ensures.cause.failed (ap Err c.in-Err-DeviceFault.field-0-is)),
+      safe_writing s.text.items s.def s.opening tape s.versions.items copies s.sheet.rows saved (D.trace c.in-Some.dev)
           (D.ticks c.in-Some.dev) (D.fault_count c.in-Some.dev) was.0.group was.0.grid was.0.copies was.1 kept b is safe new
-          c.put_block.ensures.any_moment),
+          c.put_block.ensures.any_moment,
       λ some. refl,
-      subst (λ l. AreRowsEvaluated s.def.calcs grid s.opening l copies s.sheet.rows s.sheet.evals) (sym same) was.5,
+      was.5,
+      was.6,
     )
+
+pub invariant_of-self-in_err-make_room : goal.invariant_of-self-in_err-make_room
+invariant_of-self-in_err-make_room g c =
+    let s = c.self.inside in
+    let D = g.D.Disk in
+    let saved : Saved
+    = record { number = s.number; versions = s.saved_versions.items; rows = lists_of s.saved_rows.items; end = s.end } in
+    keeps_alike s.text.items s.def s.tags.items s.opening s.versions.items s.sheet saved s.failed (D.trace c.in-Some.dev) (D.ticks c.in-Some.dev)
+    (D.fault_count c.in-Some.dev) (IsOnDevice s.text.items (Some c.in-Some.dev)) s.tape.items c.make_place.new.tape.items saved.rows
+    (lists_of (with_items s.saved_rows c.make_room.new.rows).items) s.unsaved.items c.make_room.new.flags.items c.make_place.ensures.same
+    (roomy s.saved_rows c.deref_mut.result.now c.make_room.new.rows (omega (arith, c.make_room.auto.rows, c.deref_mut.ensures.len))
+    c.make_room.ensures.same_rows c.deref_mut.ensures.value) c.make_room.ensures.same_flags
+    (subst (λ d. KeepsAll s.text.items s.def s.tags.items s.opening s.versions.items s.sheet saved s.failed (trace_of D.trace d)
+    (count_of D.ticks d) (count_of D.fault_count d) (IsOnDevice s.text.items d) s.tape.items saved.rows s.unsaved.items)
+    c.in-Some.is c.self.invariant)
+
+pub invariant_of-self-in-Err-WantOfMemory : goal.invariant_of-self-in-Err-WantOfMemory
+invariant_of-self-in-Err-WantOfMemory g c =
+    let s = c.self.inside in
+    let D = g.D.Disk in
+    let saved : Saved
+    = record { number = s.number; versions = s.saved_versions.items; rows = lists_of s.saved_rows.items; end = s.end } in
+    keeps_alike s.text.items s.def s.tags.items s.opening s.versions.items s.sheet saved s.failed (D.trace c.put_block.new.dev) (D.ticks c.put_block.new.dev)
+    (D.fault_count c.put_block.new.dev) (IsOnDevice s.text.items (Some c.put_block.new.dev)) s.tape.items c.make_place.new.tape.items saved.rows
+    (lists_of (with_items s.saved_rows c.make_room.new.rows).items) s.unsaved.items c.make_room.new.flags.items c.make_place.ensures.same
+    (roomy s.saved_rows c.deref_mut.result.now c.make_room.new.rows (omega (arith, c.make_room.auto.rows, c.deref_mut.ensures.len))
+    c.make_room.ensures.same_rows c.deref_mut.ensures.value) c.make_room.ensures.same_flags
+    (subst (λ d. KeepsAll s.text.items s.def s.tags.items s.opening s.versions.items s.sheet saved s.failed (trace_of D.trace d)
+    (count_of D.ticks d) (count_of D.fault_count d) (IsOnDevice s.text.items d) s.tape.items saved.rows s.unsaved.items)
+    (c.in-Some.is ∙ ap Some (sym (c.in-Err-WantOfMemory.ensures.no_memory (ap Err c.in-Err-WantOfMemory.field-0-is)))) c.self.invariant)
+
+pub next_block-requires : goal.next_block-requires
+next_block-requires g c =
+    let s = c.self.inside in
+    subst (λ n. HasAllChanges (lists_of c.deref-3.result.now) s.sheet.rows 0 n c.deref-4.result.now) c.windows-windows.ensures
+    (flagged_changes s.unsaved.items c.deref.result.now (lists_of s.saved_rows.items) (lists_of c.deref-3.result.now) s.sheet.rows s.sheet
+    c.windows-windows.result c.in_ok-unsaved.unsaved.items c.deref-4.result.now c.self.invariant.6 c.deref.ensures.value
+    c.windows-windows.ensures c.in_ok-unsaved.ensures c.deref-4.ensures.value (ap lists_of c.deref-3.ensures.value) refl)
+
+pub bring_rows-requires-clause-calcs : goal.bring_rows-requires-clause-calcs
+bring_rows-requires-clause-calcs g c =
+    let s = c.self.inside in
+    let now = c.deref_mut-in-Ok.result.now in
+    let lists = ap length (ap lists_of c.deref_mut-in-Ok.ensures.value ∙ roomy s.saved_rows c.deref_mut.result.now c.make_room.new.rows
+    (omega (arith, c.make_room.auto.rows, c.deref_mut.ensures.len)) c.make_room.ensures.same_rows c.deref_mut.ensures.value) in
+    omega (arith, c.rows.ensures.calcs, c.self.invariant.6.calcs, lists, length-map now (λ v. v.items))
+
+pub bring_rows-requires-clause-windows : goal.bring_rows-requires-clause-windows
+bring_rows-requires-clause-windows g c =
+    let s = c.self.inside in
+    let rows = c.rows.result.now in
+    long_vecs rows c.windows-windows.result
+    (subst (λ n. All (λ row. length row ≡ n) (lists_of rows)) (sym c.windows-windows.ensures)
+    (subst (All (λ row. length row ≡ complete_windows s.sheet.grid s.sheet.copies)) (sym c.rows.ensures.rows)
+    (whole g (goal.at.bring_rows-requires-clause-windows g c).After-put_block).windows))
+
+pub bring_rows-requires-clause-room : goal.bring_rows-requires-clause-room
+bring_rows-requires-clause-room g c =
+    let s = c.self.inside in
+    subst (All (λ row. c.windows-windows.result ≤ vec_capacity row))
+    (sym (c.deref_mut-in-Ok.ensures.value
+    ∙ with_items_is s.saved_rows c.make_room.new.rows (omega (arith, c.make_room.auto.rows, c.deref_mut.ensures.len))))
+    c.in_ok-make_room.ensures.room
+
+pub bring_rows-requires-clause-changed : goal.bring_rows-requires-clause-changed
+bring_rows-requires-clause-changed g c =
+    let s = c.self.inside in
+    flagged_changes s.unsaved.items c.deref.result.now (lists_of s.saved_rows.items) (lists_of c.deref_mut-in-Ok.result.now)
+    (lists_of c.rows.result.now) s.sheet c.windows-windows.result c.in_ok-unsaved.unsaved.items c.deref-in-Ok.result.now
+    c.self.invariant.6 c.deref.ensures.value c.windows-windows.ensures c.in_ok-unsaved.ensures c.deref-in-Ok.ensures.value
+    (ap lists_of c.deref_mut-in-Ok.ensures.value ∙ roomy s.saved_rows c.deref_mut.result.now c.make_room.new.rows
+    (omega (arith, c.make_room.auto.rows, c.deref_mut.ensures.len)) c.make_room.ensures.same_rows c.deref_mut.ensures.value)
+    c.rows.ensures.rows

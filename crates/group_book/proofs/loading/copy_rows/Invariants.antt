@@ -1,6 +1,6 @@
 use Rattle.std.proofs.Common.{◌≡◌, ◌≤◌, length, take, vec_capacity, vec_len}
 use Rattle.calc_refresh.specs.Lists.{lists_of}
-use Rattle.group_book.proofs.save.copy_rows.Given as goal
+use Rattle.group_book.proofs.loading.copy_rows.Given as goal
 
 abbrev pub invariant-loop-row : goal.invariant-loop-row
 invariant-loop-row l = record {

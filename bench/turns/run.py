@@ -1,0 +1,121 @@
+#!/usr/bin/env python3
+"""run.py [FOLDER]: times a book that gets one record a turn, a turn being a refresh and a save.
+
+It copies main.rattle with its proof, and the crates that it depends on with what was proved of them, into a repository of their own, and
+builds that (`rt run`). It builds in FOLDER and keeps it; without the word it builds in a temporary folder. It runs by hand, never as a
+test.
+
+A group of 64 calculations over one input is refreshed and saved at once, and then with one record more a turn. Its device is in memory,
+where a sync costs nothing. The group has 156 windows, which make some 10,000 cells, or 15,384, which make some 985,000 and a million at
+the end. A record is a kept one, which completes one window more, or a late one, which touches old ones. The larger group gets three times
+a thousand turns, and the smaller one ten times a hundred, since it has to stay small. The script prints the load of the machine and
+medians: milliseconds of the first turn, microseconds of a later one, and which part of the former that is; at most 1/50 is aimed at in
+the larger group. Then it divides a later turn of the larger group by that of the smaller one; at most 1.5 is aimed at."""
+import os
+import shutil
+import statistics
+import subprocess
+import sys
+import tempfile
+
+HERE = os.path.dirname(os.path.abspath(__file__))
+ROOT = os.path.dirname(os.path.dirname(HERE))
+TOP = "group_book"
+SMALL, LARGE = (156, 100, 10), (15_384, 1000, 3)
+FIRST_AIM, SIZE_AIM = 50, 1.5
+
+INVARIANTS = {
+    "records": """use Rattle.std.proofs.Common.{All}
+use Rattle.trend_num.specs.Ranges.{InRange}
+use Rattle.turns_bench.proofs.records.Given as goal
+
+abbrev pub invariant-loop-i : goal.invariant-loop-i
+invariant-loop-i g l = All (λ r. InRange r.point) l.recs.items
+""",
+}
+
+
+def listed():
+    """The crates of this repository, each with its line of crates.txt and what it stands on."""
+    crates = {}
+    with open(os.path.join(ROOT, "crates.txt")) as lines:
+        for line in lines:
+            head, _, below = line.split("#")[0].partition(":")
+            if head.strip():
+                crates[head.split()[0]] = (line, below.split())
+    return crates
+
+
+def needed(crates, name):
+    """The names of a crate and of the crates of this repository that it stands on."""
+    names = {name}
+    for below in crates[name][1]:
+        if below in crates:
+            names |= needed(crates, below)
+    return names
+
+
+def is_left(folder, names):
+    """Of the files in a folder, those that are not copied: edits, and what was made, but not the libraries that were proved."""
+    if os.path.basename(folder) == "out":
+        return [name for name in names if name != "rlib"]
+    return [name for name in names if name == "must-fail"]
+
+
+def build(folder):
+    """Builds the program in a folder: its path."""
+    crates = listed()
+    below = needed(crates, TOP)
+    for name in below:
+        shutil.copytree(os.path.join(ROOT, "crates", name), os.path.join(folder, "crates", name), dirs_exist_ok=True, ignore=is_left)
+    crate = os.path.join(folder, "crates", "turns_bench")
+    os.makedirs(os.path.join(crate, "src"), exist_ok=True)
+    shutil.copyfile(os.path.join(HERE, "main.rattle"), os.path.join(crate, "src", "main.rt"))
+    for name, text in INVARIANTS.items():
+        os.makedirs(os.path.join(crate, "proofs", name), exist_ok=True)
+        with open(os.path.join(crate, "proofs", name, "Invariants.antt"), "w") as out:
+            out.write(text)
+    shutil.copyfile(os.path.join(ROOT, "HANDLES"), os.path.join(folder, "HANDLES"))
+    with open(os.path.join(folder, "crates.txt"), "w") as out:
+        out.write("".join(line for name, (line, _) in crates.items() if name in below))
+        out.write("turns_bench: anyhow trend_num disk_model calc_parser calc_check calc_eval calc_refresh group_book\n")
+    with open(os.path.join(folder, "build.log"), "w") as log:
+        subprocess.run(["rt", "run", "--jobs", "2", "--", "2", "1", "kept"], cwd=crate, stdin=subprocess.DEVNULL, stdout=log,
+                       stderr=log, check=True)
+    return os.path.join(crate, "out", "turns_bench")
+
+
+def run(program, windows, turns, kind):
+    """Runs the program: the nanoseconds of each turn, the first one first."""
+    words = [program, str(windows), str(turns), kind]
+    told = subprocess.run(words, stdin=subprocess.DEVNULL, capture_output=True, check=True).stdout
+    return [int(word) for word in told.split()]
+
+
+def medians(program, size, kind):
+    """The medians of the first turn and of the later ones, in nanoseconds."""
+    windows, turns, runs = size
+    told = [run(program, windows, turns, kind) for _ in range(runs)]
+    return statistics.median(each[0] for each in told), statistics.median(one for each in told for one in each[1:])
+
+
+def main():
+    with tempfile.TemporaryDirectory() as scratch:
+        program = build(sys.argv[1] if len(sys.argv) > 1 else scratch)
+        print("load", os.getloadavg())
+        for kind in ["kept", "late"]:
+            later = {}
+            for size in (SMALL, LARGE):
+                first, later[size] = medians(program, size, kind)
+                part = first / later[size]
+                verdict = "" if size is SMALL else ", aim 1/%d %s" % (FIRST_AIM, "met" if part >= FIRST_AIM else "MISSED")
+                print("%d windows, %s: first turn %.2f ms, a later one %.2f us, 1/%.0f of it%s"
+                      % (size[0], kind, first / 1e6, later[size] / 1e3, part, verdict))
+            ratio = later[LARGE] / later[SMALL]
+            print("a later turn of the larger group takes %.2f times that of the smaller one, aim %.2f %s"
+                  % (ratio, SIZE_AIM, "met" if ratio <= SIZE_AIM else "MISSED"))
+        print("load", os.getloadavg())
+
+
+if __name__ == "__main__":
+    main()
