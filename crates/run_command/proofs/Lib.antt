@@ -5,6 +5,7 @@ pub mod Mismatches
 pub mod Notes
 pub mod Zipped
 pub mod Continued
+pub mod Roomy
 pub mod Crossing
 pub mod Told
 pub mod Unheld
@@ -19,6 +20,7 @@ pub mod DrillUndone
 pub mod DrillUnopened
 pub mod DrillNaming
 pub mod DrillGrowing
+pub mod DrillRooms
 pub mod DrillSound
 pub mod DrillFormulas
 pub mod Foreign

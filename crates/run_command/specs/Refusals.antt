@@ -42,7 +42,7 @@ pub data IsFindingRefusal {D : Type 0} (g : Given) (cells : List (Cell D)) (book
 -- What the tapes lack cannot be done, in this order: a row is not taken; all is on the tapes, but a commit is refused; all
 -- is committed too, but a refresh or a save is refused. A lack of memory may come at any time.
 pub data IsMakingRefusal {D : Type 0} (g : Given) (cells : List (Cell D)) (books : List (Book D)) (s : Status) : Type 0 where
-  OfTaking : IsTakeRefusal (phase_item g.work.earlier) (lists_of g.work.collectors.items) g.rooms.items cells s
+  OfTaking : IsTakeRefusal (phase_item g.work.earlier) (lists_of g.work.collectors.items) cells s
       → IsMakingRefusal g cells books s
   OfCommit : AreTapesMade g cells books → IsCellRefusal cells s → IsMakingRefusal g cells books s
   OfRefresh : AreTapesMade g cells books → All IsCommittedCell cells

@@ -19,6 +19,7 @@ use Rattle.collector_pool.specs.declared.work.Refresh.{Refresh}
 use Rattle.collector_pool.specs.Work.{IsWorkOf}
 use Rattle.tag_base.specs.declared.schedule.Refresher.{Refresher}
 use Rattle.run_command.specs.declared.work.Given.{Given}
+use Rattle.run_command.specs.Rooms.{AreRoomy}
 
 -- ---- what a session is compared with
 
@@ -32,11 +33,13 @@ pub record AreGivenFor (tags groups : ℕ) (g : Given) : Type 0 where
   pub turns : (group : ℕ) → group < groups → slice_index g.turns.items group ≡ g.phases + turns_for group g.work.refreshers.items
   pub few_turns : (group : ℕ) → group < groups → slice_index g.turns.items group + 1 < 2 ^ 32
 
--- not too many cells and books, the work for them, and the tags of each group's inputs
+-- not too many cells and books, the work for them, room on each tape for the rows of its tag, and the tags of each group's
+-- inputs
 pub record AreReady {D : Type 0} (g : Given) (cells : List (Cell D)) (books : List (Book D)) : Type 0 where
   pub few_cells : length cells < 2 ^ 32
   pub few_books : length books < 2 ^ 32
   pub given : AreGivenFor (length cells) (length books) g
+  pub roomy : AreRoomy g.rooms.items cells
   pub inputs : AreInputs (length cells) (lists_of g.inputs.items) books
 
 -- the progress of the workers is over their rows: of collectors, of readers at tags, and of readers at groups
@@ -72,10 +75,11 @@ pub record AreStepsMade {D : Type 0} (g : Given) (cells : List (Cell D)) (books 
   pub committed : All IsCommittedCell cells
   pub refreshed : AreBooksRefreshed (durable_lists cells) (lists_of g.inputs.items) g.turns.items books
 
--- a cell keeps its definition and its opening
+-- a cell keeps its definition, its opening and its room
 pub record IsCellKept {D : Type 0} (old new : Cell D) : Type 0 where
   pub def : new.def ≡ old.def
   pub opening : new.opening ≡ old.opening
+  pub room : new.room ≡ old.room
 
 -- a book keeps its group, its definition, its text, its tags and its opening
 pub record IsBookKept {D : Type 0} (old new : Book D) : Type 0 where

@@ -6,6 +6,7 @@ ghost use Rattle.plant_store.specs.Openings.{AreRestSame};
 ghost use Rattle.plant_store.specs.Shelves.{HasPlacesOf, IsShelfFor};
 ghost use Rattle.run_command.specs.DrillRows.{drill_rows_of};
 ghost use Rattle.run_command.specs.Drills.{IsDrill, IsDrillBase, IsDrillUnopened, IsDrilled, IsRunInPhases, drill_answer, drill_status, fresh_devices, memory_faults, memory_ticks, memory_trace};
+ghost use Rattle.run_command.specs.Rooms.{AreAtMost, AreRoomy};
 ghost use Rattle.run_command.specs.Runs.{AreDefined, AreUnitsOpen, IsWorkIn};
 ghost use Rattle.run_command.specs.Steps.{AreGivenFor};
 ghost use Rattle.std.specs.Option.{IsSome};
@@ -68,6 +69,7 @@ fn run_drill<P: Passes, R: Threads + Wait + Sync>(
     requires good { IsGoodBase drill.now.base }
     requires first { (earlier : ℕ) × (rows : List (List RawRow)) × IsWorkIn drill.now.base earlier 0 rows [] [] drill.now.first }
     requires second { (earlier : ℕ) × (rows : List (List RawRow)) × IsWorkIn drill.now.base earlier 1 rows [] [] drill.now.second }
+    requires growing { AreAtMost drill.now.first.rooms.items drill.now.second.rooms.items }
     ensures held { OnOk result.answer (IsSome result.session) }
     ensures session { IfSome result.session (λ s. (new : DeviceTraces) × (now : ℕ) × IsRunInPhases memory_trace memory_ticks memory_faults
         drill.now.base drill.now.first drill.now.second fresh_devices new 0 now (P.stops passes.old) (P.stops passes.new) result.answer s) }
@@ -107,6 +109,7 @@ pub(crate) fn drill_of(
     ensures good { IfOk result (λ d. IsGoodBase d.base) }
     ensures first { IfOk result (λ d. IsWorkIn d.base 0 0 (drill_rows_of number tags 0 (events / 2)) [] [] d.first) }
     ensures second { IfOk result (λ d. IsWorkIn d.base (events / 2) 1 (drill_rows_of number tags 0 events) [] [] d.second) }
+    ensures growing { IfOk result (λ d. AreAtMost d.first.rooms.items d.second.rooms.items) }
 {
     let base = drill_base(alloc, tags)?;
     let half = events / 2;
@@ -149,6 +152,7 @@ pub(crate) fn hold_in<S: Store, P: Passes, R: Threads + Wait + Sync>(
     requires good { IsGoodBase base.now }
     requires first { AreGivenFor (length base.now.tags.items) (length base.now.groups.items) first.now }
     requires second { AreGivenFor (length base.now.tags.items) (length base.now.groups.items) second.now }
+    requires growing { AreAtMost first.now.rooms.items second.now.rooms.items }
     requires inputs { lists_of first.now.inputs.items ≡ map (λ d. d.inputs.items) base.now.groups.items }
     requires same_inputs { lists_of second.now.inputs.items ≡ lists_of first.now.inputs.items }
     requires no_readers { first.now.work.readers.items ≡ [] }
@@ -198,6 +202,7 @@ fn hold_drill<S: Store, P: Passes, R: Threads + Wait + Sync>(
     requires good { IsGoodBase base.now }
     requires first { AreGivenFor (length base.now.tags.items) (length base.now.groups.items) first.now }
     requires second { AreGivenFor (length base.now.tags.items) (length base.now.groups.items) second.now }
+    requires growing { AreAtMost first.now.rooms.items second.now.rooms.items }
     requires inputs { lists_of first.now.inputs.items ≡ map (λ d. d.inputs.items) base.now.groups.items }
     requires same_inputs { lists_of second.now.inputs.items ≡ lists_of first.now.inputs.items }
     requires no_readers { first.now.work.readers.items ≡ [] }
@@ -207,6 +212,7 @@ fn hold_drill<S: Store, P: Passes, R: Threads + Wait + Sync>(
     requires cells { vec_len plant.cells ≡ length base.now.tags.items }
     requires books { vec_len plant.books ≡ length base.now.groups.items }
     requires defined { AreDefined base.now.groups.items plant.books.items }
+    requires roomy { AreRoomy second.now.rooms.items plant.cells.items }
     requires board { vec_len plant.cells ≤ length board.now }
     ensures { (old : DeviceTraces) (before : ℕ) → AreUnitsOpen S.Dev.trace S.Dev.ticks S.Dev.fault_count base.now old plant.cells.items
         plant.books.items → AreRestSame base.now old (S.device_at store.old) → (before < 2 ^ 64 → S.fault_count store.old ≡ before)

@@ -6,6 +6,7 @@ ghost use Rattle.session_audit.specs.Inputs.{AreInputs};
 ghost use Rattle.session_audit.specs.Pulls.{ArePulled};
 ghost use Rattle.run_command.specs.Endings.{HaveAllEnded};
 ghost use Rattle.run_command.specs.Refusals.{AdmitsForeign, IsOfOpening};
+ghost use Rattle.run_command.specs.Rooms.{AreAtMost, AreRoomy};
 ghost use Rattle.run_command.specs.Runs.{IsContinued, IsContinuedGroup};
 ghost use Rattle.run_command.specs.Steps.{AreBegun, AreGivenFor, AreStepsMade};
 ghost use Rattle.run_command.specs.DrillPhases.{AreNotesBehind, AreNotesOfAllBehind, AreNotesOfAllBoth, AreNotesOfBoth, IsUndoneBehind, IsUndoneOfBoth};
@@ -38,6 +39,8 @@ pub(crate) fn hold_both<D: Disk + Send, P: Passes, R: Threads + Wait + Sync>(
     requires few_books { vec_len books < 2 ^ 32 }
     requires first { AreGivenFor (vec_len cells) (vec_len books) first.now }
     requires second { AreGivenFor (vec_len cells) (vec_len books) second.now }
+    requires roomy { AreRoomy second.now.rooms.items cells.items }
+    requires growing { AreAtMost first.now.rooms.items second.now.rooms.items }
     requires inputs { AreInputs (vec_len cells) (lists_of first.now.inputs.items) books.items }
     requires same_inputs { lists_of second.now.inputs.items ≡ lists_of first.now.inputs.items }
     requires board { vec_len cells ≤ length board.now }
@@ -106,6 +109,7 @@ fn go_on<D: Disk + Send, P: Passes, R: Threads + Wait + Sync>(
     requires few_cells { vec_len cells < 2 ^ 32 }
     requires few_books { vec_len books < 2 ^ 32 }
     requires second { AreGivenFor (vec_len cells) (vec_len books) second.now }
+    requires roomy { AreRoomy second.now.rooms.items cells.items }
     requires inputs { AreInputs (vec_len cells) (lists_of second.now.inputs.items) books.items }
     requires board { vec_len cells ≤ length board.now }
     requires no_readers { second.now.work.readers.items ≡ [] }

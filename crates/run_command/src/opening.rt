@@ -5,7 +5,7 @@ ghost use Rattle.plant_store.specs.Shelves.{HasPlacesOf, IsShelfFor};
 ghost use Rattle.run_command.specs.Runs.{AreDefined, AreUnitsOpen, IsUnopened};
 ghost use Rattle.snapshot_table.specs.Boards.{LooksAt, new_posters};
 ghost use Rattle.std.specs.Arc.{arc_value};
-ghost use Rattle.std.specs.Prelude.{All, IfErr, IfOk, OnOk, length, vec_len, ◌<◌, ◌^◌, ◌≡◌, ◌≤◌};
+ghost use Rattle.std.specs.Prelude.{All, IfErr, IfOk, OnOk, length, map, vec_len, ◌<◌, ◌^◌, ◌≡◌, ◌≤◌};
 
 use disk_model::{Disk, Store};
 use plant_status::Status;
@@ -70,6 +70,7 @@ pub(crate) fn open_session<S: Store, R: Wait>(
     ensures opened { IfOk result (λ o. AreUnitsOpen S.Dev.trace S.Dev.ticks S.Dev.fault_count base.now (S.device_at store.old)
         o.plant.cells.items o.plant.books.items) }
     ensures defined { IfOk result (λ o. AreDefined base.now.groups.items o.plant.books.items) }
+    ensures rooms { IfOk result (λ o. map (λ c. c.room) o.plant.cells.items ≡ rooms.now) }
     ensures shelf { IfOk result (λ o. IsShelfFor base.now o.shelf) }
     ensures places { IfOk result (λ o. HasPlacesOf o.shelf (S.has_place store.new)) }
 

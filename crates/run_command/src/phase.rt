@@ -4,7 +4,7 @@ ghost use Rattle.collector_pool.specs.Notes.{AreNotesOf, stops_with};
 ghost use Rattle.collector_pool.specs.Work.{IsWorkOf};
 ghost use Rattle.run_command.specs.Endings.{HaveAllEnded};
 ghost use Rattle.run_command.specs.Refusals.{AdmitsForeign, IsOfOpening, IsSettlingRefusal, notes_of};
-ghost use Rattle.run_command.specs.Rooms.{HasRoomFor};
+ghost use Rattle.run_command.specs.Rooms.{AreRoomy, HasRoomFor, WereRoomy};
 ghost use Rattle.run_command.specs.Runs.{IsContinued, IsContinuedGroup, IsUndone};
 ghost use Rattle.run_command.specs.Sessions.{AreNotes, AreNotesOfAll};
 ghost use Rattle.run_command.specs.Steps.{AreBegun, AreGivenFor, AreInputsFor, AreStepsMade};
@@ -47,6 +47,7 @@ pub(crate) fn hold_phase<D: Disk + Send, P: Passes, R: Threads + Wait + Sync>(
     requires few_cells { vec_len cells < 2 ^ 32 }
     requires few_books { vec_len books < 2 ^ 32 }
     requires given { AreGivenFor (vec_len cells) (vec_len books) given.now }
+    requires roomy { AreRoomy given.now.rooms.items cells.items }
     requires inputs { AreInputs (vec_len cells) (lists_of given.now.inputs.items) books.items }
     requires board { vec_len cells ≤ length board.now }
     requires lookers { vec_len lookers ≡ vec_len given.now.work.readers }
@@ -121,6 +122,7 @@ pub(crate) fn hold<D: Disk + Send, P: Passes, R: Threads + Wait + Sync>(
     requires known_are { vec_len ready.tags ≡ vec_len cells }
     requires groups_are { vec_len ready.groups ≡ vec_len books }
     requires given { AreGivenFor (vec_len cells) (vec_len books) given.now }
+    requires roomy { WereRoomy given.now.rooms.items ready.tags.items }
     requires inputs { AreInputsFor (vec_len cells) (lists_of given.now.inputs.items) ready.groups.items }
     requires board { vec_len cells ≤ length board.now }
     requires lookers { vec_len lookers ≡ vec_len given.now.work.readers }
@@ -182,6 +184,7 @@ fn settle_all<D: Disk, R: Wait>(
     requires known_are { length known.now ≡ vec_len cells.old }
     requires groups_are { length known_groups.now ≡ vec_len books.old }
     requires given { AreGivenFor (vec_len cells.old) (vec_len books.old) given.now }
+    requires roomy { WereRoomy given.now.rooms.items known.now }
     requires inputs { AreInputsFor (vec_len cells.old) (lists_of given.now.inputs.items) known_groups.now }
     ensures made { OnOk result (AreStepsMade given.now cells.new.items books.new.items) }
     ensures pulled { OnOk result (ArePulled (lists_of given.now.inputs.items) cells.new.items books.new.items) }

@@ -8,6 +8,7 @@ ghost use Rattle.plant_store.specs.Groups.{DeviceTraces};
 ghost use Rattle.plant_store.specs.Openings.{AreRestSame, CountsPlant};
 ghost use Rattle.plant_store.specs.Shelves.{HasPlacesOf, IsShelfFor};
 ghost use Rattle.run_command.specs.Headline.{IsPromised};
+ghost use Rattle.run_command.specs.Rooms.{AreRoomy};
 ghost use Rattle.run_command.specs.Runs.{AreDefined, IsNoReadFault, AreUnitsOpen, IsRun, IsSession, IsUnheld, IsUnopened};
 ghost use Rattle.run_command.specs.Steps.{AreGivenFor};
 ghost use Rattle.snapshot_table.specs.Boards.{LooksAt};
@@ -180,6 +181,7 @@ fn hold_open<S: Store, P: Passes, R: Threads + Wait + Sync>(
     requires cells { vec_len opened.plant.cells ≡ length base.now.tags.items }
     requires books { vec_len opened.plant.books ≡ length base.now.groups.items }
     requires defined { AreDefined base.now.groups.items opened.plant.books.items }
+    requires roomy { AreRoomy given.now.rooms.items opened.plant.cells.items }
     requires board { vec_len opened.plant.cells ≤ length (arc_value opened.board) }
     requires lookers { vec_len opened.lookers ≡ vec_len given.now.work.readers }
     requires looks { All (LooksAt (arc_value opened.board)) opened.lookers.items }

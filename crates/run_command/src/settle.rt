@@ -3,6 +3,7 @@ ghost use Rattle.calc_refresh.specs.Lists.{lists_of};
 ghost use Rattle.collector_pool.specs.declared.note.Ending.TheVariants.{WantOfMemory as NoMemory};
 ghost use Rattle.run_command.specs.Endings.{HaveAllEnded, IsStop};
 ghost use Rattle.run_command.specs.Refusals.{AdmitsForeign, IsFindingRefusal, IsMakingRefusal, IsOfOpening, IsRefused, IsSettlingRefusal, notes_of};
+ghost use Rattle.run_command.specs.Rooms.{WereRoomy};
 ghost use Rattle.run_command.specs.Steps.{AreBegun, AreFoundAll, AreGivenFor, AreInputsFor, AreOverAll, AreReady, IsBookKept, IsCellKept, AreStepsMade};
 ghost use Rattle.session_audit.specs.BookOpenings.{IsBookAsKept};
 ghost use Rattle.session_audit.specs.CellOpenings.{IsCellAsKept};
@@ -45,6 +46,7 @@ pub(crate) fn settle<D: Disk, R: Wait>(
     requires known_are { length known.now ≡ length cells.old }
     requires groups_are { length known_groups.now ≡ length books.old }
     requires given { AreGivenFor (length cells.old) (length books.old) given.now }
+    requires roomy { WereRoomy given.now.rooms.items known.now }
     requires inputs { AreInputsFor (length cells.old) (lists_of given.now.inputs.items) known_groups.now }
     ensures made { OnOk result (AreStepsMade given.now cells.new books.new) }
     ensures pulled { OnOk result (ArePulled (lists_of given.now.inputs.items) cells.new books.new) }

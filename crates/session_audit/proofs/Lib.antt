@@ -23,4 +23,3 @@ pub mod DurableLaws
 pub mod Starts
 pub mod AddedRows
 pub mod Begun
-pub mod TakeCounts

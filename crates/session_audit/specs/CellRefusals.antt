@@ -1,20 +1,17 @@
 -- Why a step of a session is refused.
-use Rattle.std.specs.Prelude.{◌≡◌, ℕ, ◌+◌, ◌<◌, ◌≤◌, List, [], ◌∷◌, length, slice_get, slice_index, slice_index_or, Option, Some, true, false, nat_eq, ⊤}
+use Rattle.std.specs.Prelude.{◌≡◌, ℕ, ◌+◌, ◌<◌, List, [], ◌∷◌, length, slice_get, slice_index_or, Option, Some, true, false, nat_eq, ⊤}
 use Rattle.trend_num.specs.Limits.{most_records}
 use Rattle.trend_num.specs.declared.refusal.What.TheVariants.{Records}
 use Rattle.std.specs.List.{count_by}
 use Rattle.value_rows.specs.declared.raw.RawRow.{RawRow}
 use Rattle.plant_status.specs.declared.unit.Unit.TheVariants.{Tag}
-use Rattle.plant_status.specs.declared.mismatch.Place.TheVariants.{Takes}
-use Rattle.plant_status.specs.declared.mismatch.Seen.TheVariants.{Number}
 use Rattle.plant_status.specs.declared.status.Status.{Status}
-use Rattle.plant_status.specs.declared.status.Status.TheVariants.{DeviceFault, Limit, Mismatch, WantOfMemory}
+use Rattle.plant_status.specs.declared.status.Status.TheVariants.{DeviceFault, Limit, WantOfMemory}
 use Rattle.tag_cell.specs.declared.entry.CommitNo.{CommitNo}
 use Rattle.tag_cell.specs.declared.entry.CommitNo.TheVariants as commit
 use Rattle.tag_cell.specs.declared.entry.TakeNo.{TakeNo}
 use Rattle.tag_cell.specs.declared.entry.TakeNo.TheVariants as take_no
 use Rattle.tag_cell.specs.Told.{ToldCell, takes_waiting}
-use Rattle.tag_cell.specs.Tapes.{taken}
 use Rattle.session_audit.specs.declared.agenda.Item.{Item}
 use Rattle.session_audit.specs.Tapes.{take_of}
 use Rattle.session_audit.specs.Workers.{LacksRow}
@@ -30,23 +27,20 @@ abbrev pub tag_rows : ℕ → List (List RawRow) → ℕ
 tag_rows tag [] = 0
 tag_rows tag (rows ∷ files) = count_by (λ r. nat_eq r.tag tag) rows + tag_rows tag files
 
--- Why a row is not taken: the tag's device has failed. Or the tape has no room, and fewer takes than the tag has rows; the
--- status has both numbers. Or the tag could have too many records, and a row is due there that its tape lacks.
-abbrev pub IsTakeRefusal : {D : Type 0} → (ℕ → ℕ → RawRow → Option Item) → List (List RawRow) → List ℕ → List (ToldCell D) → Status
+-- why a row is not taken: the tag's device has failed; or the tag could have too many records, and a row is due there
+-- that its tape lacks
+abbrev pub IsTakeRefusal : {D : Type 0} → (ℕ → ℕ → RawRow → Option Item) → List (List RawRow) → List (ToldCell D) → Status
     → Type 0
-IsTakeRefusal item_of files rooms cells (DeviceFault (Tag tag)) = IsSo cells tag (λ c. c.journal.failed ≡ true)
-IsTakeRefusal item_of files rooms cells (Mismatch (Takes tag) kept told) = IsSo cells tag (λ c.
-    (kept ≡ Number (length (taken c.tape))) × (told ≡ Number (slice_index rooms tag))
-    × (length (taken c.tape) < slice_index rooms tag) × (c.room ≤ length (taken c.tape)))
-IsTakeRefusal item_of files rooms cells (Limit Records number) = (tag : ℕ) × IsSo cells tag (λ c.
+IsTakeRefusal item_of files cells (DeviceFault (Tag tag)) = IsSo cells tag (λ c. c.journal.failed ≡ true)
+IsTakeRefusal item_of files cells (Limit Records number) = (tag : ℕ) × IsSo cells tag (λ c.
     (number ≡ length c.state.records) × (most_records < number + 2) × LacksRow take_of item_of files tag c.tape)
-IsTakeRefusal item_of files rooms cells other = ⊥
+IsTakeRefusal item_of files cells other = ⊥
 
--- the status of a refused row of a tag that has so many takes on its tape, and so many rows
-abbrev pub take_status : ℕ → ℕ → ℕ → TakeNo → Status
-take_status tag takes rows take_no.Broken = DeviceFault (Tag tag)
-take_status tag takes rows (take_no.RoomFull room) = Mismatch (Takes tag) (Number takes) (Number rows)
-take_status tag takes rows (take_no.Full records) = Limit Records records
+-- a status is that of a refused row of a tag; no row is refused because a tape is full
+abbrev pub IsTakeStatus : ℕ → TakeNo → Status → Type 0
+IsTakeStatus tag take_no.Broken why = why ≡ DeviceFault (Tag tag)
+IsTakeStatus tag (take_no.RoomFull room) why = ⊥
+IsTakeStatus tag (take_no.Full records) why = why ≡ Limit Records records
 
 -- no value waits on this cell, and its device has not failed
 pub record IsCommittedCell {D : Type 0} (c : ToldCell D) : Type 0 where

@@ -17,8 +17,8 @@
 //!
 //! **Steps**, in the order in which a session makes them:
 //!
-//! 1. Before the workers begin, [`copies_of`] copies the openings. Once they have ended, [`compare_all`] compares each
-//!    opening with its copy.
+//! 1. Before the workers begin, [`copies_of`] copies the openings, each with the room of its tape. Once they have ended,
+//!    [`compare_all`] compares each opening with its copy.
 //! 2. [`collectors_of`], [`readers_of`] and [`row_askers_of`] make the progress of the workers (by [`start`]); no row
 //!    is found yet. [`rooms_of`] counts the rows of each tag, and [`turns_of`] the turns of each group.
 //! 3. [`find_all_takes`], [`find_all_asks`] and [`find_all_row_asks`] go over each tape once (by [`find`]). They stop

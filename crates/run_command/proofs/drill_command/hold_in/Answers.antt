@@ -1,4 +1,10 @@
+use Rattle.std.proofs.Common.{◌∙◌}
+use Rattle.run_command.proofs.Roomy.{opened_roomy}
 use Rattle.run_command.proofs.drill_command.hold_in.Goals as goal
+
+pub hold_drill-answer-requires-clause-roomy : goal.hold_drill-answer-requires-clause-roomy
+hold_drill-answer-requires-clause-roomy g c κs within =
+    opened_roomy c.args.second.now.rooms.items _ (c.in-Ok.ensures.rooms ∙ c.deref.ensures.value)
 
 pub returns-in-Ok-clause-session : goal.returns-in-Ok-clause-session
 returns-in-Ok-clause-session g c =

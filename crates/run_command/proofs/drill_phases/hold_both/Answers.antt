@@ -9,8 +9,18 @@ use Rattle.run_command.specs.Sessions.{OfNone}
 use Rattle.run_command.specs.Steps.{AreStepsMade}
 use Rattle.run_command.proofs.Continued.{books_on, cells_on, inputs_continued}
 use Rattle.run_command.proofs.Results.{err_weaker, ok_weaker}
+use Rattle.run_command.proofs.Roomy.{fewer_roomy, on_roomy}
 use Rattle.run_command.specs.DrillPhases.{OfFirst, OfSecond}
 use Rattle.run_command.proofs.drill_phases.hold_both.Goals as goal
+
+pub hold_phase-cells-requires-clause-roomy : goal.hold_phase-cells-requires-clause-roomy
+hold_phase-cells-requires-clause-roomy g c κs within =
+    fewer_roomy c.args.first.now.rooms.items c.args.second.now.rooms.items c.args.cells.items c.requires.growing c.requires.roomy
+
+pub go_on-requires-clause-roomy : goal.go_on-requires-clause-roomy
+go_on-requires-clause-roomy g c κs within =
+    on_roomy c.args.second.now.rooms.items c.args.cells.items c.hold_phase-cells.result.cells.items c.requires.roomy
+    (c.hold_phase-cells.ensures.same_cells (λ of. subst (λ (r : Result (Unit {0}) Status). IsOfOpening r) c.in-Ok.is of))
 
 pub go_on-requires-clause-inputs : goal.go_on-requires-clause-inputs
 go_on-requires-clause-inputs g c κs within =

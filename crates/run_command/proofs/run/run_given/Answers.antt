@@ -1,5 +1,11 @@
+use Rattle.std.proofs.Common.{◌∙◌}
+use Rattle.run_command.proofs.Roomy.{opened_roomy}
 use Rattle.run_command.proofs.Unheld.{unopened_is_no_fault}
 use Rattle.run_command.proofs.run.run_given.Goals as goal
+
+pub hold_open-answer-requires-clause-roomy : goal.hold_open-answer-requires-clause-roomy
+hold_open-answer-requires-clause-roomy g c κs within =
+    opened_roomy c.args.given.now.rooms.items c.in-Ok.opened.plant.cells.items (c.in-Ok.ensures.rooms ∙ c.deref.ensures.value)
 
 pub returns-in-Ok-clause-session : goal.returns-in-Ok-clause-session
 returns-in-Ok-clause-session g c =

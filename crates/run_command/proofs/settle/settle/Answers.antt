@@ -1,10 +1,11 @@
-use Rattle.std.proofs.Common.{◌∙◌, List, ap, is_ok, sym, subst, length}
+use Rattle.std.proofs.Common.{◌∙◌, List, ap, is_ok, refl, sym, subst, length}
 use Rattle.std.proofs.lemmas.Result.{err_from_is_err_and}
 use Rattle.collector_pool.specs.declared.note.WorkerNote.{WorkerNote}
 use Rattle.run_command.specs.Endings.{HaveAllEnded}
-use Rattle.run_command.specs.Refusals.{IsRefused, OfGroup, OfRest, OfTag, notes_of}
+use Rattle.run_command.specs.Refusals.{IsRefused, OfGroup, OfRest, OfTag, OfWant, notes_of}
 use Rattle.run_command.proofs.Kept.{books_as_kept, cells_as_kept}
 use Rattle.run_command.proofs.Making.{inputs_of_kept}
+use Rattle.run_command.proofs.Roomy.{kept_roomy}
 use Rattle.plant_status.specs.declared.unit.Unit.TheVariants.{Group, Tag}
 use Rattle.session_audit.specs.BookOpenings.{IsBookDifference}
 use Rattle.session_audit.specs.CellOpenings.{IsCellDifference}
@@ -34,6 +35,8 @@ complete_all-requires g c = record {
     few_cells = c.requires.few_cells;
     few_books = c.requires.few_books;
     given = c.requires.given;
+    roomy = kept_roomy c.args.given.now.rooms.items c.args.known.now c.args.cells.now c.requires.known_are c.requires.roomy
+        c.in_ok-compare_all.ensures.same;
     inputs = inputs_of_kept (length c.args.cells.now) _ _ _ c.requires.groups_are c.requires.inputs c.in_ok-compare_all-2.ensures.same;
   };
 }
@@ -48,6 +51,9 @@ pub returns-in-Ok-clause-refused : goal.returns-in-Ok-clause-refused
 returns-in-Ok-clause-refused g c = err_weaker c.complete_all.result
     (λ why is. OfRest (subst (λ (l : List WorkerNote). IsRefused c.args.given.now l c.complete_all.new.cells c.complete_all.new.books why)
     (c.deref.ensures.value ∙ sym (ap notes_of c.in-Ok.is)) is)) c.complete_all.ensures.refused
+
+pub returns-in-Err-clause-refused : goal.returns-in-Err-clause-refused
+returns-in-Err-clause-refused g c = OfRest (OfWant refl)
 
 pub returns-in_err-compare_all-clause-begun : goal.returns-in_err-compare_all-clause-begun
 returns-in_err-compare_all-clause-begun g c =
