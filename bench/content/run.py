@@ -19,7 +19,7 @@ ROOT = os.path.dirname(os.path.dirname(HERE))
 BELOW = ["trend_num", "trend_model", "page_pool", "late_insert", "interp_read", "weighted_total"]
 RUNS = 3
 # Each work, and what is aimed at: the rate of pages is at least so many times the plain rate.
-WORKS = [("in_order", 1 / 3), ("late", 50), ("whole_area", 5), ("whole_stair", 5), ("whole_low", 5),
+WORKS = [("in_order", 1 / 1.7), ("late", 50), ("whole_area", 5), ("whole_stair", 5), ("whole_low", 5),
          ("small_area", 1), ("small_stair", 1), ("small_low", 1)]
 
 

@@ -9,8 +9,8 @@ use crate::host::record_of;
 use crate::record::Record;
 use std::io;
 
-// What is kept of a device while it is not out: the record of its calls, and the bytes that were read of it. Once it
-// was handed out, there are no bytes, and it is not handed out again.
+// What the store has of a device: the record of its calls, unless it is out, and the bytes that were read of it. One
+// without bytes was handed out or is refused, and is not handed out from then on.
 #[derive(Drop)]
 pub(crate) struct Kept {
     pub(crate) log: Record,
