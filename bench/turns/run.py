@@ -1,5 +1,5 @@
 #!/usr/bin/env python3
-"""run.py [FOLDER]: times a book that gets one record a turn, a turn being a refresh and a save.
+"""run.py [FOLDER]: times a book that gets one record a turn, a turn being a refresh and a save, and opening its device again.
 
 It copies main.rattle with its proof, and the crates that it depends on with what was proved of them, into a repository of their own, and
 builds that (`rt run`). It builds in FOLDER and keeps it; without the word it builds in a temporary folder. It runs by hand, never as a
@@ -10,7 +10,8 @@ where a sync costs nothing. The group has 156 windows, which make some 10,000 ce
 the end. A record is a kept one, which completes one window more, or a late one, which touches old ones. The larger group gets three times
 a thousand turns, and the smaller one ten times a hundred, since it has to stay small. The script prints the load of the machine and
 medians: milliseconds of the first turn, microseconds of a later one, and which part of the former that is; at most 1/50 is aimed at in
-the larger group. Then it divides a later turn of the larger group by that of the smaller one; at most 1.5 is aimed at."""
+the larger group; and milliseconds of the opening. Then it divides a later turn of the larger group by that of the smaller one; at
+most 1.5 is aimed at."""
 import os
 import shutil
 import statistics
@@ -86,17 +87,18 @@ def build(folder):
 
 
 def run(program, windows, turns, kind):
-    """Runs the program: the nanoseconds of each turn, the first one first."""
+    """Runs the program: the nanoseconds of each turn, the first one first, and of the opening."""
     words = [program, str(windows), str(turns), kind]
     told = subprocess.run(words, stdin=subprocess.DEVNULL, capture_output=True, check=True).stdout
     return [int(word) for word in told.split()]
 
 
 def medians(program, size, kind):
-    """The medians of the first turn and of the later ones, in nanoseconds."""
+    """The medians of the first turn, of the later ones and of the opening, in nanoseconds."""
     windows, turns, runs = size
     told = [run(program, windows, turns, kind) for _ in range(runs)]
-    return statistics.median(each[0] for each in told), statistics.median(one for each in told for one in each[1:])
+    later = statistics.median(one for each in told for one in each[1:-1])
+    return statistics.median(each[0] for each in told), later, statistics.median(each[-1] for each in told)
 
 
 def main():
@@ -106,11 +108,11 @@ def main():
         for kind in ["kept", "late"]:
             later = {}
             for size in (SMALL, LARGE):
-                first, later[size] = medians(program, size, kind)
+                first, later[size], opened = medians(program, size, kind)
                 part = first / later[size]
                 verdict = "" if size is SMALL else ", aim 1/%d %s" % (FIRST_AIM, "met" if part >= FIRST_AIM else "MISSED")
-                print("%d windows, %s: first turn %.2f ms, a later one %.2f us, 1/%.0f of it%s"
-                      % (size[0], kind, first / 1e6, later[size] / 1e3, part, verdict))
+                print("%d windows, %s: first turn %.2f ms, a later one %.2f us, 1/%.0f of it%s; opened in %.2f ms"
+                      % (size[0], kind, first / 1e6, later[size] / 1e3, part, verdict, opened / 1e6))
             ratio = later[LARGE] / later[SMALL]
             print("a later turn of the larger group takes %.2f times that of the smaller one, aim %.2f %s"
                   % (ratio, SIZE_AIM, "met" if ratio <= SIZE_AIM else "MISSED"))

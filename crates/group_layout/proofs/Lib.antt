@@ -4,6 +4,7 @@ pub mod BlockLaws
 pub mod BlockPieces
 pub mod Walks
 pub mod SavedRows
+pub mod FewRows
 pub mod Beginnings
 pub mod BlockAdded
 pub mod RowsAdded

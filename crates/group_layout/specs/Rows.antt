@@ -1,5 +1,5 @@
 -- The rows that blocks give: each block replaces or adds the rows that it lists.
-use Rattle.std.specs.Prelude.{◌≡◌, ℕ, ◌+◌, ◌<◌, Bool, ◌&&◌, List, [], ◌∷◌, All, length, flat_map, slice_get, map, Vec, Option, None, Some, option_and_then, nat_eq, if◌then◌else◌}
+use Rattle.std.specs.Prelude.{◌≡◌, ℕ, ◌+◌, ◌<◌, Bool, ◌&&◌, List, [], ◌∷◌, All, length, flat_map, slice_get, slice_index_or, slice_set, map, Vec, Option, None, Some, option_and_then, nat_eq, if◌then◌else◌}
 use Rattle.std.specs.declared.alloc.Global.{Global}
 use Rattle.trend_num.specs.declared.value.Bad.TheVariants.{NoData, DivZero, Range}
 use Rattle.trend_num.specs.declared.value.CalcValue.{CalcValue}
@@ -18,6 +18,10 @@ value_of r =
     else if nat_eq r.kind 1 then Bad NoData
     else if nat_eq r.kind 2 then Bad DivZero
     else Bad Range
+
+-- cells with the value of a row in the cell of its calculation and window. Where there is no such cell, they stay
+abbrev pub with_row : List (List (Option CalcValue)) → BlockRow → List (List (Option CalcValue))
+with_row cells r = slice_set cells r.calc (slice_set (slice_index_or cells r.calc []) r.window (Some (value_of r)))
 
 -- whether a row belongs to a calculation in a window
 abbrev pub is_at : ℕ → ℕ → BlockRow → Bool

@@ -1,8 +1,8 @@
 // The rows that blocks give.
-ghost use Rattle.std.specs.Prelude.{◌≡◌, ℕ, ◌<◌, Option, Some, None, IfSome, IfNone, IfOk, length, map, slice_index_or};
+ghost use Rattle.std.specs.Prelude.{◌≡◌, ℕ, ◌-◌, ◌^◌, ◌<◌, [], Option, Some, None, IfSome, IfNone, IfOk, fold, length, map, min, replicate, slice_index_or};
 ghost use Rattle.trend_num.specs.declared.value.CalcValue.{CalcValue};
 ghost use Rattle.group_layout.specs.Blocks.{parts_of};
-ghost use Rattle.group_layout.specs.Rows.{AreRowsOf, block_lists_of, listed_from, saved_value, value_of};
+ghost use Rattle.group_layout.specs.Rows.{AreRowsOf, block_lists_of, rows_of_blocks, saved_value, value_of, with_row};
 
 use crate::block::{Block, BlockRow};
 use std::alloc::{AllocError, Global};
@@ -20,33 +20,55 @@ pub(crate) fn value_of(row: BlockRow) -> CalcValue
     }
 }
 
-// Puts the values that rows list for a calculation into the cells of their windows.
-fn put_rows(cells: &mut [Option<CalcValue>], calc: u32, rows: &[BlockRow])
-    ensures { (k : ℕ) → k < length cells.old
-        → slice_index_or cells.new k None ≡ listed_from (slice_index_or cells.old k None) rows.now calc k }
+// Puts the value of a row into the cell of its calculation and window, if there is one.
+fn put_row(cells: &mut [Vec<Option<CalcValue>>], row: BlockRow)
+    ensures { block_lists_of cells.new ≡ with_row (block_lists_of cells.old) row }
 {
-    for row in rows {
-        let k = row.window as usize;
-        if row.calc == calc && k < cells.len() {
-            cells[k] = Some(value_of(*row));
-        }
+    let calc = row.calc as usize;
+    let k = row.window as usize;
+    if calc < cells.len() && k < cells[calc].len() {
+        cells[calc][k] = Some(value_of(row));
     }
 }
 
-// Returns what blocks give for a calculation in each of so many windows.
+// Puts the values that rows list into the cells of their calculations and windows.
+fn put_rows(cells: &mut [Vec<Option<CalcValue>>], rows: &[BlockRow])
+    ensures { block_lists_of cells.new ≡ fold with_row (block_lists_of cells.old) rows.now }
+{
+    for row in rows {
+        put_row(cells, *row);
+    }
+}
+
+// Returns the cells of so many calculations in so many windows, without a value.
+fn no_cells(
+    alloc: Global,
+    calcs: u32,
+    windows: u32,
+) -> Result<Vec<Vec<Option<CalcValue>>>, AllocError>
+    ensures { IfOk result (λ v. block_lists_of v.items ≡ replicate calcs (replicate windows None)) }
+{
+    let mut cells = Vec::with_capacity(alloc, calcs as usize)?;
+    for _ in 0..calcs {
+        cells.push_reserved(vec![in alloc; None; windows as usize]?);
+    }
+    Ok(cells)
+}
+
+// Returns what blocks give for each of so many calculations in each of so many windows.
 fn cells_of(
     alloc: Global,
     blocks: &[Block],
-    calc: u32,
+    calcs: u32,
     windows: u32,
-) -> Result<Vec<Option<CalcValue>>, AllocError>
-    ensures len { IfOk result (λ v. length v.items ≡ windows) }
-    ensures cells { IfOk result (λ v. (k : ℕ) → k < windows
-        → slice_index_or v.items k None ≡ saved_value (map parts_of blocks.now) calc k) }
+) -> Result<Vec<Vec<Option<CalcValue>>>, AllocError>
+    ensures lengths { IfOk result (λ v. map length (block_lists_of v.items) ≡ replicate calcs windows) }
+    ensures cells { IfOk result (λ v. (calc k : ℕ) → calc < calcs → k < windows
+        → slice_index_or (slice_index_or (block_lists_of v.items) calc []) k None ≡ saved_value (map parts_of blocks.now) calc k) }
 {
-    let mut cells = vec![in alloc; None; windows as usize]?;
+    let mut cells = no_cells(alloc, calcs, windows)?;
     for block in blocks {
-        put_rows(&mut cells, calc, &block.rows);
+        put_rows(&mut cells, &block.rows);
     }
     Ok(cells)
 }
@@ -69,6 +91,17 @@ fn whole_row(
     Ok(Some(row))
 }
 
+// Returns how many rows blocks have, or the greatest u64 if they have more.
+fn row_count(blocks: &[Block]) -> u64
+    ensures { result ≡ min (length (rows_of_blocks (map parts_of blocks.now))) (2 ^ 64 - 1) }
+{
+    let mut rows: u64 = 0;
+    for block in blocks {
+        rows = rows.saturating_add(block.rows.len() as u64);
+    }
+    rows
+}
+
 // Returns the rows that blocks give for so many calculations in so many windows, or `None` if a value is missing.
 pub(crate) fn rows_of(
     alloc: Global,
@@ -80,13 +113,17 @@ pub(crate) fn rows_of(
     ensures missing { IfOk result (λ o. IfNone o ((calc : ℕ) × (k : ℕ) × (calc < calcs) × (k < windows)
         × (saved_value (map parts_of blocks.now) calc k ≡ None))) }
 {
-    let mut rows = Vec::new(alloc);
-    for calc in 0..calcs {
-        let cells = cells_of(alloc, blocks, calc, windows)?;
-        let Some(row) = whole_row(alloc, &cells)? else {
+    // Counted before any cell is made: a damaged device can name far more windows than it has rows for.
+    if row_count(blocks) < u64::from(calcs) * u64::from(windows) {
+        return Ok(None);
+    }
+    let cells = cells_of(alloc, blocks, calcs, windows)?;
+    let mut rows = Vec::with_capacity(alloc, cells.len())?;
+    for calc_cells in cells {
+        let Some(row) = whole_row(alloc, &calc_cells)? else {
             return Ok(None);
         };
-        rows.push(row)?;
+        rows.push_reserved(row);
     }
     Ok(Some(rows))
 }

@@ -27,6 +27,7 @@ const FIRST: [u8; 72] = [
 const ROWS: &str = "\
 44 3 => version 3 number 1 end 104 rows 20 50 20
 44 5 => version 5 number 1 end 104 rows 20 50 20
+45 255 => damaged 32 165
 86 7 => version 3 number 1 end 104 rows 20 7 20
 32 0 => version 0 number 0 end 32 rows
 9 104 => other

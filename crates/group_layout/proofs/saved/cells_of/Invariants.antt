@@ -1,12 +1,9 @@
-use Rattle.std.proofs.Common.{◌≡◌, ℕ, ◌<◌, None, drop, get_or, length, map}
+use Rattle.std.proofs.Common.{◌≡◌, None, drop, fold, map, replicate}
 use Rattle.group_layout.specs.Blocks.{parts_of}
-use Rattle.group_layout.specs.Rows.{rows_of_blocks, listed_from, saved_value}
+use Rattle.group_layout.specs.Rows.{block_lists_of, rows_of_blocks, with_row}
 use Rattle.group_layout.proofs.saved.cells_of.Given as goal
 
 abbrev pub invariant-loop-block : goal.invariant-loop-block
-invariant-loop-block l = record {
-  len : length l.cells.items ≡ l.windows;
-  cells : (k : ℕ) → k < l.windows
-      → listed_from (get_or l.cells.items k None) (rows_of_blocks (map parts_of (drop l.block-index l.blocks))) l.calc k
-      ≡ saved_value (map parts_of l.blocks) l.calc k;
-}
+invariant-loop-block l =
+    fold with_row (block_lists_of l.cells.items) (rows_of_blocks (map parts_of (drop l.block-index l.blocks)))
+    ≡ fold with_row (replicate l.calcs (replicate l.windows None)) (rows_of_blocks (map parts_of l.blocks))

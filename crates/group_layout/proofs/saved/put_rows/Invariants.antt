@@ -1,7 +1,6 @@
-use Rattle.std.proofs.Common.{◌≡◌, ℕ, ◌<◌, None, drop, get_or, length}
-use Rattle.group_layout.specs.Rows.{listed_from}
+use Rattle.std.proofs.Common.{◌≡◌, drop, fold}
+use Rattle.group_layout.specs.Rows.{block_lists_of, with_row}
 use Rattle.group_layout.proofs.saved.put_rows.Given as goal
 
 abbrev pub invariant-loop-row : goal.invariant-loop-row
-invariant-loop-row l = (k : ℕ) → k < length l.cells
-    → listed_from (get_or l.cells k None) (drop l.row-index l.rows) l.calc k ≡ listed_from (get_or l.initial.cells k None) l.rows l.calc k
+invariant-loop-row l = fold with_row (block_lists_of l.cells) (drop l.row-index l.rows) ≡ fold with_row (block_lists_of l.initial.cells) l.rows

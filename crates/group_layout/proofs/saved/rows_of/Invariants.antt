@@ -1,7 +1,10 @@
-use Rattle.std.proofs.Common.{map}
+use Rattle.std.proofs.Common.{◌≤◌, length, map, vec_capacity}
 use Rattle.group_layout.specs.Blocks.{parts_of}
 use Rattle.group_layout.specs.Rows.{AreRowsOf, block_lists_of}
 use Rattle.group_layout.proofs.saved.rows_of.Given as goal
 
-abbrev pub invariant-loop-calc : goal.invariant-loop-calc
-invariant-loop-calc l = AreRowsOf l.calc l.windows (map parts_of l.blocks) (block_lists_of l.rows.items)
+abbrev pub invariant-loop-calc_cells : goal.invariant-loop-calc_cells
+invariant-loop-calc_cells l = record {
+  room : l.calcs ≤ vec_capacity l.rows;
+  rows : AreRowsOf (length l.yielded) l.windows (map parts_of l.blocks) (block_lists_of l.rows.items);
+}
