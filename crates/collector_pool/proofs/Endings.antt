@@ -1,13 +1,17 @@
 -- How workers end whose calls were refused.
-use Rattle.std.proofs.Common.{◌≡◌, ℕ, ◌<◌, ◌≤◌, true, List, length, get_or, take, refl, sym, subst, inl, inr, ap, ◌∙◌}
-use Rattle.std.specs.Prelude.{slice_range, IfErr, MatchResult, Option, None, Some, Result, Ok, Err}
+use Rattle.std.proofs.Common.{◌≡◌, ℕ, ◌+◌, ◌<◌, ◌≤◌, Bool, true, false, nat_le, nat_lt, List, length, get_or, take, refl, sym, subst, inl, inr, ap, ◌∙◌, arith}
+use Rattle.std.specs.Prelude.{slice_range, IfErr, MatchResult, None, Some, Result, Ok, Err, if◌then◌else◌}
 use Rattle.std.specs.Option.{option_map}
+use Rattle.std.proofs.lemmas.Bool.Decides.{nat_tests}
+use Rattle.std.proofs.lemmas.Option.{none-some}
+use Rattle.trend_num.specs.Limits.{most_records}
 use Rattle.value_rows.specs.declared.asked.Query.{Query}
 use Rattle.value_rows.specs.declared.asked.Query.TheVariants as ask
 use Rattle.value_rows.specs.declared.raw.RawRow.{RawRow}
 use Rattle.tag_cell.specs.declared.entry.CommitNo.{CommitNo}
 use Rattle.tag_cell.specs.declared.entry.CommitNo.TheVariants as commit
-use Rattle.tag_cell.specs.declared.entry.TakeNo.{TakeNo}
+use Rattle.tag_cell.specs.declared.entry.TakeNo.TheVariants.{Broken, RoomFull, Full}
+use Rattle.tag_cell.specs.Tapes.{taken}
 use Rattle.tag_cell.specs.Told.{ToldCell as CellTold, take_refusal}
 use Rattle.collector_pool.specs.declared.group_turns.TurnNo.{TurnNo}
 use Rattle.collector_pool.specs.declared.group_turns.TurnNo.TheVariants as turn
@@ -15,21 +19,39 @@ use Rattle.collector_pool.specs.declared.note.CellNo.{CellNo}
 use Rattle.collector_pool.specs.declared.note.Ending.{Ending}
 use Rattle.collector_pool.specs.declared.note.Ending.TheVariants.{Ended, Halted, Tag, Group, WantOfMemory}
 use Rattle.collector_pool.specs.declared.work.Refresh.{Refresh}
-use Rattle.collector_pool.specs.Notes.{AsksGroup, EndsAtCommit, EndsAtQuery, EndsCollector, EndsReader, EndsRefresher, IsRefusedCommit, RefusesRow, halts}
+use Rattle.collector_pool.specs.Notes.{AsksGroup, EndsAtCommit, EndsAtQuery, EndsCollector, EndsReader, EndsRefresher, IsRefusedCommit, MayRefuseRow, RefusesRow, halts}
 use Rattle.collector_pool.specs.Refusals.{refusal_of_take, ending_of_commit, ending_of_turn}
 use Rattle.collector_pool.proofs.Places.{any_at, any_of_range, found_at}
 
 -- a row that was not taken was refused by its tag
-pub refused_row : (D : Type 0) (row : RawRow) (cell : CellTold D) (r : Result (Unit {0}) CellNo)
+pub refused_row : {D : Type 0} (row : RawRow) (cell : CellTold D) (r : Result (Unit {0}) CellNo)
     → MatchResult r (λ _. take_refusal cell ≡ None) (λ why. option_map refusal_of_take (take_refusal cell) ≡ Some why)
-    → IfErr r (RefusesRow D row row.tag)
-refused_row D row cell (Ok done) is = tt
-refused_row D row cell (Err why) is = by_refusal (take_refusal cell) refl is
+    → IfErr r (RefusesRow row row.tag)
+refused_row row cell (Ok done) is = tt
+refused_row row cell (Err why) is = record {
+  tag_is = refl;
+  may = by_test cell.journal.failed (nat_le cell.room (length (taken cell.tape))) (nat_lt most_records (length cell.state.records + 2)) refl is;
+}
   where
-    by_refusal : (refusal : Option TakeNo) → take_refusal cell ≡ refusal → option_map refusal_of_take refusal ≡ Some why
-        → RefusesRow D row row.tag why
-    by_refusal None was is = cc
-    by_refusal (Some refusal) was is = record { tag_is = refl; cell = cell; no = refusal; refused = was; why_is = cc }
+    below : (a b : ℕ) → nat_lt a b ≡ true → a < b
+    below a b h = grind (arith, nat_tests, h)
+
+    by_test : (a b c : Bool) → nat_lt most_records (length cell.state.records + 2) ≡ c
+        → option_map refusal_of_take (if a then Some Broken else (if b then Some (RoomFull cell.room) else (if c then Some (Full (length cell.state.records)) else None)))
+        ≡ Some why → MayRefuseRow why
+    by_test true b c many is = subst MayRefuseRow (held is) tt
+      where
+        held : Some (refusal_of_take Broken) ≡ Some why → refusal_of_take Broken ≡ why
+        held e = cc
+    by_test false true c many is = subst MayRefuseRow (held is) tt
+      where
+        held : Some (refusal_of_take (RoomFull cell.room)) ≡ Some why → refusal_of_take (RoomFull cell.room) ≡ why
+        held e = cc
+    by_test false false true many is = subst MayRefuseRow (held is) (below most_records (length cell.state.records + 2) many)
+      where
+        held : Some (refusal_of_take (Full (length cell.state.records))) ≡ Some why → refusal_of_take (Full (length cell.state.records)) ≡ why
+        held e = cc
+    by_test false false false many is = absurd (none-some why is)
 
 -- a reader whom a group refused ends at its query
 pub ends_at_row : (refuses : ℕ → TurnNo → Type 0) (group calc k : ℕ) (no : TurnNo) → refuses group no
@@ -70,22 +92,10 @@ ends_refresher refuses refresh turns turn.Broken few refused = (few, refl, tt, r
 ends_refresher refuses refresh turns turn.DeviceFault few refused = (few, refl, tt, refused)
 ends_refresher refuses refresh turns turn.WantOfMemory few refused = few
 
--- a tag that refused a commit
-pub refused_commit : (D : Type 0) (tag : ℕ) (why : CommitNo) (cell : CellTold D) (ending : Ending)
-    → (why ≡ commit.Broken → cell.journal.failed ≡ true) → (why ≡ commit.DeviceFault → cell.journal.failed ≡ true)
-    → ending ≡ ending_of_commit tag why → IsRefusedCommit D tag ending
-refused_commit D tag why cell ending broken faulted is =
-    record { no = why; ending_is = is; cell = cell; broken = λ memory. by_why why refl memory }
-  where
-    by_why : (w : CommitNo) → why ≡ w → (why ≡ commit.WantOfMemory → ⊥) → cell.journal.failed ≡ true
-    by_why commit.Broken was memory = broken was
-    by_why commit.DeviceFault was memory = faulted was
-    by_why commit.WantOfMemory was memory = absurd (memory was)
-
 -- a collector that ends at a commit of one of these rows
-pub ends_at_commit : (D : Type 0) (rows : List RawRow) (i : ℕ) (d : RawRow) (ending : Ending) → i < length rows
-    → IsRefusedCommit D (get_or rows i d).tag ending → EndsAtCommit D rows ending
-ends_at_commit D rows i d ending within refused = record {
+pub ends_at_commit : (rows : List RawRow) (i : ℕ) (d : RawRow) (ending : Ending) → i < length rows
+    → IsRefusedCommit (get_or rows i d).tag ending → EndsAtCommit rows ending
+ends_at_commit rows i d ending within refused = record {
   tag = (get_or rows i d).tag;
   of_a_row = any_at (λ (r : RawRow). r.tag ≡ (get_or rows i d).tag) rows i d within refl;
   refused = refused;
@@ -103,18 +113,18 @@ is_of_commit tag commit.DeviceFault = tt
 is_of_commit tag commit.WantOfMemory = tt
 
 -- a collector that ends at a commit of some of the rows that it took
-pub ends_collector : (D : Type 0) (rows : List RawRow) (since taken : ℕ) (ending : Ending) → since ≤ taken → taken ≤ length rows
-    → EndsAtCommit D (slice_range rows since taken) ending → EndsCollector D rows taken ending
-ends_collector D rows since taken ending order within ends =
+pub ends_collector : (rows : List RawRow) (since taken : ℕ) (ending : Ending) → since ≤ taken → taken ≤ length rows
+    → EndsAtCommit (slice_range rows since taken) ending → EndsCollector rows taken ending
+ends_collector rows since taken ending order within ends =
     let of_commit : IsOfCommit ending = subst IsOfCommit (sym ends.refused.ending_is) (is_of_commit ends.tag ends.refused.no) in
-    let whole : EndsAtCommit D (take taken rows) ending = record {
+    let whole : EndsAtCommit (take taken rows) ending = record {
       tag = ends.tag;
       of_a_row = any_of_range (λ (r : RawRow). r.tag ≡ ends.tag) rows since taken order within ends.of_a_row;
       refused = ends.refused;
     } in
     by_ending ending of_commit whole
   where
-    by_ending : (e : Ending) → IsOfCommit e → EndsAtCommit D (take taken rows) e → EndsCollector D rows taken e
+    by_ending : (e : Ending) → IsOfCommit e → EndsAtCommit (take taken rows) e → EndsCollector rows taken e
     by_ending Ended of_commit whole = absurd of_commit
     by_ending Halted of_commit whole = absurd of_commit
     by_ending (Tag tag why) of_commit whole = inr whole
@@ -122,8 +132,8 @@ ends_collector D rows since taken ending order within ends =
     by_ending WantOfMemory of_commit whole = within
 
 -- and was not stopped
-pub commit_stops_none : (D : Type 0) (rows : List RawRow) (ending : Ending) → EndsAtCommit D rows ending → halts ending ≡ 0
-commit_stops_none D rows ending ends = ap halts ends.refused.ending_is ∙ by_why ends.refused.no
+pub commit_stops_none : (rows : List RawRow) (ending : Ending) → EndsAtCommit rows ending → halts ending ≡ 0
+commit_stops_none rows ending ends = ap halts ends.refused.ending_is ∙ by_why ends.refused.no
   where
     by_why : (why : CommitNo) → halts (ending_of_commit ends.tag why) ≡ 0
     by_why commit.Broken = refl
@@ -131,8 +141,8 @@ commit_stops_none D rows ending ends = ap halts ends.refused.ending_is ∙ by_wh
     by_why commit.WantOfMemory = refl
 
 -- a collector whose next row is refused
-pub ends_at_take : (D : Type 0) (rows : List RawRow) (taken : ℕ) (d : RawRow) (why : CellNo) → taken < length rows
-    → RefusesRow D (get_or rows taken d) (get_or rows taken d).tag why
-    → EndsCollector D rows taken (Tag (get_or rows taken d).tag why)
-ends_at_take D rows taken d why within refused =
-    inl (found_at (λ (r : RawRow). RefusesRow D r (get_or rows taken d).tag why) rows taken d within refused)
+pub ends_at_take : (rows : List RawRow) (taken : ℕ) (d : RawRow) (why : CellNo) → taken < length rows
+    → RefusesRow (get_or rows taken d) (get_or rows taken d).tag why
+    → EndsCollector rows taken (Tag (get_or rows taken d).tag why)
+ends_at_take rows taken d why within refused =
+    inl (found_at (λ (r : RawRow). RefusesRow r (get_or rows taken d).tag why) rows taken d within refused)

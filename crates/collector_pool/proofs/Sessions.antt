@@ -20,14 +20,14 @@ use Rattle.collector_pool.specs.SeatedWorkers.{AreDone, AreSeated, IsNoteAs, IsR
 use Rattle.collector_pool.specs.Work.{IsQueryOf, IsRowOf, IsWorkOf, worker_count}
 use Rattle.collector_pool.proofs.Places.{same_item}
 
-module _ (D : Type 0) (refuses : ℕ → TurnNo → Type 0) (w : Work) where
+module _ (refuses : ℕ → TurnNo → Type 0) (w : Work) where
   -- the note of a worker in its role is that of its place
   note_at : (board : List TableId) (role : Role) (place : ℕ) (n : WorkerNote) → n.worker ≡ place → worker_of w role ≡ place
-      → IsRoleOf w board role → IsNoteAs D refuses w role n → IsNoteAt D refuses w place n
+      → IsRoleOf w board role → IsNoteAs refuses w role n → IsNoteAt refuses w place n
   note_at board (Collector c) place n number here role note = record {
     numbered = number;
     collector = λ rows few.
-        subst (λ (i : ℕ). IsCollectorNote D (drop w.earlier (get_or w.collectors.items i rows).items) n) here (note rows);
+        subst (λ (i : ℕ). IsCollectorNote (drop w.earlier (get_or w.collectors.items i rows).items) n) here (note rows);
     reader = λ r queries few is. absurd (omega arith);
     refresher = λ r refresh few is. absurd (omega arith);
   }
@@ -51,8 +51,8 @@ module _ (D : Type 0) (refuses : ℕ → TurnNo → Type 0) (w : Work) where
   -- the notes of seats whose workers were seated and have ended
   pub notes_of : {O : Type 0} (stops : O → ℕ) (board : List TableId) (lookers : List Looking) (old new : List (SessionWorker O))
       (notes : List WorkerNote) → AreSeated stops w lookers old → All (LooksAt board) lookers → length old ≡ worker_count w
-      → length new ≡ length old → AreDone D refuses stops w old new → notes ≡ map (λ s. s.note) new
-      → AreNotesOf D refuses w notes
+      → length new ≡ length old → AreDone refuses stops w old new → notes ≡ map (λ s. s.note) new
+      → AreNotesOf refuses w notes
   notes_of stops board lookers old new notes seated looks count same done are = record {
     count = ap length are ∙ (mapped_length (λ s. s.note) new ∙ (same ∙ count));
     each = λ place n few.
@@ -70,16 +70,16 @@ module _ (D : Type 0) (refuses : ℕ → TurnNo → Type 0) (w : Work) where
   }
 
 -- the pass of each of these seats has stopped its worker as often as the note says
-pub all_stopped : {O : Type 0} (D : Type 0) (refuses : ℕ → TurnNo → Type 0) (w : Work) (stops : O → ℕ)
-    (old new : List (SessionWorker O)) → length new ≡ length old → AreDone D refuses stops w old new
+pub all_stopped : {O : Type 0} (refuses : ℕ → TurnNo → Type 0) (w : Work) (stops : O → ℕ)
+    (old new : List (SessionWorker O)) → length new ≡ length old → AreDone refuses stops w old new
     → All (λ s. stops s.pass ≡ halts s.note.ending) new
-all_stopped D refuses w stops old new same done = λ k d few. (done.each k d (omega arith)).stopped
+all_stopped refuses w stops old new same done = λ k d few. (done.each k d (omega arith)).stopped
 
 -- the note of a collector, a reader or a refresher is that of its role
-pub as_collector : (D : Type 0) (w : Work) (collector : ℕ) (rows : List RawRow) (n : WorkerNote)
-    → ((d : Vec RawRow Global) → rows ≡ drop w.earlier (get_or w.collectors.items collector d).items) → IsCollectorNote D rows n
-    → (d : Vec RawRow Global) → IsCollectorNote D (drop w.earlier (get_or w.collectors.items collector d).items) n
-as_collector D w collector rows n is note d = subst (λ (r : List RawRow). IsCollectorNote D r n) (is d) note
+pub as_collector : (w : Work) (collector : ℕ) (rows : List RawRow) (n : WorkerNote)
+    → ((d : Vec RawRow Global) → rows ≡ drop w.earlier (get_or w.collectors.items collector d).items) → IsCollectorNote rows n
+    → (d : Vec RawRow Global) → IsCollectorNote (drop w.earlier (get_or w.collectors.items collector d).items) n
+as_collector w collector rows n is note d = subst (λ (r : List RawRow). IsCollectorNote r n) (is d) note
 
 -- the rows that are a collector's work are of the plant's tags, and so are a reader's queries and a refresher's turns
 pub rows_known : (tags groups : ℕ) (w : Work) (collector : ℕ) (rows : List RawRow) → IsWorkOf tags groups w

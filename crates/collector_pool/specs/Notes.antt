@@ -1,61 +1,62 @@
 -- What the note of a worker contains: how many steps it made, what a reader saw, and how the worker ended.
-use Rattle.std.specs.Prelude.{◌≡◌, ◌≢◌, ◌⊎◌, ℕ, ◌+◌, ◌<◌, ◌≤◌, Bool, true, false, List, [], Any, IfSome, IsSomeAnd, Option, None, Some, Vec, is_some, length, map, slice_get, slice_index_or, slice_set, drop, fold, take}
+use Rattle.std.specs.Prelude.{◌≡◌, ◌⊎◌, ℕ, ◌+◌, ◌<◌, ◌≤◌, Bool, true, false, List, [], Any, IfSome, IsSomeAnd, Option, None, Some, Vec, is_some, length, map, slice_get, slice_index_or, slice_set, drop, fold, take, ⊤}
 use Rattle.std.specs.declared.alloc.Global.{Global}
+use Rattle.trend_num.specs.Limits.{most_records}
 use Rattle.trend_num.specs.declared.archive.Snap.{Snap}
 use Rattle.plant_status.specs.Pass.{sum_of_fault_counts}
 use Rattle.value_rows.specs.declared.asked.Query.{Query}
 use Rattle.value_rows.specs.declared.asked.Query.TheVariants as ask
 use Rattle.value_rows.specs.declared.raw.RawRow.{RawRow}
 use Rattle.tag_cell.specs.declared.entry.CommitNo.{CommitNo}
-use Rattle.tag_cell.specs.declared.entry.CommitNo.TheVariants as commit
-use Rattle.tag_cell.specs.declared.entry.TakeNo.{TakeNo}
-use Rattle.tag_cell.specs.Told.{ToldCell as CellTold, take_refusal}
 use Rattle.collector_pool.specs.declared.group_turns.TurnNo.{TurnNo}
 use Rattle.collector_pool.specs.declared.group_turns.TurnNo.TheVariants as turn
 use Rattle.collector_pool.specs.declared.note.CellNo.{CellNo}
+use Rattle.collector_pool.specs.declared.note.CellNo.TheVariants as cell
 use Rattle.collector_pool.specs.declared.note.Ending.{Ending}
 use Rattle.collector_pool.specs.declared.note.Ending.TheVariants.{Ended, Halted, Tag, Group, WantOfMemory}
 use Rattle.collector_pool.specs.declared.note.WorkerNote.{WorkerNote}
 use Rattle.collector_pool.specs.declared.work.Refresh.{Refresh}
 use Rattle.collector_pool.specs.declared.work.Work.{Work}
-use Rattle.collector_pool.specs.Refusals.{refusal_of_take, ending_of_commit}
+use Rattle.collector_pool.specs.Refusals.{ending_of_commit}
 use Rattle.collector_pool.specs.Work.{worker_count}
 
 -- ---- collectors
 
--- a tag refused to take this row
-pub record RefusesRow (D : Type 0) (row : RawRow) (tag : ℕ) (why : CellNo) : Type 0 where
-  pub tag_is : tag ≡ row.tag
-  pub cell : CellTold D
-  pub no : TakeNo
-  pub refused : take_refusal cell ≡ Some no
-  pub why_is : why ≡ refusal_of_take no
+-- Why a tag may refuse a row. The number of `Full` is such that two records more are too many.
+abbrev pub MayRefuseRow : CellNo → Type 0
+MayRefuseRow (cell.Full records) = most_records < records + 2
+MayRefuseRow (cell.RoomFull room) = ⊤
+MayRefuseRow cell.Broken = ⊤
+MayRefuseRow cell.DeviceFault = ⊥
 
--- the commit of a tag was refused, and a collector ends so; unless there was no memory, the tag is broken
-pub record IsRefusedCommit (D : Type 0) (tag : ℕ) (ending : Ending) : Type 0 where
+-- a refusal for the tag of this row
+pub record RefusesRow (row : RawRow) (tag : ℕ) (why : CellNo) : Type 0 where
+  pub tag_is : tag ≡ row.tag
+  pub may : MayRefuseRow why
+
+-- a collector ends as after a refused commit of the tag
+pub record IsRefusedCommit (tag : ℕ) (ending : Ending) : Type 0 where
   pub no : CommitNo
   pub ending_is : ending ≡ ending_of_commit tag no
-  pub cell : CellTold D
-  pub broken : no ≢ commit.WantOfMemory → cell.journal.failed ≡ true
 
--- the commit of a tag of one of these rows was refused, and a collector ends so
-pub record EndsAtCommit (D : Type 0) (rows : List RawRow) (ending : Ending) : Type 0 where
+-- a collector ends as after a refused commit of the tag of one of these rows
+pub record EndsAtCommit (rows : List RawRow) (ending : Ending) : Type 0 where
   pub tag : ℕ
   pub of_a_row : Any (λ row. row.tag ≡ tag) rows
-  pub refused : IsRefusedCommit D tag ending
+  pub refused : IsRefusedCommit tag ending
 
 -- how a collector of these rows ends after it has taken so many
-abbrev pub EndsCollector : Type 0 → List RawRow → ℕ → Ending → Type 0
-EndsCollector D rows taken Ended = taken ≡ length rows
-EndsCollector D rows taken Halted = taken < length rows
-EndsCollector D rows taken WantOfMemory = taken ≤ length rows
-EndsCollector D rows taken (Tag tag why) =
-    IsSomeAnd (slice_get rows taken) (λ row. RefusesRow D row tag why) ⊎ EndsAtCommit D (take taken rows) (Tag tag why)
-EndsCollector D rows taken (Group group why) = ⊥
+abbrev pub EndsCollector : List RawRow → ℕ → Ending → Type 0
+EndsCollector rows taken Ended = taken ≡ length rows
+EndsCollector rows taken Halted = taken < length rows
+EndsCollector rows taken WantOfMemory = taken ≤ length rows
+EndsCollector rows taken (Tag tag why) =
+    IsSomeAnd (slice_get rows taken) (λ row. RefusesRow row tag why) ⊎ EndsAtCommit (take taken rows) (Tag tag why)
+EndsCollector rows taken (Group group why) = ⊥
 
 -- the note of a collector of these rows: it took so many of the first of them
-pub record IsCollectorNote (D : Type 0) (rows : List RawRow) (n : WorkerNote) : Type 0 where
-  pub ending : EndsCollector D rows n.steps n.ending
+pub record IsCollectorNote (rows : List RawRow) (n : WorkerNote) : Type 0 where
+  pub ending : EndsCollector rows n.steps n.ending
   pub no_snaps : n.snaps.items ≡ []
 
 -- ---- readers
@@ -141,10 +142,10 @@ pub record IsRefresherNote (refuses : ℕ → TurnNo → Type 0) (refresh : Refr
 
 -- The note of the worker at this place. The work of a collector is its rows after those that it took in an earlier
 -- phase.
-pub record IsNoteAt (D : Type 0) (refuses : ℕ → TurnNo → Type 0) (w : Work) (place : ℕ) (n : WorkerNote) : Type 0 where
+pub record IsNoteAt (refuses : ℕ → TurnNo → Type 0) (w : Work) (place : ℕ) (n : WorkerNote) : Type 0 where
   pub numbered : n.worker ≡ place
   pub collector : (rows : Vec RawRow Global) → place < length w.collectors.items
-      → IsCollectorNote D (drop w.earlier (slice_index_or w.collectors.items place rows).items) n
+      → IsCollectorNote (drop w.earlier (slice_index_or w.collectors.items place rows).items) n
   pub reader : (reader : ℕ) (queries : Vec Query Global) → reader < length w.readers.items
       → place ≡ length w.collectors.items + reader
       → IsReaderNote refuses (slice_index_or w.readers.items reader queries).items n
@@ -153,10 +154,10 @@ pub record IsNoteAt (D : Type 0) (refuses : ℕ → TurnNo → Type 0) (w : Work
       → IsRefresherNote refuses (slice_index_or w.refreshers.items refresher refresh) n
 
 -- the notes of all workers: first the collectors, then the readers, then the refreshers
-pub record AreNotesOf (D : Type 0) (refuses : ℕ → TurnNo → Type 0) (w : Work) (notes : List WorkerNote) : Type 0 where
+pub record AreNotesOf (refuses : ℕ → TurnNo → Type 0) (w : Work) (notes : List WorkerNote) : Type 0 where
   pub count : length notes ≡ worker_count w
   pub each : (place : ℕ) (n : WorkerNote) → place < length notes
-      → IsNoteAt D refuses w place (slice_index_or notes place n)
+      → IsNoteAt refuses w place (slice_index_or notes place n)
 
 -- how often the pass of a worker with this ending has stopped it
 abbrev pub halts : Ending → ℕ

@@ -27,13 +27,13 @@ IsRoleOf w board (Reader reader looker) = (reader < length w.readers.items) × L
 IsRoleOf w board (Refresher refresher) = refresher < length w.refreshers.items
 
 -- the note of a worker with this role
-abbrev pub IsNoteAs : Type 0 → (ℕ → TurnNo → Type 0) → Work → Role → WorkerNote → Type 0
-IsNoteAs D refuses w (Collector collector) n =
+abbrev pub IsNoteAs : (ℕ → TurnNo → Type 0) → Work → Role → WorkerNote → Type 0
+IsNoteAs refuses w (Collector collector) n =
     (rows : Vec RawRow Global)
-    → IsCollectorNote D (drop w.earlier (slice_index_or w.collectors.items collector rows).items) n
-IsNoteAs D refuses w (Reader reader looker) n =
+    → IsCollectorNote (drop w.earlier (slice_index_or w.collectors.items collector rows).items) n
+IsNoteAs refuses w (Reader reader looker) n =
     (queries : Vec Query Global) → IsReaderNote refuses (slice_index_or w.readers.items reader queries).items n
-IsNoteAs D refuses w (Refresher refresher) n =
+IsNoteAs refuses w (Refresher refresher) n =
     (refresh : Refresh) → IsRefresherNote refuses (slice_index_or w.refreshers.items refresher refresh) n
 
 -- a seat whose worker may begin
@@ -56,14 +56,14 @@ pub record AreSeated {O : Type 0} (stops : O → ℕ) (w : Work) (lookers : List
   pub ready : (board : List TableId) → All (LooksAt board) lookers → All (IsReady stops w board) seats
 
 -- a seat whose worker has ended
-pub record IsDone {O : Type 0} (D : Type 0) (refuses : ℕ → TurnNo → Type 0) (stops : O → ℕ) (w : Work)
+pub record IsDone {O : Type 0} (refuses : ℕ → TurnNo → Type 0) (stops : O → ℕ) (w : Work)
     (old new : SessionWorker O) : Type 0 where
   pub worker : new.note.worker ≡ old.note.worker
-  pub note : IsNoteAs D refuses w old.role new.note
+  pub note : IsNoteAs refuses w old.role new.note
   pub stopped : stops new.pass ≡ halts new.note.ending
 
 -- seats whose workers have ended
-pub record AreDone {O : Type 0} (D : Type 0) (refuses : ℕ → TurnNo → Type 0) (stops : O → ℕ) (w : Work)
+pub record AreDone {O : Type 0} (refuses : ℕ → TurnNo → Type 0) (stops : O → ℕ) (w : Work)
     (old new : List (SessionWorker O)) : Type 0 where
   pub each : (i : ℕ) (d : SessionWorker O) → i < length old
-      → IsDone D refuses stops w (slice_index_or old i d) (slice_index_or new i d)
+      → IsDone refuses stops w (slice_index_or old i d) (slice_index_or new i d)

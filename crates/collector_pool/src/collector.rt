@@ -1,5 +1,5 @@
 // A collector: it takes its rows in order, and commits them.
-ghost use Rattle.std.specs.Prelude.{◌≡◌, ◌==◌, ◌||◌, ◌%◌, ℕ, ◌+◌, ◌<◌, ◌≤◌, All, Any, IfErr, IsErrOf, OnErr, OnOk, Some, MatchResult, None, length, true};
+ghost use Rattle.std.specs.Prelude.{◌≡◌, ◌==◌, ◌||◌, ◌%◌, ℕ, ◌+◌, ◌<◌, ◌≤◌, All, IfErr, IsErrOf, OnErr, OnOk, Some, MatchResult, None, length, true};
 ghost use Rattle.std.specs.Option.{option_map};
 ghost use Rattle.trend_num.specs.Ranges.{InRange};
 ghost use Rattle.tag_cell.specs.declared.entry.CommitNo.TheVariants.{Broken, DeviceFault};
@@ -33,7 +33,7 @@ pub(crate) fn collect<R: Wait, D: Disk, O: Pass>(
     requires rows { All (IsRowOf (length cells.now)) rows.now }
     requires fresh { O.stops pass.old ≡ 0 }
     ensures worker { result.worker ≡ worker }
-    ensures note { IsCollectorNote D rows.now result }
+    ensures note { IsCollectorNote rows.now result }
     ensures stops { O.stops pass.new ≡ halts result.ending }
 {
     let mut note = WorkerNote::new(alloc, worker);
@@ -51,7 +51,7 @@ fn take_rows<R: Wait, D: Disk, O: Pass>(
 ) -> (u64, Ending)
     requires rows { All (IsRowOf (length cells.now)) rows.now }
     requires fresh { O.stops pass.old ≡ 0 }
-    ensures ending { EndsCollector D rows.now result.0 result.1 }
+    ensures ending { EndsCollector rows.now result.0 result.1 }
     ensures stops { O.stops pass.new ≡ halts result.1 }
 {
     let mut committed = 0;
@@ -90,7 +90,7 @@ fn take_row<R: Wait, D: Disk>(
     row: RawRow,
 ) -> Result<(), CellNo>
     requires { IsRowOf (length cells.now) row }
-    ensures { IfErr result (RefusesRow D row row.tag) }
+    ensures { IfErr result (RefusesRow row row.tag) }
 {
     let mut cell = cells[row.tag as usize].lock(rt);
     take_into(rt, &mut cell, collector, number, row.point)
@@ -120,7 +120,7 @@ fn commit_tags<R: Wait, D: Disk>(
     rows: &[RawRow],
 ) -> Result<(), Ending>
     requires { All (IsRowOf (length cells.now)) rows.now }
-    ensures { IfErr result (EndsAtCommit D rows.now) }
+    ensures { IfErr result (EndsAtCommit rows.now) }
 {
     for (i, row) in rows.iter().enumerate() {
         if rows[..i].iter().all(|earlier| earlier.tag != row.tag) {
@@ -133,7 +133,7 @@ fn commit_tags<R: Wait, D: Disk>(
 // Commits a tag under its lock, until nothing waits there.
 fn commit_tag<R: Wait, D: Disk>(rt: &R, cells: &[Mutex<Cell<D>>], tag: u32) -> Result<(), Ending>
     requires { tag < length cells.now }
-    ensures { IfErr result (IsRefusedCommit D tag) }
+    ensures { IfErr result (IsRefusedCommit tag) }
 {
     let mut cell = cells[tag as usize].lock(rt);
     match commit_all(&mut cell) {

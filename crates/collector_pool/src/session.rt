@@ -41,7 +41,7 @@ pub fn run_session<D: Disk + Send, G: GroupTurns<D>, P: Passes, R: Threads + Wai
     requires board { length cells.now ≤ length board.now }
     requires lookers { vec_len lookers ≡ vec_len work.now.readers }
     requires looks { All (LooksAt board.now) lookers.items }
-    ensures notes { IfOk result (λ notes. AreNotesOf D (G.Refuses groups.now) work.now notes.items) }
+    ensures notes { IfOk result (λ notes. AreNotesOf (G.Refuses groups.now) work.now notes.items) }
     ensures stops { IfOk result (λ notes. P.stops passes.new ≡ stops_with (P.stops passes.old) notes.items) }
     ensures unbegun { OnErr result (P.stops passes.new ≡ P.stops passes.old) }
 {
@@ -184,7 +184,7 @@ fn work_all<D: Disk + Send, G: GroupTurns<D>, O: Pass + Send, R: Threads + Wait 
     requires board { length cells.now ≤ length board.now }
     requires ready { All (IsReady O.stops work.now board.now) seats.old.items }
     ensures count { vec_len seats.new ≡ vec_len seats.old }
-    ensures done { AreDone D (G.Refuses groups.now) O.stops work.now seats.old.items seats.new.items }
+    ensures done { AreDone (G.Refuses groups.now) O.stops work.now seats.old.items seats.new.items }
 {
     work_each(rt, alloc, cells, board, groups, work, seats.as_mut_slice());
 }
@@ -203,7 +203,7 @@ fn work_each<D: Disk + Send, G: GroupTurns<D>, O: Pass + Send, R: Threads + Wait
     requires board { length cells.now ≤ length board.now }
     requires ready { All (IsReady O.stops work.now board.now) seats.old }
     ensures { (i : ℕ) (d : _) → i < length seats.old
-        → IsDone D (G.Refuses groups.now) O.stops work.now (slice_index_or seats.old i d) (slice_index_or seats.new i d) }
+        → IsDone (G.Refuses groups.now) O.stops work.now (slice_index_or seats.old i d) (slice_index_or seats.new i d) }
 {
     if seats.is_empty() {
         return;
@@ -216,7 +216,7 @@ fn work_each<D: Disk + Send, G: GroupTurns<D>, O: Pass + Send, R: Threads + Wait
         &|_, seat: &mut SessionWorker<O>|
             requires { IsWorkOf (length cells.now) (G.groups groups.now) work.now × (length cells.now ≤ length board.now)
                 × IsReady O.stops work.now board.now seat.now }
-            ensures { IsDone D (G.Refuses groups.entry.now) O.stops work.entry.now seat.entry.now seat.exit.now }
+            ensures { IsDone (G.Refuses groups.entry.now) O.stops work.entry.now seat.entry.now seat.exit.now }
         { work_in(rt, alloc, cells, board, groups, work, seat) },
     );
 }
@@ -234,7 +234,7 @@ fn work_in<D: Disk, G: GroupTurns<D>, O: Pass, R: Wait>(
     requires work { IsWorkOf (length cells.now) (G.groups groups.now) work.now }
     requires board { length cells.now ≤ length board.now }
     requires ready { IsReady O.stops work.now board.now seat.old }
-    ensures { IsDone D (G.Refuses groups.now) O.stops work.now seat.old seat.new }
+    ensures { IsDone (G.Refuses groups.now) O.stops work.now seat.old seat.new }
 {
     seat.note = work_as(
         rt,
@@ -266,7 +266,7 @@ fn work_as<D: Disk, G: GroupTurns<D>, O: Pass, R: Wait>(
     requires role { IsRoleOf work.now board.now role.old }
     requires fresh { O.stops pass.old ≡ 0 }
     ensures worker { result.worker ≡ worker }
-    ensures note { IsNoteAs D (G.Refuses groups.now) work.now role.old result }
+    ensures note { IsNoteAs (G.Refuses groups.now) work.now role.old result }
     ensures stops { O.stops pass.new ≡ halts result.ending }
 {
     match role {

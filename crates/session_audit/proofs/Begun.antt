@@ -8,11 +8,11 @@ use Rattle.std.proofs.lemmas.Option.{slice_get-get_or, slice_get_past}
 use Rattle.session_audit.specs.declared.agenda.Item.{Item}
 use Rattle.session_audit.specs.declared.kind.Shown.{Shown}
 use Rattle.session_audit.specs.Agendas.{due, numbered, seen_at}
-use Rattle.session_audit.specs.Found.{Reached, found, found_of, place_at, tape_shows}
-use Rattle.session_audit.specs.Workers.{AreOver, AreTapesBegun, AreTapesFound, AreTapesWhole, IsFirstPart, file_due}
+use Rattle.session_audit.specs.Found.{IsFirstPart, Reached, found, found_of, place_at, tape_shows}
+use Rattle.session_audit.specs.Workers.{AreOver, AreTapesBegun, AreTapesFound, AreTapesWhole, file_due}
 
 -- of one worker
-found_first : (p : Reached) (unit : ℕ) → IsFirstPart (found p unit) (due unit p.items)
+pub found_first : (p : Reached) (unit : ℕ) → IsFirstPart (found p unit) (due unit p.items)
 found_first p unit = record {
   rest = due unit (drop (place_at p unit) p.items);
   is = ap (due unit) (sym (take-append-drop (place_at p unit) p.items))

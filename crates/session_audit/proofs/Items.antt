@@ -9,7 +9,7 @@ use Rattle.group_book.specs.Told.{ToldBook}
 use Rattle.session_audit.specs.declared.opening.Difference.{Difference}
 use Rattle.session_audit.specs.declared.book_opening.KeptGroup.{KeptGroup}
 use Rattle.session_audit.specs.BookOpenings.{DifferSo, IsBookAsKept, IsDefinedSo, IsBookDifference, IsSameOpening, items_of, windows_of}
-use Rattle.session_audit.specs.BookOpenings.IsBookDifference.{OfOpening}
+use Rattle.session_audit.specs.BookOpenings.IsGroupDifference.{OfOpening}
 
 -- the two numbers at the end, and what comes before them
 ends_same : (xs ys : List ℕ) (a b c d : ℕ) → xs ++ a ∷ b ∷ [] ≡ ys ++ c ∷ d ∷ [] → (xs ≡ ys) × (b ≡ d)
@@ -55,7 +55,7 @@ opened_same o k (Err e) is rows = tt
 -- ---- a book of the definition that was kept
 
 pub kept_so : {D E : Type 0} (b : ToldBook D) (k : KeptGroup) (o : GroupOpening) (r : Result (Unit {0}) E) → o ≡ b.opening
-    → IsDefinedSo b k → OnOk r (IsSameOpening o k.opening) → OnOk r (IsBookAsKept b k)
+    → IsDefinedSo b.group b.def b.text k → OnOk r (IsSameOpening o k.opening) → OnOk r (IsBookAsKept b k)
 kept_so b k o (Ok x) is defined same = record {
   defined = defined;
   opened = subst (λ y. IsSameOpening y k.opening) is same;
@@ -63,7 +63,7 @@ kept_so b k o (Ok x) is defined same = record {
 kept_so b k o (Err e) is defined same = tt
 
 pub differs_so : {D T : Type 0} (b : ToldBook D) (k : KeptGroup) (o : GroupOpening) (r : Result T Difference) → o ≡ b.opening
-    → IsDefinedSo b k → IfErr r (λ d. DifferSo o k.opening d.kept d.told) → IfErr r (λ d. IsBookDifference b k d.kept d.told)
+    → IsDefinedSo b.group b.def b.text k → IfErr r (λ d. DifferSo o k.opening d.kept d.told) → IfErr r (λ d. IsBookDifference b k d.kept d.told)
 differs_so b k o (Ok x) is defined differs = tt
 differs_so b k o (Err d) is defined differs =
     OfOpening defined (subst (λ y. DifferSo y k.opening d.kept d.told) is differs)

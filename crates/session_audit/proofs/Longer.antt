@@ -1,5 +1,5 @@
 -- Cells that have gained entries of a kind, one after another.
-use Rattle.std.proofs.Common.{◌≡◌, ◌⊎◌, ℕ, ◌<◌, inl, inr, List, length, get_or, set, Some, true, sym, ap, subst, ◌∙◌, arith}
+use Rattle.std.proofs.Common.{◌≡◌, ◌⊎◌, ℕ, ◌<◌, inl, inr, List, length, get_or, set, Some, true, refl, sym, ap, subst, ◌∙◌, arith}
 use Rattle.std.proofs.lemmas.List.{get_or-set_other, get_or-set_same, length-set}
 use Rattle.std.proofs.lemmas.Option.{slice_get-get_or}
 use Rattle.tag_cell.specs.declared.entry.Entry.{Entry}
@@ -9,7 +9,7 @@ use Rattle.tag_cell.specs.Told.{ToldCell}
 use Rattle.session_audit.specs.Cells.{AreLonger, IsLonger}
 use Rattle.session_audit.specs.Gains.{longer_refl, longer_trans}
 use Rattle.session_audit.proofs.Each.{each_refl, each_set, each_trans}
-use Rattle.session_audit.specs.CellRefusals.{IsCellRefusal, IsCommittedCell, IsSo, commit_status}
+use Rattle.session_audit.specs.CellRefusals.{IsCellRefusal, IsCommittedCell, IsSo, OfFault, OfMemory, commit_status}
 
 pub all_longer : {D : Type 0} (IsOf : Entry → Type 0) (cells : List (ToldCell D)) → AreLonger IsOf cells cells
 all_longer IsOf cells = each_refl (IsLonger IsOf) (longer_refl IsOf) cells
@@ -47,8 +47,8 @@ pub commit_refused : {D : Type 0} (now : List (ToldCell D)) (tag : ℕ) (c : Tol
     → ((k : ℕ) (d : ToldCell D) → k < tag → IsCommittedCell (get_or now k d)) → IsCellRefusal (set now tag c) (commit_status tag no)
 commit_refused now tag c commit.Broken within (inl is) front = absurd (cc)
 commit_refused now tag c commit.Broken within (inr failed) front =
-    (so_here (λ x. x.journal.failed ≡ true) now tag c within failed, front_stays now tag c front)
+    OfFault tag refl (so_here (λ x. x.journal.failed ≡ true) now tag c within failed) (front_stays now tag c front)
 commit_refused now tag c commit.DeviceFault within (inl is) front = absurd (cc)
 commit_refused now tag c commit.DeviceFault within (inr failed) front =
-    (so_here (λ x. x.journal.failed ≡ true) now tag c within failed, front_stays now tag c front)
-commit_refused now tag c commit.WantOfMemory within why front = tt
+    OfFault tag refl (so_here (λ x. x.journal.failed ≡ true) now tag c within failed) (front_stays now tag c front)
+commit_refused now tag c commit.WantOfMemory within why front = OfMemory refl

@@ -7,7 +7,6 @@ use Rattle.std.proofs.lemmas.List.{get_or_append_left, get_or_push, length_push,
 use Rattle.std.proofs.lemmas.List.Sums.{count_by-le-length, sum_by-cons}
 use Rattle.std.proofs.lemmas.Option.{get_or_from_slice_get, slice_get-get_or}
 use Rattle.calc_refresh.specs.declared.definition.GroupDefParts.{GroupDefParts}
-use Rattle.group_book.specs.Told.{ToldBook}
 use Rattle.session_audit.specs.declared.book_opening.KeptGroup.{KeptGroup}
 use Rattle.session_audit.specs.BookOpenings.{AgreeIn, ArePartsOf, IsDefinedSo}
 
@@ -26,13 +25,13 @@ all_true (false ∷ marks) full i within =
     absurd (omega (arith, full, count_front false marks, count_by-le-length (λ m. m) marks))
 
 -- where all parts of a definition are marked, it is the one that was kept
-pub parts_all : {D : Type 0} (b : ToldBook D) (k : KeptGroup) (marks : List Bool) → ArePartsOf b k marks
-    → 6 ≤ count_by (λ m. m) marks → IsDefinedSo b k
-parts_all b k marks parts full = record {
-  group = parts.group.0 (marked 0 (omega arith));
-  def = same_def b.def k.def (parts.inputs.0 (marked 1 (omega arith))) (parts.start.0 (marked 2 (omega arith)))
+pub parts_all : (group : ℕ) (def : GroupDefParts) (text : List ℕ) (k : KeptGroup) (marks : List Bool)
+    → ArePartsOf group def text k marks → 6 ≤ count_by (λ m. m) marks → IsDefinedSo group def text k
+parts_all group def text k marks parts full = record {
+  group_is = parts.same_group.0 (marked 0 (omega arith));
+  def_is = same_def def k.def (parts.inputs.0 (marked 1 (omega arith))) (parts.start.0 (marked 2 (omega arith)))
       (parts.period.0 (marked 3 (omega arith))) (parts.calcs.0 (marked 4 (omega arith)));
-  text = parts.text.0 (marked 5 (omega arith));
+  text_is = parts.same_text.0 (marked 5 (omega arith));
 }
   where
     marked : (i : ℕ) → i < 6 → slice_get marks i ≡ Some true

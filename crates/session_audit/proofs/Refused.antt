@@ -1,5 +1,5 @@
 -- Why a value was not taken.
-use Rattle.std.proofs.Common.{◌≡◌, ◌⊎◌, ℕ, ◌+◌, ◌<◌, ◌≤◌, inl, inr, Bool, true, false, nat_le, nat_lt, List, length, Option, None, Some, refl, sym, subst, arith}
+use Rattle.std.proofs.Common.{◌≡◌, ◌⊎◌, ℕ, ◌+◌, ◌<◌, ◌≤◌, inl, inr, Bool, true, false, nat_le, nat_lt, List, length, Option, None, Some, refl, subst, arith}
 use Rattle.std.specs.Prelude.{◌≢◌, slice_get, if◌then◌else◌}
 use Rattle.std.proofs.lemmas.Bool.Decides.{nat_tests}
 use Rattle.std.proofs.lemmas.Option.{none-some}
@@ -13,7 +13,7 @@ use Rattle.tag_cell.specs.Told.{ToldCell, take_refusal}
 use Rattle.session_audit.specs.declared.agenda.Item.{Item}
 use Rattle.session_audit.specs.Tapes.{take_of}
 use Rattle.session_audit.specs.Workers.{LacksRow}
-use Rattle.session_audit.specs.CellRefusals.{IsTakeRefusal, IsTakeStatus}
+use Rattle.session_audit.specs.CellRefusals.{IsTakeRefusal, IsTakeStatus, OfBroken, OfLimit}
 
 -- the first of three tests that holds
 first_of : (a b c : Bool) (x y why : TakeNo)
@@ -45,11 +45,11 @@ pub take_refused : {D : Type 0} (item_of : ℕ → ℕ → RawRow → Option Ite
 take_refused item_of files cells tag c why told there is lack so =
     elim (first_of c.journal.failed (nat_le c.room (length (taken c.tape))) (nat_lt most_records (length c.state.records + 2))
     (RoomFull c.room) (Full (length c.state.records)) why is) [
-      | inl (failed, broken) ↦ subst (IsTakeRefusal item_of files cells) (sym (subst (λ w. IsTakeStatus tag w told) broken so))
-          (record { cell = c; there = there; so = failed })
+      | inl (failed, broken) ↦ OfBroken tag (subst (λ w. IsTakeStatus tag w told) broken so)
+          (record { cell = c; there = there; so = (failed, lack) })
       | inr (inl (full, room)) ↦ absurd (subst (λ w. IsTakeStatus tag w told) room so)
-      | inr (inr (many, full)) ↦ subst (IsTakeRefusal item_of files cells) (sym (subst (λ w. IsTakeStatus tag w told) full so))
-          (tag, record { cell = c; there = there; so = (refl, below most_records (length c.state.records + 2) many, lack) })
+      | inr (inr (many, full)) ↦ OfLimit tag (length c.state.records) (subst (λ w. IsTakeStatus tag w told) full so)
+          (record { cell = c; there = there; so = (refl, below most_records (length c.state.records + 2) many, lack) })
     ]
   where
     below : (a b : ℕ) → nat_lt a b ≡ true → a < b

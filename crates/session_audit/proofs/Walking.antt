@@ -14,7 +14,8 @@ use Rattle.plant_status.specs.declared.mismatch.Seen.TheVariants.{Nothing}
 use Rattle.session_audit.specs.declared.agenda.Item.{Item}
 use Rattle.session_audit.specs.declared.kind.Shown.{Shown}
 use Rattle.session_audit.specs.Agendas.{IsNext, due, due_at, seen_at}
-use Rattle.session_audit.specs.Found.{AreFound, AreFurther, IsAdvanced, IsDifference, IsFollowed, IsFurther, IsOtherDue, IsUnfound, Reached, found, found_of, next_due, place_at, seen_by, tape_shows}
+use Rattle.session_audit.specs.Found.{AreFound, AreFurther, IsAdvanced, IsDifference, IsFirstPart, IsFollowed, IsFurther, IsOtherDue, IsUnfound, Reached, due_of, found, found_of, next_due, place_at, seen_by, tape_shows}
+use Rattle.session_audit.proofs.Begun.{found_first}
 
 -- ---- rows that were passed
 
@@ -270,30 +271,43 @@ still_known unit old new further known =
 pub difference_at : {E : Type 0} (work : E → Option Shown) (unit worker place : ℕ) (kept told : Seen) (tape : List E)
     (e d : E) (first now : List Reached) → place < length tape → e ≡ get_or tape place d → work e ≡ Some (record { worker = worker; seen = kept })
     → AreFound work unit (take place tape) now → AreFurther unit first now
-    → IsOtherDue now worker unit kept told → IsDifference work unit tape first place kept told
+    → IsOtherDue now worker unit kept told → IsDifference work (due_of first unit) tape place kept told
 difference_at work unit worker place kept told tape e d first now within is shows found_so further other = record {
   entry = e;
   worker = worker;
   there = slice_get-get_or tape place d within ∙ ap Some (sym is);
   shows = shows;
+  before = elim (slice_get_cases now worker).1 [
+    | inl (p, below, there, got) ↦
+        subst (λ l. IsFirstPart l (due_of first unit worker)) (sym (found_so.each worker ∙ ap (λ o. option_map_or (λ q. found q unit) o []) there))
+        (subst (IsFirstPart (found p unit)) (sym (rows p below got)) (found_first p unit))
+    | inr (past, none) ↦
+        record {
+          rest = due_of first unit worker;
+          is = sym (ap (λ l. l ++ due_of first unit worker)
+              (found_so.each worker ∙ ap (λ o. option_map_or (λ q. found q unit) o []) none));
+        }
+  ];
   told_is = other.told_is ∙ ap (λ o. unwrap_or o Nothing) (elim (slice_get_cases now worker).1 [
     | inl (p, below, there, got) ↦
-        let before = slice_get-get_or first worker p (omega (arith, below, further.as_many)) in
-        let same : (get_or first worker p).items ≡ p.items = sym ((further.each worker p).same_items) ∙ ap (λ q. q.items) got in
         let count : length (tape_shows work worker (take place tape)) ≡ length (due unit (take (place_at p unit) p.items))
         = ap length (found_so.each worker ∙ ap (λ o. option_map_or (λ q. found q unit) o []) there) in
         ap (λ o. option_and_then (λ q. next_due q unit) o) there
         ∙ (sym (next_shown unit p.items (place_at p unit) ((other.next p there).there))
         ∙ (ap (λ n. slice_get (due unit p.items) n) (sym count)
-        ∙ (ap (λ l. slice_get (due unit l) (length (tape_shows work worker (take place tape)))) (sym same)
-        ∙ sym (ap (λ o. option_and_then (λ q. slice_get (due unit q.items) (length (tape_shows work worker (take place tape)))) o) before))))
+        ∙ ap (λ l. slice_get l (length (tape_shows work worker (take place tape)))) (sym (rows p below got))))
     | inr (past, none) ↦
         ap (λ o. option_and_then (λ q. next_due q unit) o) none
-        ∙ sym (ap (λ o. option_and_then (λ q. slice_get (due unit q.items) (length (tape_shows work worker (take place tape)))) o)
+        ∙ sym (ap (λ o. slice_get (option_map_or (λ q. due unit q.items) o []) (length (tape_shows work worker (take place tape))))
         (slice_get_past first worker (omega (arith, past, further.as_many))))
   ]);
   differ = other.differ;
 }
+  where
+    rows : (p : Reached) → worker < length now → get_or now worker p ≡ p → due_of first unit worker ≡ due unit p.items
+    rows p below got =
+        ap (λ o. option_map_or (λ q. due unit q.items) o []) (slice_get-get_or first worker p (omega (arith, below, further.as_many)))
+        ∙ ap (due unit) (sym ((further.each worker p).same_items) ∙ ap (λ q. q.items) got)
 
 -- ---- one turn of a walk
 
@@ -323,7 +337,7 @@ pub difference_turn : {E : Type 0} (work : E → Option Shown) (unit place : ℕ
     (shown : Option Shown) (first now : List Reached) → place < length tape → e ≡ get_or tape place e → shown ≡ work e
     → AreFound work unit (take place tape) now → AreFurther unit first now
     → IsSomeAnd shown (λ s. (kept ≡ s.seen) × IsOtherDue now s.worker unit kept told)
-    → IsDifference work unit tape first place kept told
+    → IsDifference work (due_of first unit) tape place kept told
 difference_turn work unit place kept told tape e (Some s) first now within is shows found_so further (same, other) =
     difference_at work unit s.worker place kept told tape e e first now within is
     (sym shows ∙ ap (λ k. Some (record { worker = s.worker; seen = k })) (sym same)) found_so further other

@@ -6,6 +6,7 @@ use Rattle.plant_status.specs.declared.unit.Unit.TheVariants.{Group}
 use Rattle.plant_status.specs.declared.mismatch.Seen.{Seen}
 use Rattle.plant_status.specs.declared.mismatch.Seen.TheVariants.{Number}
 use Rattle.plant_status.specs.declared.status.Status.{Status}
+use Rattle.calc_refresh.specs.declared.definition.GroupDefParts.{GroupDefParts}
 use Rattle.calc_refresh.specs.Lists.{lists_of}
 use Rattle.group_book.specs.declared.history.GroupOpening.{GroupOpening}
 use Rattle.group_book.specs.Told.{ToldBook}
@@ -32,28 +33,28 @@ pub record IsSameOpening (o known : GroupOpening) : Type 0 where
   pub moment : o.moment ≡ known.moment
   pub faults : o.faults ≡ known.faults
 
--- a book has the group, the definition and the text of the copy
-pub record IsDefinedSo {D : Type 0} (b : ToldBook D) (k : KeptGroup) : Type 0 where
-  pub group : b.group ≡ k.group
-  pub def : b.def ≡ k.def
-  pub text : b.text ≡ k.text.items
+-- a group has the number, the definition and the text of the copy
+pub record IsDefinedSo (group : ℕ) (def : GroupDefParts) (text : List ℕ) (k : KeptGroup) : Type 0 where
+  pub group_is : group ≡ k.group
+  pub def_is : def ≡ k.def
+  pub text_is : text ≡ k.text.items
 
 -- the book has the definition and the opening of the copy
 pub record IsBookAsKept {D : Type 0} (b : ToldBook D) (k : KeptGroup) : Type 0 where
-  pub defined : IsDefinedSo b k
+  pub defined : IsDefinedSo b.group b.def b.text k
   pub opened : IsSameOpening b.opening k.opening
 
 -- ---- what is compared in turn
 
 -- the six parts of a definition, each marked if both have the same
-pub record ArePartsOf {D : Type 0} (b : ToldBook D) (k : KeptGroup) (marks : List Bool) : Type 0 where
+pub record ArePartsOf (group : ℕ) (def : GroupDefParts) (text : List ℕ) (k : KeptGroup) (marks : List Bool) : Type 0 where
   pub six : length marks ≡ 6
-  pub group : (slice_get marks 0 ≡ Some true) ↔ (b.group ≡ k.group)
-  pub inputs : (slice_get marks 1 ≡ Some true) ↔ (b.def.inputs ≡ k.def.inputs)
-  pub start : (slice_get marks 2 ≡ Some true) ↔ (b.def.start ≡ k.def.start)
-  pub period : (slice_get marks 3 ≡ Some true) ↔ (b.def.period ≡ k.def.period)
-  pub calcs : (slice_get marks 4 ≡ Some true) ↔ (b.def.calcs ≡ k.def.calcs)
-  pub text : (slice_get marks 5 ≡ Some true) ↔ (b.text ≡ k.text.items)
+  pub same_group : (slice_get marks 0 ≡ Some true) ↔ (group ≡ k.group)
+  pub inputs : (slice_get marks 1 ≡ Some true) ↔ (def.inputs ≡ k.def.inputs)
+  pub start : (slice_get marks 2 ≡ Some true) ↔ (def.start ≡ k.def.start)
+  pub period : (slice_get marks 3 ≡ Some true) ↔ (def.period ≡ k.def.period)
+  pub calcs : (slice_get marks 4 ≡ Some true) ↔ (def.calcs ≡ k.def.calcs)
+  pub same_text : (slice_get marks 5 ≡ Some true) ↔ (text ≡ k.text.items)
 
 -- how many windows the rows have
 abbrev pub windows_of : List (List CalcValue) → ℕ
@@ -75,9 +76,9 @@ pub record AgreeIn {A : Type 0} (places : ℕ) (found known : List A) (n : ℕ) 
 -- ---- the first difference
 
 -- fewer than six parts of the definition are the same
-pub record PartsDiffer {D : Type 0} (b : ToldBook D) (k : KeptGroup) (kept told : Seen) : Type 0 where
+pub record PartsDiffer (group : ℕ) (def : GroupDefParts) (text : List ℕ) (k : KeptGroup) (kept told : Seen) : Type 0 where
   pub marks : List Bool
-  pub parts : ArePartsOf b k marks
+  pub parts : ArePartsOf group def text k marks
   pub fewer : count_by (λ m. m) marks < 6
   pub kept_is : kept ≡ Number (count_by (λ m. m) marks)
   pub told_is : told ≡ Number 6
@@ -96,11 +97,16 @@ pub data DifferSo (o known : GroupOpening) (kept told : Seen) : Type 0 where
   InRows : items_of o ≡ items_of known → RowsDiffer (lists_of o.rows.items) (lists_of known.rows.items) kept told
       → DifferSo o known kept told
 
--- a book differs from its copy: first in its definition, otherwise in its opening
-pub data IsBookDifference {D : Type 0} (b : ToldBook D) (k : KeptGroup) (kept told : Seen) : Type 0 where
-  OfDefinition : PartsDiffer b k kept told → IsBookDifference b k kept told
-  OfOpening : IsDefinedSo b k → DifferSo b.opening k.opening kept told → IsBookDifference b k kept told
+-- a group differs from its copy: first in its definition, otherwise in its opening
+pub data IsGroupDifference (group : ℕ) (def : GroupDefParts) (text : List ℕ) (o : GroupOpening) (k : KeptGroup) (kept told : Seen)
+    : Type 0 where
+  OfDefinition : PartsDiffer group def text k kept told → IsGroupDifference group def text o k kept told
+  OfOpening : IsDefinedSo group def text k → DifferSo o k.opening kept told → IsGroupDifference group def text o k kept told
+
+-- the same of a book
+abbrev pub IsBookDifference : {D : Type 0} → ToldBook D → KeptGroup → Seen → Seen → Type 0
+IsBookDifference b k kept told = IsGroupDifference b.group b.def b.text b.opening k kept told
 
 -- the book of a group differs from its copy
-abbrev pub IsGroupMismatch : {D : Type 0} → List (ToldBook D) → List KeptGroup → Status → Type 0
-IsGroupMismatch books known why = IsOpeningMismatch Group IsBookDifference books known why
+abbrev pub IsBookMismatch : {D : Type 0} → List (ToldBook D) → List KeptGroup → Status → Type 0
+IsBookMismatch books known why = IsOpeningMismatch Group IsBookDifference books known why

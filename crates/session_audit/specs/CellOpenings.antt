@@ -62,12 +62,16 @@ pub record RecordsDiffer (found known : List Rec) (kept told : Seen) : Type 0 wh
 
 -- the first difference: of the definition, the faults, the moment, the state, the number of records and the room;
 -- otherwise, of the records
-pub data IsCellDifference {D : Type 0} (c : ToldCell D) (k : Kept) (kept told : Seen) : Type 0 where
-  OfItem : FirstDiffer (opening_items c.def c.opening c.room) (opening_items k.def k.opening k.room) kept told
-      → IsCellDifference c k kept told
-  OfRecords : opening_items c.def c.opening c.room ≡ opening_items k.def k.opening k.room
-      → RecordsDiffer c.opening.recs.items k.opening.recs.items kept told → IsCellDifference c k kept told
+pub data IsTagDifference (def : TagDef) (o : TagOpening) (room : ℕ) (k : Kept) (kept told : Seen) : Type 0 where
+  OfItem : FirstDiffer (opening_items def o room) (opening_items k.def k.opening k.room) kept told
+      → IsTagDifference def o room k kept told
+  OfRecords : opening_items def o room ≡ opening_items k.def k.opening k.room
+      → RecordsDiffer o.recs.items k.opening.recs.items kept told → IsTagDifference def o room k kept told
+
+-- the same of a cell
+abbrev pub IsCellDifference : {D : Type 0} → ToldCell D → Kept → Seen → Seen → Type 0
+IsCellDifference c k kept told = IsTagDifference c.def c.opening c.room k kept told
 
 -- the cell of a tag differs from its copy
-abbrev pub IsTagMismatch : {D : Type 0} → List (ToldCell D) → List Kept → Status → Type 0
-IsTagMismatch cells known why = IsOpeningMismatch Tag IsCellDifference cells known why
+abbrev pub IsCellMismatch : {D : Type 0} → List (ToldCell D) → List Kept → Status → Type 0
+IsCellMismatch cells known why = IsOpeningMismatch Tag IsCellDifference cells known why

@@ -1,5 +1,5 @@
 -- Why a step of a session is refused.
-use Rattle.std.specs.Prelude.{◌≡◌, ℕ, ◌+◌, ◌<◌, List, [], ◌∷◌, length, slice_get, slice_index_or, Option, Some, true, false, nat_eq, ⊤}
+use Rattle.std.specs.Prelude.{◌≡◌, ℕ, ◌+◌, ◌<◌, List, [], ◌∷◌, length, slice_get, slice_index_or, Option, Some, true, false, nat_eq}
 use Rattle.trend_num.specs.Limits.{most_records}
 use Rattle.trend_num.specs.declared.refusal.What.TheVariants.{Records}
 use Rattle.std.specs.List.{count_by}
@@ -27,14 +27,15 @@ abbrev pub tag_rows : ℕ → List (List RawRow) → ℕ
 tag_rows tag [] = 0
 tag_rows tag (rows ∷ files) = count_by (λ r. nat_eq r.tag tag) rows + tag_rows tag files
 
--- why a row is not taken: the tag's device has failed; or the tag could have too many records, and a row is due there
--- that its tape lacks
-abbrev pub IsTakeRefusal : {D : Type 0} → (ℕ → ℕ → RawRow → Option Item) → List (List RawRow) → List (ToldCell D) → Status
-    → Type 0
-IsTakeRefusal item_of files cells (DeviceFault (Tag tag)) = IsSo cells tag (λ c. c.journal.failed ≡ true)
-IsTakeRefusal item_of files cells (Limit Records number) = (tag : ℕ) × IsSo cells tag (λ c.
-    (number ≡ length c.state.records) × (most_records < number + 2) × LacksRow take_of item_of files tag c.tape)
-IsTakeRefusal item_of files cells other = ⊥
+-- why a row that is due at a tag, and that its tape lacks, is not taken: the tag's device has failed; or the tag could
+-- have too many records
+pub data IsTakeRefusal {D : Type 0} (item_of : ℕ → ℕ → RawRow → Option Item) (files : List (List RawRow)) (cells : List (ToldCell D))
+    (why : Status) : Type 0 where
+  OfBroken : (tag : ℕ) → why ≡ DeviceFault (Tag tag) → IsSo cells tag (λ c.
+      (c.journal.failed ≡ true) × LacksRow take_of item_of files tag c.tape) → IsTakeRefusal item_of files cells why
+  OfLimit : (tag number : ℕ) → why ≡ Limit Records number → IsSo cells tag (λ c.
+      (number ≡ length c.state.records) × (most_records < number + 2) × LacksRow take_of item_of files tag c.tape)
+      → IsTakeRefusal item_of files cells why
 
 -- a status is that of a refused row of a tag; no row is refused because a tape is full
 abbrev pub IsTakeStatus : ℕ → TakeNo → Status → Type 0
@@ -48,11 +49,10 @@ pub record IsCommittedCell {D : Type 0} (c : ToldCell D) : Type 0 where
   pub usable : c.journal.failed ≡ false
 
 -- why a commit is refused: the device of the tag has failed, and the tags before it are committed; or memory is wanting
-abbrev pub IsCellRefusal : {D : Type 0} → List (ToldCell D) → Status → Type 0
-IsCellRefusal {D} cells (DeviceFault (Tag tag)) = IsSo cells tag (λ c. c.journal.failed ≡ true)
-    × ((k : ℕ) (d : ToldCell D) → k < tag → IsCommittedCell (slice_index_or cells k d))
-IsCellRefusal cells WantOfMemory = ⊤
-IsCellRefusal cells other = ⊥
+pub data IsCellRefusal {D : Type 0} (cells : List (ToldCell D)) (why : Status) : Type 0 where
+  OfFault : (tag : ℕ) → why ≡ DeviceFault (Tag tag) → IsSo cells tag (λ c. c.journal.failed ≡ true)
+      → ((k : ℕ) (d : ToldCell D) → k < tag → IsCommittedCell (slice_index_or cells k d)) → IsCellRefusal cells why
+  OfMemory : why ≡ WantOfMemory → IsCellRefusal cells why
 
 -- the status of a refused commit of a tag
 abbrev pub commit_status : ℕ → CommitNo → Status

@@ -7,7 +7,7 @@ use Rattle.plant_status.specs.declared.status.Status.TheVariants.{Mismatch}
 use Rattle.tag_cell.specs.Told.{ToldCell as Cell}
 use Rattle.group_book.specs.Told.{ToldBook as Book}
 use Rattle.session_audit.specs.declared.kind.Shown.{Shown}
-use Rattle.session_audit.specs.Found.{IsDifference, Reached}
+use Rattle.session_audit.specs.Found.{IsDifference, Reached, due_of}
 use Rattle.session_audit.specs.Tapes.{ask_of, take_of}
 use Rattle.session_audit.specs.Books.{book_tape}
 use Rattle.session_audit.specs.Cells.{cell_tape}
@@ -24,7 +24,7 @@ pub record IsMismatchAt {C E : Type 0} (tape_of : C → List E) (work : E → Op
     (works : List Reached) (unit place : ℕ) (kept told : Seen) : Type 0 where
   pub one : C
   pub there : slice_get units unit ≡ Some one
-  pub differs : IsDifference work unit (tape_of one) works place kept told
+  pub differs : IsDifference work (due_of works unit) (tape_of one) place kept told
 
 -- the status reports such an entry, which is a take
 abbrev pub IsTakeMismatch : {D : Type 0} → List (Cell D) → List Reached → Status → Type 0

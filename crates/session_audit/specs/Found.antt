@@ -1,5 +1,5 @@
 -- How many rows of workers were found on tapes.
-use Rattle.std.specs.Prelude.{◌≡◌, ◌≢◌, ℕ, Bool, false, nat_le, ◌+◌, ◌^◌, ◌<◌, ◌≤◌, List, [], length, take, filter_map, slice_get, slice_index_or, slice_set, Option, None, Some, IfSome, option_and_then, nat_eq, ⊤, if◌then◌else◌}
+use Rattle.std.specs.Prelude.{◌≡◌, ◌≢◌, ℕ, Bool, false, nat_le, ◌+◌, ◌^◌, ◌<◌, ◌≤◌, List, [], ◌++◌, length, take, filter_map, slice_get, slice_index_or, slice_set, Option, None, Some, IfSome, option_and_then, nat_eq, ⊤, if◌then◌else◌}
 use Rattle.std.specs.Option.{option_map_or, unwrap_or}
 use Rattle.plant_status.specs.declared.mismatch.Seen.{Seen}
 use Rattle.plant_status.specs.declared.mismatch.Seen.TheVariants.{Nothing, Take, Ask, Row}
@@ -113,13 +113,23 @@ pub record AreFurther (unit : ℕ) (old new : List Reached) : Type 0 where
   pub as_many : length new ≡ length old
   pub each : (worker : ℕ) (p : Reached) → IsFurther unit (slice_index_or old worker p) (slice_index_or new worker p)
 
--- the entry at a place is not the next row of its worker at a unit; this is what it shows, and what was due
-pub record IsDifference {E : Type 0} (work : E → Option Shown) (unit : ℕ) (tape : List E) (works : List Reached)
-    (place : ℕ) (kept told : Seen) : Type 0 where
+-- the rows of each worker that are due at a unit
+abbrev pub due_of : List Reached → ℕ → ℕ → List Seen
+due_of works unit worker = option_map_or (λ p. due unit p.items) (slice_get works worker) []
+
+-- a list begins with another one
+pub record IsFirstPart {A : Type 0} (part whole : List A) : Type 0 where
+  pub rest : List A
+  pub is : whole ≡ part ++ rest
+
+-- A worker's entry is not the row that is due next. Its entries before that are the first rows due there. `kept` is what
+-- the entry shows. `told` is the row due next, or nothing.
+pub record IsDifference {E : Type 0} (work : E → Option Shown) (rows : ℕ → List Seen) (tape : List E) (place : ℕ) (kept told : Seen)
+    : Type 0 where
   pub entry : E
   pub worker : ℕ
   pub there : slice_get tape place ≡ Some entry
   pub shows : work entry ≡ Some (record { worker = worker; seen = kept })
-  pub told_is : told ≡ unwrap_or (option_and_then
-      (λ p. slice_get (due unit p.items) (length (tape_shows work worker (take place tape)))) (slice_get works worker)) Nothing
+  pub before : IsFirstPart (tape_shows work worker (take place tape)) (rows worker)
+  pub told_is : told ≡ unwrap_or (slice_get (rows worker) (length (tape_shows work worker (take place tape)))) Nothing
   pub differ : kept ≢ told

@@ -7,6 +7,7 @@ use Rattle.plant_status.specs.declared.mismatch.Seen.TheVariants.{Number}
 use Rattle.plant_status.specs.declared.status.Status.{Status}
 use Rattle.plant_status.specs.declared.status.Status.TheVariants.{Mismatch}
 use Rattle.collector_pool.specs.declared.work.Refresh.{Refresh}
+use Rattle.group_book.specs.declared.turn.Turn.{Turn}
 use Rattle.group_book.specs.Told.{ToldBook}
 use Rattle.session_audit.specs.GroupTapes.{refreshes}
 
@@ -19,14 +20,18 @@ pub record IsWithinTurns {D : Type 0} (turns : List ℕ) (books : List (ToldBook
   pub each : (group : ℕ) (d : ToldBook D) → group < length books
       → length (refreshes (slice_index_or books group d).tape) ≤ slice_index turns group
 
--- this group was refreshed more often than it has turns; the status has both numbers
-pub record IsAboveTurns {D : Type 0} (turns : List ℕ) (books : List (ToldBook D)) (group : ℕ) (kept told : Seen) : Type 0 where
+-- A group was refreshed more often than it has turns. `kept` counts its refreshes, and `told` its turns.
+pub record IsAboveTurns (turns : ℕ) (tape : List Turn) (kept told : Seen) : Type 0 where
+  pub kept_is : kept ≡ Number (length (refreshes tape))
+  pub told_is : told ≡ Number turns
+  pub above : turns < length (refreshes tape)
+
+-- the same of a book
+pub record IsBookAbove {D : Type 0} (turns : List ℕ) (books : List (ToldBook D)) (group : ℕ) (kept told : Seen) : Type 0 where
   pub book : ToldBook D
   pub there : slice_get books group ≡ Some book
-  pub kept_is : kept ≡ Number (length (refreshes book.tape))
-  pub told_is : told ≡ Number (slice_index turns group)
-  pub above : slice_index turns group < length (refreshes book.tape)
+  pub above : IsAboveTurns (slice_index turns group) book.tape kept told
 
 abbrev pub IsTurnsMismatch : {D : Type 0} → List ℕ → List (ToldBook D) → Status → Type 0
-IsTurnsMismatch turns books (Mismatch (Turns group) kept told) = IsAboveTurns turns books group kept told
+IsTurnsMismatch turns books (Mismatch (Turns group) kept told) = IsBookAbove turns books group kept told
 IsTurnsMismatch turns books other = ⊥

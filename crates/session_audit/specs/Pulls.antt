@@ -3,8 +3,11 @@ use Rattle.std.specs.Prelude.{◌≡◌, ℕ, ◌<◌, ◌≤◌, List, [], ◌�
 use Rattle.plant_status.specs.declared.mismatch.Place.TheVariants.{Pull, Version}
 use Rattle.plant_status.specs.declared.status.Status.{Status}
 use Rattle.plant_status.specs.declared.status.Status.TheVariants.{Mismatch}
+use Rattle.trend_num.specs.declared.archive.Rec.{Rec}
+use Rattle.tag_cell.specs.declared.entry.Entry.{Entry}
 use Rattle.tag_cell.specs.Told.{ToldCell as Cell}
 use Rattle.session_audit.specs.CellOpenings.{RecordsDiffer}
+use Rattle.group_book.specs.declared.turn.Turn.{Turn}
 use Rattle.group_book.specs.Told.{ToldBook as Book}
 use Rattle.session_audit.specs.declared.group_pulls.Found.{Found}
 use Rattle.session_audit.specs.OpeningNumbers.{AreApart}
@@ -12,12 +15,16 @@ use Rattle.session_audit.specs.GroupTapes.{pulled, reached}
 
 -- ---- the same
 
--- a book has of an input what its group pulled of the tag: each pull ended at the version of the refresh with its
--- number, and the copy is the start of the tag's records
-pub record IsPulledFrom {C D : Type 0} (group input : ℕ) (cell : Cell C) (book : Book D) : Type 0 where
-  pub ends : pulled group cell.tape ≡ reached input book.tape
-  pub copy : slice_index_or book.sheet.copies input []
-      ≡ take (length (slice_index_or book.sheet.copies input [])) cell.state.records
+-- A group has of an input what it pulled of the tag: each pull on the tag's tape ended at the version of the refresh with
+-- its number, and the copy is the start of the tag's records.
+pub record IsInputPulled (group input : ℕ) (tape : List Entry) (records : List Rec) (turns : List Turn) (copies : List (List Rec))
+    : Type 0 where
+  pub ends : pulled group tape ≡ reached input turns
+  pub copy : slice_index_or copies input [] ≡ take (length (slice_index_or copies input [])) records
+
+-- the same of a cell and a book
+abbrev pub IsPulledFrom : {C D : Type 0} → ℕ → ℕ → Cell C → Book D → Type 0
+IsPulledFrom group input cell book = IsInputPulled group input cell.tape cell.state.records book.tape book.sheet.copies
 
 -- a book has of each input what its group pulled; these are the tags of the inputs
 pub record AreInputsPulled {C D : Type 0} (group : ℕ) (tags : List ℕ) (cells : List (Cell C)) (book : Book D) : Type 0 where
@@ -33,12 +40,17 @@ pub record ArePulled {C D : Type 0} (inputs : List (List ℕ)) (cells : List (Ce
 
 -- A pull ended elsewhere than the refresh with its number, or only one of the two exists. Or all pulls ended where the
 -- refreshes did, but the records of the copy are not the start of the tag's records.
+abbrev pub IsInputApart : ℕ → ℕ → List Entry → List Rec → List Turn → List (List Rec) → Status → Type 0
+IsInputApart group input tape records turns copies (Mismatch (Pull its_group its_input turn) kept told) = (its_group ≡ group)
+    × (its_input ≡ input) × AreApart turn (pulled group tape) (reached input turns) kept told
+IsInputApart group input tape records turns copies (Mismatch (Version its_group its_input) kept told) = (its_group ≡ group)
+    × (its_input ≡ input) × (pulled group tape ≡ reached input turns)
+    × RecordsDiffer records (slice_index_or copies input []) kept told
+IsInputApart group input tape records turns copies other = ⊥
+
+-- the same of a cell and a book
 abbrev pub IsInputMismatch : {C D : Type 0} → ℕ → ℕ → Cell C → Book D → Status → Type 0
-IsInputMismatch group input cell book (Mismatch (Pull its_group its_input turn) kept told) = (its_group ≡ group)
-    × (its_input ≡ input) × AreApart turn (pulled group cell.tape) (reached input book.tape) kept told
-IsInputMismatch group input cell book (Mismatch (Version its_group its_input) kept told) = (its_group ≡ group)
-    × (its_input ≡ input) × (pulled group cell.tape ≡ reached input book.tape) × RecordsDiffer cell.state.records (slice_index_or book.sheet.copies input []) kept told
-IsInputMismatch group input cell book other = ⊥
+IsInputMismatch group input cell book s = IsInputApart group input cell.tape cell.state.records book.tape book.sheet.copies s
 
 -- the mismatch is at one input of a group; of those before it the book has what its group pulled
 pub record IsMismatchOf {C D : Type 0} (group : ℕ) (tags : List ℕ) (cells : List (Cell C)) (book : Book D) (s : Status)

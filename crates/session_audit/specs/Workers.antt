@@ -1,11 +1,11 @@
 -- What the tapes of all units (tags or groups) show of workers, and how many rows of these were found.
-use Rattle.std.specs.Prelude.{◌≡◌, ◌≢◌, ℕ, ◌^◌, ◌<◌, List, [], ◌++◌, length, slice_get, slice_index_or, Option}
+use Rattle.std.specs.Prelude.{◌≡◌, ◌≢◌, ℕ, ◌^◌, ◌<◌, List, [], length, slice_get, slice_index_or, Option}
 use Rattle.std.specs.Option.{option_map_or}
 use Rattle.plant_status.specs.declared.mismatch.Seen.{Seen}
 use Rattle.session_audit.specs.declared.agenda.Item.{Item}
 use Rattle.session_audit.specs.declared.kind.Shown.{Shown}
 use Rattle.session_audit.specs.Agendas.{due, numbered}
-use Rattle.session_audit.specs.Found.{AreFound, IsCaughtUp, Reached, tape_shows}
+use Rattle.session_audit.specs.Found.{AreFound, IsCaughtUp, IsFirstPart, Reached, tape_shows}
 
 -- ---- what tapes show of workers; `tape_of` has the tape of a unit
 
@@ -24,11 +24,6 @@ pub record AreTapesWhole {C E A : Type 0} (tape_of : C → List E) (work : E →
     (item_of : ℕ → ℕ → A → Option Item) (files : List (List A)) (units : List C) : Type 0 where
   pub each : (unit worker : ℕ) (d : C) → unit < length units
       → tape_shows work worker (tape_of (slice_index_or units unit d)) ≡ file_due item_of files worker unit
-
--- a list begins with another one
-pub record IsFirstPart {A : Type 0} (part whole : List A) : Type 0 where
-  pub rest : List A
-  pub is : whole ≡ part ++ rest
 
 -- each tape shows, of each worker, the first of its rows that are due there, in their order, and nothing else; of any
 -- other worker it shows nothing

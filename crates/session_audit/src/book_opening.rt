@@ -119,7 +119,7 @@ fn compare_book<D: Disk>(book: &Book<D>, known: &KeptGroup) -> Result<(), Differ
 // Returns which parts of a definition are the same: the number, the inputs, the start, the period, the calculations,
 // and the text.
 fn same_parts<D: Disk>(book: &Book<D>, known: &KeptGroup) -> [bool; 6]
-    ensures { ArePartsOf book.now known.now result }
+    ensures { ArePartsOf book.now.group book.now.def book.now.text known.now result }
 {
     let (def, kept) = (book.def(), &known.def);
     [

@@ -1,6 +1,6 @@
 // One walk over a tape, which updates the progress of each worker.
 ghost use Rattle.std.specs.Prelude.{◌≡◌, ◌↔◌, ◌<◌, All, IfErr, IfNone, IfSome, IsSomeAnd, IsTrue, MatchOption, OnErr, OnOk, OnSome, length};
-ghost use Rattle.session_audit.specs.Found.{AreFound, AreFurther, IsDifference, IsFollowed, IsOtherDue, IsUnfound, IsWork};
+ghost use Rattle.session_audit.specs.Found.{AreFound, AreFurther, IsDifference, IsFollowed, IsOtherDue, IsUnfound, IsWork, due_of};
 
 use crate::kind::{Kind, Shown};
 use crate::progress::Progress;
@@ -28,7 +28,7 @@ pub fn find<K: Kind>(
     requires unfound { All (IsUnfound unit) works.old }
     ensures found { OnOk result (AreFound K.shows unit tape.now works.new) }
     ensures further { AreFurther unit works.old works.new }
-    ensures differs { IfErr result (λ d. IsDifference K.shows unit tape.now works.old d.place d.kept d.told) }
+    ensures differs { IfErr result (λ d. IsDifference K.shows (due_of works.old unit) tape.now d.place d.kept d.told) }
 {
     for (place, entry) in tape.iter().enumerate() {
         if let Err(differs) = follow(works, unit, place, K::shown(entry)) {

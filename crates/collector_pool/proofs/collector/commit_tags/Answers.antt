@@ -5,4 +5,4 @@ use Rattle.collector_pool.proofs.collector.commit_tags.Goals as goal
 pub returns-in_err-commit_tag : goal.returns-in_err-commit_tag
 returns-in_err-commit_tag g c =
     let p = err_from_is_err_and c.from_residual.result c.from_residual.ensures.1 in
-    rw (p.1, p.2) (ends_at_commit g.row.D.Denot _ _ _ _ c.loop-i-test.true c.in_err-commit_tag.ensures)
+    rw (p.1, p.2) (ends_at_commit _ _ _ _ c.loop-i-test.true c.in_err-commit_tag.ensures)

@@ -7,11 +7,11 @@ pub returns-in-Err-commit_tags-clause-ending : goal.returns-in-Err-commit_tags-c
 returns-in-Err-commit_tags-clause-ending g c =
     let order : c.loop-i.committed ≤ c.loop-i.i + 1 = omega arith in
     let within : c.loop-i.i + 1 ≤ length c.args.rows.now = omega arith in
-    ends_collector g.row.D.Denot c.args.rows.now c.loop-i.committed (c.loop-i.i + 1) _ order within c.in-Err-commit_tags.ensures
+    ends_collector c.args.rows.now c.loop-i.committed (c.loop-i.i + 1) _ order within c.in-Err-commit_tags.ensures
 
 pub returns-in-Err-commit_tags-clause-stops : goal.returns-in-Err-commit_tags-clause-stops
 returns-in-Err-commit_tags-clause-stops g c =
-    c.if-not-pass.ensures ∙ (c.loop-i.invariant.fresh ∙ sym (commit_stops_none g.row.D.Denot _ _ c.in-Err-commit_tags.ensures))
+    c.if-not-pass.ensures ∙ (c.loop-i.invariant.fresh ∙ sym (commit_stops_none _ _ c.in-Err-commit_tags.ensures))
 
 pub loop-i-preserved : goal.loop-i-preserved
 loop-i-preserved g c =

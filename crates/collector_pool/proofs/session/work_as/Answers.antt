@@ -6,7 +6,7 @@ use Rattle.collector_pool.proofs.session.work_as.Goals as goal
 pub returns-in-Collector-clause-note : goal.returns-in-Collector-clause-note
 returns-in-Collector-clause-note g c =
     rw c.in-Collector.is
-    (as_collector g.row.D.Denot c.args.work.now c.in-Collector.collector c.rows_of-rows.result.now c.collect.result
+    (as_collector c.args.work.now c.in-Collector.collector c.rows_of-rows.result.now c.collect.result
     c.rows_of-rows.ensures c.collect.ensures.note)
 
 pub returns-in-Reader-clause-note : goal.returns-in-Reader-clause-note

@@ -1,4 +1,4 @@
-use Rattle.std.proofs.Common.{◌<◌, ◌∙◌, length, ap, sym, subst, inl, inr, arith, get_or, set}
+use Rattle.std.proofs.Common.{◌<◌, length, sym, subst, inl, inr, arith, get_or, set}
 use Rattle.std.proofs.lemmas.Bool.{cases_eq}
 use Rattle.std.proofs.lemmas.List.{get_or-set_same, get_or-set_other}
 use Rattle.session_audit.specs.Cells.{IsCommitEntry}

@@ -1,5 +1,5 @@
 use Rattle.std.proofs.Common.{subst}
-use Rattle.session_audit.specs.Found.{AreFound, IsDifference}
+use Rattle.session_audit.specs.Found.{AreFound, IsDifference, due_of}
 use Rattle.session_audit.proofs.FindingTurns.{found_next_tag, found_none, known_next, mismatch_here, rows_after, unfound_next}
 use Rattle.session_audit.proofs.finding.find_all.Goals as goal
 
@@ -26,7 +26,7 @@ returns-in-Err-clause-differs g c =
     mismatch_here g.T.Taped.tape_of g.K.Kind.shows c.loop-unit.unit c.in-Err.differs.place c.in-Err.differs.kept c.in-Err.differs.told cells cell
     c.args.works.now c.loop-unit.works c.loop-unit-test.true
     c.index-units-unit.is c.loop-unit.invariant.same
-    (subst (λ l. IsDifference g.K.Kind.shows c.loop-unit.unit l c.loop-unit.works c.in-Err.differs.place c.in-Err.differs.kept
+    (subst (λ l. IsDifference g.K.Kind.shows (due_of c.loop-unit.works c.loop-unit.unit) l c.in-Err.differs.place c.in-Err.differs.kept
     c.in-Err.differs.told) c.tape.ensures c.in-Err.ensures.differs)
 
 pub loop-unit-preserved : goal.loop-unit-preserved

@@ -13,9 +13,7 @@ returns-then-made-turns-clause-differs g c =
     record {
       book = b;
       there = slice_get-get_or c.args.books.now c.loop-group.group b c.loop-group-test.true ∙ ap Some (sym c.index-books-group.is);
-      kept_is = ap Number made;
-      told_is = ap Number c.from.ensures;
-      above = omega (arith, c.if-made-turns.true, made);
+      above = record { kept_is = ap Number made; told_is = ap Number c.from.ensures; above = omega (arith, c.if-made-turns.true, made) };
     }
 
 pub loop-group-preserved : goal.loop-group-preserved

@@ -1,5 +1,5 @@
 use Rattle.std.proofs.Common.{sym, subst}
-use Rattle.session_audit.specs.Found.{IsDifference}
+use Rattle.session_audit.specs.Found.{IsDifference, due_of}
 use Rattle.session_audit.proofs.Walking.{all_further, difference_turn, found_at_start, found_turn, further_turn, still_known}
 use Rattle.session_audit.proofs.walk.find.Goals as goal
 
@@ -13,7 +13,7 @@ pub returns-in-Err-clause-differs : goal.returns-in-Err-clause-differs
 returns-in-Err-clause-differs g c =
     let d = c.in-Err.differs in
     let tape = c.args.tape.now in
-    subst (λ n. IsDifference g.K.Kind.shows c.args.unit tape c.args.works.now n d.kept d.told) (sym c.in-Err.ensures.differs.0)
+    subst (λ n. IsDifference g.K.Kind.shows (due_of c.args.works.now c.args.unit) tape n d.kept d.told) (sym c.in-Err.ensures.differs.0)
     (difference_turn g.K.Kind.shows c.args.unit c.loop-place.place d.kept d.told tape c.index-tape-place.result c.shown.result
     c.args.works.now c.loop-place.works c.loop-place-test.true c.index-tape-place.is c.shown.ensures.value
     c.loop-place.invariant.found c.loop-place.invariant.further c.in-Err.ensures.differs.1)
