@@ -1,5 +1,5 @@
 -- Words that are more than any command has.
-use Rattle.std.proofs.Common.{◌≡◌, ℕ, ◌≤◌, List, [], ◌∷◌, length, map, get_or, false, arith, refl, subst, ap, ◌∙◌, String, string_bytes}
+use Rattle.std.proofs.Common.{◌≡◌, ◌≤◌, List, [], ◌∷◌, length, map, get_or, false, arith, refl, ap, ◌∙◌, String, string_bytes}
 use Rattle.std.specs.Prelude.{codes}
 use Rattle.std.specs.Str.{bytes_eq}
 use Rattle.plant_run.specs.CommandLine.{Unknown, form_of}

@@ -1,50 +1,53 @@
 -- What each command does: what it prints, and its session, if it holds one. And what the arguments of a process lead
 -- to, with the exit code.
-use Rattle.std.specs.Prelude.{◌≡◌, ◌≢◌, ◌⊎◌, ◌^◌, ◌<◌, ℕ, List, [], None, Some, Option, Result, String, IfErr, IfOk, IfSome, OnOk, string_bytes}
+use Rattle.std.specs.Prelude.{◌≡◌, ◌⊎◌, ◌^◌, ◌<◌, ℕ, List, [], None, Some, Option, Result, Ok, Err, String, IfErr, IfSome, OnOk, string_bytes}
 use Rattle.std.specs.Option.{IsSome}
 use Rattle.std.specs.declared.alloc.Global.{Global}
 use Rattle.disk_model.specs.Traces.{Trace}
 use Rattle.plant_status.specs.Status.{code_of}
 use Rattle.plant_status.specs.declared.status.Status.{Status}
-use Rattle.plant_status.specs.declared.status.Status.TheVariants.{BadWords, WantOfMemory}
+use Rattle.plant_status.specs.declared.status.Status.TheVariants.{WantOfMemory}
 use Rattle.plant_files.specs.Faults.{IsFaultOfPlanned}
 use Rattle.plant_files.specs.Reading.{faults_after}
 use Rattle.plant_store.specs.Openings.{CountsPlant}
-use Rattle.run_command.specs.Drills.{IsDrill, IsDrilled}
+use Rattle.run_command.specs.Drills.{IsDrilled}
 use Rattle.run_command.specs.Headline.{IsPromised}
-use Rattle.run_command.specs.Runs.{IsSession, IsUnheld}
+use Rattle.run_command.specs.Runs.{IsUnheld}
 use Rattle.commit_log.specs.declared.history.LogHistory.{LogHistory}
 use Rattle.session_report.specs.declared.session.Session.{Session}
-use Rattle.plant_files.specs.Printing.{IsPrintedSo, IsTold}
+use Rattle.plant_files.specs.Printing.{IsTold, PrintsSo}
 use Rattle.plant_more.specs.Logs.{EndsOfLog}
 use Rattle.plant_more.specs.declared.log_command.LogOutcome.{LogOutcome}
 use Rattle.plant_run.specs.CommandLine.{Form, Run, Log, Drill, form_of}
 use Rattle.plant_run.specs.declared.program.Outcome.{Outcome}
 use Rattle.plant_run.specs.Run.{EndsFor, KeepsFor, World}
 
--- The run of the plan in one file over the base in another. It prints its report, or the line of its refusal. It leaves
--- the input alone. If the devices were opened there is a session, however it ended, and the session's promise holds.
--- Otherwise there is a cause, which is never the words, no stop was counted, and a fault of a device only if the answer
--- reports one. The count of failed file reads agrees with the answer, and so does the name of the file that failed.
-pub record IsRunSo {D : Type 0} (trace : D → Option Trace) (ticks faults : D → ℕ) (base plan : List ℕ) (before now : World)
-    (stops_before stops_now : ℕ) (o : Outcome) : Type 0 where
-  pub answer : Result (String Global) Status
-  pub held : OnOk answer (IsSome o.session)
-  pub session : IfSome o.session (IsSession trace ticks faults base plan before.scene.files before.scene.devices now.scene.devices
+-- What a run of the plan in one file over the base in another came to, with this answer. If the devices were opened there
+-- is a session, however it ended, and its promise holds. Otherwise there is a cause, no stop was counted, and a fault of a
+-- device only if the answer reports one. The count of failed file reads agrees with the answer, and so does the name of
+-- the file that failed.
+pub record IsRunEnd (base plan : List ℕ) (before now : World) (stops_before stops_now : ℕ) (session : Option Session)
+    (answer : Result (String Global) Status) : Type 0 where
+  pub held : OnOk answer (IsSome session)
+  pub promised : IfSome session (IsPromised base plan before.scene.files before.scene.devices now.scene.devices
       before.scene.device_faults now.scene.device_faults stops_before stops_now answer)
-  pub promised : IfSome o.session (IsPromised base plan before.scene.files before.scene.devices now.scene.devices
-      before.scene.device_faults now.scene.device_faults answer)
-  pub unheld : o.session ≡ None → IfErr answer (IsUnheld base plan before.scene.files before.scene.devices now.scene.devices
+  pub unheld : session ≡ None → IfErr answer (IsUnheld base plan before.scene.files before.scene.devices now.scene.devices
       before.scene.device_faults now.scene.device_faults)
-  pub file_faults : o.session ≡ None → now.scene.file_faults ≡ faults_after answer before.scene.file_faults
-  pub no_file_fault : IsSome o.session → now.scene.file_faults ≡ before.scene.file_faults
-  pub unstopped : o.session ≡ None → stops_now ≡ stops_before
-  pub counts : o.session ≡ None → before.scene.device_faults < 2 ^ 64
+  pub file_faults : session ≡ None → now.scene.file_faults ≡ faults_after answer before.scene.file_faults
+  pub no_file_fault : IsSome session → now.scene.file_faults ≡ before.scene.file_faults
+  pub unstopped : session ≡ None → stops_now ≡ stops_before
+  pub counts : session ≡ None → before.scene.device_faults < 2 ^ 64
       → CountsPlant answer before.scene.device_faults now.scene.device_faults
-  pub whose : o.session ≡ None → IfErr answer (IsFaultOfPlanned base plan before.scene.files now.scene.failed_name)
-  pub printed : IfOk answer (λ text. IsPrintedSo (string_bytes text) before.scene.output now.scene.output o.status)
-  pub refused : IfErr answer (λ why. (o.status ≡ why) × IsTold before.scene.output now.scene.output why)
-  pub understood : o.status ≢ BadWords
+  pub whose : session ≡ None → IfErr answer (IsFaultOfPlanned base plan before.scene.files now.scene.failed_name)
+
+-- the report of a call that ended so was printed, or the line of its refusal; or a part of it, if a write failed
+abbrev pub PrintsEnd : (Result (String Global) Status → Type 0) → World → World → Status → Type 0
+PrintsEnd Ends before now status = PrintsSo (λ text. (report : String Global) × (text ≡ string_bytes report) × Ends (Ok report))
+    (λ why. Ends (Err why)) before.scene.output now.scene.output status
+
+-- a run; it leaves the input alone
+pub record IsRunSo (base plan : List ℕ) (before now : World) (stops_before stops_now : ℕ) (o : Outcome) : Type 0 where
+  pub ends : PrintsEnd (IsRunEnd base plan before now stops_before stops_now o.session) before now o.status
   pub input : now.input ≡ before.input
 
 -- a session that wrote this log, and that has no tag, group or worker
@@ -70,19 +73,18 @@ pub record IsLogHandedOn {D : Type 0} (trace : D → Option Trace) (ticks faults
   pub session : IsHandedOn came.log o.session
   pub input : now.input ≡ before.input
 
--- A drill. It prints its report, or the line of its refusal. Nothing else outside has changed. If its devices were
--- opened there is a session, however it ended, and the drill's promise holds. Otherwise there was no memory. The status
--- is never `BadWords`.
+-- What a drill came to, with this answer. If its devices were opened there is a session, however it ended, and the drill's
+-- promise holds. Otherwise there was no memory.
+pub record IsDrillEnd (number tags events stops_before stops_now : ℕ) (session : Option Session) (answer : Result (String Global) Status)
+    : Type 0 where
+  pub held : OnOk answer (IsSome session)
+  pub drilled : IfSome session (IsDrilled number tags events stops_before stops_now answer)
+  pub unheld : session ≡ None → IfErr answer (λ why. why ≡ WantOfMemory)
+  pub unstopped : session ≡ None → stops_now ≡ stops_before
+
+-- a drill; nothing outside but the output has changed
 pub record IsDrillSo (number tags events : ℕ) (before now : World) (stops_before stops_now : ℕ) (o : Outcome) : Type 0 where
-  pub answer : Result (String Global) Status
-  pub held : OnOk answer (IsSome o.session)
-  pub session : IfSome o.session (IsDrill number tags events stops_before stops_now answer)
-  pub drilled : IfSome o.session (IsDrilled number tags events answer)
-  pub unheld : o.session ≡ None → IfErr answer (λ why. why ≡ WantOfMemory)
-  pub unstopped : o.session ≡ None → stops_now ≡ stops_before
-  pub printed : IfOk answer (λ text. IsPrintedSo (string_bytes text) before.scene.output now.scene.output o.status)
-  pub refused : IfErr answer (λ why. (o.status ≡ why) × IsTold before.scene.output now.scene.output why)
-  pub understood : o.status ≢ BadWords
+  pub ends : PrintsEnd (IsDrillEnd number tags events stops_before stops_now o.session) before now o.status
   pub input : now.input ≡ before.input
   pub rest : now.scene ≡ record before.scene { output = now.scene.output }
 
@@ -96,7 +98,7 @@ pub record IsAnswered (form : Form) (before now : World) (stops_before stops_now
 -- the outcome of a command line of this form
 abbrev pub ComesOf : {D : Type 0} → (D → Option Trace) → (D → ℕ) → (D → ℕ) → Form → World → World → ℕ → ℕ → Outcome → Type 0
 ComesOf trace ticks faults (Run base plan) before now stops_before stops_now o =
-    IsRunSo trace ticks faults base plan before now stops_before stops_now o
+    IsRunSo base plan before now stops_before stops_now o
 ComesOf trace ticks faults (Log named) before now stops_before stops_now o =
     IsLogHandedOn trace ticks faults named before now stops_before stops_now o
 ComesOf trace ticks faults (Drill number tags events) before now stops_before stops_now o =

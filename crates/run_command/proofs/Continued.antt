@@ -46,9 +46,9 @@ module _ {D : Type 0} where
       → AllZip IsBookCopied opened known → AreAsKept IsBookAsKept books known → AllZip IsContinuedGroup opened books
   groups_continued opened books known many copied kept =
       zip_on IsBookCopied (λ k b. IsBookAsKept b k) IsContinuedGroup (λ o k b copy same. record {
-        group = same.defined.group ∙ copy.group;
-        def = same.defined.def ∙ copy.def;
-        text = same.defined.text ∙ copy.text;
+        group = same.defined.group_is ∙ copy.group;
+        def = same.defined.def_is ∙ copy.def;
+        text = same.defined.text_is ∙ copy.text;
         versions = same.opened.versions ∙ copy.versions;
         rows = same.opened.rows ∙ copy.rows;
         moment = same.opened.moment ∙ copy.moment;

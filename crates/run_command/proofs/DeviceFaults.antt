@@ -7,7 +7,6 @@ use Rattle.tag_cell.specs.Told.{ToldCell as Cell}
 use Rattle.plant_status.specs.declared.status.Status.{Status}
 use Rattle.plant_status.specs.declared.status.Status.TheVariants.{DeviceFault}
 use Rattle.plant_status.specs.declared.unit.Unit.{Unit as Device}
-use Rattle.plant_status.specs.declared.unit.Unit.TheVariants.{Tag, Group, Log}
 use Rattle.session_audit.proofs.Walking.{at_place}
 use Rattle.group_book.specs.Told.{ToldBook as Book}
 use Rattle.group_book.specs.declared.refusal.RefreshNo.TheVariants as refresh
@@ -34,7 +33,8 @@ use Rattle.plant_store.specs.CellClosings.{AreHistoriesOf}
 use Rattle.plant_store.specs.CellOpenings.{AreCellsOpened}
 use Rattle.run_command.specs.Headline.{IsFaultCounted}
 use Rattle.plant_status.proofs.Elements.{element}
-use Rattle.session_audit.specs.CellRefusals.{IsCommittedCell, IsSo}
+use Rattle.session_audit.specs.CellRefusals.{IsCommittedCell, IsSo, OfBroken, OfFault, OfLimit}
+use Rattle.session_audit.specs.CellRefusals as no_memory
 use Rattle.collector_pool.specs.declared.note.WorkerNote.{WorkerNote}
 
 -- what is counted once more is not zero
@@ -71,12 +71,10 @@ module _ {D : Type 0} (trace : D → Option Trace) (ticks faults : D → ℕ) (b
 
   module _ (g : Given) where
     of_making : (unit : Device) → IsMakingRefusal g cells books (DeviceFault unit) → HasRisen before now
-    of_making (Tag tag) (OfTaking so) = of_cell tag so
-    of_making (Group group) (OfTaking so) = absurd so
-    of_making Log (OfTaking so) = absurd so
-    of_making (Tag tag) (OfCommit tapes so) = of_cell tag so.0
-    of_making (Group group) (OfCommit tapes so) = absurd so
-    of_making Log (OfCommit tapes so) = absurd so
+    of_making unit (OfTaking (OfBroken tag same so)) = of_cell tag (record { cell = so.cell; there = so.there; so = so.so.0 })
+    of_making unit (OfTaking (OfLimit tag number same so)) = absurd (cc same)
+    of_making unit (OfCommit tapes (OfFault tag same so front)) = of_cell tag so
+    of_making unit (OfCommit tapes (no_memory.OfMemory same)) = absurd (cc same)
     of_making unit (OfRefreshing tapes committed so) = of_refresh so.group so.book (durable_lists cells) _ unit so.there so.refused
     of_making unit (OfMemory same) = absurd (cc same)
 

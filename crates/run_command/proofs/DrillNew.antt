@@ -2,6 +2,7 @@
 use Rattle.std.proofs.Common.{◌≡◌, ℕ, List, [], ◌∷◌, inl, inr, refl, arith, length, replicate, get_or}
 use Rattle.std.specs.List.{AllZip}
 use Rattle.trend_num.specs.declared.tag_def.TagDef.{TagDef}
+use Rattle.trend_num.specs.declared.archive.Rec.{Rec}
 use Rattle.trend_num.specs.declared.value.CalcValue.{CalcValue}
 use Rattle.trend_model.specs.History.{Origin}
 use Rattle.trend_model.specs.State.{Stands, State, nothing_taken}
@@ -17,7 +18,7 @@ use Rattle.plant_store.specs.Groups.{group_parts_of, group_definition_text, grou
 use Rattle.group_book.specs.declared.history.GroupHistory.{GroupHistory}
 use Rattle.calc_refresh.specs.Lists.{lists_of}
 use Rattle.session_report.specs.declared.session.Session.{Session}
-use Rattle.run_command.specs.Headline.{AreUnitsOpened, IsGroupOpened, IsTagOpened}
+use Rattle.run_command.specs.Units.{AreUnitsOpened, IsGroupOpened, IsTagOpened}
 use Rattle.run_command.specs.Drills.{AreNew, IsGroupNew, IsTagNew, fresh_devices}
 
 -- the origin of a tag that was made so
@@ -38,7 +39,7 @@ pub opened_nothing : (def : TagDef) (s : State) → StandsOpened def (origin_of 
 opened_nothing def s (inl is) = is.1
 opened_nothing def s (inr is) = absurd (is.0 refl)
 
-new_tags : (defs : List TagDef) (ts : List TagHistory) → AllZip (λ def t. IsTagOpened def (tag_trace_of fresh_devices def) t) defs ts
+new_tags : (defs : List TagDef) (ts : List TagHistory) → AllZip (λ def (t : TagHistory). IsTagOpened def (tag_trace_of fresh_devices def) t.def t.opening) defs ts
     → AllZip IsTagNew defs ts
 new_tags [] [] is = tt
 new_tags [] (t ∷ ts) is = absurd is
@@ -46,7 +47,7 @@ new_tags (d ∷ ds) [] is = absurd is
 new_tags (d ∷ ds) (t ∷ ts) is = (
   record {
     def_is = is.0.def_is;
-    nothing = opened_nothing d (opened t.opening) (is.0.opening (origin_of d) [] (empty_stands d));
+    nothing = opened_nothing d (opened t.opening) (is.0.found.stands (origin_of d) [] (empty_stands d));
   },
   new_tags ds ts is.1,
 )
@@ -59,14 +60,15 @@ saved_nothing text inputs calcs versions rows (ByBlocks bs saved versions_are) =
     let long = saved.of_text.head.begun.long in
     absurd (omega (arith, long))
 
-new_group : (i : ℕ) (d : GroupDef) (g : GroupHistory) → IsGroupOpened i d (group_trace_at fresh_devices d) g → IsGroupNew i d g
-new_group i d g is =
+new_group : (i : ℕ) (d : GroupDef) (g : GroupHistory) → (recovered : List (List Rec))
+    → IsGroupOpened i d (group_trace_at fresh_devices d) recovered g.group g.def g.text.items g.opening → IsGroupNew i d g
+new_group i d g recovered is =
     let none = saved_nothing (group_definition_text d) (group_parts_of d).inputs (length (group_parts_of d).calcs.calcs) g.opening.versions.items
-    (lists_of g.opening.rows.items) is.opening in
+    (lists_of g.opening.rows.items) is.opening.stood in
     record {
       number = is.number;
       def_is = is.def_is;
-      text = is.text;
+      text = is.text_is;
       versions = none.0;
       rows = none.1;
     }
@@ -74,5 +76,5 @@ new_group i d g is =
 pub all_new : (base : Base) (s : Session) → AreUnitsOpened base fresh_devices s → AreNew base s
 all_new base s is = record {
   tags = new_tags base.tags.items s.tags.items is.tags;
-  groups = λ i d g below. new_group i (get_or base.groups.items i d) (get_or s.groups.items i g) (is.groups i d g below);
+  groups = λ i d g below. new_group i (get_or base.groups.items i d) (get_or s.groups.items i g) _ (is.groups i d g below);
 }

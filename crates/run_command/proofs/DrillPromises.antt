@@ -1,31 +1,132 @@
 -- What is promised of the session of a drill.
-use Rattle.std.proofs.Common.{◌+◌, ℕ, List, [], Result, String, Global, string_bytes}
+use Rattle.std.proofs.Common.{◌≡◌, inl, inr, ◌+◌, ◌/◌, ℕ, List, [], Result, Ok, Err, IfErr, String, Global, refl, string_bytes, subst}
+use Rattle.std.specs.Prelude.{⊤}
 use Rattle.plant_status.specs.declared.status.Status.{Status}
+use Rattle.plant_store.specs.Groups.{DeviceTraces}
 use Rattle.tag_base.specs.declared.definition.Base.{Base}
 use Rattle.value_rows.specs.declared.raw.RawRow.{RawRow}
 use Rattle.session_audit.specs.Agendas.{phase_item}
 use Rattle.session_report.specs.declared.session.Session.{Session}
-use Rattle.run_command.specs.Headline.{IsDoneSo, turns_in}
-use Rattle.run_command.proofs.Headline.{done, held_opened, if_done, sound_groups, sound_tags}
-use Rattle.run_command.specs.Drills.{IsDrill, IsDrilled, fresh_devices, memory_faults, memory_ticks, memory_trace}
+use Rattle.run_command.specs.declared.work.Given.{Given}
+use Rattle.run_command.specs.DrillPhases.{IsUndoneOfBoth, OfFirst, OfReport, OfSecond}
+use Rattle.run_command.specs.DrillRows.{drill_rows_of}
+use Rattle.run_command.specs.Drills.{InFirst, InReport, InSecond, IsDrillBase, IsDrillCause, IsDrilled, IsPhaseCause, IsRunInPhases, drill_status, fresh_devices, memory_faults, memory_ticks, memory_trace}
+use Rattle.run_command.specs.Runs.{IsWorkIn}
+use Rattle.plant_files.specs.PlanRows.{IsGoodBase}
+use Rattle.run_command.specs.Headline.{IsDoneSo}
+use Rattle.run_command.specs.Refusals.{IsOpening}
+use Rattle.run_command.specs.Units.{turns_in}
+use Rattle.run_command.proofs.Causes.{session_cause}
+use Rattle.run_command.proofs.Continued.{groups_still, still}
 use Rattle.run_command.proofs.DrillNew.{all_new}
+use Rattle.run_command.proofs.DrillUndone.{opening_back}
+use Rattle.run_command.proofs.Headline.{IsClocked, begun, done, held_opened, if_done, sound_groups, sound_tags}
+
+-- the base, and the work of the two phases: before the second phase each collector has taken the first half of its
+-- events
+pub record IsDrillWork (number tags events : ℕ) (base : Base) (first second : Given) : Type 0 where
+  pub base_is : IsDrillBase tags base
+  pub good : IsGoodBase base
+  pub first_is : IsWorkIn base 0 0 (drill_rows_of number tags 0 (events / 2)) [] [] first
+  pub second_is : IsWorkIn base (events / 2) 1 (drill_rows_of number tags 0 events) [] [] second
+
+-- the session of a drill over devices in memory
+pub record IsDrill (number tags events stops_before stops_now : ℕ) (answer : Result (String Global) Status) (s : Session)
+    : Type 0 where
+  pub base : Base
+  pub first : Given
+  pub second : Given
+  pub new : DeviceTraces
+  pub now : ℕ
+  pub work : IsDrillWork number tags events base first second
+  pub run : IsRunInPhases memory_trace memory_ticks memory_faults base first second fresh_devices new 0 now stops_before stops_now
+      answer s
+
+-- this work makes such a session
+pub as_drill : (number tags events stops_before stops_now : ℕ) (answer : Result (String Global) Status) (s : Session) (base : Base)
+    (first second : Given) → IsDrillWork number tags events base first second
+    → ((new : DeviceTraces) × (now : ℕ) × IsRunInPhases memory_trace memory_ticks memory_faults base first second fresh_devices new 0 now
+    stops_before stops_now answer s)
+    → IsDrill number tags events stops_before stops_now answer s
+as_drill number tags events stops_before stops_now answer s base first second work is = record {
+  base = base;
+  first = first;
+  second = second;
+  new = is.0;
+  now = is.1;
+  work = work;
+  run = is.2;
+}
+
+-- the clock of a device in memory is the number of its calls
+memory_clocked : IsClocked memory_trace memory_ticks
+memory_clocked d = refl
+
+-- a phase of a drill that is not done has a cause
+phase_of : (number tags events stops_before stops_now : ℕ) (why cause : Status) (s : Session)
+    → (is : IsDrill number tags events stops_before stops_now (Err why) s) → why ≡ drill_status cause
+    → IsUndoneOfBoth is.first is.second is.run.held.opened is.run.held.opened_books is.run.held.cells is.run.held.books s.workers.items cause
+    → IsPhaseCause number tags events is.base is.first.work s.workers.items s cause
+phase_of number tags events stops_before stops_now why cause s is told (OfFirst notes undone) =
+    let run = is.run.held in
+    InFirst notes (session_cause memory_trace memory_ticks memory_faults memory_clocked is.base fresh_devices is.new is.first run.cells
+    run.books s run.over 0 0 (drill_rows_of number tags 0 (events / 2)) [] [] is.work.good is.work.first_is (λ i. 0) (λ i. refl) run.opened
+    run.opened run.opened_books run.opened_books s.workers.items ⊤ cause run.opening (still run.opened) (groups_still run.opened_books)
+    (λ none. held_opened memory_trace memory_ticks memory_faults memory_clocked is.base is.second fresh_devices is.new 0 is.now (Err why) s run
+    (λ of. none (opening_back cause (subst IsOpening told of)))) (λ none made. tt) undone)
+phase_of number tags events stops_before stops_now why cause s is told (OfSecond between between_books front notes ended same same_books made undone) =
+    let run = is.run.held in
+    InSecond front undone.more undone.behind notes ended (session_cause memory_trace memory_ticks memory_faults memory_clocked is.base
+    fresh_devices is.new is.second run.cells run.books s run.over (events / 2) 1 (drill_rows_of number tags 0 events) [] [] is.work.good
+    is.work.second_is (λ i. 1) (λ i. refl) run.opened between run.opened_books between_books undone.more ⊤ cause run.opening same same_books
+    (λ none. held_opened memory_trace memory_ticks memory_faults memory_clocked is.base is.second fresh_devices is.new 0 is.now (Err why) s run
+    (λ of. none (opening_back cause (subst IsOpening told of)))) (λ none made. tt) undone.undone)
+phase_of number tags events stops_before stops_now why cause s is told (OfReport same) = InReport same
+
+-- so has a drill that is not done
+cause_of : (number tags events stops_before stops_now : ℕ) (answer : Result (String Global) Status) (s : Session)
+    → (is : IsDrill number tags events stops_before stops_now answer s) → IfErr answer (IsDrillCause number tags events is.base is.first.work s)
+cause_of number tags events stops_before stops_now (Ok text) s is = tt
+cause_of number tags events stops_before stops_now (Err why) s is =
+    let undone = is.run.undone in
+    record {
+      cause = undone.cause;
+      told = undone.told;
+      phase = phase_of number tags events stops_before stops_now why undone.cause s is undone.told undone.undone;
+    }
 
 pub promised : (number tags events stops_before stops_now : ℕ) (answer : Result (String Global) Status) (s : Session)
-    → IsDrill number tags events stops_before stops_now answer s → IsDrilled number tags events answer s
+    → IsDrill number tags events stops_before stops_now answer s → IsDrilled number tags events stops_before stops_now answer s
 promised number tags events stops_before stops_now answer s is =
     let run = is.run.held in
     let work = is.work in
-    let opened_as = held_opened memory_trace memory_ticks memory_faults is.base is.second fresh_devices is.new 0 is.now answer s run in
+    let opened_as = held_opened memory_trace memory_ticks memory_faults memory_clocked is.base is.second fresh_devices is.new 0 is.now answer s
+    run in
     record {
       base = is.base;
       devices = is.new;
       base_is = work.base_is;
       tags_are = sound_tags is.new is.base.tags.items s.tags.items run.over.devices;
       groups = sound_groups memory_trace memory_ticks memory_faults is.base fresh_devices is.new run.cells run.books s run.over;
+      opened_as = opened_as;
       new = λ none. all_new is.base s (opened_as none);
+      begun = λ none. elim (is.run.begun none) [
+        | inl was ↦ inl (begun memory_trace memory_ticks memory_faults is.base fresh_devices is.new is.first run.cells run.books s run.over
+            0 0 (drill_rows_of number tags 0 (events / 2)) [] [] work.first_is was)
+        | inr was ↦ inr (begun memory_trace memory_ticks memory_faults is.base fresh_devices is.new is.second run.cells run.books s run.over
+            (events / 2) 1 (drill_rows_of number tags 0 events) [] [] work.second_is was)
+      ];
       done = if_done answer opened_as
           (λ was text it. once _ is.base _ (string_bytes text) (done memory_trace memory_ticks memory_faults is.base fresh_devices is.new is.second run.cells run.books s run.over
           _ 1 _ [] [] (string_bytes text) work.good work.second_is was it)) run.done;
+      cause = cause_of number tags events stops_before stops_now answer s is;
+      first = is.first.work;
+      second = is.second.work;
+      first_is = work.first_is.its;
+      second_is = work.second_is.its;
+      notes = is.run.notes;
+      ran = is.run.ran;
+      no_log = run.over.no_log;
     }
   where
     -- no refresher has a turn, so each group has the turn of the phase before
@@ -35,6 +136,6 @@ promised number tags events stops_before stops_now answer s is =
     once earlier base rows text it = record {
       ended = it.ended;
       mixed = it.mixed;
-      refreshed = λ i d g below. it.refreshed i d g below;
+      groups = λ i d g below. it.groups i d g below;
       same = it.same;
     }

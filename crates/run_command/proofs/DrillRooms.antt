@@ -1,5 +1,5 @@
 -- The first phase of a drill has no more rows of a tag than both phases.
-use Rattle.std.proofs.Common.{◌≡◌, ◌∙◌, ap, ℕ, ◌+◌, ◌≤◌, ◌<◌, nat_eq, cond, List, [], ◌∷◌, arith, drop, length, map, get_or, sym, subst}
+use Rattle.std.proofs.Common.{◌≡◌, ◌∙◌, ap, ℕ, ◌≤◌, ◌<◌, nat_eq, cond, List, [], ◌∷◌, arith, length, map, sym, subst}
 use Rattle.std.specs.List.{count_by, range_with_len}
 use Rattle.std.proofs.lemmas.List.{get_or_default}
 use Rattle.std.proofs.lemmas.List.FromFn.{length-map-range_with_len}
@@ -54,8 +54,8 @@ rooms_grow base number tags some all earlier phases before more first second few
       rows,
       count,
       counted,
-      ap (tag_rows tag) is.collectors,
-      ap (tag_rows tag) so.collectors,
+      ap (tag_rows tag) is.its.collectors,
+      ap (tag_rows tag) so.its.collectors,
       get_or_default first.rooms.items tag x 0 below,
       get_or_default second.rooms.items tag y 0 (omega (arith, below, so.sized.rooms_are, is.sized.rooms_are)),
     ))

@@ -1,8 +1,9 @@
 -- What the phases of a drill come to, and what the drill answers.
-use Rattle.std.proofs.Common.{◌≡◌, ◌⊎◌, ◌≤◌, ℕ, List, false, Option, Result, Ok, Err, OnOk, IfErr, String, Global, arith, ap, length, refl, sym, subst}
+use Rattle.std.proofs.Common.{◌≡◌, ◌⊎◌, inl, inr, ◌≤◌, ℕ, List, false, Option, Result, Ok, Err, OnOk, IfErr, String, Global, arith, ap, length, refl, sym, subst}
 use Rattle.std.specs.Result.{is_err}
 use Rattle.disk_model.specs.Traces.{Trace}
 use Rattle.plant_status.specs.declared.status.Status.{Status}
+use Rattle.plant_status.specs.declared.unit.Unit.{Unit as Device}
 use Rattle.plant_status.specs.declared.status.Status.TheVariants.{Done, BadWords, BadText, BadRow, ReadFault, WriteFault, DeviceFault, Damaged, OtherTag, Limit, Mismatch, Halted, WantOfMemory, OtherPlant, BadName}
 use Rattle.tag_base.specs.declared.definition.Base.{Base}
 use Rattle.tag_cell.specs.Told.{ToldCell as Cell}
@@ -16,10 +17,9 @@ use Rattle.run_command.specs.declared.work.Given.{Given}
 use Rattle.run_command.specs.Refusals.{AdmitsForeign, IsOpening, MayBeForeign}
 use Rattle.run_command.specs.Steps.{AreBegun}
 use Rattle.run_command.specs.Runs.{IsSessionHeld, IsReported}
-use Rattle.run_command.specs.Runs as runs
 use Rattle.run_command.specs.Sessions.{AreNotes, OfAll, OfNone}
 use Rattle.run_command.specs.Drills.{IsRunInPhases, drill_answer, drill_status}
-use Rattle.run_command.specs.DrillPhases.{AreNotesOfAllBoth, AreNotesOfBoth, IsUndoneOfBoth, OfFirst}
+use Rattle.run_command.specs.DrillPhases.{AreAllOrNone, AreNotesOfAllBoth, AreNotesOfBoth, IsUndoneOfBoth, OfReport}
 
 -- what is so where a call succeeds
 pub where_ok : {T E P : Type 0} (r : Result T E) → is_err r ≡ false → OnOk r P → P
@@ -27,46 +27,54 @@ where_ok (Ok x) fine p = p
 where_ok (Err e) fine p = absurd (cc fine)
 
 -- no more workers have notes than there are
-pub few_notes : (D : Type 0) (w : Work) (before now : ℕ) (notes : List WorkerNote) → AreNotes D w before now notes
+pub few_notes : (w : Work) (before now : ℕ) (notes : List WorkerNote) → AreNotes w before now notes
     → length notes ≤ worker_count w
-few_notes D w before now notes (OfAll are stops) = omega (arith, are.count)
-few_notes D w before now notes (OfNone none stops) = omega (arith, ap length none)
+few_notes w before now notes (OfAll are stops) = omega (arith, are.count)
+few_notes w before now notes (OfNone none stops) = omega (arith, ap length none)
+
+-- the notes of a phase are those of all its workers, or there are none
+pub all_or_none : (w : Work) (before now : ℕ) (notes : List WorkerNote) → AreNotes w before now notes → AreAllOrNone w notes
+all_or_none w before now notes (OfAll are stops) = inl are
+all_or_none w before now notes (OfNone none stops) = inr none
+
+-- a drill reports each cause but that of a fault as it is
+pub kept_or_fault : (why : Status) → (drill_status why ≡ why) ⊎ ((unit : Device) × (why ≡ DeviceFault unit))
+kept_or_fault Done = inl refl
+kept_or_fault BadWords = inl refl
+kept_or_fault (BadText file rule place at) = inl refl
+kept_or_fault (BadRow file row reason) = inl refl
+kept_or_fault (ReadFault file) = inl refl
+kept_or_fault WriteFault = inl refl
+kept_or_fault (DeviceFault unit) = inr (unit, refl)
+kept_or_fault (Damaged unit at byte) = inl refl
+kept_or_fault (OtherTag tag found wanted) = inl refl
+kept_or_fault (Limit what number) = inl refl
+kept_or_fault (Mismatch place kept told) = inl refl
+kept_or_fault (Halted worker) = inl refl
+kept_or_fault WantOfMemory = inl refl
+kept_or_fault (OtherPlant at) = inl refl
+kept_or_fault (BadName word) = inl refl
 
 -- a refused opening is reported as one
 opening_kept : (why : Status) → IsOpening why → IsOpening (drill_status why)
-opening_kept Done is = is
-opening_kept BadWords is = is
-opening_kept (BadText file rule place at) is = is
-opening_kept (BadRow file row reason) is = is
-opening_kept (ReadFault file) is = is
-opening_kept WriteFault is = is
-opening_kept (DeviceFault unit) is = absurd is
-opening_kept (Damaged unit at byte) is = is
-opening_kept (OtherTag tag found wanted) is = is
-opening_kept (Limit what number) is = is
-opening_kept (Mismatch place kept told) is = is
-opening_kept (Halted worker) is = is
-opening_kept WantOfMemory is = is
-opening_kept (OtherPlant at) is = is
-opening_kept (BadName word) is = is
+opening_kept why is = elim (kept_or_fault why) [
+  | inl same ↦ subst IsOpening (sym same) is
+  | inr fault ↦ absurd (subst IsOpening fault.1 is)
+]
+
+-- and nothing else is
+pub opening_back : (why : Status) → IsOpening (drill_status why) → IsOpening why
+opening_back why is = elim (kept_or_fault why) [
+  | inl same ↦ subst IsOpening same is
+  | inr fault ↦ absurd (subst (λ w. IsOpening (drill_status w)) fault.1 is)
+]
 
 -- so is a refusal after which a tape may have a take of no file
 foreign_kept : (why : Status) → MayBeForeign why → MayBeForeign (drill_status why)
-foreign_kept Done is = is
-foreign_kept BadWords is = is
-foreign_kept (BadText file rule place at) is = is
-foreign_kept (BadRow file row reason) is = is
-foreign_kept (ReadFault file) is = is
-foreign_kept WriteFault is = is
-foreign_kept (DeviceFault unit) is = absurd is
-foreign_kept (Damaged unit at byte) is = is
-foreign_kept (OtherTag tag found wanted) is = is
-foreign_kept (Limit what number) is = is
-foreign_kept (Mismatch place kept told) is = is
-foreign_kept (Halted worker) is = is
-foreign_kept WantOfMemory is = is
-foreign_kept (OtherPlant at) is = is
-foreign_kept (BadName word) is = is
+foreign_kept why is = elim (kept_or_fault why) [
+  | inl same ↦ subst MayBeForeign (sym same) is
+  | inr fault ↦ absurd (subst MayBeForeign fault.1 is)
+]
 
 -- the answer has a cause: the phases are not done, or no memory was found for the report
 pub both_told : {D : Type 0} (base : Base) (first second : Given) (s : Session) (opened : List (Cell D)) (opened_books : List (Book D))
@@ -75,7 +83,7 @@ pub both_told : {D : Type 0} (base : Base) (first second : Given) (s : Session) 
     → IfErr came (IsUndoneOfBoth first second opened opened_books cells books notes)
     → IfErr told (IsUndoneOfBoth first second opened opened_books cells books notes)
 both_told base first second s opened opened_books cells books notes (Ok x) (Ok text) is undone = tt
-both_told base first second s opened opened_books cells books notes (Ok x) (Err why) is undone = OfFirst (runs.OfNone is.want)
+both_told base first second s opened opened_books cells books notes (Ok x) (Err why) is undone = OfReport is.want
 both_told base first second s opened opened_books cells books notes (Err why) (Ok text) is undone = tt
 both_told base first second s opened opened_books cells books notes (Err why) (Err e) is undone =
     let same : e ≡ why = cc (is.refused) in
@@ -85,8 +93,8 @@ both_told base first second s opened opened_books cells books notes (Err why) (E
 pub phases_told : {D : Type 0} (trace : D → Option Trace) (ticks faults : D → ℕ) (base : Base) (first second : Given) (old new : DeviceTraces)
     (before now stops_before stops_now : ℕ) (told : Result (String Global) Status) (s : Session)
     → (held : IsSessionHeld trace ticks faults base second old new before now told s)
-    → AreNotesOfBoth D first.work second.work stops_before stops_now s.workers.items
-    → OnOk told (AreNotesOfAllBoth D first.work second.work s.workers.items)
+    → AreNotesOfBoth first.work second.work stops_before stops_now s.workers.items
+    → OnOk told (AreNotesOfAllBoth first.work second.work s.workers.items)
     → ((AdmitsForeign told → ⊥) → AreBegun first held.cells held.books ⊎ AreBegun second held.cells held.books)
     → IfErr told (IsUndoneOfBoth first second held.opened held.opened_books held.cells held.books s.workers.items)
     → IsRunInPhases trace ticks faults base first second old new before now stops_before stops_now (drill_answer told) s

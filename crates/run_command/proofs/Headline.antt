@@ -1,6 +1,6 @@
 -- The promise of a session, from its cells and books.
 use Rattle.std.proofs.Common.{◌≡◌, ◌∙◌, ◌<◌, ◌≤◌, ◌+◌, ℕ, Bool, List, [], ◌∷◌, ◌++◌, All, Option, None, Some, IfSome, Result, Ok, Err, IfErr, IfOk, String, arith, ap, ap₂, sym, subst, refl, length, map, take, get_or}
-use Rattle.std.specs.Prelude.{◌≢◌, ◌*◌, ◌^◌, nat_eq, string_bytes, if◌then◌else◌}
+use Rattle.std.specs.Prelude.{◌≢◌, ◌*◌, ◌^◌, nat_eq, if◌then◌else◌}
 use Rattle.std.specs.List.{AllZip, fold, sum_by}
 use Rattle.std.specs.declared.alloc.Global.{Global}
 use Rattle.std.proofs.lemmas.List.{ext_get_or, get_or-map, length-map, length_push, take_all}
@@ -15,7 +15,6 @@ use Rattle.trend_model.specs.State.{State, followed}
 use Rattle.trend_model.proofs.BoundLaw.{bounded}
 use Rattle.disk_model.specs.Calls.{Shows}
 use Rattle.disk_model.specs.Traces.{Trace}
-use Rattle.crash_recovery.specs.TagImages.{ImageStands, StandsOpened}
 use Rattle.tag_cell.specs.declared.entry.Entry.{Entry}
 use Rattle.tag_cell.specs.declared.entry.Entry.TheVariants.{Take, Ask, Pull, Commit}
 use Rattle.tag_cell.specs.declared.history.TagHistory.{TagHistory}
@@ -34,20 +33,22 @@ use Rattle.calc_refresh.proofs.Applying.{limits_hold}
 use Rattle.group_book.specs.declared.history.GroupHistory.{GroupHistory}
 use Rattle.group_book.specs.declared.history.GroupOpening.{GroupOpening}
 use Rattle.group_book.specs.Openings.{StandsForGroup}
-use Rattle.group_book.specs.Told.{ToldBook as Book, versions_of}
+use Rattle.group_book.specs.Tapes.{cut}
+use Rattle.group_book.specs.Told.{ToldBook as Book, trace_of, versions_of}
 use Rattle.value_rows.specs.declared.asked.Query.{Query}
 use Rattle.value_rows.specs.declared.raw.RawRow.{RawRow}
 use Rattle.plant_status.specs.declared.status.Status.{Status}
-use Rattle.plant_files.specs.RowFiles.{ToldFiles}
 use Rattle.session_audit.specs.declared.agenda.Item.{Item}
 use Rattle.session_audit.specs.declared.kind.Shown.{Shown as ShownBy}
 use Rattle.session_audit.specs.Agendas.{ask_item, phase_item, row_item, take_item}
-use Rattle.session_audit.specs.Found.{tape_shows}
+use Rattle.session_audit.specs.Found.{IsFirstPart, tape_shows}
 use Rattle.session_audit.specs.Tapes.{ask_of, take_of}
-use Rattle.session_audit.specs.Workers.{AreTapesBegun, AreTapesWhole, IsFirstPart, file_due}
+use Rattle.session_audit.specs.Workers.{AreTapesBegun, AreTapesWhole, file_due}
 use Rattle.session_audit.specs.Durable.{durable_in}
+use Rattle.group_book.specs.InputLists.{lists_at}
+use Rattle.session_audit.specs.CellRefusals.{IsCommittedCell}
 use Rattle.session_audit.specs.Pulls.{ArePulled}
-use Rattle.session_audit.specs.Refreshing.{EndsInSave, durable_lists, durable_numbers}
+use Rattle.session_audit.specs.Refreshing.{EndsInSave, IsRefreshedTo, durable_lists, durable_numbers}
 use Rattle.session_audit.specs.GroupTapes.{pulled as pulls_of, reached, refreshes, row_ask_of}
 use Rattle.session_audit.specs.GroupTurns.{turns_for}
 use Rattle.session_audit.proofs.DurableLaws.{all_durable, counted, pulls_durable}
@@ -55,22 +56,25 @@ use Rattle.collector_pool.specs.declared.work.Refresh.{Refresh}
 use Rattle.tag_base.specs.declared.definition.Base.{Base}
 use Rattle.tag_base.specs.declared.definition.GroupDef.{GroupDef}
 use Rattle.tag_base.specs.declared.schedule.Refresher.{Refresher}
-use Rattle.plant_store.specs.Tags.{tag_trace_of}
+use Rattle.plant_store.specs.Tags.{IsLeft, IsOpened, tag_trace_of}
 use Rattle.plant_store.specs.CellClosings.{AreHistoriesAt, AreHistoriesOf, IsHistoryAt, IsHistoryOfCell}
 use Rattle.plant_store.specs.CellNames.{device_names_of}
-use Rattle.plant_store.specs.CellOpenings.{AreCellsOpened, records_opened}
-use Rattle.plant_store.specs.Groups.{AreBooksOpened, DeviceTraces, group_parts_of, group_definition_text, group_trace_at}
+use Rattle.plant_store.specs.CellOpenings.{AreCellsOpened, IsCellOpened, records_opened}
+use Rattle.plant_store.specs.Groups.{AreBooksOpened, DeviceTraces, IsBookOpened, group_parts_of, group_definition_text, group_trace_at, input_records_of}
 use Rattle.plant_store.specs.Openings.{cell_records_in}
 use Rattle.plant_files.specs.PlanRows.{IsGoodBase}
 use Rattle.session_report.specs.declared.session.Session.{Session}
 use Rattle.session_report.specs.Report.{report}
 use Rattle.run_command.specs.declared.work.Given.{Given}
-use Rattle.run_command.specs.Headline.{AreGroupsSound, AreUnitsOpened, HasMade, IsBegun, IsDoneSo, IsGroupOpened, IsMixed, CountsFaults, IsPromised, IsGroupRefreshed, IsTagOpened, IsTagSound, entries, grid, tag_records_of, turns, turns_in}
+use Rattle.run_command.specs.Headline.{CountsFaults, IsBegun, IsDoneSo, IsMixed, IsUpToDate}
+use Rattle.run_command.specs.Units.{AreGroupsSound, AreUnitsOpened, HasMade, core_of, IsGroupOpened, IsAcknowledged, IsGroupRefreshed, IsOnTapes, IsRecorded, IsTagOpened, IsTagSound, tag_tape, grid, opening_records_of, tag_records_of, group_tape, turns_in}
 use Rattle.run_command.specs.Refusals.{IsOfOpening}
-use Rattle.run_command.specs.Runs.{IsContinued, IsContinuedGroup, IsDone, IsSessionHeld, IsUndone, IsOver, IsSession, IsWorkIn}
-use Rattle.run_command.specs.Steps.{AreBegun, AreStepsMade, planned_turn, turn_of}
+use Rattle.run_command.specs.Runs.{IsContinued, IsContinuedGroup, IsDone, IsSessionHeld, IsUndone, IsOver, IsWorkIn}
+use Rattle.run_command.specs.Sessions.{planned_turn, turn_of}
+use Rattle.run_command.specs.Steps.{AreBegun, AreStepsMade, AreTapesMade}
 use Rattle.run_command.proofs.Zipped.{zip_at, zip_length}
 use Rattle.run_command.proofs.DeviceFaults.{faults_counted, none_counted}
+use Rattle.plant_store.proofs.BookReturns.{clock_of}
 use Rattle.plant_status.proofs.Elements.{element}
 
 -- ---- tags
@@ -86,6 +90,7 @@ sound_tag trace t at =
     let is = at.is in
     let s : State = record { records = t.recs.items; summary = t.summary } in
     record {
+      replayed = is.replayed;
       kept = λ org h step stands. record {
         legal = legal org h t.def t.opening t.tape.items s t.acked step stands is.replayed;
         bounded = bounded org (followed h (map Raw (taken t.tape.items)));
@@ -103,33 +108,71 @@ sound_tags new [] (t ∷ ts) is = absurd is
 sound_tags new (d ∷ ds) [] is = absurd is
 sound_tags new (d ∷ ds) (t ∷ ts) is = (sound_tag (tag_trace_of new d) t is.0, sound_tags new ds ts is.1)
 
+-- the clock of each device is the number of its calls, if these are known
+abbrev pub IsClocked : {D : Type 0} → (D → Option Trace) → (D → ℕ) → Type 0
+IsClocked {D} trace ticks = (d : D) → IfSome (trace d) (λ t. length t.calls ≡ ticks d)
+
+-- what has the definition and the opening of a cell was opened as the cell was
+pub tag_opened : {D : Type 0} (trace : D → Option Trace) (ticks faults : D → ℕ) → IsClocked trace ticks → (def : TagDef) (before : Option Trace)
+    (c : Cell D) (its : TagDef) (o : TagOpening)
+    → IsCellOpened def before (trace c.journal.dev) (ticks c.journal.dev) (faults c.journal.dev) c → its ≡ c.def
+    → o.recs.items ≡ c.opening.recs.items → o.summary ≡ c.opening.summary → o.moment ≡ c.opening.moment → o.faults ≡ c.opening.faults
+    → IsTagOpened def before its o
+tag_opened trace ticks faults clocked def before c its o was same records summary moment faults_same =
+    let core : core_of c.def c.opening ≡ core_of its o = λ i. record {
+      state = record { records = (sym records) i; summary = (sym summary) i };
+      step = (sym (ap (λ (x : TagDef). x.step) same)) i;
+      spare = 0;
+    } in
+    record {
+      def_is = same ∙ was.def_is;
+      found = subst (IsOpened def before) core was.found;
+      after = trace c.journal.dev;
+      left = subst (IsLeft def before (trace c.journal.dev)) core was.left;
+      same = was.same;
+      clock = subst (λ n. IfSome (trace c.journal.dev) (λ t. length t.calls ≡ n)) (sym (moment ∙ was.moment_is)) (clocked c.journal.dev);
+      faultless = faults_same ∙ was.opened_faultless;
+    }
+
 module _ {D : Type 0} (trace : D → Option Trace) (ticks faults : D → ℕ) (old : DeviceTraces) where
   -- each was opened as its device stood
-  opened_tags : (defs : List TagDef) (first last : List (Cell D)) (ts : List TagHistory)
+  pub opened_tags : IsClocked trace ticks → (defs : List TagDef) (first last : List (Cell D)) (ts : List TagHistory)
       → AreCellsOpened trace ticks faults defs old first → AllZip IsContinued first last → AreHistoriesOf trace ticks faults last ts
-      → AllZip (λ def t. IsTagOpened def (tag_trace_of old def) t) defs ts
-  opened_tags [] [] [] [] was same is = tt
-  opened_tags [] [] [] (t ∷ ts) was same is = absurd is
-  opened_tags [] [] (c ∷ cs) ts was same is = absurd same
-  opened_tags [] (c ∷ cs) last ts was same is = absurd was
-  opened_tags (d ∷ ds) [] last ts was same is = absurd was
-  opened_tags (d ∷ ds) (c ∷ cs) [] ts was same is = absurd same
-  opened_tags (d ∷ ds) (c ∷ cs) (e ∷ es) [] was same is = absurd is
-  opened_tags (d ∷ ds) (c ∷ cs) (e ∷ es) (t ∷ ts) was same is =
-      let opening : opened c.opening ≡ opened t.opening = λ i. record {
-        records = (sym (ap (λ (o : TagOpening). o.recs.items) is.0.opening_is ∙ same.0.records)) i;
-        summary = (sym (ap (λ (o : TagOpening). o.summary) is.0.opening_is ∙ same.0.summary)) i;
-      } in (
-        record {
-          def_is = is.0.def_is ∙ same.0.def ∙ was.0.def_is;
-          opening = λ org h. subst (λ s. Shows (tag_trace_of old d) (λ c. ImageStands d org h c → StandsOpened d org h s)) opening
-              (was.0.found.stands org h);
-        },
-        opened_tags ds cs es ts was.1 same.1 is.1,
-      )
+      → AllZip (λ def (t : TagHistory). IsTagOpened def (tag_trace_of old def) t.def t.opening) defs ts
+  opened_tags clocked [] [] [] [] was same is = tt
+  opened_tags clocked [] [] [] (t ∷ ts) was same is = absurd is
+  opened_tags clocked [] [] (c ∷ cs) ts was same is = absurd same
+  opened_tags clocked [] (c ∷ cs) last ts was same is = absurd was
+  opened_tags clocked (d ∷ ds) [] last ts was same is = absurd was
+  opened_tags clocked (d ∷ ds) (c ∷ cs) [] ts was same is = absurd same
+  opened_tags clocked (d ∷ ds) (c ∷ cs) (e ∷ es) [] was same is = absurd is
+  opened_tags clocked (d ∷ ds) (c ∷ cs) (e ∷ es) (t ∷ ts) was same is = (
+    tag_opened trace ticks faults clocked d (tag_trace_of old d) c t.def t.opening was.0 (is.0.def_is ∙ same.0.def)
+        (ap (λ (o : TagOpening). o.recs.items) is.0.opening_is ∙ same.0.records)
+        (ap (λ (o : TagOpening). o.summary) is.0.opening_is ∙ same.0.summary)
+        (ap (λ (o : TagOpening). o.moment) is.0.opening_is ∙ same.0.moment)
+        (ap (λ (o : TagOpening). o.faults) is.0.opening_is ∙ same.0.faults),
+    opened_tags clocked ds cs es ts was.1 same.1 is.1,
+  )
+
+  -- the records with which they were opened
+  pub opened_lists : (defs : List TagDef) (first last : List (Cell D)) (ts : List TagHistory)
+      → AreCellsOpened trace ticks faults defs old first → AllZip IsContinued first last → AreHistoriesOf trace ticks faults last ts
+      → cell_records_in first ≡ map (λ (t : TagHistory). t.opening.recs.items) ts
+  opened_lists [] [] [] [] was same is = refl
+  opened_lists [] [] [] (t ∷ ts) was same is = absurd is
+  opened_lists [] [] (c ∷ cs) ts was same is = absurd same
+  opened_lists [] (c ∷ cs) last ts was same is = absurd was
+  opened_lists (d ∷ ds) [] last ts was same is = absurd was
+  opened_lists (d ∷ ds) (c ∷ cs) [] ts was same is = absurd same
+  opened_lists (d ∷ ds) (c ∷ cs) (e ∷ es) [] was same is = absurd is
+  opened_lists (d ∷ ds) (c ∷ cs) (e ∷ es) (t ∷ ts) was same is =
+      ap₂ (λ (x : List Rec) xs. x ∷ xs)
+      (ap (λ (x : State). x.records) was.0.state_is ∙ sym (ap (λ (o : TagOpening). o.recs.items) is.0.opening_is ∙ same.0.records))
+      (opened_lists ds cs es ts was.1 same.1 is.1)
 
   -- all tags together have as many records at their openings as were opened
-  opened_records : (first last : List (Cell D)) (ts : List TagHistory) → AllZip IsContinued first last
+  pub opened_records : (first last : List (Cell D)) (ts : List TagHistory) → AllZip IsContinued first last
       → AreHistoriesOf trace ticks faults last ts
       → ◌≡◌ {A = ℕ} (sum_by (λ (t : TagHistory). length t.opening.recs.items) ts) (records_opened first)
   opened_records [] [] [] same is = refl
@@ -207,6 +250,11 @@ durable_all trace ticks faults c t is none =
     ∙ all_durable t.def t.opening t.tape.items s t.acked is.history.replayed
     (omega (arith, none, is.acked_is, ap (λ (x : Summary). x.taken) is.summary_is))
 
+-- what is made of what was made of elements
+map_twice : {X Y Z : Type 0} (g : Y → Z) (f : X → Y) (xs : List X) → map g (map f xs) ≡ map (λ x. g (f x)) xs
+map_twice g f [] = refl
+map_twice g f (x ∷ xs) = ap (λ l. g (f x) ∷ l) (map_twice g f xs)
+
 -- ---- turns of refreshers
 
 -- what is added up of what is made of elements
@@ -228,34 +276,65 @@ some_text : (front : List ℕ) (byte : ℕ) (back : List ℕ) → front ++ byte 
 some_text [] byte back none = absurd (cc none)
 some_text (x ∷ front) byte back none = absurd (cc none)
 
+-- what has the definition and the opening of a book was opened as the book was
+pub group_opened : {D : Type 0} (trace : D → Option Trace) (ticks faults : D → ℕ) → IsClocked trace ticks → (i : ℕ) (d : GroupDef)
+    (before : Option Trace) (recovered records : List (List Rec)) (b : Book D) (group : ℕ) (def : GroupDefParts) (text : List ℕ)
+    (o : GroupOpening) → recovered ≡ records → IsBookOpened trace ticks faults i d recovered before b → group ≡ b.group → def ≡ b.def
+    → text ≡ b.text → o.versions.items ≡ b.opening.versions.items → lists_of o.rows.items ≡ lists_of b.opening.rows.items
+    → o.moment ≡ b.opening.moment → o.faults ≡ b.opening.faults → IsGroupOpened i d before records group def text o
+group_opened trace ticks faults clocked i d before recovered records b group def text o same was group_is def_is text_is versions rows moment
+    faults_same = record {
+      number = group_is ∙ was.group;
+      def_is = def_is ∙ was.def;
+      text_is = text_is ∙ was.text;
+      opening = record {
+        stood = subst (λ v. Shows before (StandsForGroup (group_definition_text d) (group_parts_of d) v (lists_of o.rows.items))) (sym versions)
+            (subst (λ r. Shows before (StandsForGroup (group_definition_text d) (group_parts_of d) b.opening.versions.items r)) (sym rows)
+            was.opening.stood);
+        within = subst (λ v. map length (cut v records) ≡ v) (sym versions)
+            (subst (λ l. map length (cut b.opening.versions.items l) ≡ b.opening.versions.items) same was.opening.within);
+        faults = faults_same ∙ was.opening.faults;
+      };
+      after = trace_of trace b.dev;
+      synced = was.synced;
+      same = was.same;
+      clock = subst (λ n. IfSome (trace_of trace b.dev) (λ t. length t.calls ≡ n)) (sym (moment ∙ was.moment)) (clock_of trace ticks clocked b.dev);
+    }
+
 module _ {D : Type 0} (trace : D → Option Trace) (ticks faults : D → ℕ) (base : Base) (old new : DeviceTraces) where
   pub sound_groups : (cells : List (Cell D)) (books : List (Book D)) (s : Session) → IsOver trace ticks faults base old new cells books s
-      → AreGroupsSound base.groups.items new s.groups.items
+      → AreGroupsSound base new s
   sound_groups cells books s is =
       let many : length s.groups.items ≡ length books = is.groups.as_many in
       record {
         as_many = many ∙ is.as_many_groups;
-        kept = λ i g below.
+        each = λ i d g below.
             let there : i < length books = omega (arith, many, below) in
-            (is.groups.each i (element books i there) g there).history.legal;
-        evaluated = λ i g below.
-            let there : i < length books = omega (arith, many, below) in
-            (is.groups.each i (element books i there) g there).history.evaluated;
-        safe = λ i d g below some. (is.group_devices.each i d g below some).is.safe;
-        clocked = λ i d g below some.
-            let at = is.group_devices.each i d g below some in
-            made_by (group_trace_at new (get_or base.groups.items i d)) _ at.ticks at.is.past at.clock;
-        opened_before = λ i d g below some.
-            let at = is.group_devices.each i d g below some in
-            made_by (group_trace_at new (get_or base.groups.items i d)) _ at.ticks at.is.opened_before at.clock;
+            let its = (is.groups.each i (element books i there) g there).history in
+            let trace = group_trace_at new (get_or base.groups.items i d) in
+            record {
+              defined = (its.group, its.grid);
+              kept = its.legal;
+              evaluated = its.evaluated;
+              safe = λ some. (is.group_devices.each i d g below some).is.safe;
+              clocked = λ some.
+                  let at = is.group_devices.each i d g below some in
+                  made_by trace _ at.ticks at.is.past at.clock;
+              opened_before = λ some.
+                  let at = is.group_devices.each i d g below some in
+                  made_by trace _ at.ticks at.is.opened_before at.clock;
+            };
       }
 
   -- each was opened as what its device stood for
-  opened_groups : (first last_cells : List (Cell D)) (opened last : List (Book D)) (s : Session)
+  opened_groups : IsClocked trace ticks → (first last_cells : List (Cell D)) (opened last : List (Book D)) (s : Session)
       → AreBooksOpened trace ticks faults base.groups.items (cell_records_in first) old opened → AllZip IsContinuedGroup opened last
-      → IsOver trace ticks faults base old new last_cells last s → (i : ℕ) (d : GroupDef) (g : GroupHistory) → i < length s.groups.items
-      → IsGroupOpened i (get_or base.groups.items i d) (group_trace_at old (get_or base.groups.items i d)) (get_or s.groups.items i g)
-  opened_groups first last_cells opened last s was same is i d g below =
+      → IsOver trace ticks faults base old new last_cells last s → cell_records_in first ≡ opening_records_of s
+      → (i : ℕ) (d : GroupDef) (g : GroupHistory) → i < length s.groups.items
+      → IsGroupOpened i (get_or base.groups.items i d) (group_trace_at old (get_or base.groups.items i d))
+      (input_records_of (opening_records_of s) (get_or base.groups.items i d)) (get_or s.groups.items i g).group
+      (get_or s.groups.items i g).def (get_or s.groups.items i g).text.items (get_or s.groups.items i g).opening
+  opened_groups clocked first last_cells opened last s was same is lists i d g below =
       let def = get_or base.groups.items i d in
       let there : i < length last = omega (arith, is.groups.as_many, below) in
       let there_first : i < length opened = omega (arith, there, zip_length IsContinuedGroup opened last same) in
@@ -268,24 +347,21 @@ module _ {D : Type 0} (trace : D → Option Trace) (ticks faults : D → ℕ) (b
       ap (λ (o : GroupOpening). o.versions.items) history.opening ∙ continued.versions in
       let rows : lists_of (get_or s.groups.items i g).opening.rows.items ≡ lists_of (get_or opened i a).opening.rows.items =
       ap (λ (o : GroupOpening). lists_of o.rows.items) history.opening ∙ continued.rows in
-      record {
-        number = history.group ∙ continued.group ∙ book.group;
-        def_is = history.def ∙ continued.def ∙ book.def;
-        text = history.text ∙ continued.text ∙ book.text;
-        opening = subst (λ v. Shows (group_trace_at old def) (StandsForGroup (group_definition_text def) (group_parts_of def) v
-            (lists_of (get_or s.groups.items i g).opening.rows.items))) (sym versions)
-            (subst (λ r. Shows (group_trace_at old def) (StandsForGroup (group_definition_text def) (group_parts_of def) (get_or opened i a).opening.versions.items r))
-            (sym rows) book.opening.stood);
-      }
+      group_opened trace ticks faults clocked i def (group_trace_at old def) (input_records_of (cell_records_in first) def)
+      (input_records_of (opening_records_of s) def) (get_or opened i a) (get_or s.groups.items i g).group (get_or s.groups.items i g).def
+      (get_or s.groups.items i g).text.items (get_or s.groups.items i g).opening (ap (λ l. input_records_of l def) lists) book
+      (history.group ∙ continued.group) (history.def ∙ continued.def) (history.text ∙ continued.text) versions rows
+      (ap (λ (o : GroupOpening). o.moment) history.opening ∙ continued.moment)
+      (ap (λ (o : GroupOpening). o.faults) history.opening ∙ continued.faults)
 
   -- ---- a session that is done
 
   module _ (g : Given) (cells : List (Cell D)) (books : List (Book D)) (s : Session) (is : IsOver trace ticks faults base old new cells books s) where
-    tags_many : length s.tags.items ≡ length cells
+    pub tags_many : length s.tags.items ≡ length cells
     tags_many = zip_length _ cells s.tags.items is.tags
 
     -- the history of the cell at a place
-    history_at : (i : ℕ) (c : Cell D) (t : TagHistory) → i < length s.tags.items
+    pub history_at : (i : ℕ) (c : Cell D) (t : TagHistory) → i < length s.tags.items
         → IsHistoryOfCell (trace (get_or cells i c).journal.dev) (ticks (get_or cells i c).journal.dev) (faults (get_or cells i c).journal.dev)
         (get_or cells i c) (get_or s.tags.items i t)
     history_at i c t below = zip_at (λ (x : Cell D) h. IsHistoryOfCell (trace x.journal.dev) (ticks x.journal.dev) (faults x.journal.dev) x h)
@@ -295,32 +371,58 @@ module _ {D : Type 0} (trace : D → Option Trace) (ticks faults : D → ℕ) (b
     pub begun : (earlier phases : ℕ) (rows : List (List RawRow)) (queries : List (List Query)) (refreshers : List Refresher)
         → IsWorkIn base earlier phases rows queries refreshers g → AreBegun g cells books → IsBegun (phase_item earlier) rows queries s
     begun earlier phases rows queries refreshers given was = record {
-      takes = subst (λ n. AreTapesBegun entries take_of (phase_item n) rows s.tags.items) given.earlier_is
-          (subst (λ files. AreTapesBegun entries take_of (phase_item g.work.earlier) files s.tags.items) given.collectors
-          (begun_tapes (λ (c : Cell D). c.tape) entries take_of (phase_item g.work.earlier) (lists_of g.work.collectors.items) cells
+      takes = subst (λ n. AreTapesBegun tag_tape take_of (phase_item n) rows s.tags.items) given.its.earlier_is
+          (subst (λ files. AreTapesBegun tag_tape take_of (phase_item g.work.earlier) files s.tags.items) given.its.collectors
+          (begun_tapes (λ (c : Cell D). c.tape) tag_tape take_of (phase_item g.work.earlier) (lists_of g.work.collectors.items) cells
           s.tags.items tags_many (λ i c t below. (history_at i c t below).tape_is) was.takes));
-      asks = subst (λ files. AreTapesBegun entries ask_of ask_item files s.tags.items) given.readers
-          (begun_tapes (λ (c : Cell D). c.tape) entries ask_of ask_item (lists_of g.work.readers.items) cells s.tags.items tags_many
+      asks = subst (λ files. AreTapesBegun tag_tape ask_of ask_item files s.tags.items) given.its.readers
+          (begun_tapes (λ (c : Cell D). c.tape) tag_tape ask_of ask_item (lists_of g.work.readers.items) cells s.tags.items tags_many
           (λ i c t below. (history_at i c t below).tape_is) was.asks);
-      row_asks = subst (λ files. AreTapesBegun turns row_ask_of row_item files s.groups.items) given.readers
-          (begun_tapes (λ (b : Book D). b.tape) turns row_ask_of row_item (lists_of g.work.readers.items) books s.groups.items
+      row_asks = subst (λ files. AreTapesBegun group_tape row_ask_of row_item files s.groups.items) given.its.readers
+          (begun_tapes (λ (b : Book D). b.tape) group_tape row_ask_of row_item (lists_of g.work.readers.items) books s.groups.items
           is.groups.as_many (λ i b h below. (is.groups.each i b h (omega (arith, is.groups.as_many, below))).tape) was.row_asks);
+    }
+
+    -- all that is due stands on the tapes
+    pub on_tapes : (earlier phases : ℕ) (rows : List (List RawRow)) (queries : List (List Query)) (refreshers : List Refresher)
+        → IsWorkIn base earlier phases rows queries refreshers g → AreTapesMade g cells books → IsOnTapes (phase_item earlier) rows queries s
+    on_tapes earlier phases rows queries refreshers given tapes = record {
+      takes = subst (λ n. AreTapesWhole tag_tape take_of (phase_item n) rows s.tags.items) given.its.earlier_is
+          (subst (λ files. AreTapesWhole tag_tape take_of (phase_item g.work.earlier) files s.tags.items) given.its.collectors
+          (whole_tapes (λ (c : Cell D). c.tape) tag_tape take_of (phase_item g.work.earlier) (lists_of g.work.collectors.items) cells
+          s.tags.items tags_many (λ i c t below. (history_at i c t below).tape_is) tapes.takes));
+      asks = subst (λ files. AreTapesWhole tag_tape ask_of ask_item files s.tags.items) given.its.readers
+          (whole_tapes (λ (c : Cell D). c.tape) tag_tape ask_of ask_item (lists_of g.work.readers.items) cells s.tags.items tags_many
+          (λ i c t below. (history_at i c t below).tape_is) tapes.asks);
+      row_asks = subst (λ files. AreTapesWhole group_tape row_ask_of row_item files s.groups.items) given.its.readers
+          (whole_tapes (λ (b : Book D). b.tape) group_tape row_ask_of row_item (lists_of g.work.readers.items) books s.groups.items
+          is.groups.as_many (λ i b h below. (is.groups.each i b h (omega (arith, is.groups.as_many, below))).tape) tapes.row_asks);
+    }
+
+    -- the values of a cell on which none waits are acknowledged
+    pub acknowledged : (i : ℕ) (t : TagHistory) → i < length s.tags.items → ((c : Cell D) → takes_waiting (get_or cells i c) ≡ 0)
+        → IsAcknowledged (get_or s.tags.items i t)
+    acknowledged i t below none =
+        let c = element cells i (omega (arith, tags_many, below)) in
+        let of = history_at i c t below in
+        let h = get_or s.tags.items i t in
+        all_acked h.def h.opening h.tape.items (record { records = h.recs.items; summary = h.summary }) h.acked of.history.replayed
+        (omega (arith, none c, of.acked_is, ap (λ (x : Summary). x.taken) of.summary_is))
+
+    -- and where none waits on any, all is recorded
+    pub recorded : (earlier phases : ℕ) (rows : List (List RawRow)) (queries : List (List Query)) (refreshers : List Refresher)
+        → IsWorkIn base earlier phases rows queries refreshers g → AreTapesMade g cells books → All IsCommittedCell cells
+        → IsRecorded (phase_item earlier) rows queries s
+    recorded earlier phases rows queries refreshers given tapes committed = record {
+      on_tapes = on_tapes earlier phases rows queries refreshers given tapes;
+      acknowledged = λ i t below. acknowledged i t below (λ c. (committed i c (omega (arith, tags_many, below))).none_waits);
     }
 
     mixed : (earlier phases : ℕ) (rows : List (List RawRow)) (queries : List (List Query)) (refreshers : List Refresher)
         → IsGoodBase base → IsWorkIn base earlier phases rows queries refreshers g → AreStepsMade g cells books
         → ArePulled (lists_of g.inputs.items) cells books → IsMixed (phase_item earlier) base rows queries s
     mixed earlier phases rows queries refreshers good given made pulled = record {
-      takes = subst (λ n. AreTapesWhole entries take_of (phase_item n) rows s.tags.items) given.earlier_is
-          (subst (λ files. AreTapesWhole entries take_of (phase_item g.work.earlier) files s.tags.items) given.collectors
-          (whole_tapes (λ (c : Cell D). c.tape) entries take_of (phase_item g.work.earlier) (lists_of g.work.collectors.items) cells
-          s.tags.items tags_many (λ i c t below. (history_at i c t below).tape_is) made.tapes.takes));
-      asks = subst (λ files. AreTapesWhole entries ask_of ask_item files s.tags.items) given.readers
-          (whole_tapes (λ (c : Cell D). c.tape) entries ask_of ask_item (lists_of g.work.readers.items) cells s.tags.items tags_many
-          (λ i c t below. (history_at i c t below).tape_is) made.tapes.asks);
-      row_asks = subst (λ files. AreTapesWhole turns row_ask_of row_item files s.groups.items) given.readers
-          (whole_tapes (λ (b : Book D). b.tape) turns row_ask_of row_item (lists_of g.work.readers.items) books s.groups.items
-          is.groups.as_many (λ i b h below. (is.groups.each i b h (omega (arith, is.groups.as_many, below))).tape) made.tapes.row_asks);
+      recorded = recorded earlier phases rows queries refreshers given made.tapes made.committed;
       pulls = λ group input d h t below within.
           let there : group < length books = omega (arith, is.groups.as_many, below) in
           let of_base : group < length base.groups.items = omega (arith, there, is.as_many_groups) in
@@ -340,13 +442,6 @@ module _ {D : Type 0} (trace : D → Option Trace) (ticks faults : D → ℕ) (b
           ap (pulls_of group) ((history_at tag cell t known).tape_is)
           ∙ subst (λ l. pulls_of group (get_or cells (get_or l input 0) cell).tape ≡ reached input (get_or books group book).tape) tags ends
           ∙ ap (reached input) (sym (is.groups.each group book h there).tape);
-      acknowledged = λ i t below.
-          let there : i < length cells = omega (arith, tags_many, below) in
-          let c = element cells i there in
-          let of = history_at i c t below in
-          let h = get_or s.tags.items i t in
-          all_acked h.def h.opening h.tape.items (record { records = h.recs.items; summary = h.summary }) h.acked of.history.replayed
-          (omega (arith, (made.committed i c there).none_waits, of.acked_is, ap (λ (x : Summary). x.taken) of.summary_is));
     }
 
     -- the records of a tag are those of its cell, and no crash takes one away
@@ -383,23 +478,60 @@ module _ {D : Type 0} (trace : D → Option Trace) (ticks faults : D → ℕ) (b
         ∙ take_all (length (get_or book.sheet.copies input [])) (get_or cells tag cell).state.records (omega (arith, long))
         ∙ sym at.0
 
-    refreshed : (earlier phases : ℕ) (rows : List (List RawRow)) (queries : List (List Query)) (refreshers : List Refresher)
-        → IsGoodBase base → IsWorkIn base earlier phases rows queries refreshers g → AreStepsMade g cells books
-        → ArePulled (lists_of g.inputs.items) cells books
-        → AreUnitsOpened base old s → (i : ℕ) (d : GroupDef) (h : GroupHistory) → i < length s.groups.items
+    -- the tags of a group's inputs are those of the base, and known
+    pub tags_of : (i : ℕ) (d : GroupDef) → IsGoodBase base → lists_of g.inputs.items ≡ map (λ (x : GroupDef). x.inputs.items) base.groups.items
+        → i < length base.groups.items → (get_or (lists_of g.inputs.items) i [] ≡ (get_or base.groups.items i d).inputs.items)
+        × All (λ tag. tag < length s.tags.items) (get_or base.groups.items i d).inputs.items
+    tags_of i d good inputs below = (
+      ap (λ l. get_or l i []) inputs ∙ get_or-map (λ (x : GroupDef). x.inputs.items) base.groups.items i d [] below,
+      λ input e within. omega (arith, tags_many, is.as_many_tags, (good.sound i d below).inputs_are_tags input e within),
+    )
+
+    -- what no crash takes away of tags are their records
+    pub records_of_tags : (tags : List ℕ) → All (λ tag. tag < length s.tags.items) tags → All (λ x. takes_waiting x ≡ 0) cells
+        → lists_at (durable_lists cells) tags ≡ map (tag_records_of s) tags
+    records_of_tags tags known none =
+        let lists = length-map tags (λ tag. get_or (durable_lists cells) tag []) in
+        ext_get_or [] (lists_at (durable_lists cells) tags) (map (tag_records_of s) tags)
+        (lists ∙ sym (length-map tags (tag_records_of s)))
+        (λ input within.
+        let inside : input < length tags = omega (arith, lists, within) in
+        let tag = get_or tags input 0 in
+        let below : tag < length s.tags.items = known input 0 inside in
+        let at = records_at tag (element cells tag (omega (arith, tags_many, below))) below none in
+        get_or-map (λ tag. get_or (durable_lists cells) tag []) tags input 0 [] inside
+        ∙ (at.1 ∙ sym at.0)
+        ∙ sym (get_or-map (tag_records_of s) tags input 0 [] inside))
+
+    -- as many records of each input no crash takes away as the tag has
+    as_many_durable : (tags : List ℕ) → All (λ tag. tag < length s.tags.items) tags → All (λ x. takes_waiting x ≡ 0) cells
+        → durable_numbers (durable_lists cells) tags ≡ map (λ tag. length (tag_records_of s tag)) tags
+    as_many_durable tags known none =
+        sym (map_twice length (λ tag. get_or (durable_lists cells) tag []) tags)
+        ∙ (ap (map length) (records_of_tags tags known none) ∙ map_twice length (tag_records_of s) tags)
+
+    -- the turns that a group is given are those of its refreshers, and those of the phases before
+    pub turns_of_group : (earlier phases : ℕ) (rows : List (List RawRow)) (queries : List (List Query)) (refreshers : List Refresher)
+        → IsWorkIn base earlier phases rows queries refreshers g → (i : ℕ) → i < length base.groups.items
+        → get_or g.turns.items i 0 ≡ phases + turns_in i refreshers
+    turns_of_group earlier phases rows queries refreshers given i below =
+        given.sized.turns i below
+        ∙ ap (λ (p : ℕ). p + turns_for i g.work.refreshers.items) given.phases_are
+        ∙ ap (λ (n : ℕ). phases + n) (turns_same i g.work.refreshers.items refreshers given.its.turns)
+
+    -- a group that was brought up to its tags, and saved
+    pub refreshed : (earlier phases : ℕ) (rows : List (List RawRow)) (queries : List (List Query)) (refreshers : List Refresher)
+        → IsGoodBase base → IsWorkIn base earlier phases rows queries refreshers g → All IsCommittedCell cells
+        → AreUnitsOpened base old s → (i : ℕ) (d : GroupDef) (h : GroupHistory) (b : Book D) → i < length s.groups.items
+        → IsRefreshedTo (durable_lists cells) (get_or (lists_of g.inputs.items) i []) (get_or g.turns.items i 0) (get_or books i b)
         → IsGroupRefreshed (get_or base.groups.items i d) (phases + turns_in i refreshers) s (get_or s.groups.items i h)
-    refreshed earlier phases rows queries refreshers good given made pulled was i d h below =
+    refreshed earlier phases rows queries refreshers good given committed was i d h b below to =
         let there : i < length books = omega (arith, is.groups.as_many, below) in
         let of_base : i < length base.groups.items = omega (arith, there, is.as_many_groups) in
         let def = get_or base.groups.items i d in
-        let b = element books i there in
         let book = get_or books i b in
         let of = is.groups.each i b h there in
-        let tags : get_or (lists_of g.inputs.items) i [] ≡ def.inputs.items =
-        ap (λ l. get_or l i []) given.inputs ∙ get_or-map (λ (x : GroupDef). x.inputs.items) base.groups.items i d [] of_base in
-        let known : All (λ tag. tag < length s.tags.items) def.inputs.items =
-        λ input e within. omega (arith, tags_many, is.as_many_tags, (good.sound i d of_base).inputs_are_tags input e within) in
-        let to = made.refreshed.each i b there in
+        let tags = tags_of i d good given.inputs of_base in
         let g' = get_or s.groups.items i h in
         let same_cells : complete_windows (grid g') (lists_of g'.copies.items) * length g'.def.calcs.calcs
         ≡ complete_windows book.sheet.grid book.sheet.copies * length book.sheet.group.calcs
@@ -409,25 +541,43 @@ module _ {D : Type 0} (trace : D → Option Trace) (ticks faults : D → ℕ) (b
         (ap (λ (x : GroupDefParts). x.calcs) of.def ∙ sym of.same_group) in
         let fits = limits_hold (complete_windows book.sheet.grid book.sheet.copies * length book.sheet.group.calcs)
         (total_length book.sheet.copies) to.within in
+        record {
+          refreshed = ap (λ l. length (refreshes l)) of.tape ∙ to.refreshed
+              ∙ ap (λ n. n + 1) (turns_of_group earlier phases rows queries refreshers given i of_base);
+          versions = of.versions ∙ to.versions ∙ ap (durable_numbers (durable_lists cells)) tags.0
+              ∙ as_many_durable def.inputs.items tags.1 (λ k x at. (committed k x at).none_waits);
+          few_cells = omega (arith, same_cells, fits.0);
+          few_copies = omega (arith, ap total_length of.copies, fits.1);
+          saved = subst EndsInSave (sym of.tape) (to.saved (of.there (λ none.
+              some_text def.name 44 _ (sym (was.groups i d h below).text_is ∙ of.text ∙ none))));
+        }
+
+    up_to_date : (earlier phases : ℕ) (rows : List (List RawRow)) (queries : List (List Query)) (refreshers : List Refresher)
+        → IsGoodBase base → IsWorkIn base earlier phases rows queries refreshers g → AreStepsMade g cells books
+        → ArePulled (lists_of g.inputs.items) cells books
+        → AreUnitsOpened base old s → (i : ℕ) (d : GroupDef) (h : GroupHistory) → i < length s.groups.items
+        → IsUpToDate (get_or base.groups.items i d) (phases + turns_in i refreshers) s (get_or s.groups.items i h)
+    up_to_date earlier phases rows queries refreshers good given made pulled was i d h below =
+        let there : i < length books = omega (arith, is.groups.as_many, below) in
+        let of_base : i < length base.groups.items = omega (arith, there, is.as_many_groups) in
+        let def = get_or base.groups.items i d in
+        let b = element books i there in
+        let book = get_or books i b in
+        let of = is.groups.each i b h there in
+        let tags = tags_of i d good given.inputs of_base in
+        let to = made.refreshed.each i b there in
         let versions : versions_of book ≡ durable_numbers (durable_lists cells) def.inputs.items =
-        to.versions ∙ ap (durable_numbers (durable_lists cells)) tags in
+        to.versions ∙ ap (durable_numbers (durable_lists cells)) tags.0 in
         let copies : length book.sheet.copies ≡ length def.inputs.items = sym (length-map book.sheet.copies length) ∙ ap length versions
         ∙ length-map def.inputs.items (λ tag. length (get_or (durable_lists cells) tag [])) in
         record {
-          refreshed = ap (λ l. length (refreshes l)) of.tape ∙ to.refreshed
-              ∙ ap (λ n. n + 1) (given.sized.turns i of_base
-              ∙ ap (λ (p : ℕ). p + turns_for i g.work.refreshers.items) given.phases_are
-              ∙ ap (λ (n : ℕ). phases + n) (turns_same i g.work.refreshers.items refreshers given.turns));
+          refreshed = refreshed earlier phases rows queries refreshers good given made.committed was i d h b below to;
           copies = of.copies ∙ ext_get_or [] book.sheet.copies (map (tag_records_of s) def.inputs.items)
               (copies ∙ sym (length-map def.inputs.items (tag_records_of s)))
               (λ input within.
               let inside : input < length def.inputs.items = omega (arith, copies, within) in
-              copy_at i input b def.inputs.items there inside tags known (λ k x at. (made.committed k x at).none_waits) pulled versions
+              copy_at i input b def.inputs.items there inside tags.0 tags.1 (λ k x at. (made.committed k x at).none_waits) pulled versions
               ∙ sym (get_or-map (tag_records_of s) def.inputs.items input 0 [] inside));
-          few_cells = omega (arith, same_cells, fits.0);
-          few_copies = omega (arith, ap total_length of.copies, fits.1);
-          saved = subst EndsInSave (sym of.tape) (to.saved (of.there (λ none.
-              some_text def.name 44 _ (sym (was.groups i d h below).text ∙ of.text ∙ none))));
         }
 
     -- the promise of a session that has done the work of its last phase
@@ -438,19 +588,19 @@ module _ {D : Type 0} (trace : D → Option Trace) (ticks faults : D → ℕ) (b
     done earlier phases rows queries refreshers text good given was it = record {
       ended = it.ended;
       mixed = mixed earlier phases rows queries refreshers good given it.made it.pulled;
-      refreshed = refreshed earlier phases rows queries refreshers good given it.made it.pulled was;
-      same = it.same ∙ (λ k. report base ((sym (length-map g.work.collectors.items _) ∙ ap length given.collectors) k) (given.readers k) s);
+      groups = up_to_date earlier phases rows queries refreshers good given it.made it.pulled was;
+      same = it.same ∙ (λ k. report base ((sym (length-map g.work.collectors.items _) ∙ ap length given.its.collectors) k) (given.its.readers k) s);
     }
 
 -- in the only phase of a session there are no turns besides those of its refreshers
-only_phase : (base : Base) (rows : List (List RawRow)) (queries : List (List Query)) (refreshers : List Refresher) (s : Session)
+pub only_phase : (base : Base) (rows : List (List RawRow)) (queries : List (List Query)) (refreshers : List Refresher) (s : Session)
     (text : List ℕ) → IsDoneSo (phase_item 0) (λ i. 0 + turns_in i refreshers) base rows queries s text
     → IsDoneSo take_item (λ i. turns_in i refreshers) base rows queries s text
 only_phase base rows queries refreshers s text it = record {
   ended = it.ended;
   mixed = it.mixed;
-  refreshed = λ i d g below. subst (λ n. IsGroupRefreshed (get_or base.groups.items i d) n s (get_or s.groups.items i g))
-      (omega arith) (it.refreshed i d g below);
+  groups = λ i d g below. subst (λ n. IsUpToDate (get_or base.groups.items i d) n s (get_or s.groups.items i g))
+      (omega arith) (it.groups i d g below);
   same = it.same;
 }
 
@@ -463,20 +613,21 @@ if_done (Ok text) opened follows x = follows (opened (λ none. none)) text x
 if_done (Err why) opened follows x = tt
 
 -- unless the answer reports a changed opening, each tag and group of a session was opened as what its device stood for
-pub held_opened : {D : Type 0} (trace : D → Option Trace) (ticks faults : D → ℕ) (base : Base) (g : Given) (old new : DeviceTraces)
+pub held_opened : {D : Type 0} (trace : D → Option Trace) (ticks faults : D → ℕ) → IsClocked trace ticks → (base : Base) (g : Given) (old new : DeviceTraces)
     (before now : ℕ) (answer : Result (String Global) Status) (s : Session) → IsSessionHeld trace ticks faults base g old new before now answer s
     → (IsOfOpening answer → ⊥) → AreUnitsOpened base old s
-held_opened trace ticks faults base g old new before now answer s is none = record {
-  tags = opened_tags trace ticks faults old base.tags.items is.opened is.cells s.tags.items is.opening.tags (is.same_tags none)
+held_opened trace ticks faults clocked base g old new before now answer s is none = record {
+  tags = opened_tags trace ticks faults old clocked base.tags.items is.opened is.cells s.tags.items is.opening.tags (is.same_tags none)
       is.over.tags;
-  groups = opened_groups trace ticks faults base old new is.opened is.cells is.opened_books is.books s is.opening.groups
-      (is.same_groups none) is.over;
+  groups = opened_groups trace ticks faults base old new clocked is.opened is.cells is.opened_books is.books s is.opening.groups
+      (is.same_groups none) is.over
+      (opened_lists trace ticks faults old base.tags.items is.opened is.cells s.tags.items is.opening.tags (is.same_tags none) is.over.tags);
   few = subst (λ n. n ≤ most_stored) (sym (opened_records trace ticks faults old is.opened is.cells s.tags.items (is.same_tags none) is.over.tags))
       is.opening.few;
 }
 
 -- what a session counts of the faults of its devices
-session_counts : {D : Type 0} (trace : D → Option Trace) (ticks faults : D → ℕ) (base : Base) (g : Given) (old new : DeviceTraces)
+pub session_counts : {D : Type 0} (trace : D → Option Trace) (ticks faults : D → ℕ) (base : Base) (g : Given) (old new : DeviceTraces)
     (before now : ℕ) (answer : Result (String Global) Status) (s : Session)
     → (run : IsSessionHeld trace ticks faults base g old new before now answer s)
     → IfErr answer (IsUndone g run.opened run.opened_books run.cells run.books s.workers.items) → before < 2 ^ 64
@@ -490,28 +641,3 @@ session_counts trace ticks faults base g old new before now (Err why) s run undo
       faults_counted trace ticks faults base old new before now run.cells run.books s run.over counts g run.opened run.opened_books
           s.workers.items (Err why) undone,
     )
-
-pub promised : {D : Type 0} (trace : D → Option Trace) (ticks faults : D → ℕ) (name plan_name : List ℕ) (told : ToldFiles)
-    (old new : DeviceTraces) (before now stops_before stops_now : ℕ) (answer : Result (String Global) Status) (s : Session)
-    → IsSession trace ticks faults name plan_name told old new before now stops_before stops_now answer s
-    → IsPromised name plan_name told old new before now answer s
-promised trace ticks faults name plan_name told old new before now stops_before stops_now answer s is =
-    let run = is.run.held in
-    let opened_as = held_opened trace ticks faults is.base is.given old new before now answer s run in
-    record {
-      base = is.base;
-      plan = is.plan;
-      rows = is.rows;
-      queries = is.queries;
-      planned = is.planned;
-      tags = sound_tags new is.base.tags.items s.tags.items run.over.devices;
-      groups = sound_groups trace ticks faults is.base old new run.cells run.books s run.over;
-      opened_as = opened_as;
-      begun = λ none. begun trace ticks faults is.base old new is.given run.cells run.books s run.over 0 0 is.rows is.queries
-          is.plan.refreshers.items is.work (is.run.begun none);
-      done = if_done answer opened_as
-          (λ was text it. only_phase is.base is.rows is.queries is.plan.refreshers.items s (string_bytes text)
-          (done trace ticks faults is.base old new is.given run.cells run.books s run.over 0 0 is.rows is.queries
-          is.plan.refreshers.items (string_bytes text) is.good is.work was it)) run.done;
-      counted = λ few. session_counts trace ticks faults is.base is.given old new before now answer s run is.run.undone few;
-    }

@@ -1,5 +1,5 @@
 -- Cells and books that keep what they were opened as, while entries are added to their tapes.
-use Rattle.std.proofs.Common.{◌≡◌, ◌∙◌, ◌<◌, List, All, ap, sym, subst, get_or}
+use Rattle.std.proofs.Common.{◌∙◌, ◌<◌, List, All, ap, sym, subst, get_or}
 use Rattle.tag_cell.specs.declared.entry.Entry.{Entry}
 use Rattle.tag_cell.specs.Told.{ToldCell as Cell, takes_waiting}
 use Rattle.session_audit.specs.CellRefusals.{IsCommittedCell}
@@ -110,9 +110,9 @@ module _ {D : Type 0} where
         let same = each.each group b in
         record {
           defined = record {
-            group = same.group ∙ was.defined.group;
-            def = same.def ∙ was.defined.def;
-            text = same.text ∙ was.defined.text;
+            group_is = same.group ∙ was.defined.group_is;
+            def_is = same.def ∙ was.defined.def_is;
+            text_is = same.text ∙ was.defined.text_is;
           };
           opened = subst (λ (o : GroupOpening). IsSameOpening o (get_or known group k).opening) (sym same.opening) was.opened;
         };

@@ -12,10 +12,11 @@ pub mod Unheld
 pub mod GroupDevices
 pub mod DeviceFaults
 pub mod Headline
+pub mod Causes
+pub mod Promises
 pub mod Understood
 pub mod DrillNew
 pub mod DrillPromises
-pub mod DrillUnderstood
 pub mod DrillUndone
 pub mod DrillUnopened
 pub mod DrillNaming

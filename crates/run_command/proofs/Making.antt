@@ -72,7 +72,7 @@ module _ {D : Type 0} where
     as_many = are.as_many ∙ same;
     each = λ group b below.
         let it = are.each group k (subst (λ m. group < m) (sym same) below) in
-        record { same = it.same ∙ sym (ap (λ d. d.inputs) (kept.each group b k below).defined.def); few = it.few; known = it.known };
+        record { same = it.same ∙ sym (ap (λ d. d.inputs) (kept.each group b k below).defined.def_is); few = it.few; known = it.known };
   }
 
   -- groups that have made their turns and one more have refreshes that have a number

@@ -14,17 +14,17 @@ use Rattle.run_command.specs.Refusals.{AdmitsForeign, notes_of}
 use Rattle.run_command.specs.Endings.{HaveAllEnded}
 use Rattle.run_command.specs.Sessions.{AreNotes, AreNotesOfAll, OfAll, OfNone}
 
-pub notes_are : (D : Type 0) (w : Work) (before now : ℕ) (r : Result (Vec WorkerNote Global) WantOfMemory)
-    → IfOk r (λ notes. AreNotesOf D (λ group no. ⊤) w notes.items)
-    → IfOk r (λ notes. now ≡ stops_with before notes.items) → OnErr r (now ≡ before) → AreNotes D w before now (notes_of r)
-notes_are D w before now (Ok notes) are stops none = OfAll are stops
-notes_are D w before now (Err why) are stops none = OfNone refl none
+pub notes_are : (w : Work) (before now : ℕ) (r : Result (Vec WorkerNote Global) WantOfMemory)
+    → IfOk r (λ notes. AreNotesOf (λ group no. ⊤) w notes.items)
+    → IfOk r (λ notes. now ≡ stops_with before notes.items) → OnErr r (now ≡ before) → AreNotes w before now (notes_of r)
+notes_are w before now (Ok notes) are stops none = OfAll are stops
+notes_are w before now (Err why) are stops none = OfNone refl none
 
 -- where the workers began, these are the notes of all of them
-pub ran_all : (D : Type 0) (w : Work) (r : Result (Vec WorkerNote Global) WantOfMemory)
-    → IfOk r (λ notes. AreNotesOfAll D w notes.items) → is_ok r ≡ true → AreNotesOfAll D w (notes_of r)
-ran_all D w (Ok notes) are worked = are
-ran_all D w (Err why) are worked = absurd (false≢true worked)
+pub ran_all : (w : Work) (r : Result (Vec WorkerNote Global) WantOfMemory)
+    → IfOk r (λ notes. AreNotesOfAll w notes.items) → is_ok r ≡ true → AreNotesOfAll w (notes_of r)
+ran_all w (Ok notes) are worked = are
+ran_all w (Err why) are worked = absurd (false≢true worked)
 
 -- what holds unless an answer admits a take or a question of no file holds at Ok
 pub at_text : (P : Type 0) {T : Type 0} (r : Result T Status) → ((AdmitsForeign r → ⊥) → P) → OnOk r P

@@ -1,120 +1,180 @@
--- No refusal of a plan or of its session is one of the words of a command line.
-use Rattle.std.proofs.Common.{◌≡◌, ℕ, List, Option, None, Some, Result, Ok, Err, String, refl, subst}
-use Rattle.std.specs.Prelude.{◌≢◌, IfErr, IfSome}
-use Rattle.std.specs.declared.alloc.Global.{Global}
-use Rattle.trend_num.specs.declared.archive.Rec.{Rec}
-use Rattle.disk_model.specs.Traces.{Trace}
-use Rattle.tag_base.specs.declared.definition.Base.{Base}
-use Rattle.tag_cell.specs.Told.{ToldCell as Cell}
+-- No refusal of a session or of a drill is a status that only the printing, or the words of a command line, give.
+use Rattle.std.proofs.Common.{◌≡◌, ◌∙◌, inl, inr, ℕ, List, Option, None, Some, Result, Ok, Err, IfErr, String, Global, ap, refl, subst, sym}
+use Rattle.std.specs.Prelude.{◌≢◌, IfSome}
 use Rattle.plant_status.specs.declared.status.Status.{Status}
-use Rattle.plant_status.specs.declared.status.Status.TheVariants.{BadWords}
+use Rattle.plant_status.specs.declared.status.Status.TheVariants.{BadWords, Done, WantOfMemory, WriteFault}
+use Rattle.plant_files.specs.PlanRows as plan
 use Rattle.plant_files.specs.RowFiles.{ToldFiles}
-use Rattle.group_book.specs.Told.{ToldBook as Book}
-use Rattle.group_book.specs.declared.refusal.RefreshNo.TheVariants as refresh
-use Rattle.group_book.specs.declared.refusal.SaveNo.{SaveNo}
-use Rattle.group_book.specs.declared.refusal.SaveNo.TheVariants as save
-use Rattle.session_audit.specs.BookRefusals.{IsBookRefusal, OfRefresh, OfSave, save_status}
-use Rattle.collector_pool.specs.declared.note.WorkerNote.{WorkerNote}
+use Rattle.plant_store.specs.BookRefusals as group
 use Rattle.plant_store.specs.Groups.{DeviceTraces}
-use Rattle.plant_store.specs.BookRefusals.{OfDamage, OfFault, OfMemory, OfVersion, OfWindows}
 use Rattle.plant_store.specs.Openings.{IsPlantRefusal, OfGroups, OfTags}
-use Rattle.plant_files.specs.PlanRows as plans
+use Rattle.tag_base.specs.declared.definition.Base.{Base}
+use Rattle.value_rows.specs.declared.asked.Query.{Query}
+use Rattle.value_rows.specs.declared.raw.RawRow.{RawRow}
+use Rattle.collector_pool.specs.declared.note.WorkerNote.{WorkerNote}
+use Rattle.collector_pool.specs.declared.work.Work.{Work}
+use Rattle.session_audit.specs.declared.agenda.Item.{Item}
 use Rattle.session_report.specs.declared.session.Session.{Session}
-use Rattle.run_command.specs.declared.work.Given.{Given}
-use Rattle.run_command.specs.Refusals.{IsRefused, OfAsk, OfCommit, OfFinding, OfGroup, OfMaking, OfMemory as OfWanting, OfPull, OfRefresh as OfRefreshing, OfRest, OfRowAsk, OfStop, OfTag, OfTake, OfTaking, OfTurns, OfWant}
+use Rattle.run_command.specs.Causes.{IsSessionCause, OfDevice, OfLimit, OfMemory, OfCommit, OfOpening, OfPull, OfRefresh, OfStep, OfStop, OfTake, OfTape}
+use Rattle.run_command.specs.Drills.{InFirst, InReport, InSecond, IsDrillCause, IsDrilled, IsPhaseCause, drill_status}
+use Rattle.run_command.specs.Headline.{IsPromised}
 use Rattle.run_command.specs.Runs as runs
+use Rattle.run_command.proofs.DrillUndone.{kept_or_fault}
 
--- no file is refused so
-of_files : (name plan_name : List ℕ) (told : ToldFiles) → plans.IsPlanningRefusal name plan_name told BadWords → ⊥
-of_files name plan_name told (plans.OfFiles (plans.OfBase is)) = is
-of_files name plan_name told (plans.OfFiles (plans.OfPlan base read is)) = is
-of_files name plan_name told (plans.OfFiles (plans.OfCollector base plan read planned is)) = (is (λ same. cc same)).refused
-of_files name plan_name told (plans.OfReader base plan rows read is) = (is (λ same. cc same)).first.refused
-of_files name plan_name told (plans.OfRows base plan rows lists read asked is) = cc (is.told)
-of_files name plan_name told (plans.OfMemory same) = cc same
+-- ---- a session
 
--- no device either
-pub of_plant : (base : Base) (old new : DeviceTraces) (before now : ℕ) → IsPlantRefusal base old new before now BadWords → ⊥
-of_plant base old new before now (OfTags is) = is
-of_plant base old new before now (OfGroups cores opened few (OfFault i same at)) = cc same
-of_plant base old new before now (OfGroups cores opened few (OfDamage i a byte same at)) = cc same
-of_plant base old new before now (OfGroups cores opened few (OfVersion i input found version same at)) = cc same
-of_plant base old new before now (OfGroups cores opened few (OfWindows i windows rows same at)) = cc same
-of_plant base old new before now (OfGroups cores opened few (OfMemory same)) = cc same
+module _ (item_of : ℕ → ℕ → RawRow → Option Item) (turns_of : ℕ → ℕ) (base : Base) (before : DeviceTraces) (rows : List (List RawRow))
+    (queries : List (List Query)) (quiet : Type 0) (notes : List WorkerNote) (s : Session) where
+  pub held_no_done : IsSessionCause item_of turns_of base before rows queries quiet notes s Done → ⊥
+  held_no_done (OfOpening is) = is.changed
+  held_no_done (OfTape is) = is
+  held_no_done (OfStop is) = is
+  held_no_done (OfStep ended (OfTake (OfDevice tag same is))) = cc same
+  held_no_done (OfStep ended (OfTake (OfLimit tag number same is))) = cc same
+  held_no_done (OfStep ended (OfCommit on_tapes is)) = cc (is.told)
+  held_no_done (OfStep ended (OfRefresh recorded is)) = is.cause
+  held_no_done (OfStep ended (OfPull recorded refreshed none is)) = is.cause
+  held_no_done (OfMemory same) = cc same
 
-pub of_devices : (base : Base) (old new : DeviceTraces) (before now : ℕ) → runs.IsUnopened base old new before now BadWords → ⊥
-of_devices base old new before now (runs.OfPlant is kept) = of_plant base old new before now is
-of_devices base old new before now (runs.OfWant same untouched) = cc same
+  pub held_no_fault : IsSessionCause item_of turns_of base before rows queries quiet notes s WriteFault → ⊥
+  held_no_fault (OfOpening is) = is.changed
+  held_no_fault (OfTape is) = is
+  held_no_fault (OfStop is) = is
+  held_no_fault (OfStep ended (OfTake (OfDevice tag same is))) = cc same
+  held_no_fault (OfStep ended (OfTake (OfLimit tag number same is))) = cc same
+  held_no_fault (OfStep ended (OfCommit on_tapes is)) = cc (is.told)
+  held_no_fault (OfStep ended (OfRefresh recorded is)) = is.cause
+  held_no_fault (OfStep ended (OfPull recorded refreshed none is)) = is.cause
+  held_no_fault (OfMemory same) = cc same
 
-of_unheld : (name plan_name : List ℕ) (told : ToldFiles) (old new : DeviceTraces) (before now : ℕ)
-    → runs.IsUnheld name plan_name told old new before now BadWords → ⊥
-of_unheld name plan_name told old new before now (runs.OfFiles is untouched) = of_files name plan_name told is
-of_unheld name plan_name told old new before now (runs.OfOpening base plan rows queries planned is) =
-    of_devices base old new before now is
-of_unheld name plan_name told old new before now (runs.OfMemory same untouched) = cc same
+  pub held_no_words : IsSessionCause item_of turns_of base before rows queries quiet notes s BadWords → ⊥
+  held_no_words (OfOpening is) = is.changed
+  held_no_words (OfTape is) = is
+  held_no_words (OfStop is) = is
+  held_no_words (OfStep ended (OfTake (OfDevice tag same is))) = cc same
+  held_no_words (OfStep ended (OfTake (OfLimit tag number same is))) = cc same
+  held_no_words (OfStep ended (OfCommit on_tapes is)) = cc (is.told)
+  held_no_words (OfStep ended (OfRefresh recorded is)) = is.cause
+  held_no_words (OfStep ended (OfPull recorded refreshed none is)) = is.cause
+  held_no_words (OfMemory same) = cc same
 
--- nor what its workers left
-of_save : (group : ℕ) (why : SaveNo) → BadWords ≡ save_status group why → ⊥
-of_save group save.Broken same = cc same
-of_save group save.DeviceFault same = cc same
-of_save group save.WantOfMemory same = cc same
+-- ---- no session
 
-module _ {D : Type 0} where
-  of_book : (durables : List (List Rec)) (tags : List ℕ) (group : ℕ) (b : Book D) → IsBookRefusal durables tags group b BadWords → ⊥
-  of_book durables tags group b (OfRefresh (refresh.Ahead input version records) cause same) = cc same
-  of_book durables tags group b (OfRefresh (refresh.CellLimit n) cause same) = cc same
-  of_book durables tags group b (OfRefresh (refresh.CopyLimit n) cause same) = cc same
-  of_book durables tags group b (OfRefresh refresh.WantOfMemory cause same) = cc same
-  of_book durables tags group b (OfSave refused) = of_save group refused.why refused.told
+module _ (name plan_name : List ℕ) (told : ToldFiles) (old new : DeviceTraces) (before now : ℕ) where
+  plant_no_done : (base : Base) → IsPlantRefusal base old new before now Done → ⊥
+  plant_no_done base (OfTags is) = is
+  plant_no_done base (OfGroups cores opened few (group.OfFault i same at)) = cc same
+  plant_no_done base (OfGroups cores opened few (group.OfDamage i a byte same at)) = cc same
+  plant_no_done base (OfGroups cores opened few (group.OfVersion i input found version same at)) = cc same
+  plant_no_done base (OfGroups cores opened few (group.OfWindows i windows rows same at)) = cc same
+  plant_no_done base (OfGroups cores opened few (group.OfMemory same)) = cc same
 
-  module _ (g : Given) (cells : List (Cell D)) (books : List (Book D)) where
-    of_rest : (notes : List WorkerNote) → IsRefused g notes cells books BadWords → ⊥
-    of_rest notes (OfFinding (OfTake works over unfound is)) = is
-    of_rest notes (OfFinding (OfAsk works over unfound is)) = is
-    of_rest notes (OfFinding (OfRowAsk works over unfound is)) = is
-    of_rest notes (OfFinding (OfTurns is)) = is
-    of_rest notes (OfStop is) = is
-    of_rest notes (OfMaking ended (OfTaking is)) = is
-    of_rest notes (OfMaking ended (OfCommit tapes is)) = is
-    of_rest notes (OfMaking ended (OfRefreshing tapes committed is)) = of_book _ _ is.group is.book is.refused
-    of_rest notes (OfMaking ended (OfWanting same)) = cc same
-    of_rest notes (OfPull ended made is) = is.differs.differs
-    of_rest notes (OfWant same) = cc same
+  pub unheld_no_done : runs.IsUnheld name plan_name told old new before now Done → ⊥
+  unheld_no_done (runs.OfFiles (plan.OfFiles (plan.OfBase is)) untouched) = is
+  unheld_no_done (runs.OfFiles (plan.OfFiles (plan.OfPlan base read is)) untouched) = is
+  unheld_no_done (runs.OfFiles (plan.OfFiles (plan.OfCollector base plan read planned is)) untouched) = (is (λ same. cc same)).refused
+  unheld_no_done (runs.OfFiles (plan.OfReader base plan rows read is) untouched) = (is (λ same. cc same)).first.refused
+  unheld_no_done (runs.OfFiles (plan.OfRows base plan rows lists read asked is) untouched) = cc (is.told)
+  unheld_no_done (runs.OfFiles (plan.OfMemory same) untouched) = cc same
+  unheld_no_done (runs.OfOpening base plan rows queries planned (runs.OfPlant is kept)) = plant_no_done base is
+  unheld_no_done (runs.OfOpening base plan rows queries planned (runs.OfWant same untouched)) = cc same
+  unheld_no_done (runs.OfMemory same untouched) = cc same
 
-    pub of_undone : (opened : List (Cell D)) (opened_books : List (Book D)) (notes : List WorkerNote)
-        → runs.IsUndone g opened opened_books cells books notes BadWords → ⊥
-    of_undone opened opened_books notes (runs.OfSettling known known_groups copied groups_copied (OfTag is)) = is
-    of_undone opened opened_books notes (runs.OfSettling known known_groups copied groups_copied (OfGroup kept is)) = is
-    of_undone opened opened_books notes (runs.OfSettling known known_groups copied groups_copied (OfRest is)) = of_rest notes is
-    of_undone opened opened_books notes (runs.OfNone same) = cc same
+  plant_no_fault : (base : Base) → IsPlantRefusal base old new before now WriteFault → ⊥
+  plant_no_fault base (OfTags is) = is
+  plant_no_fault base (OfGroups cores opened few (group.OfFault i same at)) = cc same
+  plant_no_fault base (OfGroups cores opened few (group.OfDamage i a byte same at)) = cc same
+  plant_no_fault base (OfGroups cores opened few (group.OfVersion i input found version same at)) = cc same
+  plant_no_fault base (OfGroups cores opened few (group.OfWindows i windows rows same at)) = cc same
+  plant_no_fault base (OfGroups cores opened few (group.OfMemory same)) = cc same
 
-    pub undone_understood : (opened : List (Cell D)) (opened_books : List (Book D)) (notes : List WorkerNote)
-        (answer : Result (String Global) Status) → IfErr answer (runs.IsUndone g opened opened_books cells books notes)
-        → IfErr answer (λ why. why ≢ BadWords)
-    undone_understood opened opened_books notes (Ok text) is = tt
-    undone_understood opened opened_books notes (Err why) is =
-        λ same. of_undone opened opened_books notes (subst (runs.IsUndone g opened opened_books cells books notes) same is)
+  pub unheld_no_fault : runs.IsUnheld name plan_name told old new before now WriteFault → ⊥
+  unheld_no_fault (runs.OfFiles (plan.OfFiles (plan.OfBase is)) untouched) = is
+  unheld_no_fault (runs.OfFiles (plan.OfFiles (plan.OfPlan base read is)) untouched) = is
+  unheld_no_fault (runs.OfFiles (plan.OfFiles (plan.OfCollector base plan read planned is)) untouched) = (is (λ same. cc same)).refused
+  unheld_no_fault (runs.OfFiles (plan.OfReader base plan rows read is) untouched) = (is (λ same. cc same)).first.refused
+  unheld_no_fault (runs.OfFiles (plan.OfRows base plan rows lists read asked is) untouched) = cc (is.told)
+  unheld_no_fault (runs.OfFiles (plan.OfMemory same) untouched) = cc same
+  unheld_no_fault (runs.OfOpening base plan rows queries planned (runs.OfPlant is kept)) = plant_no_fault base is
+  unheld_no_fault (runs.OfOpening base plan rows queries planned (runs.OfWant same untouched)) = cc same
+  unheld_no_fault (runs.OfMemory same untouched) = cc same
 
-pub unheld_understood : (name plan_name : List ℕ) (told : ToldFiles) (old new : DeviceTraces) (before now : ℕ)
-    (answer : Result (String Global) Status) → IfErr answer (runs.IsUnheld name plan_name told old new before now)
-    → IfErr answer (λ why. why ≢ BadWords)
-unheld_understood name plan_name told old new before now (Ok text) is = tt
-unheld_understood name plan_name told old new before now (Err why) is =
-    λ same. of_unheld name plan_name told old new before now (subst (runs.IsUnheld name plan_name told old new before now) same is)
+  plant_no_words : (base : Base) → IsPlantRefusal base old new before now BadWords → ⊥
+  plant_no_words base (OfTags is) = is
+  plant_no_words base (OfGroups cores opened few (group.OfFault i same at)) = cc same
+  plant_no_words base (OfGroups cores opened few (group.OfDamage i a byte same at)) = cc same
+  plant_no_words base (OfGroups cores opened few (group.OfVersion i input found version same at)) = cc same
+  plant_no_words base (OfGroups cores opened few (group.OfWindows i windows rows same at)) = cc same
+  plant_no_words base (OfGroups cores opened few (group.OfMemory same)) = cc same
 
--- so no answer of a run is
-pub understood : {D : Type 0} (trace : D → Option Trace) (ticks faults : D → ℕ) (name plan_name : List ℕ) (told : ToldFiles)
-    (old new : DeviceTraces) (before now stops_before stops_now : ℕ) (session : Option Session) (answer : Result (String Global) Status)
+  pub unheld_no_words : runs.IsUnheld name plan_name told old new before now BadWords → ⊥
+  unheld_no_words (runs.OfFiles (plan.OfFiles (plan.OfBase is)) untouched) = is
+  unheld_no_words (runs.OfFiles (plan.OfFiles (plan.OfPlan base read is)) untouched) = is
+  unheld_no_words (runs.OfFiles (plan.OfFiles (plan.OfCollector base plan read planned is)) untouched) = (is (λ same. cc same)).refused
+  unheld_no_words (runs.OfFiles (plan.OfReader base plan rows read is) untouched) = (is (λ same. cc same)).first.refused
+  unheld_no_words (runs.OfFiles (plan.OfRows base plan rows lists read asked is) untouched) = cc (is.told)
+  unheld_no_words (runs.OfFiles (plan.OfMemory same) untouched) = cc same
+  unheld_no_words (runs.OfOpening base plan rows queries planned (runs.OfPlant is kept)) = plant_no_words base is
+  unheld_no_words (runs.OfOpening base plan rows queries planned (runs.OfWant same untouched)) = cc same
+  unheld_no_words (runs.OfMemory same untouched) = cc same
+
+-- so the words of a command line are never the answer of a run
+pub understood : (name plan_name : List ℕ) (told : ToldFiles) (old new : DeviceTraces) (before now stops_before stops_now : ℕ)
+    (session : Option Session) (answer : Result (String Global) Status)
     → (session ≡ None → IfErr answer (runs.IsUnheld name plan_name told old new before now))
-    → IfSome session (runs.IsSession trace ticks faults name plan_name told old new before now stops_before stops_now answer)
+    → IfSome session (IsPromised name plan_name told old new before now stops_before stops_now answer)
     → IfErr answer (λ why. why ≢ BadWords)
-understood trace ticks faults name plan_name told old new before now stops_before stops_now None answer unheld held =
-    unheld_understood name plan_name told old new before now answer (unheld refl)
-understood trace ticks faults name plan_name told old new before now stops_before stops_now (Some s) answer unheld held =
-    let run = held.run.held in
-    undone_understood held.given run.cells run.books run.opened run.opened_books s.workers.items answer held.run.undone
+understood name plan_name told old new before now stops_before stops_now session (Ok text) unheld held = tt
+understood name plan_name told old new before now stops_before stops_now None (Err why) unheld held =
+    λ same. unheld_no_words name plan_name told old new before now
+    (subst (runs.IsUnheld name plan_name told old new before now) same (unheld refl))
+understood name plan_name told old new before now stops_before stops_now (Some s) (Err why) unheld held =
+    λ same. held_no_words _ _ _ _ _ _ _ _ s (subst (IsSessionCause _ _ _ _ _ _ _ _ s) same held.cause)
 
-pub files_understood : (name plan_name : List ℕ) (told : ToldFiles) (why : Status) → plans.IsPlanningRefusal name plan_name told why
-    → why ≢ BadWords
-files_understood name plan_name told why is =
-    λ same. of_files name plan_name told (subst (plans.IsPlanningRefusal name plan_name told) same is)
+-- ---- a drill
+
+-- a drill reports a cause as it is, where it does not report want of memory
+cause_is : (cause why : Status) → why ≢ WantOfMemory → why ≡ drill_status cause → cause ≡ why
+cause_is cause why no_memory told = elim (kept_or_fault cause) [
+  | inl kept ↦ sym (told ∙ kept)
+  | inr fault ↦ absurd (no_memory (told ∙ ap drill_status fault.1))
+]
+
+module _ (number tags events : ℕ) (base : Base) (first : Work) (notes : List WorkerNote) (s : Session) where
+  phase_no_done : IsPhaseCause number tags events base first notes s Done → ⊥
+  phase_no_done (InFirst of_first is) = held_no_done _ _ _ _ _ _ _ _ s is
+  phase_no_done (InSecond front more behind of_first ended is) = held_no_done _ _ _ _ _ _ _ _ s is
+  phase_no_done (InReport same) = cc same
+
+  phase_no_fault : IsPhaseCause number tags events base first notes s WriteFault → ⊥
+  phase_no_fault (InFirst of_first is) = held_no_fault _ _ _ _ _ _ _ _ s is
+  phase_no_fault (InSecond front more behind of_first ended is) = held_no_fault _ _ _ _ _ _ _ _ s is
+  phase_no_fault (InReport same) = cc same
+
+  phase_no_words : IsPhaseCause number tags events base first notes s BadWords → ⊥
+  phase_no_words (InFirst of_first is) = held_no_words _ _ _ _ _ _ _ _ s is
+  phase_no_words (InSecond front more behind of_first ended is) = held_no_words _ _ _ _ _ _ _ _ s is
+  phase_no_words (InReport same) = cc same
+
+module _ (number tags events : ℕ) (base : Base) (first : Work) (s : Session) where
+  pub drill_no_done : IsDrillCause number tags events base first s Done → ⊥
+  drill_no_done is = phase_no_done number tags events base first s.workers.items s
+      (subst (IsPhaseCause number tags events base first s.workers.items s) (cause_is is.cause Done (λ memory. cc memory) is.told) is.phase)
+
+  pub drill_no_fault : IsDrillCause number tags events base first s WriteFault → ⊥
+  drill_no_fault is = phase_no_fault number tags events base first s.workers.items s
+      (subst (IsPhaseCause number tags events base first s.workers.items s) (cause_is is.cause WriteFault (λ memory. cc memory) is.told) is.phase)
+
+  pub drill_no_words : IsDrillCause number tags events base first s BadWords → ⊥
+  drill_no_words is = phase_no_words number tags events base first s.workers.items s
+      (subst (IsPhaseCause number tags events base first s.workers.items s) (cause_is is.cause BadWords (λ memory. cc memory) is.told) is.phase)
+
+-- nor of a drill
+pub drill_understood : (number tags events stops_before stops_now : ℕ) (session : Option Session) (answer : Result (String Global) Status)
+    → (session ≡ None → IfErr answer (λ why. why ≡ WantOfMemory))
+    → IfSome session (IsDrilled number tags events stops_before stops_now answer) → IfErr answer (λ why. why ≢ BadWords)
+drill_understood number tags events stops_before stops_now session (Ok text) unheld held = tt
+drill_understood number tags events stops_before stops_now None (Err why) unheld held = λ same. cc (same, unheld refl)
+drill_understood number tags events stops_before stops_now (Some s) (Err why) unheld held =
+    λ same. drill_no_words number tags events held.base held.first s
+    (subst (IsDrillCause number tags events held.base held.first s) same held.cause)

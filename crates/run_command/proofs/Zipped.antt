@@ -1,5 +1,7 @@
 -- Lists that are related place by place.
-use Rattle.std.proofs.Common.{◌≡◌, ◌<◌, ℕ, zero, suc, List, [], ◌∷◌, arith, ap, length, get_or, refl}
+use Rattle.std.proofs.Common.{◌≡◌, ◌<◌, ℕ, zero, suc, List, [], ◌∷◌, Some, arith, ap, length, get_or, refl, subst}
+use Rattle.std.specs.Prelude.{slice_get}
+use Rattle.std.proofs.lemmas.Option.{none-some}
 use Rattle.std.specs.List.{AllZip}
 
 -- they are as long
@@ -45,3 +47,20 @@ zip_on R S T both (x ∷ xs) [] zs first second = absurd first
 zip_on R S T both (x ∷ xs) (y ∷ ys) [] first second = absurd second
 zip_on R S T both (x ∷ xs) (y ∷ ys) (z ∷ zs) first second =
     (both x y z first.0 second.0, zip_on R S T both xs ys zs first.1 second.1)
+
+-- what an element is related to, from either side
+pub zip_right : {A B : Type 0} (R : A → B → Type 0) (xs : List A) (ys : List B) (i : ℕ) (x : A) → AllZip R xs ys → slice_get xs i ≡ Some x
+    → (y : B) × (slice_get ys i ≡ Some y) × R x y
+zip_right R [] [] i x zip there = absurd (none-some x there)
+zip_right R [] (b ∷ ys) i x zip there = absurd zip
+zip_right R (a ∷ xs) [] i x zip there = absurd zip
+zip_right R (a ∷ xs) (b ∷ ys) zero x zip there = (b, refl, subst (λ z. R z b) (cc there) zip.0)
+zip_right R (a ∷ xs) (b ∷ ys) (suc i) x zip there = zip_right R xs ys i x zip.1 there
+
+pub zip_left : {A B : Type 0} (R : A → B → Type 0) (xs : List A) (ys : List B) (i : ℕ) (y : B) → AllZip R xs ys → slice_get ys i ≡ Some y
+    → (x : A) × (slice_get xs i ≡ Some x) × R x y
+zip_left R [] [] i y zip there = absurd (none-some y there)
+zip_left R [] (b ∷ ys) i y zip there = absurd zip
+zip_left R (a ∷ xs) [] i y zip there = absurd zip
+zip_left R (a ∷ xs) (b ∷ ys) zero y zip there = (a, refl, subst (R a) (cc there) zip.0)
+zip_left R (a ∷ xs) (b ∷ ys) (suc i) y zip there = zip_left R xs ys i y zip.1 there

@@ -1,5 +1,5 @@
 -- What a drill comes to: its session, or why there is none.
-use Rattle.std.specs.Prelude.{◌≡◌, ◌⊎◌, ℕ, ◌/◌, ◌<◌, List, [], All, length, replicate, slice_index_or, Option, Some, Result, Ok, Err, IfErr, IfOk, OnOk, String, string_bytes}
+use Rattle.std.specs.Prelude.{◌≡◌, ◌⊎◌, ℕ, ◌/◌, List, [], ◌++◌, All, length, replicate, Option, None, Some, Result, Ok, Err, IfErr, IfOk, OnOk, String, string_bytes, ⊤}
 use Rattle.std.specs.List.{AllZip}
 use Rattle.std.specs.declared.alloc.Global.{Global}
 use Rattle.trend_num.specs.declared.tag_def.TagDef.{TagDef}
@@ -20,15 +20,20 @@ use Rattle.plant_store.specs.Groups.{DeviceTraces, group_parts_of, group_definit
 use Rattle.plant_status.specs.declared.status.Status.{Status}
 use Rattle.plant_status.specs.declared.status.Status.TheVariants.{DeviceFault, WantOfMemory}
 use Rattle.session_audit.specs.Agendas.{phase_item}
-use Rattle.plant_files.specs.PlanRows.{IsGoodBase}
 use Rattle.session_report.specs.declared.session.Session.{Session}
 use Rattle.run_command.specs.declared.work.Given.{Given}
-use Rattle.run_command.specs.Headline.{AreGroupsSound, IsDoneSo, IsTagSound}
+use Rattle.collector_pool.specs.declared.note.WorkerNote.{WorkerNote}
+use Rattle.collector_pool.specs.declared.work.Work.{Work}
+use Rattle.run_command.specs.Causes.{IsSessionCause}
+use Rattle.run_command.specs.Endings.{HaveAllEnded}
+use Rattle.run_command.specs.Headline.{IsBegun, IsDoneSo}
+use Rattle.run_command.specs.Sessions.{AreNotesOfAll, IsPlannedWork}
+use Rattle.run_command.specs.Units.{AreGroupsSound, AreUnitsOpened, AtEachGroup, IsTagSound}
 use Rattle.run_command.specs.Refusals.{AdmitsForeign, IsOfOpening}
-use Rattle.run_command.specs.Runs.{IsSessionHeld, IsUnopened, IsWorkIn}
+use Rattle.run_command.specs.Runs.{IsSessionHeld, IsUnopened}
 use Rattle.run_command.specs.DrillPlant.{IsDrillGroup, drill_tags}
 use Rattle.run_command.specs.DrillRows.{drill_rows_of}
-use Rattle.run_command.specs.DrillPhases.{AreNotesOfAllBoth, AreNotesOfBoth, IsUndoneOfBoth}
+use Rattle.run_command.specs.DrillPhases.{AreAllOrNone, AreNotesOfAllBoth, AreNotesOfBoth, IsUndoneOfBoth}
 use Rattle.run_command.specs.Steps.{AreBegun}
 
 -- ---- the plant
@@ -38,14 +43,6 @@ pub record IsDrillBase (tags : ℕ) (base : Base) : Type 0 where
   pub tags_are : base.tags.items ≡ drill_tags tags
   pub one_group : length base.groups.items ≡ 1
   pub group : All (IsDrillGroup tags) base.groups.items
-
--- the base, and the work of the two phases: before the second phase each collector has taken the first half of its
--- events
-pub record IsDrillWork (number tags events : ℕ) (base : Base) (first second : Given) : Type 0 where
-  pub base_is : IsDrillBase tags base
-  pub good : IsGoodBase base
-  pub first_is : IsWorkIn base 0 0 (drill_rows_of number tags 0 (events / 2)) [] [] first
-  pub second_is : IsWorkIn base (events / 2) 1 (drill_rows_of number tags 0 events) [] [] second
 
 -- the devices of a new store in memory: each name has one that holds nothing
 abbrev pub fresh_devices : DeviceTraces
@@ -76,8 +73,8 @@ pub record IsRunInPhases {D : Type 0} (trace : D → Option Trace) (ticks faults
     (old new : DeviceTraces) (before now stops_before stops_now : ℕ) (answer : Result (String Global) Status) (s : Session)
     : Type 0 where
   pub held : IsSessionHeld trace ticks faults base second old new before now answer s
-  pub notes : AreNotesOfBoth D first.work second.work stops_before stops_now s.workers.items
-  pub ran : OnOk answer (AreNotesOfAllBoth D first.work second.work s.workers.items)
+  pub notes : AreNotesOfBoth first.work second.work stops_before stops_now s.workers.items
+  pub ran : OnOk answer (AreNotesOfAllBoth first.work second.work s.workers.items)
   pub begun : (AdmitsForeign answer → ⊥) → AreBegun first held.cells held.books ⊎ AreBegun second held.cells held.books
   pub undone : IfErr answer (IsDrillUndone first second held.opened held.opened_books held.cells held.books s)
 
@@ -90,18 +87,6 @@ memory_ticks d = length d.trace.calls
 
 abbrev pub memory_faults : DiskState → ℕ
 memory_faults d = d.faults
-
--- the session of a drill over devices in memory
-pub record IsDrill (number tags events stops_before stops_now : ℕ) (answer : Result (String Global) Status) (s : Session)
-    : Type 0 where
-  pub base : Base
-  pub first : Given
-  pub second : Given
-  pub new : DeviceTraces
-  pub now : ℕ
-  pub work : IsDrillWork number tags events base first second
-  pub run : IsRunInPhases memory_trace memory_ticks memory_faults base first second fresh_devices new 0 now stops_before stops_now
-      answer s
 
 -- ---- what is promised of it
 
@@ -121,22 +106,53 @@ pub record IsGroupNew (i : ℕ) (d : GroupDef) (g : GroupHistory) : Type 0 where
 -- each tag and each group is new
 pub record AreNew (base : Base) (s : Session) : Type 0 where
   pub tags : AllZip IsTagNew base.tags.items s.tags.items
-  pub groups : (i : ℕ) (d : GroupDef) (g : GroupHistory) → i < length s.groups.items
-      → IsGroupNew i (slice_index_or base.groups.items i d) (slice_index_or s.groups.items i g)
+  pub groups : AtEachGroup base s IsGroupNew
+
+-- Why a phase of a drill is not done. In the first, no worker of the second has begun. In the second, all workers of the
+-- first have ended by themselves. Or memory for the report was wanting.
+pub data IsPhaseCause (number tags events : ℕ) (base : Base) (first : Work) (notes : List WorkerNote) (s : Session) (why : Status)
+    : Type 0 where
+  InFirst : AreAllOrNone first notes
+      → IsSessionCause (phase_item 0) (λ group. 0) base fresh_devices (drill_rows_of number tags 0 (events / 2)) [] ⊤ notes s why
+      → IsPhaseCause number tags events base first notes s why
+  InSecond : (front more : List WorkerNote) → notes ≡ front ++ more → AreNotesOfAll first front → HaveAllEnded front
+      → IsSessionCause (phase_item (events / 2)) (λ group. 1) base fresh_devices (drill_rows_of number tags 0 events) [] ⊤ more s why
+      → IsPhaseCause number tags events base first notes s why
+  InReport : why ≡ WantOfMemory → IsPhaseCause number tags events base first notes s why
+
+-- why a drill is not done, as it reports the cause
+pub record IsDrillCause (number tags events : ℕ) (base : Base) (first : Work) (s : Session) (why : Status) : Type 0 where
+  pub cause : Status
+  pub told : why ≡ drill_status cause
+  pub phase : IsPhaseCause number tags events base first s.workers.items s cause
 
 -- Whatever the answer is, each tag and each group is sound, and so is what a crash leaves of its device. Each was new,
--- unless the answer reports that an opening has changed. If there is a text, the session is done and the text is its
--- report: each tag has taken all events of its collector, numbered from 1 in each phase, and all are acknowledged; the
--- group is up to date, was refreshed twice, and was saved after that.
-pub record IsDrilled (number tags events : ℕ) (answer : Result (String Global) Status) (s : Session) : Type 0 where
+-- unless the answer reports that an opening has changed. Unless it admits a take of no file, each tape shows only first
+-- rows of one of the phases. If there is a text, the session is done and the text is its report: each tag has taken all
+-- events of its collector, numbered from 1 in each phase, and all are acknowledged; the group is up to date, was
+-- refreshed twice, and was saved after that; there is a note of each worker. Otherwise there is a cause. The passes
+-- counted each stopped worker, up to 2^64 - 1.
+pub record IsDrilled (number tags events stops_before stops_now : ℕ) (answer : Result (String Global) Status) (s : Session)
+    : Type 0 where
   pub base : Base
   pub devices : DeviceTraces
   pub base_is : IsDrillBase tags base
   pub tags_are : AllZip (λ def t. IsTagSound t (tag_trace_of devices def)) base.tags.items s.tags.items
-  pub groups : AreGroupsSound base.groups.items devices s.groups.items
+  pub groups : AreGroupsSound base devices s
+  pub opened_as : (IsOfOpening answer → ⊥) → AreUnitsOpened base fresh_devices s
   pub new : (IsOfOpening answer → ⊥) → AreNew base s
+  pub begun : (AdmitsForeign answer → ⊥) → IsBegun (phase_item 0) (drill_rows_of number tags 0 (events / 2)) [] s
+      ⊎ IsBegun (phase_item (events / 2)) (drill_rows_of number tags 0 events) [] s
   pub done : IfOk answer (λ text. IsDoneSo (phase_item (events / 2)) (λ group. 1) base (drill_rows_of number tags 0 events) [] s
       (string_bytes text))
+  pub first : Work
+  pub second : Work
+  pub first_is : IsPlannedWork 0 (drill_rows_of number tags 0 (events / 2)) [] [] first
+  pub second_is : IsPlannedWork (events / 2) (drill_rows_of number tags 0 events) [] [] second
+  pub cause : IfErr answer (IsDrillCause number tags events base first s)
+  pub notes : AreNotesOfBoth first second stops_before stops_now s.workers.items
+  pub ran : OnOk answer (AreNotesOfAllBoth first second s.workers.items)
+  pub no_log : s.log ≡ None
 
 -- ---- no session
 

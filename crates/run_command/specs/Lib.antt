@@ -1,6 +1,8 @@
 pub mod Endings
 pub mod Refusals
 pub mod Rooms
+pub mod Units
+pub mod Causes
 pub mod Headline
 pub mod Runs
 pub mod Sessions

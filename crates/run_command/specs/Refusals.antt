@@ -17,7 +17,7 @@ use Rattle.session_audit.specs.Starting.{AreUnfound}
 use Rattle.session_audit.specs.Workers.{AreOver}
 use Rattle.group_book.specs.Told.{ToldBook as Book}
 use Rattle.session_audit.specs.declared.book_opening.KeptGroup.{KeptGroup}
-use Rattle.session_audit.specs.BookOpenings.{IsGroupMismatch}
+use Rattle.session_audit.specs.BookOpenings.{IsBookMismatch}
 use Rattle.session_audit.specs.Pulls.{IsPullMismatch}
 use Rattle.session_audit.specs.Refreshing.{durable_lists}
 use Rattle.session_audit.specs.BookRefusals.{IsRefreshRefusal}
@@ -25,7 +25,7 @@ use Rattle.session_audit.specs.GroupTurns.{IsTurnsMismatch}
 use Rattle.run_command.specs.declared.work.Given.{Given}
 use Rattle.run_command.specs.Endings.{HaveAllEnded, IsStop}
 use Rattle.run_command.specs.Steps.{AreStepsMade, AreTapesMade}
-use Rattle.session_audit.specs.CellOpenings.{IsCellAsKept, IsTagMismatch}
+use Rattle.session_audit.specs.CellOpenings.{IsCellAsKept, IsCellMismatch}
 use Rattle.session_audit.specs.Openings.{AreAsKept}
 
 -- the tapes differ from what the workers have to do: a take is not its collector's next row there, a question is not
@@ -95,6 +95,6 @@ notes_of (Err why) = []
 -- the opening of a tag or of a group differs from its copy; or one of the refusals above holds, or no worker began
 pub data IsSettlingRefusal {D : Type 0} (g : Given) (notes : List WorkerNote) (known : List Kept) (known_groups : List KeptGroup)
     (cells : List (Cell D)) (books : List (Book D)) (s : Status) : Type 0 where
-  OfTag : IsTagMismatch cells known s → IsSettlingRefusal g notes known known_groups cells books s
-  OfGroup : AreAsKept IsCellAsKept cells known → IsGroupMismatch books known_groups s → IsSettlingRefusal g notes known known_groups cells books s
+  OfTag : IsCellMismatch cells known s → IsSettlingRefusal g notes known known_groups cells books s
+  OfGroup : AreAsKept IsCellAsKept cells known → IsBookMismatch books known_groups s → IsSettlingRefusal g notes known known_groups cells books s
   OfRest : IsRefused g notes cells books s → IsSettlingRefusal g notes known known_groups cells books s

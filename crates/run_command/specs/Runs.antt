@@ -14,7 +14,7 @@ use Rattle.plant_status.specs.declared.status.Status.{Status}
 use Rattle.plant_status.specs.declared.file.FileId.{FileId}
 use Rattle.plant_status.specs.declared.status.Status.TheVariants.{ReadFault, WantOfMemory}
 use Rattle.plant_files.specs.RowFiles.{ToldFiles}
-use Rattle.plant_files.specs.PlanRows.{IsGoodBase, IsPlanned, IsPlanningRefusal}
+use Rattle.plant_files.specs.PlanRows.{IsPlanned, IsPlanningRefusal}
 use Rattle.calc_refresh.specs.Lists.{lists_of}
 use Rattle.tag_cell.specs.Told.{ToldCell as Cell}
 use Rattle.group_book.specs.declared.history.GroupHistory.{GroupHistory}
@@ -38,8 +38,8 @@ use Rattle.session_audit.specs.CellOpenings.{IsCellCopied}
 use Rattle.session_audit.specs.BookOpenings.{IsBookCopied}
 use Rattle.run_command.specs.Endings.{HaveAllEnded}
 use Rattle.run_command.specs.Refusals.{AdmitsForeign, IsOfOpening, IsSettlingRefusal}
-use Rattle.run_command.specs.Sessions.{AreNotes, AreNotesOfAll}
-use Rattle.run_command.specs.Steps.{AreBegun, AreGivenFor, AreStepsMade, planned_turn, turn_of}
+use Rattle.run_command.specs.Sessions.{AreNotes, AreNotesOfAll, IsPlannedWork}
+use Rattle.run_command.specs.Steps.{AreBegun, AreGivenFor, AreStepsMade}
 
 -- no device has changed
 abbrev pub AreDevicesUntouched : DeviceTraces → DeviceTraces → Type 0
@@ -79,17 +79,10 @@ pub data IsUnheld (name plan_name : List ℕ) (told : ToldFiles) (old new : Devi
 -- turns. So many phases came before, in which each collector took so many of its rows.
 pub record IsWorkIn (base : Base) (earlier phases : ℕ) (rows : List (List RawRow)) (queries : List (List Query))
     (refreshers : List Refresher) (g : Given) : Type 0 where
-  pub earlier_is : g.work.earlier ≡ earlier
+  pub its : IsPlannedWork earlier rows queries refreshers g.work
   pub phases_are : g.phases ≡ phases
-  pub collectors : lists_of g.work.collectors.items ≡ rows
-  pub readers : lists_of g.work.readers.items ≡ queries
-  pub turns : map turn_of g.work.refreshers.items ≡ map planned_turn refreshers
   pub inputs : lists_of g.inputs.items ≡ map (λ d. d.inputs.items) base.groups.items
   pub sized : AreGivenFor (length base.tags.items) (length base.groups.items) g
-
--- the work of a plan, which has one phase
-abbrev pub IsGivenOf : Base → Plan → List (List RawRow) → List (List Query) → Given → Type 0
-IsGivenOf base plan rows queries g = IsWorkIn base 0 0 rows queries plan.refreshers.items g
 
 -- the devices of a base's tags and groups were opened as these cells and books; all tags together had not too many
 -- records
@@ -198,21 +191,7 @@ pub record IsSessionHeld {D : Type 0} (trace : D → Option Trace) (ticks faults
 pub record IsRun {D : Type 0} (trace : D → Option Trace) (ticks faults : D → ℕ) (base : Base) (g : Given) (old new : DeviceTraces)
     (before now : ℕ) (stops_before stops_now : ℕ) (answer : Result (String Global) Status) (s : Session) : Type 0 where
   pub held : IsSessionHeld trace ticks faults base g old new before now answer s
-  pub notes : AreNotes D g.work stops_before stops_now s.workers.items
-  pub ran : (AdmitsForeign answer → ⊥) → AreNotesOfAll D g.work s.workers.items
+  pub notes : AreNotes g.work stops_before stops_now s.workers.items
+  pub ran : (AdmitsForeign answer → ⊥) → AreNotesOfAll g.work s.workers.items
   pub begun : (AdmitsForeign answer → ⊥) → AreBegun g held.cells held.books
   pub undone : IfErr answer (IsUndone g held.opened held.opened_books held.cells held.books s.workers.items)
-
--- a session of the plan in a file over the base in another, and what came of it
-pub record IsSession {D : Type 0} (trace : D → Option Trace) (ticks faults : D → ℕ) (name plan_name : List ℕ) (told : ToldFiles)
-    (old new : DeviceTraces) (before now : ℕ) (stops_before stops_now : ℕ) (answer : Result (String Global) Status) (s : Session)
-    : Type 0 where
-  pub base : Base
-  pub plan : Plan
-  pub rows : List (List RawRow)
-  pub queries : List (List Query)
-  pub given : Given
-  pub good : IsGoodBase base
-  pub planned : IsPlanned name plan_name told base plan rows queries
-  pub work : IsGivenOf base plan rows queries given
-  pub run : IsRun trace ticks faults base given old new before now stops_before stops_now answer s

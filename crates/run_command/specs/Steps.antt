@@ -15,9 +15,7 @@ use Rattle.session_audit.specs.Refreshing.{AreBooksRefreshed, durable_lists}
 use Rattle.session_audit.specs.GroupTapes.{row_ask_of}
 use Rattle.session_audit.specs.GroupTurns.{IsWithinTurns, turns_for}
 use Rattle.calc_refresh.specs.Lists.{lists_of}
-use Rattle.collector_pool.specs.declared.work.Refresh.{Refresh}
 use Rattle.collector_pool.specs.Work.{IsWorkOf}
-use Rattle.tag_base.specs.declared.schedule.Refresher.{Refresher}
 use Rattle.run_command.specs.declared.work.Given.{Given}
 use Rattle.run_command.specs.Rooms.{AreRoomy}
 
@@ -100,10 +98,3 @@ pub record AreInputsFor (many : ℕ) (inputs : List (List ℕ)) (known : List Ke
   pub as_many : length inputs ≡ length known
   pub each : (group : ℕ) (k : KeptGroup) → group < length known
       → IsInputsFor many (slice_index_or inputs group []) (slice_index_or known group k)
-
--- the group of a refresher and its turns, in a session and in a plan
-abbrev pub turn_of : Refresh → ℕ × ℕ
-turn_of r = (r.group, r.turns)
-
-abbrev pub planned_turn : Refresher → ℕ × ℕ
-planned_turn r = (r.group, r.turns)

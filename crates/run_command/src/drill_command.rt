@@ -5,7 +5,7 @@ ghost use Rattle.plant_store.specs.Groups.{DeviceTraces};
 ghost use Rattle.plant_store.specs.Openings.{AreRestSame};
 ghost use Rattle.plant_store.specs.Shelves.{HasPlacesOf, IsShelfFor};
 ghost use Rattle.run_command.specs.DrillRows.{drill_rows_of};
-ghost use Rattle.run_command.specs.Drills.{IsDrill, IsDrillBase, IsDrillUnopened, IsDrilled, IsRunInPhases, drill_answer, drill_status, fresh_devices, memory_faults, memory_ticks, memory_trace};
+ghost use Rattle.run_command.specs.Drills.{IsDrillBase, IsDrillUnopened, IsDrilled, IsRunInPhases, drill_answer, drill_status, fresh_devices, memory_faults, memory_ticks, memory_trace};
 ghost use Rattle.run_command.specs.Rooms.{AreAtMost, AreRoomy};
 ghost use Rattle.run_command.specs.Runs.{AreDefined, AreUnitsOpen, IsWorkIn};
 ghost use Rattle.run_command.specs.Steps.{AreGivenFor};
@@ -45,8 +45,7 @@ pub fn drill<P: Passes, R: Threads + Wait + Sync>(
     requires some { 1 ≤ tags }
     requires few { tags ≤ 64 }
     ensures held { OnOk result.answer (IsSome result.session) }
-    ensures session { IfSome result.session (IsDrill number tags events (P.stops passes.old) (P.stops passes.new) result.answer) }
-    ensures drilled { IfSome result.session (IsDrilled number tags events result.answer) }
+    ensures drilled { IfSome result.session (IsDrilled number tags events (P.stops passes.old) (P.stops passes.new) result.answer) }
     ensures unheld { result.session ≡ None → IfErr result.answer (λ why. why ≡ Status.WantOfMemory) }
     ensures unstopped { result.session ≡ None → P.stops passes.new ≡ P.stops passes.old }
     ensures understood { IfErr result.answer (λ why. why ≢ Status.BadWords) }

@@ -48,10 +48,10 @@ pub(crate) fn hold_both<D: Disk + Send, P: Passes, R: Threads + Wait + Sync>(
     requires no_more_readers { second.now.work.readers.items ≡ [] }
     ensures cells { vec_len result.cells ≡ vec_len cells }
     ensures books { vec_len result.books ≡ vec_len books }
-    ensures notes { AreNotesOfBoth D first.now.work second.now.work (P.stops passes.old) (P.stops passes.new) result.notes.items }
+    ensures notes { AreNotesOfBoth first.now.work second.now.work (P.stops passes.old) (P.stops passes.new) result.notes.items }
 
     // If all is done.
-    ensures ran { OnOk result.answer (AreNotesOfAllBoth D first.now.work second.now.work result.notes.items) }
+    ensures ran { OnOk result.answer (AreNotesOfAllBoth first.now.work second.now.work result.notes.items) }
     ensures ended { OnOk result.answer (HaveAllEnded result.notes.items) }
     ensures made { OnOk result.answer (AreStepsMade second.now result.cells.items result.books.items) }
     ensures pulled { OnOk result.answer (ArePulled (lists_of second.now.inputs.items) result.cells.items result.books.items) }
@@ -114,11 +114,11 @@ fn go_on<D: Disk + Send, P: Passes, R: Threads + Wait + Sync>(
     requires board { vec_len cells ≤ length board.now }
     requires no_readers { second.now.work.readers.items ≡ [] }
     requires ended { HaveAllEnded notes.items }
-    ensures ran { OnOk result.answer (AreNotesOfAllBehind D second.now.work notes.items result.notes.items) }
+    ensures ran { OnOk result.answer (AreNotesOfAllBehind second.now.work notes.items result.notes.items) }
     ensures begun { (AdmitsForeign result.answer → ⊥) → AreBegun second.now result.cells.items result.books.items }
     ensures cells { vec_len result.cells ≡ vec_len cells }
     ensures books { vec_len result.books ≡ vec_len books }
-    ensures notes { AreNotesBehind D second.now.work (P.stops passes.old) (P.stops passes.new) notes.items result.notes.items }
+    ensures notes { AreNotesBehind second.now.work (P.stops passes.old) (P.stops passes.new) notes.items result.notes.items }
     ensures ended { OnOk result.answer (HaveAllEnded result.notes.items) }
     ensures made { OnOk result.answer (AreStepsMade second.now result.cells.items result.books.items) }
     ensures pulled { OnOk result.answer (ArePulled (lists_of second.now.inputs.items) result.cells.items result.books.items) }

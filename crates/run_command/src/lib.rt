@@ -21,9 +21,8 @@
 //! each phase the session commits all values and refreshes the group once. The same numbers make the same plant and the
 //! same report each time.
 //!
-//! **Promise.** `IsSession` says what a session of files comes to. `IsPromised` says what a user may rely on, and
-//! `IsUnheld` why no session was held. `IsDrill` and `IsDrilled` say the same of a drill. Any call may report want of
-//! memory.
+//! **Promise.** `IsPromised` says what a user may rely on, and why a session has no report (`IsSessionCause`). `IsUnheld`
+//! says why no session was held, and `IsDrilled` what a drill promises. Any call may report want of memory.
 #![tactic(auto)]
 
 mod close;

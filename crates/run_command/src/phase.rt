@@ -54,7 +54,7 @@ pub(crate) fn hold_phase<D: Disk + Send, P: Passes, R: Threads + Wait + Sync>(
     requires looks { All (LooksAt board.now) lookers.items }
     ensures cells { vec_len result.cells ≡ vec_len cells }
     ensures books { vec_len result.books ≡ vec_len books }
-    ensures notes { AreNotes D given.now.work (P.stops passes.old) (P.stops passes.new) result.notes.items }
+    ensures notes { AreNotes given.now.work (P.stops passes.old) (P.stops passes.new) result.notes.items }
 
     // If all is done.
     ensures ended { OnOk result.answer (HaveAllEnded result.notes.items) }
@@ -66,7 +66,7 @@ pub(crate) fn hold_phase<D: Disk + Send, P: Passes, R: Threads + Wait + Sync>(
     ensures same_books { (IsOfOpening result.answer → ⊥) → AllZip IsContinuedGroup books.items result.books.items }
 
     // Unless the answer admits a take or a question of no file.
-    ensures ran { (AdmitsForeign result.answer → ⊥) → AreNotesOfAll D given.now.work result.notes.items }
+    ensures ran { (AdmitsForeign result.answer → ⊥) → AreNotesOfAll given.now.work result.notes.items }
     ensures begun { (AdmitsForeign result.answer → ⊥) → AreBegun given.now result.cells.items result.books.items }
 
     // If not all is done, why.
@@ -130,8 +130,8 @@ pub(crate) fn hold<D: Disk + Send, P: Passes, R: Threads + Wait + Sync>(
     requires room { HasRoomFor (vec_len cells) (vec_len books) ready.room }
     ensures cells { vec_len result.cells ≡ vec_len cells }
     ensures books { vec_len result.books ≡ vec_len books }
-    ensures notes { AreNotes D given.now.work (P.stops passes.old) (P.stops passes.new) result.notes.items }
-    ensures ran { (AdmitsForeign result.answer → ⊥) → AreNotesOfAll D given.now.work result.notes.items }
+    ensures notes { AreNotes given.now.work (P.stops passes.old) (P.stops passes.new) result.notes.items }
+    ensures ran { (AdmitsForeign result.answer → ⊥) → AreNotesOfAll given.now.work result.notes.items }
     ensures ended { OnOk result.answer (HaveAllEnded result.notes.items) }
     ensures made { OnOk result.answer (AreStepsMade given.now result.cells.items result.books.items) }
     ensures pulled { OnOk result.answer (ArePulled (lists_of given.now.inputs.items) result.cells.items result.books.items) }
@@ -316,7 +316,7 @@ pub(crate) fn run_workers<D: Disk + Send, P: Passes, R: Threads + Wait + Sync>(
     requires room { HasRoomFor (vec_len cells) (vec_len books) room }
     ensures cells { vec_len result.cells ≡ vec_len cells }
     ensures books { vec_len result.books ≡ vec_len books }
-    ensures notes { IfOk result.notes (λ notes. AreNotesOf D (λ group no. ⊤) work.now notes.items) }
+    ensures notes { IfOk result.notes (λ notes. AreNotesOf (λ group no. ⊤) work.now notes.items) }
     ensures stops { IfOk result.notes (λ notes. P.stops passes.new ≡ stops_with (P.stops passes.old) notes.items) }
     ensures unbegun { OnErr result.notes (P.stops passes.new ≡ P.stops passes.old) }
 {
@@ -367,7 +367,7 @@ fn work_over<D: Disk + Send, P: Passes, R: Threads + Wait + Sync>(
     requires board { length cells.now ≤ length board.now }
     requires lookers { vec_len lookers ≡ vec_len work.now.readers }
     requires looks { All (LooksAt board.now) lookers.items }
-    ensures notes { IfOk result (λ notes. AreNotesOf D (λ group no. ⊤) work.now notes.items) }
+    ensures notes { IfOk result (λ notes. AreNotesOf (λ group no. ⊤) work.now notes.items) }
     ensures stops { IfOk result (λ notes. P.stops passes.new ≡ stops_with (P.stops passes.old) notes.items) }
     ensures unbegun { OnErr result (P.stops passes.new ≡ P.stops passes.old) }
 {

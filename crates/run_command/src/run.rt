@@ -9,7 +9,7 @@ ghost use Rattle.plant_store.specs.Openings.{AreRestSame, CountsPlant};
 ghost use Rattle.plant_store.specs.Shelves.{HasPlacesOf, IsShelfFor};
 ghost use Rattle.run_command.specs.Headline.{IsPromised};
 ghost use Rattle.run_command.specs.Rooms.{AreRoomy};
-ghost use Rattle.run_command.specs.Runs.{AreDefined, IsNoReadFault, AreUnitsOpen, IsRun, IsSession, IsUnheld, IsUnopened};
+ghost use Rattle.run_command.specs.Runs.{AreDefined, IsNoReadFault, AreUnitsOpen, IsRun, IsUnheld, IsUnopened};
 ghost use Rattle.run_command.specs.Steps.{AreGivenFor};
 ghost use Rattle.snapshot_table.specs.Boards.{LooksAt};
 ghost use Rattle.std.specs.Arc.{arc_value};
@@ -65,11 +65,9 @@ pub fn run_plan<F: Files, S: Store, P: Passes, R: Threads + Wait + Sync>(
     plan_name: &str,
 ) -> Ran
     ensures held { OnOk result.answer (IsSome result.session) }
-    ensures session { IfSome result.session (IsSession S.Dev.trace S.Dev.ticks S.Dev.fault_count name.now plan_name.now
-        (F.told files.old) (S.device_at store.old) (S.device_at store.new) (S.fault_count store.old) (S.fault_count store.new)
-        (P.stops passes.old) (P.stops passes.new) result.answer) }
     ensures promised { IfSome result.session (IsPromised name.now plan_name.now (F.told files.old) (S.device_at store.old)
-        (S.device_at store.new) (S.fault_count store.old) (S.fault_count store.new) result.answer) }
+        (S.device_at store.new) (S.fault_count store.old) (S.fault_count store.new) (P.stops passes.old) (P.stops passes.new)
+        result.answer) }
     ensures unheld { result.session ≡ None → IfErr result.answer (IsUnheld name.now plan_name.now (F.told files.old)
         (S.device_at store.old) (S.device_at store.new) (S.fault_count store.old) (S.fault_count store.new)) }
     ensures unstopped { result.session ≡ None → P.stops passes.new ≡ P.stops passes.old }
@@ -101,11 +99,10 @@ fn run_read<S: Store, P: Passes, R: Threads + Wait + Sync>(
 ) -> Ran
     requires base { IsGoodBase read.base }
     ensures held { OnOk result.answer (IsSome result.session) }
-    ensures session { (name plan_name : List ℕ) (told : ToldFiles) → IsPlanned name plan_name told read.base read.plan
+    ensures promised { (name plan_name : List ℕ) (told : ToldFiles) → IsPlanned name plan_name told read.base read.plan
         (map (λ list. list.items) read.rows.items) (map (λ list. list.items) read.queries.items)
-        → IfSome result.session (IsSession S.Dev.trace S.Dev.ticks S.Dev.fault_count name plan_name
-        told (S.device_at store.old) (S.device_at store.new) (S.fault_count store.old) (S.fault_count store.new)
-        (P.stops passes.old) (P.stops passes.new) result.answer) }
+        → IfSome result.session (IsPromised name plan_name told (S.device_at store.old) (S.device_at store.new)
+        (S.fault_count store.old) (S.fault_count store.new) (P.stops passes.old) (P.stops passes.new) result.answer) }
     ensures unheld { (name plan_name : List ℕ) (told : ToldFiles) → IsPlanned name plan_name told read.base read.plan
         (map (λ list. list.items) read.rows.items) (map (λ list. list.items) read.queries.items)
         → result.session ≡ None → IfErr result.answer (IsUnheld name plan_name told

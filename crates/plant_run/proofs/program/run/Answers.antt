@@ -1,4 +1,4 @@
-use Rattle.std.proofs.Common.{◌≡◌, refl, sym, ap, ◌∙◌}
+use Rattle.std.proofs.Common.{◌≡◌, Ok, Err, String, Global, string_bytes, refl, sym, ap, ◌∙◌}
 use Rattle.byte_io.specs.Files.{IsFaultOf}
 use Rattle.plant_status.specs.declared.file.FileId.{FileId}
 use Rattle.plant_status.specs.declared.status.Status.TheVariants.{Done, ReadFault, WriteFault}
@@ -11,6 +11,9 @@ use Rattle.store_commands.specs.FrameCommands.{IsFrames, IsFramesRefusal}
 use Rattle.plant_files.proofs.Printing.{answered_so, done_so, ended_so}
 use Rattle.plant_more.proofs.Told.{counts_so, faults_so}
 use Rattle.plant_run.proofs.Refusals.{check_no_fault, check_not_done, check_rose, trend_no_fault, trend_not_done, trend_rose, frames_no_fault, frames_not_done, frames_rose}
+use Rattle.plant_run.specs.Run.{world}
+use Rattle.plant_run.specs.Sessions.{IsDrillEnd, IsRunEnd}
+use Rattle.plant_run.proofs.Sessions.{end_no_done, end_no_fault, of_refusal, of_text, run_no_done, run_no_fault}
 use Rattle.plant_run.proofs.program.run.Goals as goal
 
 pub returns-in-Pack-clause-comes : goal.returns-in-Pack-clause-comes
@@ -146,12 +149,22 @@ returns-in-Frames-clause-comes g c =
 
 pub returns-in-Run-clause-comes : goal.returns-in-Run-clause-comes
 returns-in-Run-clause-comes g c =
+    let base = c.in-Run.base.now in
+    let plan = c.in-Run.plan.now in
     let its = c.run_plan.ensures in
     let same = c.reported.ensures.session in
-    rw (sym c.form_of.ensures.form ∙ ap asked c.in-Run.is) (record {
-      answer = c.run_plan.result.answer;
+    let answer = c.run_plan.result.answer in
+    let session = c.reported.result.session in
+    let input = g.I.Source.meaning c.args.input.now in
+    let before = world input (g.O.Sink.meaning c.args.out.now) (g.F.Files.told c.args.files.now) (g.F.Files.fault_count c.args.files.now)
+    (g.F.Files.failed_name c.args.files.now) (g.S.Store.device_at c.args.store.now) (g.S.Store.fault_count c.args.store.now) in
+    let now = world input (g.O.Sink.meaning c.reported.new.out) (g.F.Files.told c.run_plan.new.files)
+    (g.F.Files.fault_count c.run_plan.new.files) (g.F.Files.failed_name c.run_plan.new.files) (g.S.Store.device_at c.run_plan.new.store)
+    (g.S.Store.fault_count c.run_plan.new.store) in
+    let stops_before = g.P.Passes.stops c.args.passes.now in
+    let stops_now = g.P.Passes.stops c.run_plan.new.passes in
+    let ended : IsRunEnd base plan before now stops_before stops_now session answer = record {
       held = rw same its.held;
-      session = rw same its.session;
       promised = rw same its.promised;
       unheld = rw same its.unheld;
       file_faults = rw same its.file_faults;
@@ -159,9 +172,13 @@ returns-in-Run-clause-comes g c =
       unstopped = rw same its.unstopped;
       counts = rw same its.counts;
       whose = rw same its.whose;
-      printed = c.reported.ensures.text;
-      refused = c.reported.ensures.refused;
-      understood = c.reported.ensures.known its.understood;
+    } in
+    let Ends = IsRunEnd base plan before now stops_before stops_now session in
+    rw (sym c.form_of.ensures.form ∙ ap asked c.in-Run.is) (record {
+      ends = answered_so (λ text. (report : String Global) × (text ≡ string_bytes report) × Ends (Ok report)) (λ why. Ends (Err why))
+          before.scene.output now.scene.output answer c.reported.result.status (of_text Ends answer ended) (of_refusal Ends answer ended)
+          (run_no_done base plan before now stops_before stops_now session) (run_no_fault base plan before now stops_before stops_now session)
+          c.reported.ensures.text c.reported.ensures.refused;
       input = refl;
     })
 
@@ -186,16 +203,26 @@ pub returns-in-Drill-clause-comes : goal.returns-in-Drill-clause-comes
 returns-in-Drill-clause-comes g c =
     let its = c.drill.ensures in
     let same = c.reported-in-Drill.ensures.session in
-    rw (sym c.form_of.ensures.form ∙ ap asked c.in-Drill.is) (record {
-      answer = c.drill.result.answer;
+    let answer = c.drill.result.answer in
+    let session = c.reported-in-Drill.result.session in
+    let stops_before = g.P.Passes.stops c.args.passes.now in
+    let stops_now = g.P.Passes.stops c.drill.new.passes in
+    let number = c.in-Drill.number in
+    let tags = c.in-Drill.tags in
+    let events = c.in-Drill.events in
+    let ended : IsDrillEnd number tags events stops_before stops_now session answer = record {
       held = rw same its.held;
-      session = rw same its.session;
       drilled = rw same its.drilled;
       unheld = rw same its.unheld;
       unstopped = rw same its.unstopped;
-      printed = c.reported-in-Drill.ensures.text;
-      refused = c.reported-in-Drill.ensures.refused;
-      understood = c.reported-in-Drill.ensures.known its.understood;
+    } in
+    let Ends = IsDrillEnd number tags events stops_before stops_now session in
+    rw (sym c.form_of.ensures.form ∙ ap asked c.in-Drill.is) (record {
+      ends = answered_so (λ text. (report : String Global) × (text ≡ string_bytes report) × Ends (Ok report)) (λ why. Ends (Err why))
+          (g.O.Sink.meaning c.args.out.now) (g.O.Sink.meaning c.reported-in-Drill.new.out) answer c.reported-in-Drill.result.status
+          (of_text Ends answer ended) (of_refusal Ends answer ended) (end_no_done number tags events stops_before stops_now session)
+          (end_no_fault number tags events stops_before stops_now session) c.reported-in-Drill.ensures.text
+          c.reported-in-Drill.ensures.refused;
       input = refl;
       rest = refl;
     })

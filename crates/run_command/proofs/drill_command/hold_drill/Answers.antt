@@ -28,10 +28,10 @@ returns g c old before was rest same =
     _ s (held_told g.S.Dev.Disk.trace g.S.Dev.Disk.ticks g.S.Dev.Disk.fault_count base second old _ before _ _ _ _ ended _ s was
     (closed.over old rest) same closed.counts end.same_cells end.same_books
     (subst (λ (v : Vec WorkerNote Global). OnOk ended.answer (HaveAllEnded v.items)) (sym closed.notes) end.ended) end.made end.pulled closed.told)
-    (subst (λ (v : Vec WorkerNote Global). AreNotesOfBoth g.row.S-Dev.Denot first.work second.work (g.P.Passes.stops c.args.passes.now)
+    (subst (λ (v : Vec WorkerNote Global). AreNotesOfBoth first.work second.work (g.P.Passes.stops c.args.passes.now)
     (g.P.Passes.stops c.hold_both-ended.new.passes) v.items) (sym closed.notes) end.notes)
-    (ran_told (AreNotesOfAllBoth g.row.S-Dev.Denot first.work second.work s.workers.items) base second s ended.answer _ closed.told
-    (subst (λ (v : Vec WorkerNote Global). OnOk ended.answer (AreNotesOfAllBoth g.row.S-Dev.Denot first.work second.work v.items)) (sym closed.notes) end.ran))
+    (ran_told (AreNotesOfAllBoth first.work second.work s.workers.items) base second s ended.answer _ closed.told
+    (subst (λ (v : Vec WorkerNote Global). OnOk ended.answer (AreNotesOfAllBoth first.work second.work v.items)) (sym closed.notes) end.ran))
     (λ none. end.begun (λ of. none (foreign_told base second s ended.answer _ closed.told of)))
     (both_told base first second s _ _ ended.cells.items ended.books.items s.workers.items ended.answer _ closed.told
     (subst (λ (v : Vec WorkerNote Global). IfErr ended.answer (IsUndoneOfBoth first second c.args.plant.cells.items c.args.plant.books.items

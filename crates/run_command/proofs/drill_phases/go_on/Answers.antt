@@ -40,7 +40,7 @@ join-requires g c = record {
     c.len.ensures,
     c.len-2.ensures,
     ap length c.requires.no_readers,
-    few_notes g.row.D.Denot c.args.second.now.work _ _ c.hold_phase-cells.result.notes.items c.hold_phase-cells.ensures.notes,
+    few_notes c.args.second.now.work _ _ c.hold_phase-cells.result.notes.items c.hold_phase-cells.ensures.notes,
     c.hold_phase-cells.result.notes.ok,
     c.args.second.now.work.collectors.ok,
     c.args.second.now.work.refreshers.ok,
@@ -70,5 +70,5 @@ returns-clause-ran g c = ok_weaker c.hold_phase-cells.result.answer
       behind = c.join.ensures ∙ ap (λ (l : List WorkerNote). l ++ c.hold_phase-cells.result.notes.items) c.reserve.ensures.items;
       are = are;
     })
-    (at_text (AreNotesOfAll g.row.D.Denot c.args.second.now.work c.hold_phase-cells.result.notes.items) c.hold_phase-cells.result.answer
+    (at_text (AreNotesOfAll c.args.second.now.work c.hold_phase-cells.result.notes.items) c.hold_phase-cells.result.answer
     c.hold_phase-cells.ensures.ran)

@@ -8,6 +8,7 @@ use Rattle.run_command.specs.Runs.{IsUndone}
 use Rattle.run_command.specs.Sessions.{OfNone}
 use Rattle.run_command.specs.Steps.{AreStepsMade}
 use Rattle.run_command.proofs.Continued.{books_on, cells_on, inputs_continued}
+use Rattle.run_command.proofs.DrillUndone.{all_or_none}
 use Rattle.run_command.proofs.Results.{err_weaker, ok_weaker}
 use Rattle.run_command.proofs.Roomy.{fewer_roomy, on_roomy}
 use Rattle.run_command.specs.DrillPhases.{OfFirst, OfSecond}
@@ -44,6 +45,7 @@ pub returns-in-Ok-clause-undone : goal.returns-in-Ok-clause-undone
 returns-in-Ok-clause-undone g c = err_weaker c.go_on.result.answer
     (λ why is. OfSecond c.hold_phase-cells.result.cells.items c.hold_phase-cells.result.books.items
     c.hold_phase-cells.result.notes.items
+    (c.hold_phase-cells.ensures.ran (λ of. subst (λ (r : Result (Unit {0}) Status). AdmitsForeign r) c.in-Ok.is of))
     (subst (λ (r : Result (Unit {0}) Status). OnOk r (HaveAllEnded c.hold_phase-cells.result.notes.items)) c.in-Ok.is c.hold_phase-cells.ensures.ended)
     (c.hold_phase-cells.ensures.same_cells (λ of. subst (λ (r : Result (Unit {0}) Status). IsOfOpening r) c.in-Ok.is of))
     (c.hold_phase-cells.ensures.same_books (λ of. subst (λ (r : Result (Unit {0}) Status). IsOfOpening r) c.in-Ok.is of))
@@ -74,7 +76,7 @@ returns-in-Err-clause-same_books g c = λ none. c.hold_phase-cells.ensures.same_
 
 pub returns-in-Err-clause-undone : goal.returns-in-Err-clause-undone
 returns-in-Err-clause-undone g c =
-    OfFirst (subst (λ (r : Result (Unit {0}) Status). IfErr r (IsUndone c.args.first.now c.args.cells.items c.args.books.items
+    OfFirst (all_or_none c.args.first.now.work _ _ c.hold_phase-cells.result.notes.items c.hold_phase-cells.ensures.notes) (subst (λ (r : Result (Unit {0}) Status). IfErr r (IsUndone c.args.first.now c.args.cells.items c.args.books.items
     c.hold_phase-cells.result.cells.items c.hold_phase-cells.result.books.items c.hold_phase-cells.result.notes.items)) c.in-Err.is
     c.hold_phase-cells.ensures.undone)
 

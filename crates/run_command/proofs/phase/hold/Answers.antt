@@ -15,9 +15,9 @@ use Rattle.run_command.proofs.phase.hold.Goals as goal
 
 pub returns-clause-notes : goal.returns-clause-notes
 returns-clause-notes g c =
-    subst (λ (l : List WorkerNote). AreNotes g.row.D.Denot c.args.given.now.work (g.P.Passes.stops c.args.passes.now)
+    subst (λ (l : List WorkerNote). AreNotes c.args.given.now.work (g.P.Passes.stops c.args.passes.now)
     (g.P.Passes.stops c.run_workers-cells.new.passes) l) (sym c.notes_in.ensures)
-    (notes_are g.row.D.Denot c.args.given.now.work _ _ c.run_workers-cells.result.notes c.run_workers-cells.ensures.notes
+    (notes_are c.args.given.now.work _ _ c.run_workers-cells.result.notes c.run_workers-cells.ensures.notes
     c.run_workers-cells.ensures.stops c.run_workers-cells.ensures.unbegun)
 
 pub returns-clause-known : goal.returns-clause-known
@@ -45,8 +45,8 @@ returns-clause-refused g c =
 
 pub returns-clause-ran : goal.returns-clause-ran
 returns-clause-ran g c = λ none.
-    subst (λ (l : List WorkerNote). AreNotesOfAll g.row.D.Denot c.args.given.now.work l) (sym c.notes_in.ensures)
-    (ran_all g.row.D.Denot c.args.given.now.work c.run_workers-cells.result.notes c.run_workers-cells.ensures.notes
+    subst (λ (l : List WorkerNote). AreNotesOfAll c.args.given.now.work l) (sym c.notes_in.ensures)
+    (ran_all c.args.given.now.work c.run_workers-cells.result.notes c.run_workers-cells.ensures.notes
     (c.settle_all-answer.ensures.ran none))
 
 pub returns-clause-ended : goal.returns-clause-ended

@@ -29,9 +29,9 @@ returns g c old before was rest same =
       held = held_told g.S.Dev.Disk.trace g.S.Dev.Disk.ticks g.S.Dev.Disk.fault_count c.args.base.now given old _ before _ _ _ _ ended _ s
           was (closed.over old rest) same closed.counts end.same_cells end.same_books
           (subst (λ (v : Vec WorkerNote Global). OnOk ended.answer (HaveAllEnded v.items)) (sym closed.notes) end.ended) end.made end.pulled closed.told;
-      notes = subst (λ (v : Vec WorkerNote Global). AreNotes g.row.S-Dev.Denot given.work (g.P.Passes.stops c.args.passes.now)
+      notes = subst (λ (v : Vec WorkerNote Global). AreNotes given.work (g.P.Passes.stops c.args.passes.now)
           (g.P.Passes.stops c.hold_phase-ended.new.passes) v.items) (sym closed.notes) end.notes;
-      ran = λ none. subst (λ (v : Vec WorkerNote Global). AreNotesOfAll g.row.S-Dev.Denot given.work v.items) (sym closed.notes)
+      ran = λ none. subst (λ (v : Vec WorkerNote Global). AreNotesOfAll given.work v.items) (sym closed.notes)
           (end.ran (λ of. none (foreign_told c.args.base.now given s ended.answer _ closed.told of)));
       begun = λ none. end.begun (λ of. none (foreign_told c.args.base.now given s ended.answer _ closed.told of));
       undone = undone_told c.args.base.now given s ended.cells.items ended.books.items _ _ s.workers.items ended.answer _ closed.told

@@ -1,16 +1,13 @@
 use Rattle.std.proofs.Common.{◌∙◌, Result, String, ap, inl, refl, subst, sym}
-use Rattle.std.specs.Prelude.{◌≢◌, IfErr}
+use Rattle.std.specs.Prelude.{IfErr}
 use Rattle.std.specs.declared.alloc.Global.{Global}
 use Rattle.plant_status.specs.declared.status.Status.{Status}
-use Rattle.plant_status.specs.declared.status.Status.TheVariants.{BadWords}
 use Rattle.plant_files.specs.Faults.{IsFaultOfPlanned}
 use Rattle.plant_files.specs.Reading.{faults_after}
 use Rattle.plant_files.proofs.Faults.{of_none}
 use Rattle.run_command.specs.Runs.{IsUnheld, OfFiles}
 use Rattle.run_command.proofs.Results.{err_weaker}
-use Rattle.run_command.proofs.Headline.{promised}
-use Rattle.run_command.proofs.Told.{some_weaker}
-use Rattle.run_command.proofs.Understood.{files_understood, understood}
+use Rattle.run_command.proofs.Understood.{understood, unheld_no_words}
 use Rattle.run_command.proofs.Unheld.{after_none}
 use Rattle.run_command.proofs.run.run_plan.Goals as goal
 
@@ -43,39 +40,29 @@ returns-in-Ok-clause-whose g c = λ none. err_weaker c.run_read.result.answer
 
 pub returns-in-Ok-clause-promised : goal.returns-in-Ok-clause-promised
 returns-in-Ok-clause-promised g c =
-    let trace = g.S.Dev.Disk.trace in
-    let ticks = g.S.Dev.Disk.ticks in
-    let faults = g.S.Dev.Disk.fault_count in
-    let name = c.args.name.now in
-    let plan_name = c.args.plan_name.now in
-    let told = g.F.Files.told c.args.files.now in
-    let store = c.args.store.now in
-    let after = c.run_read.new.store in
-    some_weaker c.run_read.result.session (λ s is. promised trace ticks faults name plan_name told (g.S.Store.device_at store)
-    (g.S.Store.device_at after) (g.S.Store.fault_count store) (g.S.Store.fault_count after) (g.P.Passes.stops c.args.passes.now)
-    (g.P.Passes.stops c.run_read.new.passes) c.run_read.result.answer s is)
-    (c.run_read.ensures.session name plan_name told c.in-Ok.ensures.planned)
+    c.run_read.ensures.promised c.args.name.now c.args.plan_name.now (g.F.Files.told c.args.files.now) c.in-Ok.ensures.planned
 
 pub returns-in-Ok-clause-understood : goal.returns-in-Ok-clause-understood
 returns-in-Ok-clause-understood g c =
-    let trace = g.S.Dev.Disk.trace in
-    let ticks = g.S.Dev.Disk.ticks in
-    let faults = g.S.Dev.Disk.fault_count in
     let name = c.args.name.now in
     let plan_name = c.args.plan_name.now in
     let told = g.F.Files.told c.args.files.now in
     let store = c.args.store.now in
     let after = c.run_read.new.store in
-    understood trace ticks faults name plan_name told (g.S.Store.device_at store) (g.S.Store.device_at after)
-    (g.S.Store.fault_count store) (g.S.Store.fault_count after) (g.P.Passes.stops c.args.passes.now)
-    (g.P.Passes.stops c.run_read.new.passes) c.run_read.result.session c.run_read.result.answer
-    (c.run_read.ensures.unheld name plan_name told c.in-Ok.ensures.planned)
-    (c.run_read.ensures.session name plan_name told c.in-Ok.ensures.planned)
+    understood name plan_name told (g.S.Store.device_at store) (g.S.Store.device_at after) (g.S.Store.fault_count store)
+    (g.S.Store.fault_count after) (g.P.Passes.stops c.args.passes.now) (g.P.Passes.stops c.run_read.new.passes) c.run_read.result.session
+    c.run_read.result.answer (c.run_read.ensures.unheld name plan_name told c.in-Ok.ensures.planned)
+    (returns-in-Ok-clause-promised g c)
 
 pub returns-in-Err-clause-understood : goal.returns-in-Err-clause-understood
 returns-in-Err-clause-understood g c =
-    subst (λ (r : Result (String Global) Status). IfErr r (λ why. why ≢ BadWords)) (sym c.refused.ensures.answer)
-    (files_understood c.args.name.now c.args.plan_name.now (g.F.Files.told c.args.files.now) c.in-Err.why c.in-Err.ensures.refused)
+    let name = c.args.name.now in
+    let plan_name = c.args.plan_name.now in
+    let told = g.F.Files.told c.args.files.now in
+    let old = g.S.Store.device_at c.args.store.now in
+    let faults = g.S.Store.fault_count c.args.store.now in
+    rw c.refused.ensures.answer (λ same. unheld_no_words name plan_name told old old faults faults
+    (subst (IsUnheld name plan_name told old old faults faults) same (OfFiles c.in-Err.ensures.refused (λ n. refl))))
 
 pub returns-in-Err-clause-counts : goal.returns-in-Err-clause-counts
 returns-in-Err-clause-counts g c = λ none few. rw c.refused.ensures.answer (inl refl)

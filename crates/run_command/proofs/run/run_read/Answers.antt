@@ -4,31 +4,40 @@ use Rattle.value_rows.specs.declared.asked.Query.{Query}
 use Rattle.value_rows.specs.declared.raw.RawRow.{RawRow}
 use Rattle.calc_refresh.specs.Lists.{lists_of}
 use Rattle.run_command.specs.Runs.{OfOpening}
-use Rattle.run_command.specs.Steps.{planned_turn}
+use Rattle.run_command.specs.Sessions.{planned_turn}
+use Rattle.run_command.proofs.Headline.{IsClocked}
+use Rattle.run_command.proofs.Promises.{promised}
 use Rattle.run_command.proofs.Results.{err_weaker}
 use Rattle.run_command.proofs.Told.{some_weaker}
 use Rattle.run_command.proofs.run.run_read.Goals as goal
 
-pub returns-in-Ok-clause-session : goal.returns-in-Ok-clause-session
-returns-in-Ok-clause-session g c = λ name plan_name told planned. some_weaker c.run_given.result.session (λ s is. record {
-  base = c.args.read.base;
-  plan = c.args.read.plan;
-  rows = map (λ list. list.items) c.args.read.rows.items;
-  queries = map (λ list. list.items) c.args.read.queries.items;
-  given = c.in-Ok.given;
-  good = c.requires.base;
-  planned = planned;
-  work = record {
-    earlier_is = c.in-Ok.ensures.earlier;
-    phases_are = c.in-Ok.ensures.phases;
-    collectors = ap (λ (v : Vec (Vec RawRow Global) Global). lists_of v.items) c.in-Ok.ensures.collectors;
-    readers = ap (λ (v : Vec (Vec Query Global) Global). lists_of v.items) c.in-Ok.ensures.readers;
-    turns = c.in-Ok.ensures.refreshers ∙ ap (map planned_turn) c.deref.ensures.value;
-    inputs = c.in-Ok.ensures.inputs;
-    sized = c.in-Ok.ensures.given;
-  };
-  run = is;
-}) c.run_given.ensures.session
+pub returns-in-Ok-clause-promised : goal.returns-in-Ok-clause-promised
+returns-in-Ok-clause-promised g c = λ name plan_name told planned.
+    let D = g.S.Dev.Disk in
+    let made = c.in-Ok.ensures in
+    let clocked : IsClocked D.trace D.ticks = (g.met.S.Dev.Disk g.world.𝓛 g.world.𝓜 g.world.𝓡 ((λ s x. x), (λ x. x), (λ x. x), λ x. x)).told in
+    some_weaker c.run_given.result.session (λ s is. promised D.trace D.ticks D.fault_count clocked name plan_name told _ _ _ _ _ _
+    c.run_given.result.answer s (record {
+      base = c.args.read.base;
+      plan = c.args.read.plan;
+      rows = map (λ list. list.items) c.args.read.rows.items;
+      queries = map (λ list. list.items) c.args.read.queries.items;
+      given = c.in-Ok.given;
+      good = c.requires.base;
+      planned = planned;
+      work = record {
+        its = record {
+          earlier_is = made.earlier;
+          collectors = ap (λ (v : Vec (Vec RawRow Global) Global). lists_of v.items) made.collectors;
+          readers = ap (λ (v : Vec (Vec Query Global) Global). lists_of v.items) made.readers;
+          turns = made.refreshers ∙ ap (map planned_turn) c.deref.ensures.value;
+        };
+        phases_are = made.phases;
+        inputs = made.inputs;
+        sized = made.given;
+      };
+      run = is;
+    })) c.run_given.ensures.session
 
 pub returns-in-Ok-clause-unheld : goal.returns-in-Ok-clause-unheld
 returns-in-Ok-clause-unheld g c = λ name plan_name told planned none. err_weaker c.run_given.result.answer

@@ -1,5 +1,5 @@
 use Rattle.std.proofs.Common.{◌≡◌, map, take}
-use Rattle.run_command.specs.Steps.{planned_turn, turn_of}
+use Rattle.run_command.specs.Sessions.{planned_turn, turn_of}
 use Rattle.run_command.proofs.work.refreshers_of.Given as goal
 
 abbrev pub invariant-loop-refresher : goal.invariant-loop-refresher

@@ -1,0 +1,204 @@
+-- Why a session has no report. A cause names histories, notes of workers, files, and devices as they were before.
+use Rattle.std.specs.Prelude.{◌≡◌, ℕ, ◌+◌, ◌*◌, ◌<◌, ◌≤◌, List, IsSomeAnd, Option, Some, length, map, slice_get, slice_index, slice_index_or}
+use Rattle.std.specs.List.{AllZip, sum_by}
+use Rattle.trend_num.specs.Limits.{most_records, most_stored}
+use Rattle.trend_num.specs.declared.archive.Rec.{Rec}
+use Rattle.trend_num.specs.declared.refusal.What.TheVariants.{Cells, Copies, Records}
+use Rattle.calc_refresh.specs.Lists.{lists_of, total_length}
+use Rattle.calc_refresh.specs.Refreshed.{most_cells, most_copies}
+use Rattle.sheet_law.specs.Touched.{longer}
+use Rattle.sheet_law.specs.Windows.{complete_windows}
+use Rattle.tag_cell.specs.declared.history.TagHistory.{TagHistory}
+use Rattle.group_book.specs.declared.history.GroupHistory.{GroupHistory}
+use Rattle.group_book.specs.Tapes.{uncut}
+use Rattle.plant_status.specs.declared.mismatch.Place.TheVariants.{Ask, Opening, RowAsk, Take, Turns, Version}
+use Rattle.plant_status.specs.declared.mismatch.Seen.{Seen}
+use Rattle.plant_status.specs.declared.mismatch.Seen.TheVariants.{Number}
+use Rattle.plant_status.specs.declared.status.Status.{Status}
+use Rattle.plant_status.specs.declared.status.Status.TheVariants.{DeviceFault, Limit, Mismatch, WantOfMemory}
+use Rattle.plant_status.specs.declared.unit.Unit.TheVariants.{Group, Tag}
+use Rattle.plant_store.specs.Groups.{DeviceTraces, group_trace_at, input_records_of}
+use Rattle.plant_store.specs.Tags.{tag_trace_of}
+use Rattle.tag_base.specs.declared.definition.Base.{Base}
+use Rattle.tag_base.specs.declared.definition.GroupDef.{GroupDef}
+use Rattle.value_rows.specs.declared.asked.Query.{Query}
+use Rattle.value_rows.specs.declared.raw.RawRow.{RawRow}
+use Rattle.collector_pool.specs.declared.note.WorkerNote.{WorkerNote}
+use Rattle.session_audit.specs.declared.agenda.Item.{Item}
+use Rattle.session_audit.specs.declared.book_opening.KeptGroup.{KeptGroup}
+use Rattle.session_audit.specs.declared.cell_opening.Kept.{Kept}
+use Rattle.session_audit.specs.Agendas.{ask_item, row_item}
+use Rattle.session_audit.specs.BookOpenings.{IsGroupDifference}
+use Rattle.session_audit.specs.CellOpenings.{IsTagDifference}
+use Rattle.session_audit.specs.Found.{IsDifference}
+use Rattle.session_audit.specs.GroupTapes.{row_ask_of}
+use Rattle.session_audit.specs.GroupTurns.{IsAboveTurns}
+use Rattle.session_audit.specs.Pulls.{IsInputApart, IsInputPulled}
+use Rattle.session_audit.specs.Tapes.{ask_of, take_of}
+use Rattle.session_audit.specs.Workers.{LacksRow, file_due}
+use Rattle.session_report.specs.declared.session.Session.{Session}
+use Rattle.run_command.specs.Endings.{HaveAllEnded, IsStop}
+use Rattle.run_command.specs.Units.{AtEachGroup, IsAcknowledged, IsGroupOpened, IsGroupRefreshed, IsOnTapes, IsRecorded, IsTagOpened, WereTagsOpened, grid, tag_records_of}
+
+-- ---- an opening that has changed
+
+-- What was kept of the openings before the workers began. Each tag and each group of a base was opened as what its device
+-- stood for, and all tags together had not too many records.
+pub record AreKept (base : Base) (before : DeviceTraces) (tags : List Kept) (groups : List KeptGroup) : Type 0 where
+  pub tags_are : AllZip (λ def (k : Kept). IsTagOpened def (tag_trace_of before def) k.def k.opening) base.tags.items tags
+  pub as_many : length groups ≡ length base.groups.items
+  pub groups_are : (i : ℕ) (k : KeptGroup) → slice_get groups i ≡ Some k → IsSomeAnd (slice_get base.groups.items i) (λ def.
+      IsGroupOpened i def (group_trace_at before def) (input_records_of (map (λ (t : Kept). t.opening.recs.items) tags) def) k.group k.def
+      k.text.items k.opening)
+  pub few : sum_by (λ (k : Kept). length k.opening.recs.items) tags ≤ most_stored
+
+-- The status has the first difference between the opening of a tag and what was kept of it, or else any two rooms.
+pub record IsTagChanged (tags : List Kept) (s : Session) (tag : ℕ) (kept told : Seen) : Type 0 where
+  pub known : Kept
+  pub its : TagHistory
+  pub known_there : slice_get tags tag ≡ Some known
+  pub there : slice_get s.tags.items tag ≡ Some its
+  pub room : ℕ
+  pub differs : IsTagDifference its.def its.opening room known kept told
+
+-- the same of a group
+pub record IsGroupChanged (groups : List KeptGroup) (s : Session) (group : ℕ) (kept told : Seen) : Type 0 where
+  pub known : KeptGroup
+  pub its : GroupHistory
+  pub known_there : slice_get groups group ≡ Some known
+  pub there : slice_get s.groups.items group ≡ Some its
+  pub differs : IsGroupDifference its.group its.def its.text.items its.opening known kept told
+
+-- the opening of one unit has changed; if it is a group, each tag was opened as what its device stood for
+abbrev pub IsUnitChanged : Base → DeviceTraces → List Kept → List KeptGroup → Session → Status → Type 0
+IsUnitChanged base before tags groups s (Mismatch (Opening (Tag tag)) kept told) = IsTagChanged tags s tag kept told
+IsUnitChanged base before tags groups s (Mismatch (Opening (Group group)) kept told) =
+    IsGroupChanged groups s group kept told × WereTagsOpened base before s.tags.items
+IsUnitChanged base before tags groups s why = ⊥
+
+-- what was kept of all openings, and which unit has changed since
+pub record IsOpeningCause (base : Base) (before : DeviceTraces) (s : Session) (why : Status) : Type 0 where
+  pub tags : List Kept
+  pub groups : List KeptGroup
+  pub kept : AreKept base before tags groups
+  pub changed : IsUnitChanged base before tags groups s why
+
+-- ---- what no file has
+
+-- an entry of the tape of a tag or group is not the next row of its worker that is due there; or a group was refreshed
+-- more often than it has turns
+abbrev pub IsTapeCause : (ℕ → ℕ → RawRow → Option Item) → (ℕ → ℕ) → List (List RawRow) → List (List Query) → Session → Status → Type 0
+IsTapeCause item_of turns_of rows queries s (Mismatch (Take tag place) kept told) =
+    IsSomeAnd (slice_get s.tags.items tag) (λ t. IsDifference take_of (λ w. file_due item_of rows w tag) t.tape.items place kept told)
+IsTapeCause item_of turns_of rows queries s (Mismatch (Ask tag place) kept told) =
+    IsSomeAnd (slice_get s.tags.items tag) (λ t. IsDifference ask_of (λ w. file_due ask_item queries w tag) t.tape.items place kept told)
+IsTapeCause item_of turns_of rows queries s (Mismatch (RowAsk group place) kept told) =
+    IsSomeAnd (slice_get s.groups.items group) (λ g. IsDifference row_ask_of (λ w. file_due row_item queries w group) g.tape.items place kept told)
+IsTapeCause item_of turns_of rows queries s (Mismatch (Turns group) kept told) =
+    IsSomeAnd (slice_get s.groups.items group) (λ g. IsAboveTurns (turns_of group) g.tape.items kept told)
+IsTapeCause item_of turns_of rows queries s why = ⊥
+
+-- ---- a step that cannot be made
+
+-- Why a row is not taken. The tape of its tag lacks a row. The answer names the tag's device; or the tag could have too
+-- many records.
+pub data IsTakeCause (item_of : ℕ → ℕ → RawRow → Option Item) (rows : List (List RawRow)) (s : Session) (why : Status) : Type 0 where
+  OfDevice : (tag : ℕ) → why ≡ DeviceFault (Tag tag)
+      → IsSomeAnd (slice_get s.tags.items tag) (λ t. LacksRow take_of item_of rows tag t.tape.items) → IsTakeCause item_of rows s why
+  OfLimit : (tag number : ℕ) → why ≡ Limit Records number → IsSomeAnd (slice_get s.tags.items tag) (λ t.
+      (number ≡ length t.recs.items) × (most_records < number + 2) × LacksRow take_of item_of rows tag t.tape.items)
+      → IsTakeCause item_of rows s why
+
+-- the answer names a tag's device; all values of the tags before it are acknowledged
+pub record IsCommitCause (s : Session) (why : Status) : Type 0 where
+  pub tag : ℕ
+  pub told : why ≡ DeviceFault (Tag tag)
+  pub there : tag < length s.tags.items
+  pub front : (k : ℕ) (t : TagHistory) → k < tag → IsAcknowledged (slice_index_or s.tags.items k t)
+
+-- what a group would have of each input with all records of the tags
+abbrev pub copies_with_all : Session → GroupDef → GroupHistory → List (List Rec)
+copies_with_all s d g = longer (lists_of g.copies.items) (uncut g.versions.items (map (tag_records_of s) d.inputs.items))
+
+-- and how many cells its sheet would have
+abbrev pub cells_with_all : Session → GroupDef → GroupHistory → ℕ
+cells_with_all s d g = complete_windows (grid g) (copies_with_all s d g) * length g.def.calcs.calcs
+
+-- the version of an input is above the number of its tag's records
+pub record IsAboveTag (s : Session) (d : GroupDef) (g : GroupHistory) (input : ℕ) (kept told : Seen) : Type 0 where
+  pub within : input < length d.inputs.items
+  pub kept_is : kept ≡ Number (length (tag_records_of s (slice_index d.inputs.items input)))
+  pub told_is : told ≡ Number (slice_index g.versions.items input)
+  pub above : length (tag_records_of s (slice_index d.inputs.items input)) < slice_index g.versions.items input
+
+-- Why a group is not refreshed or saved. A version is too high. With all records it would have too many cells or copied
+-- records. Or the answer names its device.
+abbrev pub IsGroupCause : Session → GroupDef → ℕ → GroupHistory → Status → Type 0
+IsGroupCause s d group g (Mismatch (Version its input) kept told) = (its ≡ group) × IsAboveTag s d g input kept told
+IsGroupCause s d group g (Limit Cells number) = (number ≡ cells_with_all s d g) × (most_cells < number)
+IsGroupCause s d group g (Limit Copies number) =
+    (number ≡ total_length (copies_with_all s d g)) × (most_copies < number) × (cells_with_all s d g ≤ most_cells)
+IsGroupCause s d group g (DeviceFault (Group its)) = its ≡ group
+IsGroupCause s d group g why = ⊥
+
+-- the cause is at one group; those before it are refreshed
+pub record IsRefreshCause (turns_of : ℕ → ℕ) (base : Base) (s : Session) (why : Status) : Type 0 where
+  pub group : ℕ
+  pub def : GroupDef
+  pub its : GroupHistory
+  pub def_there : slice_get base.groups.items group ≡ Some def
+  pub there : slice_get s.groups.items group ≡ Some its
+  pub front : (k : ℕ) (d : GroupDef) (g : GroupHistory) → k < group
+      → IsGroupRefreshed (slice_index_or base.groups.items k d) (turns_of k) s (slice_index_or s.groups.items k g)
+  pub cause : IsGroupCause s def group its why
+
+-- a group has of an input what it pulled of its tag
+abbrev pub HasPulled : ℕ → ℕ → TagHistory → GroupHistory → Type 0
+HasPulled group input t g = IsInputPulled group input t.tape.items t.recs.items g.tape.items (lists_of g.copies.items)
+
+-- the cause is at one input of a group; the inputs before it have what was pulled, and so have those of the groups before
+pub record IsPullCause (base : Base) (s : Session) (why : Status) : Type 0 where
+  pub group : ℕ
+  pub input : ℕ
+  pub def : GroupDef
+  pub its : GroupHistory
+  pub tag : TagHistory
+  pub def_there : slice_get base.groups.items group ≡ Some def
+  pub there : slice_get s.groups.items group ≡ Some its
+  pub within : input < length def.inputs.items
+  pub tag_there : slice_get s.tags.items (slice_index def.inputs.items input) ≡ Some tag
+  pub front : (i k : ℕ) (d : GroupDef) (g : GroupHistory) (t : TagHistory) → i ≤ group
+      → k < length (slice_index_or base.groups.items i d).inputs.items → (i ≡ group → k < input)
+      → HasPulled i k (slice_index_or s.tags.items (slice_index (slice_index_or base.groups.items i d).inputs.items k) t)
+      (slice_index_or s.groups.items i g)
+  pub cause : IsInputApart group input tag.tape.items tag.recs.items its.tape.items (lists_of its.copies.items) why
+
+-- each group is refreshed
+abbrev pub AreGroupsRefreshed : (ℕ → ℕ) → Base → Session → Type 0
+AreGroupsRefreshed turns_of base s = AtEachGroup base s (λ i d g. IsGroupRefreshed d (turns_of i) s g)
+
+-- Which step cannot be made. A row is not taken. Or all is on the tapes, and a commit is not made. Or all is recorded, and
+-- a group is not refreshed. Or all groups are refreshed, one lacks what it pulled, and `quiet` holds: no device fault was
+-- counted.
+pub data IsStepCause (item_of : ℕ → ℕ → RawRow → Option Item) (turns_of : ℕ → ℕ) (base : Base) (rows : List (List RawRow))
+    (queries : List (List Query)) (quiet : Type 0) (s : Session) (why : Status) : Type 0 where
+  OfTake : IsTakeCause item_of rows s why → IsStepCause item_of turns_of base rows queries quiet s why
+  OfCommit : IsOnTapes item_of rows queries s → IsCommitCause s why → IsStepCause item_of turns_of base rows queries quiet s why
+  OfRefresh : IsRecorded item_of rows queries s → IsRefreshCause turns_of base s why
+      → IsStepCause item_of turns_of base rows queries quiet s why
+  OfPull : IsRecorded item_of rows queries s → AreGroupsRefreshed turns_of base s → quiet → IsPullCause base s why
+      → IsStepCause item_of turns_of base rows queries quiet s why
+
+-- ---- the cause
+
+-- Why a session has no report, with these notes of its workers. An opening has changed. A tape shows what no file has. A
+-- worker was stopped or found no memory. All workers ended by themselves, and a step cannot be made. Memory was wanting;
+-- this may come at any time.
+pub data IsSessionCause (item_of : ℕ → ℕ → RawRow → Option Item) (turns_of : ℕ → ℕ) (base : Base) (before : DeviceTraces)
+    (rows : List (List RawRow)) (queries : List (List Query)) (quiet : Type 0) (notes : List WorkerNote) (s : Session) (why : Status) : Type 0 where
+  OfOpening : IsOpeningCause base before s why → IsSessionCause item_of turns_of base before rows queries quiet notes s why
+  OfTape : IsTapeCause item_of turns_of rows queries s why → IsSessionCause item_of turns_of base before rows queries quiet notes s why
+  OfStop : IsStop notes why → IsSessionCause item_of turns_of base before rows queries quiet notes s why
+  OfStep : HaveAllEnded notes → IsStepCause item_of turns_of base rows queries quiet s why
+      → IsSessionCause item_of turns_of base before rows queries quiet notes s why
+  OfMemory : why ≡ WantOfMemory → IsSessionCause item_of turns_of base before rows queries quiet notes s why

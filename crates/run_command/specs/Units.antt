@@ -1,0 +1,198 @@
+-- The tags and groups of a session: how they were opened, what holds of each, and what was done with them.
+use Rattle.std.specs.Prelude.{◌≡◌, ◌≢◌, ℕ, ◌+◌, ◌*◌, ◌<◌, ◌≤◌, List, [], All, length, map, nat_eq, slice_index_or, Option, IfSome, if◌then◌else◌}
+use Rattle.std.specs.List.{AllZip, sum_by}
+use Rattle.trend_num.specs.Limits.{most_stored}
+use Rattle.trend_num.specs.declared.archive.Rec.{Rec}
+use Rattle.trend_num.specs.declared.tag_def.TagDef.{TagDef}
+use Rattle.trend_model.specs.Bound.{IsBounded}
+use Rattle.trend_model.specs.History.{Event, Origin, Raw}
+use Rattle.trend_model.specs.State.{Stands, followed}
+use Rattle.disk_model.specs.Moments.{During, LeftSince}
+use Rattle.disk_model.specs.Traces.{Trace}
+use Rattle.tag_cell.specs.declared.entry.Entry.{Entry}
+use Rattle.tag_cell.specs.declared.history.TagHistory.{TagHistory}
+use Rattle.tag_cell.specs.Crashes.{IsSafe}
+use Rattle.tag_cell.specs.Replays.{IsLegal, IsTapeReplayed}
+use Rattle.tag_cell.specs.Tapes.{cell_start, cell_walked, opened, taken}
+use Rattle.sheet_law.specs.declared.grid.Grid.{Grid}
+use Rattle.sheet_law.specs.Windows.{complete_windows}
+use Rattle.calc_refresh.specs.Lists.{lists_of, total_length}
+use Rattle.calc_refresh.specs.Refreshed.{most_cells, most_copies}
+use Rattle.calc_refresh.specs.Sheet.{IsGrid, IsGroup, grid_of}
+use Rattle.group_book.specs.declared.history.GroupHistory.{GroupHistory}
+use Rattle.group_book.specs.declared.turn.Turn.{Turn}
+use Rattle.group_book.specs.Crashes.{IsBookSafe as IsGroupSafe}
+use Rattle.group_book.specs.Histories.{AreRowsEvaluated, IsBookLegal as IsGroupLegal}
+use Rattle.group_book.specs.Tapes.{book_start, book_walked}
+use Rattle.plant_store.specs.Groups.{DeviceTraces, IsGroupOpening, group_parts_of, group_definition_text, group_trace_at, input_records_of}
+use Rattle.tag_base.specs.declared.definition.Base.{Base}
+use Rattle.tag_base.specs.declared.definition.GroupDef.{GroupDef}
+use Rattle.tag_base.specs.declared.schedule.Refresher.{Refresher}
+use Rattle.plant_store.specs.Tags.{IsLeft, IsOpened, tag_trace_of}
+use Rattle.crash_recovery.specs.Opening.{StaysSame}
+use Rattle.tag_core.specs.Core.{Core}
+use Rattle.group_layout.specs.Readings.{GainsGroupSync}
+use Rattle.group_book.specs.Openings.{BookStaysSame}
+use Rattle.value_rows.specs.declared.asked.Query.{Query}
+use Rattle.value_rows.specs.declared.raw.RawRow.{RawRow}
+use Rattle.session_audit.specs.declared.agenda.Item.{Item}
+use Rattle.session_audit.specs.Agendas.{ask_item, row_item}
+use Rattle.session_audit.specs.Tapes.{ask_of, take_of}
+use Rattle.session_audit.specs.Workers.{AreTapesWhole}
+use Rattle.session_audit.specs.Refreshing.{EndsInSave}
+use Rattle.session_audit.specs.Durable.{ArePullsDurable}
+use Rattle.session_audit.specs.GroupTapes.{refreshes, row_ask_of}
+use Rattle.session_report.specs.declared.session.Session.{Session}
+use Rattle.tag_cell.specs.declared.history.TagOpening.{TagOpening}
+use Rattle.group_book.specs.declared.history.GroupOpening.{GroupOpening}
+use Rattle.calc_refresh.specs.declared.definition.GroupDefParts.{GroupDefParts}
+
+-- ---- a tag
+
+-- For a history of a tag of this origin: each entry of the tape agrees with the archive of that history followed by the
+-- values taken before the entry. What the archive keeps is near each of all the values.
+pub record IsKeptFor (org : Origin) (h : List Event) (t : TagHistory) : Type 0 where
+  pub legal : IsLegal org h t.def t.opening t.tape.items (record { records = t.recs.items; summary = t.summary }) t.acked
+  pub bounded : IsBounded org (followed h (map Raw (taken t.tape.items)))
+
+-- a device with these calls, if they are known, has made at least so many
+abbrev pub HasMade : ℕ → Option Trace → Type 0
+HasMade many trace = IfSome trace (λ t. many ≤ length t.calls)
+
+-- Replaying the takes from the opening gives each entry of the tape, and the state at the end. The tag is kept for every
+-- history for which its opening stands. After a crash at any moment since the opening, the tag's device, with these calls,
+-- has the oldest values that were taken since, among them all acknowledged ones. No moment of its opening or of a commit
+-- is above the number of these calls. Each pull of a group ended where the acknowledged records ended then.
+pub record IsTagSound (t : TagHistory) (trace : Option Trace) : Type 0 where
+  pub replayed : IsTapeReplayed t.def t.opening t.tape.items (record { records = t.recs.items; summary = t.summary }) t.acked
+  pub kept : (org : Origin) (h : List Event) → org.step ≡ t.def.step → Stands org h (opened t.opening) → IsKeptFor org h t
+  pub safe : IsSafe t.def t.opening t.tape.items (LeftSince trace)
+  pub clocked : HasMade (cell_walked (cell_start t.opening) t.tape.items).moment trace
+  pub opened_before : HasMade t.opening.moment trace
+  pub pulled : ArePullsDurable t.def t.opening t.tape.items
+
+-- the core that a tag of this definition was opened as; its room for records does not matter here and is set to 0
+abbrev pub core_of : TagDef → TagOpening → Core
+core_of def o = record { state = opened o; step = def.step; spare = 0 }
+
+-- A tag is that of a base, and was opened as what its device, with these calls, recovered. `after` are the device's calls
+-- at the end of the opening: none had failed, and as many were made as the opening's moment says. A crash at any moment
+-- until then leaves what one could leave before, or what recovers the same, perhaps retuned (`StaysSame`).
+pub record IsTagOpened (def : TagDef) (before : Option Trace) (its : TagDef) (o : TagOpening) : Type 0 where
+  pub def_is : its ≡ def
+  pub found : IsOpened def before (core_of its o)
+  pub after : Option Trace
+  pub left : IsLeft def before after (core_of its o)
+  pub same : StaysSame def before after
+  pub clock : IfSome after (λ t. length t.calls ≡ o.moment)
+  pub faultless : o.faults ≡ 0
+
+-- ---- a group
+
+abbrev pub grid : GroupHistory → Grid
+grid g = grid_of g.def.start g.def.period
+
+-- A group whose device has these calls, if they are known. Its inputs, calculations and windows are allowed. Two facts hold
+-- if the opening's rows are those from scratch on the records of its tags. The group's rows and all replies are from
+-- scratch too, at the version that each had then. After a crash at any moment since the opening, the device of a group with
+-- a definition text has one of the versions since the last save before the crash, with its rows from scratch. The others
+-- hold in any case. The windows that were due since the opening have their values from scratch. There is one value of each
+-- calculation for each complete window. As many were evaluated as the refreshes had due. No moment of the opening or of a
+-- save is above the number of calls of the device.
+pub record IsGroupSound (g : GroupHistory) (trace : Option Trace) : Type 0 where
+  pub defined : IsGroup g.def.inputs g.def.calcs × IsGrid (grid g)
+  pub kept : IsGroupLegal g.def.calcs (grid g) g.opening g.tape.items g.versions.items (lists_of g.copies.items) (lists_of g.rows.items)
+  pub evaluated : AreRowsEvaluated g.def.calcs (grid g) g.opening g.tape.items (lists_of g.copies.items) (lists_of g.rows.items) g.evals
+  pub safe : g.text.items ≢ [] → IsGroupSafe g.text.items g.def.calcs (grid g) g.opening (lists_of g.copies.items) g.tape.items
+      (LeftSince trace)
+  pub clocked : g.text.items ≢ [] → HasMade (book_walked (book_start g.opening) g.tape.items).moment trace
+  pub opened_before : g.text.items ≢ [] → HasMade g.opening.moment trace
+
+-- a fact of each group of a session, at its place, with its definition in the base
+abbrev pub AtEachGroup : Base → Session → (ℕ → GroupDef → GroupHistory → Type 0) → Type 0
+AtEachGroup base s P = (i : ℕ) (d : GroupDef) (g : GroupHistory) → i < length s.groups.items
+    → P i (slice_index_or base.groups.items i d) (slice_index_or s.groups.items i g)
+
+-- a session has the groups of a base, and each is sound
+pub record AreGroupsSound (base : Base) (devices : DeviceTraces) (s : Session) : Type 0 where
+  pub as_many : length s.groups.items ≡ length base.groups.items
+  pub each : AtEachGroup base s (λ i d g. IsGroupSound g (group_trace_at devices d))
+
+-- The base has this group at this place. It was opened as what its device, with these calls, stood for, after these records
+-- of the tags of its inputs were recovered. `after` are the device's calls at the end of the opening. A device that had a
+-- finished layout of the group has gained one sync and nothing else.
+pub record IsGroupOpened (i : ℕ) (d : GroupDef) (before : Option Trace) (recovered : List (List Rec)) (group : ℕ) (def : GroupDefParts)
+    (text : List ℕ) (o : GroupOpening) : Type 0 where
+  pub number : group ≡ i
+  pub def_is : def ≡ group_parts_of d
+  pub text_is : text ≡ group_definition_text d
+  pub opening : IsGroupOpening d recovered before o
+  pub after : Option Trace
+  pub synced : GainsGroupSync (group_definition_text d) before after
+  pub same : During before after (BookStaysSame (group_definition_text d) (group_parts_of d) before)
+  pub clock : IfSome after (λ t. length t.calls ≡ o.moment)
+
+-- ---- what was opened
+
+-- each tag was opened like that
+abbrev pub WereTagsOpened : Base → DeviceTraces → List TagHistory → Type 0
+WereTagsOpened base before tags =
+    AllZip (λ def (t : TagHistory). IsTagOpened def (tag_trace_of before def) t.def t.opening) base.tags.items tags
+
+-- the records with which the tags were opened
+abbrev pub opening_records_of : Session → List (List Rec)
+opening_records_of s = map (λ t. t.opening.recs.items) s.tags.items
+
+-- all tags together were opened with not too many records
+abbrev pub HasFewRecords : Session → Type 0
+HasFewRecords s = sum_by (λ (t : TagHistory). length t.opening.recs.items) s.tags.items ≤ most_stored
+
+-- each tag and each group was opened like that, and all tags together had not too many records then
+pub record AreUnitsOpened (base : Base) (before : DeviceTraces) (s : Session) : Type 0 where
+  pub tags : WereTagsOpened base before s.tags.items
+  pub groups : AtEachGroup base s (λ i d g. IsGroupOpened i d (group_trace_at before d) (input_records_of (opening_records_of s) d)
+      g.group g.def g.text.items g.opening)
+  pub few : HasFewRecords s
+
+-- ---- what the workers, and the session after them, have done
+
+abbrev pub tag_tape : TagHistory → List Entry
+tag_tape t = t.tape.items
+
+abbrev pub group_tape : GroupHistory → List Turn
+group_tape g = g.tape.items
+
+-- the records of the tag at a place
+abbrev pub tag_records_of : Session → ℕ → List Rec
+tag_records_of s tag = slice_index_or (map (λ t. t.recs.items) s.tags.items) tag []
+
+-- how many turns the refreshers of a group make together
+abbrev pub turns_in : ℕ → List Refresher → ℕ
+turns_in group refreshers = sum_by (λ r. if nat_eq r.group group then r.turns else 0) refreshers
+
+-- Each tag has taken from each collector exactly the rows of its file that are its own, in their order, each once. An
+-- item states what a row leaves. The same holds for the readers' questions, at tags and at groups.
+pub record IsOnTapes (item_of : ℕ → ℕ → RawRow → Option Item) (rows : List (List RawRow)) (queries : List (List Query))
+    (s : Session) : Type 0 where
+  pub takes : AreTapesWhole tag_tape take_of item_of rows s.tags.items
+  pub asks : AreTapesWhole tag_tape ask_of ask_item queries s.tags.items
+  pub row_asks : AreTapesWhole group_tape row_ask_of row_item queries s.groups.items
+
+-- all values of a tag are acknowledged
+abbrev pub IsAcknowledged : TagHistory → Type 0
+IsAcknowledged t = t.acked ≡ t.summary.taken
+
+-- all is on the tapes, and all values that were taken are acknowledged
+pub record IsRecorded (item_of : ℕ → ℕ → RawRow → Option Item) (rows : List (List RawRow)) (queries : List (List Query))
+    (s : Session) : Type 0 where
+  pub on_tapes : IsOnTapes item_of rows queries s
+  pub acknowledged : All IsAcknowledged s.tags.items
+
+-- A group was refreshed once more than its refreshers have turns, and was saved after that. It has taken into account as
+-- many records of each input as the tag has, and is within its limits.
+pub record IsGroupRefreshed (d : GroupDef) (turns : ℕ) (s : Session) (g : GroupHistory) : Type 0 where
+  pub refreshed : length (refreshes g.tape.items) ≡ turns + 1
+  pub versions : g.versions.items ≡ map (λ tag. length (tag_records_of s tag)) d.inputs.items
+  pub few_cells : complete_windows (grid g) (lists_of g.copies.items) * length g.def.calcs.calcs ≤ most_cells
+  pub few_copies : total_length (lists_of g.copies.items) ≤ most_copies
+  pub saved : EndsInSave g.tape.items
