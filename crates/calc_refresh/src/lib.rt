@@ -28,6 +28,7 @@ mod window;
 pub use calc_eval::{Bad, CalcDef, CalcValue, CheckNo, Checked, check};
 pub use definition::GroupDefParts;
 pub use refusal::SheetNo;
+pub use room::room_in_rows;
 pub use saved::from_saved;
 pub use sheet::{Sheet, SheetParts, new_sheet};
 pub use trend_num::{Kind, Point, Rec, Steps, WantOfMemory};

@@ -86,8 +86,9 @@ pub(crate) fn room_in_contents(
     Ok(())
 }
 
-// Makes room for so many windows in the rows.
-pub(crate) fn room_in_rows(rows: &mut [Vec<CalcValue>], windows: usize) -> Result<(), AllocError>
+/// Makes room for `windows` windows in each row. A row has one value for each window. No value changes, not even after an
+/// error. An error means that no memory was found.
+pub fn room_in_rows(rows: &mut [Vec<CalcValue>], windows: usize) -> Result<(), AllocError>
     ensures rows { lists_of rows.new ≡ lists_of rows.old }
     ensures room { OnOk result (All (λ row. windows ≤ vec_capacity row) rows.new) }
 {
