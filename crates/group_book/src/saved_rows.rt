@@ -4,7 +4,7 @@ ghost use Rattle.calc_refresh.specs.Lists.{lists_of};
 ghost use Rattle.group_book.specs.Saves.{HasAllChanges};
 
 use crate::unsaved::room_for_flags;
-use calc_refresh::CalcValue;
+use calc_refresh::{CalcValue, room_in_rows};
 use trend_num::WantOfMemory;
 
 // Makes room for so many windows in each row, and for their flags.
@@ -20,18 +20,6 @@ pub(crate) fn make_room(
 {
     room_in_rows(rows, windows)?;
     room_for_flags(flags, windows)
-}
-
-// Makes room for so many windows in each row.
-fn room_in_rows(rows: &mut [Vec<CalcValue>], windows: usize) -> Result<(), WantOfMemory>
-    ensures same { lists_of rows.new ≡ lists_of rows.old }
-    ensures room { OnOk result (All (λ row. windows ≤ vec_capacity row) rows.new) }
-{
-    for i in 0..rows.len() {
-        let more = windows.saturating_sub(rows[i].len());
-        rows[i].reserve(more)?;
-    }
-    Ok(())
 }
 
 // Makes saved rows equal to the rows of the sheet, by writing the values of the windows that may have changed.
