@@ -1,7 +1,6 @@
 -- How a plant's devices come back.
-use Rattle.std.proofs.Common.{◌≡◌, inl, inr, ℕ, ◌^◌, ◌<◌, ◌≤◌, List, [], length, get_or, Option, sym, ◌∙◌, arith}
+use Rattle.std.proofs.Common.{◌≡◌, ℕ, ◌^◌, ◌<◌, ◌≤◌, List, [], length, get_or, Option, sym, ◌∙◌, arith}
 use Rattle.std.specs.Prelude.{All, true, string_bytes}
-use Rattle.std.proofs.lemmas.Bool.{cases_lt}
 use Rattle.std.proofs.lemmas.List.{get_or-map, length-map}
 use Rattle.std.proofs.lemmas.List.Elements.{All-weaker}
 use Rattle.disk_model.specs.Traces.{Trace}
@@ -12,6 +11,7 @@ use Rattle.plant_store.specs.CellNames.{texts}
 use Rattle.plant_store.specs.BookEndings.{AreGivenBack as AreBooksBack, counts_after}
 use Rattle.plant_store.specs.Groups.{DeviceTraces}
 use Rattle.plant_store.specs.BookSteps.{AreOtherNamesSame}
+use Rattle.plant_store.proofs.Risen.{sooner_risen, still_risen}
 use Rattle.plant_store.proofs.BookReturns.{counts_small}
 use Rattle.plant_store.specs.declared.shelf.Shelf.{Shelf}
 use Rattle.plant_store.specs.Closings.{AreDevicesBack, CountsClosed}
@@ -36,19 +36,6 @@ all_back trace shelf cells books old mid new is many given rest back =
       others = λ n no_tag no_group. back.others n no_tag ∙ rest n (λ i s there same.
           no_group i [] (omega (arith, there, as_many)) (same ∙ sym (get_or-map string_bytes names i s [] there)));
     }
-
--- what has risen stays so
-still_risen : (before mid now : ℕ) → before < 2 ^ 64 → mid ≤ now → HasRisen before mid → HasRisen before now
-still_risen before mid now small later (inl rose) = inl (omega (arith, rose, later))
-still_risen before mid now small later (inr end) = elim (cases_lt before now) [
-  | inl rose ↦ inl rose
-  | inr same ↦ inr (omega (arith, end, later, same, small))
-]
-
--- and what rises later has risen
-sooner_risen : (before mid now : ℕ) → before ≤ mid → HasRisen mid now → HasRisen before now
-sooner_risen before mid now later (inl rose) = inl (omega (arith, rose, later))
-sooner_risen before mid now later (inr end) = inr end
 
 -- the faults of the books' devices are counted, and then those of the cells'
 pub all_counted : {D : Type 0} (faults : D → ℕ) (cells : List (Cell D)) (books : List (Book D)) (before mid now : ℕ) → before < 2 ^ 64

@@ -1,17 +1,19 @@
 -- Books whose devices are given back one after the other.
-use Rattle.std.proofs.Common.{◌≡◌, ◌≢◌, inl, inr, ℕ, zero, suc, ◌+◌, ◌-◌, ◌^◌, ◌<◌, ◌≤◌, List, [], ◌∷◌, ◌++◌, length, length-append, get_or, drop, string_bytes, AllPairs, Option, None, Some, false, true, refl, sym, ◌∙◌, ap, subst, arith}
+use Rattle.std.proofs.Common.{◌≡◌, ◌≢◌, inl, inr, ℕ, zero, suc, ◌+◌, ◌^◌, ◌<◌, ◌≤◌, List, [], ◌∷◌, ◌++◌, length, length-append, get_or, drop, string_bytes, AllPairs, Option, None, Some, false, true, refl, sym, ◌∙◌, ap, subst, arith}
 use Rattle.std.specs.Prelude.{◌↔◌, IfSome, String}
 use Rattle.std.specs.declared.alloc.Global.{Global}
-use Rattle.std.proofs.lemmas.Bool.{cases_eq, cases_lt, cases_order}
+use Rattle.std.proofs.lemmas.Bool.{cases_eq, cases_order}
 use Rattle.std.proofs.lemmas.List.{get_or_append_left, get_or_default, length-drop}
 use Rattle.std.proofs.Math.Seq.{drop-cons, get_or-append_seam}
 use Rattle.disk_model.specs.Traces.{Trace}
 use Rattle.group_book.specs.declared.history.GroupHistory.{GroupHistory}
 use Rattle.group_book.specs.Told.{ToldBook, count_of, trace_of}
 use Rattle.plant_store.specs.Groups.{DeviceTraces}
-use Rattle.plant_store.specs.BookEndings.{HasFaultCountRisen, IsHistoryOfBook, count_after, counts_after, trace_after}
+use Rattle.plant_store.specs.BookEndings.{IsHistoryOfBook, count_after, counts_after, trace_after}
 use Rattle.plant_store.specs.BookSteps.{AreOtherNamesSame}
+use Rattle.plant_store.specs.CellClosings.{HasRisen}
 use Rattle.plant_store.proofs.BookTurns.{one_more_name}
+use Rattle.plant_store.proofs.Risen.{higher_or_end, sooner_risen, still_risen}
 
 -- ---- books that are taken out of their list in order
 
@@ -103,22 +105,32 @@ abbrev pub AreTold : {D : Type 0} → (D → Option Trace) → (D → ℕ) → (
 AreTold {D} trace ticks faults books histories = (i : ℕ) (b : ToldBook D) (h : GroupHistory) → i < length histories
     → IsHistoryOfBook trace ticks faults (get_or books i b) (get_or histories i h)
 
-pub one_told : {D : Type 0} (trace : D → Option Trace) (ticks faults : D → ℕ) (books : List (ToldBook D)) (histories : List GroupHistory)
-    (h : GroupHistory) → AreTold trace ticks faults books histories
-    → ((b : ToldBook D) → IsHistoryOfBook trace ticks faults (get_or books (length histories) b) h)
-    → AreTold trace ticks faults books (histories ++ h ∷ [])
-one_told trace ticks faults books histories h before this i b d within = elim (cases_eq i (length histories)) [
-  | inl same ↦ subst (λ j. IsHistoryOfBook trace ticks faults (get_or books j b) (get_or (histories ++ h ∷ []) j d)) (sym same)
-      (subst (λ x. IsHistoryOfBook trace ticks faults (get_or books (length histories) b) x) (sym (get_or-append_seam histories h [] d)) (this b))
-  | inr differ ↦
-      let lt : i < length histories = elim (cases_order i (length histories)) [
-        | inl same ↦ absurd (differ same)
-        | inr (inl lt) ↦ lt
-        | inr (inr gt) ↦ absurd (omega (arith, gt, within, length-append histories (h ∷ [])))
-      ] in
-      subst (λ x. IsHistoryOfBook trace ticks faults (get_or books i b) x) (sym (get_or_append_left histories (h ∷ []) d i lt))
-      (before i b d lt)
-]
+-- with one history more
+pub one_told : {D : Type 0} (trace : D → Option Trace) (ticks faults : D → ℕ) (books rest : List (ToldBook D))
+    (histories more : List GroupHistory) (many : ℕ) (b : ToldBook D) (h : GroupHistory) → AreTold trace ticks faults books histories
+    → length histories ≡ many → drop many books ≡ b ∷ rest → IsHistoryOfBook trace ticks faults b h → more ≡ histories ++ h ∷ []
+    → AreTold trace ticks faults books more
+one_told {D} trace ticks faults books rest histories more many b h before long left is pushed =
+    subst (λ l. AreTold trace ticks faults books l) (sym pushed) all
+  where
+    this : (c : ToldBook D) → IsHistoryOfBook trace ticks faults (get_or books (length histories) c) h
+    this c = subst (λ x. IsHistoryOfBook trace ticks faults x h)
+        (sym (taken_is books (length histories) b c rest (subst (λ k. drop k books ≡ b ∷ rest) (sym long) left))) is
+
+    all : AreTold trace ticks faults books (histories ++ h ∷ [])
+    all i c d within = elim (cases_eq i (length histories)) [
+      | inl same ↦ subst (λ j. IsHistoryOfBook trace ticks faults (get_or books j c) (get_or (histories ++ h ∷ []) j d)) (sym same)
+          (subst (λ x. IsHistoryOfBook trace ticks faults (get_or books (length histories) c) x) (sym (get_or-append_seam histories h [] d))
+          (this c))
+      | inr differ ↦
+          let lt : i < length histories = elim (cases_order i (length histories)) [
+            | inl same ↦ absurd (differ same)
+            | inr (inl lt) ↦ lt
+            | inr (inr gt) ↦ absurd (omega (arith, gt, within, length-append histories (h ∷ [])))
+          ] in
+          subst (λ x. IsHistoryOfBook trace ticks faults (get_or books i c) x) (sym (get_or_append_left histories (h ∷ []) d i lt))
+          (before i c d lt)
+    ]
 
 -- ---- faults
 
@@ -136,20 +148,6 @@ counts_none faults (b ∷ bs) before small none =
     one_none faults None before small none = refl
     one_none faults (Some dev) before small none = omega (arith, small, none)
 
--- one book more, with the name of its device
-pub one_back_at : {D : Type 0} (trace : D → Option Trace) (names : List (String Global)) (books : List (ToldBook D)) (many : ℕ)
-    (old now new : DeviceTraces) (b : ToldBook D) (s : String Global) (n : List ℕ) (rest : List (ToldBook D))
-    → AllPairs (λ a b. string_bytes a ≢ string_bytes b) names → many < length names → drop many books ≡ b ∷ rest
-    → AreBack trace names books many old now → s ≡ get_or names many s → n ≡ string_bytes s
-    → new n ≡ trace_after trace b.dev (now n) → ((m : List ℕ) → m ≢ n → new m ≡ now m)
-    → AreBack trace names books (many + 1) old new
-one_back_at trace names books many old now new b s n rest distinct named left back is bytes given turn =
-    let name : n ≡ string_bytes (get_or names many s) = bytes ∙ ap string_bytes is in
-    one_back trace names books many old now new b s distinct named (taken books many b rest left) back
-    (subst (λ m. new m ≡ trace_after trace (get_or books many b).dev (now m)) name
-    (subst (λ x. new n ≡ trace_after trace x.dev (now n)) (sym (taken_is books many b b rest left)) given))
-    (λ m other. turn m (λ same. other (same ∙ name)))
-
 -- one device takes none away
 one_later : {D : Type 0} (faults : D → ℕ) (dev : Option D) (before : ℕ) → before < 2 ^ 64
     → (before ≤ count_after faults dev before) × (count_after faults dev before < 2 ^ 64)
@@ -165,22 +163,10 @@ counts_later faults (b ∷ bs) before small =
     omega (arith, one.0, counts_later faults bs (count_after faults b.dev before) one.1)
 
 -- one that counted a fault adds it, up to the end of the type
-one_rose : {D : Type 0} (faults : D → ℕ) (dev : Option D) (before : ℕ) → before < 2 ^ 64 → 0 < count_of faults dev
-    → HasFaultCountRisen before (count_after faults dev before)
-one_rose faults None before small some = absurd (omega (arith, some))
-one_rose faults (Some dev) before small some = elim (cases_lt before (2 ^ 64 - 1)) [
-  | inl below ↦ inl (omega (arith, below, some))
-  | inr end ↦ inr (omega (arith, end, small))
-]
-
--- what has risen stays so
-risen_more : (first before now : ℕ) → first ≤ before → now < 2 ^ 64 → HasFaultCountRisen before now → HasFaultCountRisen first now
-risen_more first before now later small (inl rose) = inl (omega (arith, later, rose))
-risen_more first before now later small (inr end) = inr end
-
-later_risen : (before now last : ℕ) → HasFaultCountRisen before now → now ≤ last → last < 2 ^ 64 → HasFaultCountRisen before last
-later_risen before now last (inl rose) later small = inl (omega (arith, rose, later))
-later_risen before now last (inr end) later small = inr (omega (arith, end, later, small))
+one_rose : {D : Type 0} (faults : D → ℕ) (dev : Option D) (before : ℕ) → 0 < count_of faults dev
+    → HasRisen before (count_after faults dev before)
+one_rose faults None before some = absurd (omega (arith, some))
+one_rose faults (Some dev) before some = higher_or_end before before (faults dev) _ refl (omega (arith, some))
 
 -- the count stays within its type
 pub counts_small : {D : Type 0} (faults : D → ℕ) (books : List (ToldBook D)) (before : ℕ) → before < 2 ^ 64 → counts_after faults books before < 2 ^ 64
@@ -188,15 +174,15 @@ counts_small faults [] before small = small
 counts_small faults (b ∷ bs) before small = counts_small faults bs (count_after faults b.dev before) (one_later faults b.dev before small).1
 
 pub counts_rose : {D : Type 0} (faults : D → ℕ) (books : List (ToldBook D)) (before i : ℕ) (d : ToldBook D) → before < 2 ^ 64
-    → i < length books → 0 < count_of faults (get_or books i d).dev → HasFaultCountRisen before (counts_after faults books before)
+    → i < length books → 0 < count_of faults (get_or books i d).dev → HasRisen before (counts_after faults books before)
 counts_rose faults [] before i d small below some = absurd (omega (arith, below))
 counts_rose faults (b ∷ bs) before zero d small below some =
     let one = one_later faults b.dev before small in
-    later_risen before (count_after faults b.dev before) _ (one_rose faults b.dev before small some)
-    (counts_later faults bs (count_after faults b.dev before) one.1) (counts_small faults bs (count_after faults b.dev before) one.1)
+    still_risen before (count_after faults b.dev before) _ small (counts_later faults bs (count_after faults b.dev before) one.1)
+    (one_rose faults b.dev before some)
 counts_rose faults (b ∷ bs) before (suc i) d small below some =
     let one = one_later faults b.dev before small in
-    risen_more before (count_after faults b.dev before) _ one.0 (counts_small faults bs (count_after faults b.dev before) one.1)
+    sooner_risen before (count_after faults b.dev before) _ one.0
     (counts_rose faults bs (count_after faults b.dev before) i d one.1 (omega (arith, below)) some)
 
 -- all books are taken out of their list, and the faults of all are added

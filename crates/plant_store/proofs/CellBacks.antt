@@ -1,7 +1,6 @@
 -- Cells that are given back one after the other.
-use Rattle.std.proofs.Common.{◌≡◌, ◌≢◌, inl, inr, ℕ, ◌+◌, ◌-◌, ◌^◌, ◌<◌, ◌≤◌, true, List, [], ◌∷◌, ◌++◌, length, take, drop, get_or, Option, refl, sym, ◌∙◌, ap, subst, arith}
+use Rattle.std.proofs.Common.{◌≡◌, ◌≢◌, ℕ, ◌+◌, ◌^◌, ◌<◌, ◌≤◌, true, List, [], ◌∷◌, ◌++◌, length, take, drop, get_or, Option, refl, sym, ◌∙◌, ap, subst, arith}
 use Rattle.std.specs.Prelude.{All, IfSome}
-use Rattle.std.proofs.lemmas.Bool.{cases_lt}
 use Rattle.std.proofs.lemmas.List.{get_or_default, get_or-take, length-take-le, length_push, take_all, take_more}
 use Rattle.std.proofs.lemmas.List.Elements.{All-nil, All-push, All-weaker}
 use Rattle.std.proofs.lemmas.Slice.Zip.{all_zipped_more}
@@ -12,6 +11,7 @@ use Rattle.tag_cell.specs.Told.{ToldCell, IsCellHistory}
 use Rattle.plant_store.proofs.TagTurns.{zip_weaker}
 use Rattle.plant_store.specs.CellClosings.{AreGivenBack, AreHistoriesAt, AreHistoriesOf, CountsCells, HasRisen, IsHistoryAt, IsHistoryOfCell}
 use Rattle.plant_store.specs.CellNames.{AreApart}
+use Rattle.plant_store.proofs.Risen.{higher_or_end, still_risen}
 use Rattle.plant_store.proofs.CellLists.{all_before, all_last, next_of, zip_joined}
 
 -- before the first
@@ -41,18 +41,6 @@ none_counted {D} faults count = record {
   faultless = λ none. refl;
 }
 
--- a sum of counts is higher than something below the first, or the end of the type
-higher_or_end : (before now more after : ℕ) → after ≡ sum_of_counts now more → before < now + more → HasRisen before after
-higher_or_end before now more after sum higher = elim (cases_lt (2 ^ 64 - 1) (now + more)) [
-  | inl past ↦ inr (omega (arith, sum, past))
-  | inr below ↦ inl (omega (arith, sum, below, higher))
-]
-
--- a count that has risen has still risen after more is added
-risen_more : (before now more after : ℕ) → after ≡ sum_of_counts now more → HasRisen before now → HasRisen before after
-risen_more before now more after sum (inl higher) = higher_or_end before now more after sum (omega (arith, higher))
-risen_more before now more after sum (inr end) = inr (omega (arith, sum, end))
-
 -- with the faults of one device more
 pub one_counted : {D : Type 0} (faults : D → ℕ) (cells : List (ToldCell D)) (c : ToldCell D) (before now after : ℕ) → before < 2 ^ 64
     → CountsCells faults cells before now × (now < 2 ^ 64) → after ≡ sum_of_counts now (faults c.journal.dev)
@@ -66,7 +54,7 @@ one_counted {D} faults cells c before now after small counts sum faulty =
         risen = All-push (λ (d : ToldCell D). d.journal.failed ≡ true → HasRisen before after) cells c
             (All-weaker (λ (d : ToldCell D). d.journal.failed ≡ true → HasRisen before now)
             (λ (d : ToldCell D). d.journal.failed ≡ true → HasRisen before after)
-            (λ d risen failed. risen_more before now (faults c.journal.dev) after sum (risen failed)) cells counts.0.risen)
+            (λ d risen failed. still_risen before now after small (omega (arith, sum, within)) (risen failed)) cells counts.0.risen)
             (λ failed. higher_or_end before now (faults c.journal.dev) after sum (omega (arith, later, faulty failed)));
         faultless = λ none.
             let same = counts.0.faultless (all_before (λ (d : ToldCell D). faults d.journal.dev ≡ 0) cells c none) in

@@ -1,5 +1,6 @@
 pub mod Labels
 pub mod Endings
+pub mod Risen
 pub mod Backs
 pub mod TagDevices
 pub mod TagTurns
@@ -14,4 +15,5 @@ pub mod BookNames
 pub mod BookTurns
 pub mod BookCauses
 pub mod BookReturns
+pub mod BookLoops
 pub mod BookDevices

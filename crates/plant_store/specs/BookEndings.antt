@@ -1,5 +1,5 @@
 -- Books whose devices are given back, and the histories that they leave.
-use Rattle.std.specs.Prelude.{◌≡◌, ◌⊎◌, ℕ, ◌-◌, ◌^◌, ◌<◌, true, false, List, [], ◌∷◌, length, slice_index_or, string_bytes, Option, None, Some, IfSome, String}
+use Rattle.std.specs.Prelude.{◌≡◌, ℕ, ◌<◌, true, false, List, [], ◌∷◌, length, slice_index_or, string_bytes, Option, None, Some, IfSome, String}
 use Rattle.std.specs.declared.alloc.Global.{Global}
 use Rattle.disk_model.specs.Calls.{Rose, sum_of_counts}
 use Rattle.disk_model.specs.Traces.{Trace}
@@ -56,7 +56,3 @@ count_after faults (Some dev) before = sum_of_counts before (faults dev)
 abbrev pub counts_after : {D : Type 0} → (D → ℕ) → List (ToldBook D) → ℕ → ℕ
 counts_after faults [] before = before
 counts_after faults (b ∷ bs) before = counts_after faults bs (count_after faults b.dev before)
-
--- a count has risen, or is the largest value of its type
-abbrev pub HasFaultCountRisen : ℕ → ℕ → Type 0
-HasFaultCountRisen before now = (before < now) ⊎ (now ≡ 2 ^ 64 - 1)

@@ -1,7 +1,8 @@
 // Giving back the devices of books.
-ghost use Rattle.std.specs.Prelude.{◌≡◌, ◌≢◌, ℕ, ◌+◌, ◌-◌, ◌^◌, ◌<◌, ◌≤◌, List, [], All, AllPairs, IsTrue, length, slice_index_or, string_bytes, vec_capacity, vec_len};
+ghost use Rattle.std.specs.Prelude.{◌≡◌, ◌≢◌, ℕ, ◌^◌, ◌<◌, ◌≤◌, List, [], All, AllPairs, IsTrue, length, slice_index_or, string_bytes, vec_capacity, vec_len};
 ghost use Rattle.group_book.specs.Told.{ToldBook, count_of};
-ghost use Rattle.plant_store.specs.BookEndings.{AreGivenBack, AreHistoriesOf, HasFaultCountRisen, counts_after};
+ghost use Rattle.plant_store.specs.BookEndings.{AreGivenBack, AreHistoriesOf, counts_after};
+ghost use Rattle.plant_store.specs.CellClosings.{HasRisen};
 ghost use Rattle.plant_store.specs.BookSteps.{AreOtherNamesSame, HavePlaces};
 
 use crate::single_book::close_book;
@@ -34,7 +35,7 @@ pub fn close_books<S: Store>(
     ensures later { S.fault_count store.old < 2 ^ 64 → S.fault_count store.old ≤ S.fault_count store.new }
     ensures rose { S.fault_count store.old < 2 ^ 64 → (i : ℕ) (b : ToldBook S.Dev) → i < length books.items
         → 0 < count_of S.Dev.fault_count (slice_index_or books.items i b).dev
-        → HasFaultCountRisen (S.fault_count store.old) (S.fault_count store.new) }
+        → HasRisen (S.fault_count store.old) (S.fault_count store.new) }
     ensures faultless { S.fault_count store.old < 2 ^ 64
         → All (λ b. count_of S.Dev.fault_count b.dev ≡ 0) books.items → S.fault_count store.new ≡ S.fault_count store.old }
 {
