@@ -220,7 +220,12 @@ fn stopping(
 }
 
 // Returns how many calls it takes to open a new device.
-fn calls_of_opening(rt: &impl Wait, alloc: Global, def: &TagDef, slots: u32) -> Option<u64> {
+pub(crate) fn calls_of_opening(
+    rt: &impl Wait,
+    alloc: Global,
+    def: &TagDef,
+    slots: u32,
+) -> Option<u64> {
     let cell = stopping(rt, alloc, def, slots, u64::MAX)?;
     Some(device_of(cell).calls())
 }

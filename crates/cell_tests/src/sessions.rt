@@ -8,14 +8,14 @@ use collector_pool::Work;
 use disk_model::MemDisk;
 use plant_status::Seen;
 use session_audit::{
-    Kept, Opened, Status, ask_missing, collectors_of, commit_cells, find_all_asks, find_all_takes,
-    readers_of, rooms_of, take_missing,
+    Kept, Opened, Status, ask_missing, collectors_of, commit_cells, compare_first_pulls,
+    find_all_asks, find_all_takes, readers_of, rooms_of, take_missing,
 };
 use std::alloc::Global;
 use std::sync::Wait;
 use std::test::Fail;
 use tag_cell::{Cell, TagOpening};
-use trend_num::TagQuery;
+use trend_num::{Point, TagQuery};
 use value_rows::Query;
 
 // Returns the work of collectors, whose rows are separated by `;`, and of a reader. The reader asks for the value at 5,
@@ -37,7 +37,7 @@ fn work_of(alloc: Global, files: &str) -> Option<Work> {
     })
 }
 
-// Does what the tape of the one cell lacks. If the tape cannot have a take for each row, it answers want of memory.
+// Does what the tape of the one cell lacks.
 #[tactic(auto, using(session_audit::proofs::Files::known_asks_of))]
 fn make_up(
     rt: &impl Wait,
@@ -57,9 +57,6 @@ fn make_up(
     let Ok(mut asks) = readers_of(alloc, &work.readers, 1) else {
         return Err(Status::WantOfMemory);
     };
-    if cells[0].room() < rooms[0] {
-        return Err(Status::WantOfMemory);
-    }
     find_all_takes(cells, &mut takes)?;
     find_all_asks(cells, &mut asks)?;
     take_missing(rt, cells, &work.collectors, 0, &rooms, &mut takes)?;
@@ -109,27 +106,45 @@ fn a_take_of_no_row_is_a_mismatch(rt: HostRuntime) -> Result<(), Fail> {
     Ok(())
 }
 
-// Compares a cell with room for two takes with a copy of its opening that has so many faults and this room. Returns the
-// numbers that differ: what the cell has there, and what the copy has.
-fn compared(rt: &impl Wait, alloc: Global, faults: u64, room: u32) -> Option<(Seen, Seen)> {
-    let cell = begun(rt, alloc, 2)?;
-    let opening = TagOpening {
-        recs: Vec::new(alloc),
-        summary: cell.opening().summary,
-        moment: cell.opening().moment,
-        faults,
-    };
-    let def = tag(false, 0)?;
-    let known = Kept { def, opening, room };
-    let differs = cell.compare(&known).err()?;
-    Some((differs.kept, differs.told))
+#[test]
+fn too_little_room_is_a_mismatch_at_the_takes(rt: HostRuntime) -> Result<(), Fail> {
+    let told = made_up(&rt, rt.alloc(), 2, "0,0 20,0;10,5").ok_or("memory")?;
+    let mismatch = "Mismatch { place: Takes { tag: 0 }, kept: Number(2), told: Number(3) }";
+    same(&rt, told.as_str(), mismatch);
+    Ok(())
+}
+
+#[test]
+fn what_was_acknowledged_at_the_first_pull_is_compared(rt: HostRuntime) -> Result<(), Fail> {
+    let alloc = rt.alloc();
+    let mut cell = begun(&rt, alloc, 2).ok_or("refused")?;
+    cell.commit().ok().ok_or("commit")?;
+    let point = Point { t: 1, v: 0 };
+    cell.take(&rt, 0, 2, point).ok().ok_or("take")?;
+    cell.pull(0, 0).ok().ok_or("pull")?;
+    cell.commit().ok().ok_or("commit")?;
+    let mut cells = Vec::new(alloc);
+    cells.push(cell)?;
+    compare_first_pulls(&cells, &[1]).ok().ok_or("one take")?;
+    let told = compare_first_pulls(&cells, &[2]).err().ok_or("same")?;
+    let mismatch = "Mismatch { place: Takes { tag: 0 }, kept: Number(1), told: Number(2) }";
+    same(&rt, format!(in alloc; "{told:?}")?.as_str(), mismatch);
+    Ok(())
 }
 
 #[test]
 fn an_opening_is_compared_with_what_was_kept(rt: HostRuntime) -> Result<(), Fail> {
-    let faults = compared(&rt, rt.alloc(), 7, 2).ok_or("same faults")?;
-    assert!(rt; faults == (Seen::Number(0), Seen::Number(7)));
-    let room = compared(&rt, rt.alloc(), 0, 3).ok_or("same room")?;
-    assert!(rt; room == (Seen::Number(2), Seen::Number(3)));
+    let cell = begun(&rt, rt.alloc(), 2).ok_or("refused")?;
+    let opening = TagOpening {
+        recs: Vec::new(rt.alloc()),
+        summary: cell.opening().summary,
+        moment: cell.opening().moment,
+        faults: 7,
+    };
+    let def = tag(false, 0).ok_or("name")?;
+    let known = Kept { def, opening };
+    let differs = cell.compare(&known).err().ok_or("same")?;
+    assert!(rt; differs.kept == Seen::Number(0));
+    assert!(rt; differs.told == Seen::Number(7));
     Ok(())
 }

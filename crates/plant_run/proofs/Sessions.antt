@@ -33,8 +33,8 @@ module _ (base plan : List ℕ) (before now : World) (stops_before stops_now : �
 module _ (number tags events stops_before stops_now : ℕ) where
   pub end_no_done : (session : Option Session) → IsDrillEnd number tags events stops_before stops_now session (Err Done) → ⊥
   end_no_done None is = cc (is.unheld refl)
-  end_no_done (Some s) is = drill_no_done number tags events is.drilled.base is.drilled.first s is.drilled.cause
+  end_no_done (Some s) is = drill_no_done number tags events is.drilled.base is.drilled.first is.drilled.second s is.drilled.cause
 
   pub end_no_fault : (session : Option Session) → IsDrillEnd number tags events stops_before stops_now session (Err WriteFault) → ⊥
   end_no_fault None is = cc (is.unheld refl)
-  end_no_fault (Some s) is = drill_no_fault number tags events is.drilled.base is.drilled.first s is.drilled.cause
+  end_no_fault (Some s) is = drill_no_fault number tags events is.drilled.base is.drilled.first is.drilled.second s is.drilled.cause

@@ -2,11 +2,11 @@
 use Rattle.std.proofs.Common.{◌≡◌, ◌∙◌, ◌⊎◌, inl, inr, ◌<◌, ◌≤◌, ◌+◌, ℕ, Bool, true, false, nat_lt, List, [], ◌∷◌, All, Option, None, Some, IsSomeAnd, arith, ap, ap₂, sym, subst, refl, length, map, take, get_or, ltb-false, ltb-true}
 use Rattle.std.specs.Prelude.{◌*◌, slice_get, if◌then◌else◌}
 use Rattle.std.specs.List.{AllZip, sum_by}
-use Rattle.std.specs.Option.{option_map_or, unwrap_or}
+use Rattle.std.specs.Option.{unwrap_or}
 use Rattle.std.proofs.lemmas.Bool.{cases_lt}
 use Rattle.std.proofs.lemmas.List.{get_or-map, length-map}
 use Rattle.std.proofs.lemmas.List.Sums.{sum_by-cons}
-use Rattle.std.proofs.lemmas.Option.{get_or_from_slice_get, slice_get-get_or, slice_get_past, slice_get_within}
+use Rattle.std.proofs.lemmas.Option.{get_or_from_slice_get, slice_get-get_or, slice_get_within}
 use Rattle.trend_num.specs.Limits.{most_stored}
 use Rattle.trend_model.specs.State.{State}
 use Rattle.trend_num.specs.declared.archive.Rec.{Rec}
@@ -19,6 +19,7 @@ use Rattle.calc_refresh.specs.Refreshed.{cells_after, limit_fault, most_cells, m
 use Rattle.calc_refresh.specs.Sheet.{grid_of}
 use Rattle.tag_cell.specs.declared.entry.Entry.{Entry}
 use Rattle.tag_cell.specs.declared.history.TagHistory.{TagHistory}
+use Rattle.tag_cell.specs.Tapes.{taken}
 use Rattle.tag_cell.specs.Told.{ToldCell as Cell, takes_waiting}
 use Rattle.group_book.specs.declared.history.GroupHistory.{GroupHistory}
 use Rattle.group_book.specs.declared.refusal.RefreshNo.TheVariants as refresh
@@ -53,15 +54,19 @@ use Rattle.session_audit.specs.declared.agenda.Item.{Item}
 use Rattle.session_audit.specs.declared.book_opening.KeptGroup.{KeptGroup}
 use Rattle.session_audit.specs.declared.cell_opening.Kept.{Kept}
 use Rattle.session_audit.specs.declared.kind.Shown.{Shown}
-use Rattle.session_audit.specs.Agendas.{ask_item, due, numbered, phase_item, row_item}
-use Rattle.session_audit.specs.BookOpenings.{IsBookCopied, IsBookDifference, IsGroupDifference}
+use Rattle.session_audit.specs.Agendas.{ask_item, phase_item, row_item}
+use Rattle.session_audit.specs.BookOpenings.{IsBookAsKept, IsBookCopied, IsBookDifference, IsGroupAsKept, IsGroupDifference}
 use Rattle.session_audit.specs.BookRefusals.{IsBookRefusal, IsRefreshRefusal, OfRefresh as OfLists, OfSave, save_status}
-use Rattle.session_audit.specs.CellOpenings.{IsCellAsKept, IsCellCopied, IsCellDifference, IsTagDifference}
-use Rattle.session_audit.specs.CellRefusals.{IsCommittedCell, IsTakeRefusal}
+use Rattle.session_audit.specs.CellOpenings.{IsCellAsKept, IsCellCopied, IsCellDifference, IsTagAsKept, IsTagDifference}
+use Rattle.session_audit.specs.Books.{book_tape}
+use Rattle.session_audit.specs.Cells.{cell_tape}
+use Rattle.session_audit.specs.Finding.{IsMismatchAt}
+use Rattle.session_audit.proofs.Begun.{due_of_file}
+use Rattle.session_audit.specs.CellRefusals.{IsCommittedCell, IsTakeRefusal, tag_rows, takes_mismatch}
 use Rattle.session_audit.specs.CellRefusals as cell
 use Rattle.session_audit.specs.Found.{IsDifference, IsFirstPart, Reached, due_of, tape_shows}
-use Rattle.session_audit.specs.GroupTapes.{row_ask_of}
-use Rattle.session_audit.specs.GroupTurns.{IsAboveTurns}
+use Rattle.session_audit.specs.GroupTapes.{refreshes, row_ask_of}
+use Rattle.session_audit.specs.GroupTurns.{IsAboveTurns, IsWithinTurns}
 use Rattle.session_audit.specs.Openings.{AreAsKept, IsOpeningMismatch}
 use Rattle.session_audit.specs.Pulls.{IsInputApart, IsInputPulled, IsPullMismatch}
 use Rattle.session_audit.specs.Refreshing.{IsRefreshedTo, durable_lists}
@@ -69,15 +74,14 @@ use Rattle.session_audit.specs.Tapes.{ask_of, take_of}
 use Rattle.session_audit.specs.Workers.{AreOver, LacksRow, file_due}
 use Rattle.session_report.specs.declared.session.Session.{Session}
 use Rattle.run_command.specs.declared.work.Given.{Given}
-use Rattle.run_command.specs.Steps.{AreStepsMade}
-use Rattle.run_command.specs.Causes.{AreKept, IsUnitChanged, IsCommitCause, IsGroupCause, IsSessionCause, IsOpeningCause, IsPullCause, IsRefreshCause, HasPulled, IsTakeCause, IsTapeCause, OfDevice, OfLimit, cells_with_all, copies_with_all}
+use Rattle.run_command.specs.Steps.{AreCellAsksBegun, AreStepsMade, AreCellTakesBegun}
+use Rattle.run_command.specs.Causes.{AreKept, AreTurnsWithin, IsTagKept, IsUnitChanged, IsCommitCause, IsGroupCause, IsSessionCause, IsOpeningCause, IsPullCause, IsRefreshCause, HasPulled, IsTakeCause, IsTapeCause, IsTapeDifference, OfDevice, OfLimit, OfRoom, cells_with_all, copies_with_all}
 use Rattle.run_command.specs.Causes as cause
 use Rattle.run_command.specs.Refusals.{IsFindingRefusal, IsOpening, IsRefused, OfCommit, OfFinding, OfGroup, OfMaking, OfMemory, OfPull, OfRefresh, OfRest, OfStop, OfTag, OfTaking, OfWant}
 use Rattle.run_command.specs.Runs.{AreUnitsOpen, IsContinued, IsContinuedGroup, IsOver, IsUndone, IsWorkIn, OfNone, OfSettling}
-use Rattle.run_command.specs.Units.{AreUnitsOpened, IsGroupOpened, IsGroupRefreshed, IsTagOpened, tag_records_of, turns_in}
-use Rattle.run_command.proofs.Continued.{continued}
+use Rattle.run_command.specs.Units.{AreAsksBegun, AreTakesBegun, AreUnitsOpened, IsGroupOpened, IsGroupRefreshed, IsTagOpened, group_tape, tag_records_of, tag_tape, turns_in}
 use Rattle.run_command.proofs.Foreign.{AtAsk, AtRowAsk, AtTake, AtTurns, Finding, found_at, opening_is}
-use Rattle.run_command.proofs.Headline.{IsClocked, acknowledged, group_opened, on_tapes, opened_tags, recorded, records_of_tags, refreshed, tag_opened, tags_of, turns_of_group}
+use Rattle.run_command.proofs.Headline.{IsClocked, acknowledged, begun, begun_asks, begun_takes, group_opened, on_tapes, recorded, records_of_tags, refreshed, tag_opened, tags_of, turns_of_group}
 use Rattle.run_command.proofs.Mismatches.{differing}
 use Rattle.run_command.proofs.Zipped.{zip_at, zip_each, zip_left, zip_length, zip_on, zip_right}
 
@@ -87,35 +91,19 @@ some_and P o x there p = subst (λ o. IsSomeAnd o P) (sym there) p
 
 -- ---- entries of no file
 
--- what is due of a worker by its progress is due by its file
-due_same : {A : Type 0} (item_of : ℕ → ℕ → A → Option Item) (many : ℕ) (files : List (List A)) (works : List Reached)
-    → AreOver item_of many files works → (worker unit : ℕ) → due_of works unit worker ≡ file_due item_of files worker unit
-due_same item_of many files works over worker unit = elim (cases_lt worker (length files)) [
-  | inl within ↦
-      ap (λ o. option_map_or (λ (p : Reached). due unit p.items) o []) (slice_get-get_or works worker none (omega (arith, within, over.as_many)))
-      ∙ (ap (due unit) (over.items worker [] none within)
-      ∙ sym (ap (λ o. option_map_or (λ l. due unit (numbered (item_of worker) 1 l)) o []) (slice_get-get_or files worker [] within)))
-  | inr past ↦
-      ap (λ o. option_map_or (λ (p : Reached). due unit p.items) o []) (slice_get_past works worker (omega (arith, past, over.as_many)))
-      ∙ sym (ap (λ o. option_map_or (λ l. due unit (numbered (item_of worker) 1 l)) o []) (slice_get_past files worker past))
-]
-  where
-    none : Reached
-    none = record { items = []; at = [] }
-
--- so an entry that differs from the one differs from the other
+-- an entry that differs from what is due by the progress of its worker differs from what is due by its file
 differs_so : {E A : Type 0} (work : E → Option Shown) (item_of : ℕ → ℕ → A → Option Item) (many : ℕ) (files : List (List A))
     (works : List Reached) (unit place : ℕ) (tape : List E) (kept told : Seen) → AreOver item_of many files works
     → IsDifference work (due_of works unit) tape place kept told
     → IsDifference work (λ w. file_due item_of files w unit) tape place kept told
 differs_so work item_of many files works unit place tape kept told over d =
-    let same = due_same item_of many files works over d.worker unit in
+    let same = due_of_file item_of many files works over d.worker unit in
     record {
       entry = d.entry;
       worker = d.worker;
       there = d.there;
       shows = d.shows;
-      before = subst (IsFirstPart (tape_shows work d.worker (take place tape))) same d.before;
+      before = λ w. subst (IsFirstPart (tape_shows work w (take place tape))) (due_of_file item_of many files works over w unit) (d.before w);
       told_is = d.told_is ∙ ap (λ l. unwrap_or (slice_get l (length (tape_shows work d.worker (take place tape)))) Nothing) same;
       differ = d.differ;
     }
@@ -161,7 +149,6 @@ module _ {D : Type 0} (trace : D → Option Trace) (ticks faults : D → ℕ) (c
     records = copy.records ∙ cont.records;
     moment = copy.moment ∙ cont.moment;
     faults = copy.faults ∙ cont.faults;
-    room = copy.room ∙ cont.room;
   })
 
   -- what was kept of cells is what their devices stood for
@@ -266,6 +253,10 @@ module _ {D : Type 0} (trace : D → Option Trace) (ticks faults : D → ℕ) (c
         → (t : TagHistory) × (slice_get s.tags.items tag ≡ Some t) × IsOfCell c t
     tag_at tag c there = zip_right IsOfCell cells s.tags.items tag c is.tags there
 
+    -- at a place, whatever is taken where there is none
+    cell_of : (i : ℕ) (c : Cell D) (t : TagHistory) → i < length cells → IsOfCell (get_or cells i c) (get_or s.tags.items i t)
+    cell_of i c t below = zip_at IsOfCell cells s.tags.items i c t is.tags (omega (arith, below, zip_length IsOfCell cells s.tags.items is.tags))
+
     group_at : (group : ℕ) (b : Book D) → slice_get books group ≡ Some b
         → (h : GroupHistory) × (slice_get s.groups.items group ≡ Some h) × IsHistoryOfBook trace ticks faults b h
     group_at group b there = zip_right (IsHistoryOfBook trace ticks faults) books s.groups.items group b
@@ -276,55 +267,50 @@ module _ {D : Type 0} (trace : D → Option Trace) (ticks faults : D → ℕ) (c
 
     -- ---- a changed opening
 
+    -- a cell that is as it was kept has such a history
+    tag_kept : (known : List Kept) (i : ℕ) (c : Cell D) (t : TagHistory) (k : Kept) → i < length cells
+        → IsCellAsKept (get_or cells i c) (get_or known i k) → IsTagKept (get_or s.tags.items i t) (get_or known i k)
+    tag_kept known i c t k there kept =
+        let of = cell_of i c t there in
+        subst (λ x. IsTagAsKept x (get_or s.tags.items i t).opening (get_or known i k)) (sym of.def_is)
+        (subst (λ x. IsTagAsKept (get_or cells i c).def x (get_or known i k)) (sym of.opening_is) kept)
+
     tag_changed : (known : List Kept) (known_groups : List KeptGroup) (why : Status) → AreKept base old known known_groups
-        → IsOpeningMismatch unit.Tag IsCellDifference cells known why → IsOpeningCause base old s why
+        → IsOpeningMismatch unit.Tag IsCellAsKept IsCellDifference cells known why → IsOpeningCause base old s why
     tag_changed known known_groups why kept differs =
-        let d = differing unit.Tag IsCellDifference cells known why differs in
+        let d = differing unit.Tag IsCellAsKept IsCellDifference cells known why differs in
         let at = tag_at d.number d.at.one d.at.there in
         record {
           tags = known;
           groups = known_groups;
           kept = kept;
-          changed = subst (IsUnitChanged base old known known_groups s) (sym d.same) (record {
+          changed = subst (IsUnitChanged known known_groups s) (sym d.same) (record {
             known = d.at.copy;
             its = at.0;
             known_there = d.at.copy_there;
             there = at.1;
-            room = d.at.one.room;
-            differs = subst (λ x. IsTagDifference x at.0.opening d.at.one.room d.at.copy d.kept d.told) (sym at.2.def_is)
-                (subst (λ x. IsTagDifference d.at.one.def x d.at.one.room d.at.copy d.kept d.told) (sym at.2.opening_is) d.at.differing);
+            differs = subst (λ x. IsTagDifference x at.0.opening d.at.copy d.kept d.told) (sym at.2.def_is)
+                (subst (λ x. IsTagDifference d.at.one.def x d.at.copy d.kept d.told) (sym at.2.opening_is) d.at.differing);
+            front = λ i t k below.
+                let there : i < length cells = omega (arith, below, slice_get_within cells d.number d.at.one d.at.there) in
+                let c = element cells i there in
+                tag_kept known i c t k there (d.at.front i c k below);
           });
         }
 
-    group_changed : (opened_cells first_cells : List (Cell D)) (known : List Kept) (known_groups : List KeptGroup) (why : Status)
-        → AreCellsOpened trace ticks faults base.tags.items old opened_cells → AllZip IsContinued opened_cells first_cells
-        → AllZip IsCellCopied first_cells known → AreAsKept IsCellAsKept cells known → AreKept base old known known_groups
-        → IsOpeningMismatch unit.Group IsBookDifference books known_groups why → IsOpeningCause base old s why
-    group_changed opened_cells first_cells known known_groups why was on copied same kept differs =
-        let d = differing unit.Group IsBookDifference books known_groups why differs in
+    group_changed : (known : List Kept) (known_groups : List KeptGroup) (why : Status) → AreAsKept IsCellAsKept cells known
+        → AreKept base old known known_groups → IsOpeningMismatch unit.Group IsBookAsKept IsBookDifference books known_groups why
+        → IsOpeningCause base old s why
+    group_changed known known_groups why same kept differs =
+        let d = differing unit.Group IsBookAsKept IsBookDifference books known_groups why differs in
         let at = group_at d.number d.at.one d.at.there in
         let h = at.0 in
         let b = d.at.one in
-        let many : length known ≡ length cells = omega (
-          arith,
-          zip_length IsCellCopied first_cells known copied,
-          zip_length IsContinued opened_cells first_cells on,
-          zip_length _ base.tags.items opened_cells was,
-          is.as_many_tags,
-        ) in
-        let kept_on : AllZip IsContinued opened_cells cells = zip_on IsContinued IsContinued IsContinued (λ x y z a b. record {
-          def = b.def ∙ a.def;
-          summary = b.summary ∙ a.summary;
-          records = b.records ∙ a.records;
-          moment = b.moment ∙ a.moment;
-          faults = b.faults ∙ a.faults;
-          room = b.room ∙ a.room;
-        }) opened_cells first_cells cells on (continued first_cells cells known many copied same) in
         record {
           tags = known;
           groups = known_groups;
           kept = kept;
-          changed = subst (IsUnitChanged base old known known_groups s) (sym d.same) (
+          changed = subst (IsUnitChanged known known_groups s) (sym d.same) (
             record {
               known = d.at.copy;
               its = h;
@@ -334,52 +320,131 @@ module _ {D : Type 0} (trace : D → Option Trace) (ticks faults : D → ℕ) (c
                   (subst (λ x. IsGroupDifference b.group x h.text.items h.opening d.at.copy d.kept d.told) (sym at.2.def)
                   (subst (λ x. IsGroupDifference b.group b.def x h.opening d.at.copy d.kept d.told) (sym at.2.text)
                   (subst (λ x. IsGroupDifference b.group b.def b.text x d.at.copy d.kept d.told) (sym at.2.opening) d.at.differing)));
+              front = λ i x k below.
+                  let there : i < length books = omega (arith, below, slice_get_within books d.number b d.at.there) in
+                  let e = element books i there in
+                  let of = is.groups.each i e x there in
+                  let it = get_or s.groups.items i x in
+                  let kk = get_or known_groups i k in
+                  let ee = get_or books i e in
+                  subst (λ n. IsGroupAsKept n it.def it.text.items it.opening kk) (sym of.group)
+                  (subst (λ y. IsGroupAsKept ee.group y it.text.items it.opening kk) (sym of.def)
+                  (subst (λ y. IsGroupAsKept ee.group ee.def y it.opening kk) (sym of.text)
+                  (subst (λ y. IsGroupAsKept ee.group ee.def ee.text y kk) (sym of.opening) (d.at.front i e k below))));
             },
-            opened_tags trace ticks faults old clocked base.tags.items opened_cells cells s.tags.items was kept_on is.tags,
+            λ i t k below.
+                let there : i < length cells = omega (arith, below, zip_length IsOfCell cells s.tags.items is.tags) in
+                let c = element cells i there in
+                tag_kept known i c t k there (same.each i c k there),
           );
         }
 
     -- ---- an entry of no file
 
+    -- on the tape of a tag
+    tag_difference : {A : Type 0} (work : Entry → Option Shown) (item_of : ℕ → ℕ → A → Option Item) (files : List (List A)) (works : List Reached)
+        (tag at : ℕ) (kept told : Seen) → AreOver item_of (length cells) files works → IsMismatchAt cell_tape work cells works tag at kept told
+        → IsTapeDifference tag_tape work item_of files s.tags.items tag at kept told
+    tag_difference work item_of files works tag at kept told over m =
+        let t = tag_at tag m.one m.there in
+        record {
+          its = t.0;
+          there = t.1;
+          differs = subst (λ l. IsDifference work (λ w. file_due item_of files w tag) l at kept told) (sym t.2.tape_is)
+              (differs_so work item_of (length cells) files works tag at m.one.tape kept told over m.differs);
+          front = λ k worker u below.
+              let there : k < length cells = omega (arith, below, slice_get_within cells tag m.one m.there) in
+              let c = element cells k there in
+              subst (λ l. IsFirstPart (tape_shows work worker l) (file_due item_of files worker k)) (sym (cell_of k c u there).tape_is)
+              (subst (IsFirstPart (tape_shows work worker (get_or cells k c).tape)) (due_of_file item_of (length cells) files works over worker k)
+              (m.front k worker c below));
+        }
+
+    -- and on that of a group
+    group_difference : {A : Type 0} (work : Turn → Option Shown) (item_of : ℕ → ℕ → A → Option Item) (files : List (List A)) (works : List Reached)
+        (group at : ℕ) (kept told : Seen) → AreOver item_of (length books) files works → IsMismatchAt book_tape work books works group at kept told
+        → IsTapeDifference group_tape work item_of files s.groups.items group at kept told
+    group_difference work item_of files works group at kept told over m =
+        let h = group_at group m.one m.there in
+        record {
+          its = h.0;
+          there = h.1;
+          differs = subst (λ l. IsDifference work (λ w. file_due item_of files w group) l at kept told) (sym h.2.tape)
+              (differs_so work item_of (length books) files works group at m.one.tape kept told over m.differs);
+          front = λ k worker u below.
+              let there : k < length books = omega (arith, below, slice_get_within books group m.one m.there) in
+              let b = element books k there in
+              subst (λ l. IsFirstPart (tape_shows work worker l) (file_due item_of files worker k)) (sym (is.groups.each k b u there).tape)
+              (subst (IsFirstPart (tape_shows work worker (get_or books k b).tape)) (due_of_file item_of (length books) files works over worker k)
+              (m.front k worker b below));
+        }
+
     module _ (turns_of : ℕ → ℕ) (same_turns : (i : ℕ) → turns_of i ≡ phases + turns_in i refreshers) where
+      -- the turns that a group is given
+      turns_at : (group : ℕ) → group < length base.groups.items → get_or g.turns.items group 0 ≡ turns_of group
+      turns_at group below =
+          turns_of_group trace ticks faults base old new g cells books s is earlier phases rows queries refreshers given group below
+          ∙ sym (same_turns group)
+
+      turns_within : IsWithinTurns g.turns.items books → AreTurnsWithin turns_of s
+      turns_within within group x below =
+          let there : group < length books = omega (arith, below, is.groups.as_many) in
+          let b = element books group there in
+          omega (
+            arith,
+            within.each group b there,
+            turns_at group (omega (arith, there, is.as_many_groups)),
+            ap (λ l. length (refreshes l)) (is.groups.each group b x there).tape,
+          )
+
       tape_cause : (why : Status) → IsFindingRefusal g cells books why → IsTapeCause (phase_item earlier) turns_of rows queries s why
       tape_cause why refused = by (found_at g cells books why refused)
         where
+          shown_takes : AreCellTakesBegun g cells → AreTakesBegun (phase_item earlier) rows s
+          shown_takes = begun_takes trace ticks faults base old new g cells books s is earlier phases rows queries refreshers given
+
+          shown_asks : AreCellAsksBegun g cells → AreAsksBegun queries s
+          shown_asks = begun_asks trace ticks faults base old new g cells books s is earlier phases rows queries refreshers given
+
           by : Finding g cells books why → IsTapeCause (phase_item earlier) turns_of rows queries s why
           by (AtTake works tag at kept told same over differs) =
-              let t = tag_at tag differs.one differs.there in
               let of_files = subst (λ n. AreOver (phase_item n) (length cells) rows works) given.its.earlier_is
               (subst (λ l. AreOver (phase_item g.work.earlier) (length cells) l works) given.its.collectors over) in
               subst (IsTapeCause (phase_item earlier) turns_of rows queries s) (sym same)
-              (some_and (λ t. IsDifference take_of (λ w. file_due (phase_item earlier) rows w tag) t.tape.items at kept told)
-              (slice_get s.tags.items tag) t.0 t.1
-              (subst (λ l. IsDifference take_of (λ w. file_due (phase_item earlier) rows w tag) l at kept told) (sym t.2.tape_is)
-              (differs_so take_of (phase_item earlier) (length cells) rows works tag at differs.one.tape kept told of_files differs.differs)))
-          by (AtAsk works tag at kept told same over differs) =
-              let t = tag_at tag differs.one differs.there in
-              subst (IsTapeCause (phase_item earlier) turns_of rows queries s) (sym same)
-              (some_and (λ t. IsDifference ask_of (λ w. file_due ask_item queries w tag) t.tape.items at kept told) (slice_get s.tags.items tag)
-              t.0 t.1
-              (subst (λ l. IsDifference ask_of (λ w. file_due ask_item queries w tag) l at kept told) (sym t.2.tape_is)
-              (differs_so ask_of ask_item (length cells) queries works tag at differs.one.tape kept told
-              (subst (λ l. AreOver ask_item (length cells) l works) given.its.readers over) differs.differs)))
-          by (AtRowAsk works group at kept told same over differs) =
-              let h = group_at group differs.one differs.there in
-              subst (IsTapeCause (phase_item earlier) turns_of rows queries s) (sym same)
-              (some_and (λ g. IsDifference row_ask_of (λ w. file_due row_item queries w group) g.tape.items at kept told)
-              (slice_get s.groups.items group) h.0 h.1
-              (subst (λ l. IsDifference row_ask_of (λ w. file_due row_item queries w group) l at kept told) (sym h.2.tape)
-              (differs_so row_ask_of row_item (length books) queries works group at differs.one.tape kept told
-              (subst (λ l. AreOver row_item (length books) l works) given.its.readers over) differs.differs)))
-          by (AtTurns group kept told same above) =
+              (tag_difference take_of (phase_item earlier) rows works tag at kept told of_files differs)
+          by (AtAsk takes works tag at kept told same over differs) =
+              subst (IsTapeCause (phase_item earlier) turns_of rows queries s) (sym same) (
+                shown_takes takes,
+                tag_difference ask_of ask_item queries works tag at kept told
+                    (subst (λ l. AreOver ask_item (length cells) l works) given.its.readers over) differs,
+              )
+          by (AtRowAsk takes asks works group at kept told same over differs) =
+              subst (IsTapeCause (phase_item earlier) turns_of rows queries s) (sym same) (
+                shown_takes takes,
+                shown_asks asks,
+                group_difference row_ask_of row_item queries works group at kept told
+                    (subst (λ l. AreOver row_item (length books) l works) given.its.readers over) differs,
+              )
+          by (AtTurns was group kept told same above) =
               let h = group_at group above.book above.there in
-              let many : get_or g.turns.items group 0 ≡ turns_of group =
-              turns_of_group trace ticks faults base old new g cells books s is earlier phases rows queries refreshers given group
-              (group_inside group above.book above.there) ∙ sym (same_turns group) in
-              subst (IsTapeCause (phase_item earlier) turns_of rows queries s) (sym same)
-              (some_and (λ g. IsAboveTurns (turns_of group) g.tape.items kept told) (slice_get s.groups.items group) h.0 h.1
-              (subst (λ l. IsAboveTurns (turns_of group) l kept told) (sym h.2.tape)
-              (subst (λ n. IsAboveTurns n above.book.tape kept told) many above.above)))
+              subst (IsTapeCause (phase_item earlier) turns_of rows queries s) (sym same) (
+                begun trace ticks faults base old new g cells books s is earlier phases rows queries refreshers given was,
+                record {
+                  its = h.0;
+                  there = h.1;
+                  above = subst (λ l. IsAboveTurns (turns_of group) l kept told) (sym h.2.tape)
+                      (subst (λ n. IsAboveTurns n above.book.tape kept told) (turns_at group (group_inside group above.book above.there)) above.above);
+                  front = λ k x below.
+                      let there : k < length books = omega (arith, below, slice_get_within books group above.book above.there) in
+                      let b = element books k there in
+                      omega (
+                        arith,
+                        above.front k b below,
+                        turns_at k (omega (arith, there, is.as_many_groups)),
+                        ap (λ l. length (refreshes l)) (is.groups.each k b x there).tape,
+                      );
+                },
+              )
 
       -- ---- a step that cannot be made
 
@@ -397,6 +462,13 @@ module _ {D : Type 0} (trace : D → Option Trace) (ticks faults : D → ℕ) (c
           let t = tag_at tag so.cell so.there in
           OfDevice tag same (some_and (λ t. LacksRow take_of (phase_item earlier) rows tag t.tape.items) (slice_get s.tags.items tag) t.0 t.1
           (lacks_row tag so.cell t.0 t.2 so.so.1))
+      take_cause why (cell.OfRoom tag takes many same so) =
+          let t = tag_at tag so.cell so.there in
+          let on_tape = so.so.0 ∙ ap (λ l. length (taken l)) (sym t.2.tape_is) in
+          let of_files = so.so.1 ∙ ap (tag_rows tag) given.its.collectors in
+          OfRoom tag (some_and (λ t. (why ≡ takes_mismatch tag (length (taken t.tape.items)) (tag_rows tag rows))
+          × LacksRow take_of (phase_item earlier) rows tag t.tape.items) (slice_get s.tags.items tag) t.0 t.1
+          (same ∙ ap₂ (takes_mismatch tag) on_tape of_files, lacks_row tag so.cell t.0 t.2 so.so.4))
       take_cause why (cell.OfLimit tag number same so) =
           let t = tag_at tag so.cell so.there in
           OfLimit tag number same
@@ -605,7 +677,7 @@ module _ {D : Type 0} (trace : D → Option Trace) (ticks faults : D → ℕ) (c
       rest_cause : (notes : List WorkerNote) (quiet : Type 0) (why : Status) → ((IsOpening why → ⊥) → AreUnitsOpened base old s)
           → ((IsOpening why → ⊥) → AreStepsMade g cells books → quiet) → IsRefused g notes cells books why → IsSessionCause (phase_item earlier) turns_of base old rows queries quiet notes s why
       rest_cause notes quiet why was calm (OfFinding finding) = cause.OfTape (tape_cause why finding)
-      rest_cause notes quiet why was calm (OfStop stop) = cause.OfStop stop
+      rest_cause notes quiet why was calm (OfStop within stop) = cause.OfStop (turns_within within) stop
       rest_cause notes quiet why was calm (OfMaking ended (OfTaking taking)) = cause.OfStep ended (cause.OfTake (take_cause why taking))
       rest_cause notes quiet why was calm (OfMaking ended (OfCommit tapes (cell.OfFault tag same so front))) =
           cause.OfStep ended (cause.OfCommit
@@ -643,7 +715,7 @@ module _ {D : Type 0} (trace : D → Option Trace) (ticks faults : D → ℕ) (c
           cause.OfOpening (tag_changed known known_groups why
           (as_kept opened_cells first opened_books first_books known known_groups opening on on_books copied groups_copied) differs)
       session_cause opened_cells first opened_books first_books notes quiet why opening on on_books was calm (OfSettling known known_groups copied groups_copied (OfGroup kept differs)) =
-          cause.OfOpening (group_changed opened_cells first known known_groups why opening.tags on copied kept
+          cause.OfOpening (group_changed known known_groups why kept
           (as_kept opened_cells first opened_books first_books known known_groups opening on on_books copied groups_copied) differs)
       session_cause opened_cells first opened_books first_books notes quiet why opening on on_books was calm (OfSettling known known_groups copied groups_copied (OfRest refused)) =
           rest_cause notes quiet why was calm refused

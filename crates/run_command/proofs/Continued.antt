@@ -37,7 +37,6 @@ module _ {D : Type 0} where
         records = same.records ∙ copy.records;
         moment = same.moment ∙ copy.moment;
         faults = same.faults ∙ copy.faults;
-        room = same.room ∙ copy.room;
       }) opened known cells copied (zip_each (λ k c. IsCellAsKept c k) known cells (sym many)
       (λ i k c below. kept.each i c k (subst (λ n. i < n) many below)))
 
@@ -58,7 +57,7 @@ module _ {D : Type 0} where
 
   -- what was opened is continued by itself
   pub still : (cells : List (Cell D)) → AllZip IsContinued cells cells
-  still = zip_same IsContinued (λ c. record { def = refl; summary = refl; records = refl; moment = refl; faults = refl; room = refl })
+  still = zip_same IsContinued (λ c. record { def = refl; summary = refl; records = refl; moment = refl; faults = refl })
 
   pub groups_still : (books : List (Book D)) → AllZip IsContinuedGroup books books
   groups_still = zip_same IsContinuedGroup (λ b. record {
@@ -79,7 +78,6 @@ module _ {D : Type 0} where
     records = second.records ∙ first.records;
     moment = second.moment ∙ first.moment;
     faults = second.faults ∙ first.faults;
-    room = second.room ∙ first.room;
   })
 
   pub books_on : (a b c : List (Book D)) → AllZip IsContinuedGroup a b → AllZip IsContinuedGroup b c → AllZip IsContinuedGroup a c

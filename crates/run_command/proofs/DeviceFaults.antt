@@ -33,7 +33,7 @@ use Rattle.plant_store.specs.CellClosings.{AreHistoriesOf}
 use Rattle.plant_store.specs.CellOpenings.{AreCellsOpened}
 use Rattle.run_command.specs.Headline.{IsFaultCounted}
 use Rattle.plant_status.proofs.Elements.{element}
-use Rattle.session_audit.specs.CellRefusals.{IsCommittedCell, IsSo, OfBroken, OfFault, OfLimit}
+use Rattle.session_audit.specs.CellRefusals.{IsCommittedCell, IsSo, OfBroken, OfFault, OfLimit, OfRoom}
 use Rattle.session_audit.specs.CellRefusals as no_memory
 use Rattle.collector_pool.specs.declared.note.WorkerNote.{WorkerNote}
 
@@ -72,6 +72,7 @@ module _ {D : Type 0} (trace : D → Option Trace) (ticks faults : D → ℕ) (b
   module _ (g : Given) where
     of_making : (unit : Device) → IsMakingRefusal g cells books (DeviceFault unit) → HasRisen before now
     of_making unit (OfTaking (OfBroken tag same so)) = of_cell tag (record { cell = so.cell; there = so.there; so = so.so.0 })
+    of_making unit (OfTaking (OfRoom tag takes rows same so)) = absurd (cc same)
     of_making unit (OfTaking (OfLimit tag number same so)) = absurd (cc same)
     of_making unit (OfCommit tapes (OfFault tag same so front)) = of_cell tag so
     of_making unit (OfCommit tapes (no_memory.OfMemory same)) = absurd (cc same)
@@ -80,10 +81,10 @@ module _ {D : Type 0} (trace : D → Option Trace) (ticks faults : D → ℕ) (b
 
     of_rest : (notes : List WorkerNote) (unit : Device) → IsRefused g notes cells books (DeviceFault unit) → HasRisen before now
     of_rest notes unit (OfFinding (OfTake works over unfound so)) = absurd so
-    of_rest notes unit (OfFinding (OfAsk works over unfound so)) = absurd so
-    of_rest notes unit (OfFinding (OfRowAsk works over unfound so)) = absurd so
-    of_rest notes unit (OfFinding (OfTurns so)) = absurd so
-    of_rest notes unit (OfStop so) = absurd so
+    of_rest notes unit (OfFinding (OfAsk takes works over unfound so)) = absurd so
+    of_rest notes unit (OfFinding (OfRowAsk takes asks works over unfound so)) = absurd so
+    of_rest notes unit (OfFinding (OfTurns begun so)) = absurd so
+    of_rest notes unit (OfStop within so) = absurd so
     of_rest notes unit (OfMaking ended so) = of_making unit so
     of_rest notes unit (OfPull ended made so) = absurd so.differs.differs
     of_rest notes unit (OfWant same) = absurd (cc same)

@@ -8,9 +8,9 @@ use Rattle.value_rows.specs.declared.raw.RawRow.{RawRow}
 use Rattle.session_audit.specs.Agendas.{phase_item}
 use Rattle.session_report.specs.declared.session.Session.{Session}
 use Rattle.run_command.specs.declared.work.Given.{Given}
-use Rattle.run_command.specs.DrillPhases.{IsUndoneOfBoth, OfFirst, OfReport, OfSecond}
+use Rattle.run_command.specs.DrillPhases.{IsUndoneOfBoth, OfFirst, OfFirstPull, OfReport, OfSecond}
 use Rattle.run_command.specs.DrillRows.{drill_rows_of}
-use Rattle.run_command.specs.Drills.{InFirst, InReport, InSecond, IsDrillBase, IsDrillCause, IsDrilled, IsPhaseCause, IsRunInPhases, drill_status, fresh_devices, memory_faults, memory_ticks, memory_trace}
+use Rattle.run_command.specs.Drills.{InFirst, InPull, InReport, InSecond, IsDrillBase, IsDrillCause, IsDrilled, IsPhaseCause, IsRunInPhases, drill_status, fresh_devices, memory_faults, memory_ticks, memory_trace}
 use Rattle.run_command.specs.Runs.{IsWorkIn}
 use Rattle.plant_files.specs.PlanRows.{IsGoodBase}
 use Rattle.run_command.specs.Headline.{IsDoneSo}
@@ -18,9 +18,11 @@ use Rattle.run_command.specs.Refusals.{IsOpening}
 use Rattle.run_command.specs.Units.{turns_in}
 use Rattle.run_command.proofs.Causes.{session_cause}
 use Rattle.run_command.proofs.Continued.{groups_still, still}
+use Rattle.run_command.proofs.DrillPulls.{apart, pulled_elsewhere}
 use Rattle.run_command.proofs.DrillNew.{all_new}
 use Rattle.run_command.proofs.DrillUndone.{opening_back}
-use Rattle.run_command.proofs.Headline.{IsClocked, begun, done, held_opened, if_done, sound_groups, sound_tags}
+use Rattle.run_command.proofs.Results.{ok_weaker}
+use Rattle.run_command.proofs.Headline.{IsClocked, begun, done, held_opened, if_done, mixed, sound_groups, sound_tags, up_to_date}
 
 -- the base, and the work of the two phases: before the second phase each collector has taken the first half of its
 -- events
@@ -66,7 +68,7 @@ memory_clocked d = refl
 phase_of : (number tags events stops_before stops_now : ℕ) (why cause : Status) (s : Session)
     → (is : IsDrill number tags events stops_before stops_now (Err why) s) → why ≡ drill_status cause
     → IsUndoneOfBoth is.first is.second is.run.held.opened is.run.held.opened_books is.run.held.cells is.run.held.books s.workers.items cause
-    → IsPhaseCause number tags events is.base is.first.work s.workers.items s cause
+    → IsPhaseCause number tags events is.base is.first.work is.second.work s.workers.items s cause
 phase_of number tags events stops_before stops_now why cause s is told (OfFirst notes undone) =
     let run = is.run.held in
     InFirst notes (session_cause memory_trace memory_ticks memory_faults memory_clocked is.base fresh_devices is.new is.first run.cells
@@ -81,11 +83,21 @@ phase_of number tags events stops_before stops_now why cause s is told (OfSecond
     is.work.second_is (λ i. 1) (λ i. refl) run.opened between run.opened_books between_books undone.more ⊤ cause run.opening same same_books
     (λ none. held_opened memory_trace memory_ticks memory_faults memory_clocked is.base is.second fresh_devices is.new 0 is.now (Err why) s run
     (λ of. none (opening_back cause (subst IsOpening told of)))) (λ none made. tt) undone.undone)
+phase_of number tags events stops_before stops_now why cause s is told (OfFirstPull notes ended made pulled elsewhere) =
+    let run = is.run.held in
+    let opened = held_opened memory_trace memory_ticks memory_faults memory_clocked is.base is.second fresh_devices is.new 0 is.now (Err why) s
+    run (λ of. subst IsOpening elsewhere.told (opening_back cause (subst IsOpening told of))) in
+    InPull notes ended (mixed memory_trace memory_ticks memory_faults is.base fresh_devices is.new is.second run.cells run.books s run.over
+    (events / 2) 1 (drill_rows_of number tags 0 events) [] [] is.work.good is.work.second_is made pulled)
+    (up_to_date memory_trace memory_ticks memory_faults is.base fresh_devices is.new is.second run.cells run.books s
+    run.over (events / 2) 1 (drill_rows_of number tags 0 events) [] [] is.work.good is.work.second_is made pulled opened)
+    (pulled_elsewhere memory_trace memory_ticks memory_faults is.base fresh_devices is.new run.cells run.books s run.over is.first
+    (drill_rows_of number tags 0 (events / 2)) is.work.first_is cause elsewhere)
 phase_of number tags events stops_before stops_now why cause s is told (OfReport same) = InReport same
 
 -- so has a drill that is not done
 cause_of : (number tags events stops_before stops_now : ℕ) (answer : Result (String Global) Status) (s : Session)
-    → (is : IsDrill number tags events stops_before stops_now answer s) → IfErr answer (IsDrillCause number tags events is.base is.first.work s)
+    → (is : IsDrill number tags events stops_before stops_now answer s) → IfErr answer (IsDrillCause number tags events is.base is.first.work is.second.work s)
 cause_of number tags events stops_before stops_now (Ok text) s is = tt
 cause_of number tags events stops_before stops_now (Err why) s is =
     let undone = is.run.undone in
@@ -126,6 +138,8 @@ promised number tags events stops_before stops_now answer s is =
       second_is = work.second_is.its;
       notes = is.run.notes;
       ran = is.run.ran;
+      apart = ok_weaker answer (apart memory_trace memory_ticks memory_faults is.base fresh_devices is.new run.cells run.books s run.over
+          is.first (drill_rows_of number tags 0 (events / 2)) work.first_is) is.run.apart;
       no_log = run.over.no_log;
     }
   where

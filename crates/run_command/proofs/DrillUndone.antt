@@ -12,6 +12,7 @@ use Rattle.plant_store.specs.Groups.{DeviceTraces}
 use Rattle.collector_pool.specs.declared.note.WorkerNote.{WorkerNote}
 use Rattle.collector_pool.specs.declared.work.Work.{Work}
 use Rattle.collector_pool.specs.Work.{worker_count}
+use Rattle.session_audit.specs.FirstPulls.{HaveFirstPulls}
 use Rattle.session_report.specs.declared.session.Session.{Session}
 use Rattle.run_command.specs.declared.work.Given.{Given}
 use Rattle.run_command.specs.Refusals.{AdmitsForeign, IsOpening, MayBeForeign}
@@ -94,13 +95,13 @@ pub phases_told : {D : Type 0} (trace : D → Option Trace) (ticks faults : D �
     (before now stops_before stops_now : ℕ) (told : Result (String Global) Status) (s : Session)
     → (held : IsSessionHeld trace ticks faults base second old new before now told s)
     → AreNotesOfBoth first.work second.work stops_before stops_now s.workers.items
-    → OnOk told (AreNotesOfAllBoth first.work second.work s.workers.items)
+    → OnOk told (AreNotesOfAllBoth first.work second.work s.workers.items) → OnOk told (HaveFirstPulls first.rooms.items held.cells)
     → ((AdmitsForeign told → ⊥) → AreBegun first held.cells held.books ⊎ AreBegun second held.cells held.books)
     → IfErr told (IsUndoneOfBoth first second held.opened held.opened_books held.cells held.books s.workers.items)
     → IsRunInPhases trace ticks faults base first second old new before now stops_before stops_now (drill_answer told) s
-phases_told trace ticks faults base first second old new before now stops_before stops_now (Ok text) s held notes ran begun undone =
-    record { held = held; notes = notes; ran = ran; begun = begun; undone = tt }
-phases_told trace ticks faults base first second old new before now stops_before stops_now (Err why) s held notes ran begun undone = record {
+phases_told trace ticks faults base first second old new before now stops_before stops_now (Ok text) s held notes ran apart begun undone =
+    record { held = held; notes = notes; ran = ran; apart = apart; begun = begun; undone = tt }
+phases_told trace ticks faults base first second old new before now stops_before stops_now (Err why) s held notes ran apart begun undone = record {
   held = record {
     opened = held.opened;
     opened_books = held.opened_books;
@@ -115,6 +116,7 @@ phases_told trace ticks faults base first second old new before now stops_before
   };
   notes = notes;
   ran = tt;
+  apart = tt;
   begun = λ none. begun (λ of. none (foreign_kept why of));
   undone = record { cause = why; told = refl; undone = undone };
 }

@@ -19,6 +19,7 @@ use Rattle.tag_cell.specs.Told.{ToldCell as Cell}
 use Rattle.group_book.specs.Told.{ToldBook as Book}
 use Rattle.run_command.specs.declared.work.Given.{Given}
 use Rattle.run_command.specs.Refusals.{IsFindingRefusal, IsOpening, MayBeForeign, OfAsk, OfRowAsk, OfTake, OfTurns}
+use Rattle.run_command.specs.Steps.{AreCellAsksBegun, AreBegun, AreCellTakesBegun}
 
 -- a changed opening, and the status that reports it
 pub opening_is : (s : Status) → IsOpening s → (unit : Unit) × (kept : Seen) × (told : Seen) × (s ≡ Mismatch (place.Opening unit) kept told)
@@ -56,13 +57,13 @@ module _ {D : Type 0} (g : Given) (cells : List (Cell D)) (books : List (Book D)
     AtTake : (works : List Reached) (tag at : ℕ) (kept told : Seen) → why ≡ Mismatch (place.Take tag at) kept told
         → AreOver (phase_item g.work.earlier) (length cells) (lists_of g.work.collectors.items) works
         → IsMismatchAt cell_tape take_of cells works tag at kept told → Finding why
-    AtAsk : (works : List Reached) (tag at : ℕ) (kept told : Seen) → why ≡ Mismatch (place.Ask tag at) kept told
+    AtAsk : AreCellTakesBegun g cells → (works : List Reached) (tag at : ℕ) (kept told : Seen) → why ≡ Mismatch (place.Ask tag at) kept told
         → AreOver ask_item (length cells) (lists_of g.work.readers.items) works
         → IsMismatchAt cell_tape ask_of cells works tag at kept told → Finding why
-    AtRowAsk : (works : List Reached) (group at : ℕ) (kept told : Seen) → why ≡ Mismatch (place.RowAsk group at) kept told
+    AtRowAsk : AreCellTakesBegun g cells → AreCellAsksBegun g cells → (works : List Reached) (group at : ℕ) (kept told : Seen) → why ≡ Mismatch (place.RowAsk group at) kept told
         → AreOver row_item (length books) (lists_of g.work.readers.items) works
         → IsMismatchAt book_tape row_ask_of books works group at kept told → Finding why
-    AtTurns : (group : ℕ) (kept told : Seen) → why ≡ Mismatch (place.Turns group) kept told
+    AtTurns : AreBegun g cells books → (group : ℕ) (kept told : Seen) → why ≡ Mismatch (place.Turns group) kept told
         → IsBookAbove g.turns.items books group kept told → Finding why
 
   -- no other status reports one
@@ -70,32 +71,32 @@ module _ {D : Type 0} (g : Given) (cells : List (Cell D)) (books : List (Book D)
       → ((works : List Reached) → IsAskMismatch cells works s → ⊥) → ((works : List Reached) → IsRowAskMismatch books works s → ⊥)
       → (IsTurnsMismatch g.turns.items books s → ⊥) → IsFindingRefusal g cells books s → P
   none_of s take ask row turns (OfTake works over unfound is) = absurd (take works is)
-  none_of s take ask row turns (OfAsk works over unfound is) = absurd (ask works is)
-  none_of s take ask row turns (OfRowAsk works over unfound is) = absurd (row works is)
-  none_of s take ask row turns (OfTurns is) = absurd (turns is)
+  none_of s take ask row turns (OfAsk takes works over unfound is) = absurd (ask works is)
+  none_of s take ask row turns (OfRowAsk takes asks works over unfound is) = absurd (row works is)
+  none_of s take ask row turns (OfTurns begun is) = absurd (turns is)
 
   pub found_at : (s : Status) → IsFindingRefusal g cells books s → Finding s
   found_at (Mismatch (place.Opening unit) kept told) is = none_of (Mismatch (place.Opening unit) kept told) (λ w no. no) (λ w no. no) (λ w no. no) (λ no. no) is
   found_at (Mismatch (place.Takes tag) kept told) is = none_of (Mismatch (place.Takes tag) kept told) (λ w no. no) (λ w no. no) (λ w no. no) (λ no. no) is
   found_at (Mismatch (place.Take tag at) kept told) (OfTake works over unfound is) = AtTake works tag at kept told refl over is
-  found_at (Mismatch (place.Take tag at) kept told) (OfAsk works over unfound is) = absurd is
-  found_at (Mismatch (place.Take tag at) kept told) (OfRowAsk works over unfound is) = absurd is
-  found_at (Mismatch (place.Take tag at) kept told) (OfTurns is) = absurd is
+  found_at (Mismatch (place.Take tag at) kept told) (OfAsk takes works over unfound is) = absurd is
+  found_at (Mismatch (place.Take tag at) kept told) (OfRowAsk takes asks works over unfound is) = absurd is
+  found_at (Mismatch (place.Take tag at) kept told) (OfTurns begun is) = absurd is
   found_at (Mismatch (place.Ask tag at) kept told) (OfTake works over unfound is) = absurd is
-  found_at (Mismatch (place.Ask tag at) kept told) (OfAsk works over unfound is) = AtAsk works tag at kept told refl over is
-  found_at (Mismatch (place.Ask tag at) kept told) (OfRowAsk works over unfound is) = absurd is
-  found_at (Mismatch (place.Ask tag at) kept told) (OfTurns is) = absurd is
+  found_at (Mismatch (place.Ask tag at) kept told) (OfAsk takes works over unfound is) = AtAsk takes works tag at kept told refl over is
+  found_at (Mismatch (place.Ask tag at) kept told) (OfRowAsk takes asks works over unfound is) = absurd is
+  found_at (Mismatch (place.Ask tag at) kept told) (OfTurns begun is) = absurd is
   found_at (Mismatch (place.RowAsk group at) kept told) (OfTake works over unfound is) = absurd is
-  found_at (Mismatch (place.RowAsk group at) kept told) (OfAsk works over unfound is) = absurd is
-  found_at (Mismatch (place.RowAsk group at) kept told) (OfRowAsk works over unfound is) = AtRowAsk works group at kept told refl over is
-  found_at (Mismatch (place.RowAsk group at) kept told) (OfTurns is) = absurd is
+  found_at (Mismatch (place.RowAsk group at) kept told) (OfAsk takes works over unfound is) = absurd is
+  found_at (Mismatch (place.RowAsk group at) kept told) (OfRowAsk takes asks works over unfound is) = AtRowAsk takes asks works group at kept told refl over is
+  found_at (Mismatch (place.RowAsk group at) kept told) (OfTurns begun is) = absurd is
   found_at (Mismatch (place.Version group input) kept told) is = none_of (Mismatch (place.Version group input) kept told) (λ w no. no) (λ w no. no) (λ w no. no) (λ no. no) is
   found_at (Mismatch (place.Windows group) kept told) is = none_of (Mismatch (place.Windows group) kept told) (λ w no. no) (λ w no. no) (λ w no. no) (λ no. no) is
   found_at (Mismatch (place.Pull group input turn) kept told) is = none_of (Mismatch (place.Pull group input turn) kept told) (λ w no. no) (λ w no. no) (λ w no. no) (λ no. no) is
   found_at (Mismatch (place.Turns group) kept told) (OfTake works over unfound is) = absurd is
-  found_at (Mismatch (place.Turns group) kept told) (OfAsk works over unfound is) = absurd is
-  found_at (Mismatch (place.Turns group) kept told) (OfRowAsk works over unfound is) = absurd is
-  found_at (Mismatch (place.Turns group) kept told) (OfTurns is) = AtTurns group kept told refl is
+  found_at (Mismatch (place.Turns group) kept told) (OfAsk takes works over unfound is) = absurd is
+  found_at (Mismatch (place.Turns group) kept told) (OfRowAsk takes asks works over unfound is) = absurd is
+  found_at (Mismatch (place.Turns group) kept told) (OfTurns begun is) = AtTurns begun group kept told refl is
   found_at (Mismatch (place.Log at) kept told) is = none_of (Mismatch (place.Log at) kept told) (λ w no. no) (λ w no. no) (λ w no. no) (λ no. no) is
   found_at Done is = none_of Done (λ w no. no) (λ w no. no) (λ w no. no) (λ no. no) is
   found_at BadWords is = none_of BadWords (λ w no. no) (λ w no. no) (λ w no. no) (λ no. no) is
@@ -112,11 +113,12 @@ module _ {D : Type 0} (g : Given) (cells : List (Cell D)) (books : List (Book D)
   found_at (OtherPlant at) is = none_of (OtherPlant at) (λ w no. no) (λ w no. no) (λ w no. no) (λ no. no) is
   found_at (BadName word) is = none_of (BadName word) (λ w no. no) (λ w no. no) (λ w no. no) (λ no. no) is
 
-  pub finding_foreign : (s : Status) → IsFindingRefusal g cells books s → MayBeForeign s
-  finding_foreign s is = by (found_at s is)
+  -- what a status reports after which no tape may have an entry of no file comes behind all entries
+  pub finding_begun : (s : Status) → IsFindingRefusal g cells books s → (MayBeForeign s → ⊥) → AreBegun g cells books
+  finding_begun s is none = by (found_at s is)
     where
-      by : Finding s → MayBeForeign s
-      by (AtTake works tag at kept told same over differs) = subst MayBeForeign (sym same) tt
-      by (AtAsk works tag at kept told same over differs) = subst MayBeForeign (sym same) tt
-      by (AtRowAsk works group at kept told same over differs) = subst MayBeForeign (sym same) tt
-      by (AtTurns group kept told same differs) = subst MayBeForeign (sym same) tt
+      by : Finding s → AreBegun g cells books
+      by (AtTake works tag at kept told same over differs) = absurd (none (subst MayBeForeign (sym same) tt))
+      by (AtAsk takes works tag at kept told same over differs) = absurd (none (subst MayBeForeign (sym same) tt))
+      by (AtRowAsk takes asks works group at kept told same over differs) = absurd (none (subst MayBeForeign (sym same) tt))
+      by (AtTurns begun group kept told same differs) = begun

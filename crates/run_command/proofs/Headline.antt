@@ -66,12 +66,12 @@ use Rattle.plant_files.specs.PlanRows.{IsGoodBase}
 use Rattle.session_report.specs.declared.session.Session.{Session}
 use Rattle.session_report.specs.Report.{report}
 use Rattle.run_command.specs.declared.work.Given.{Given}
-use Rattle.run_command.specs.Headline.{CountsFaults, IsBegun, IsDoneSo, IsMixed, IsUpToDate}
-use Rattle.run_command.specs.Units.{AreGroupsSound, AreUnitsOpened, HasMade, core_of, IsGroupOpened, IsAcknowledged, IsGroupRefreshed, IsOnTapes, IsRecorded, IsTagOpened, IsTagSound, tag_tape, grid, opening_records_of, tag_records_of, group_tape, turns_in}
+use Rattle.run_command.specs.Headline.{CountsFaults, IsDoneSo, IsMixed, IsUpToDate}
+use Rattle.run_command.specs.Units.{AreAsksBegun, AreGroupsSound, AreTakesBegun, AreUnitsOpened, IsBegun, HasMade, core_of, IsGroupOpened, IsAcknowledged, IsGroupRefreshed, IsOnTapes, IsRecorded, IsTagOpened, IsTagSound, tag_tape, grid, opening_records_of, tag_records_of, group_tape, turns_in}
 use Rattle.run_command.specs.Refusals.{IsOfOpening}
 use Rattle.run_command.specs.Runs.{IsContinued, IsContinuedGroup, IsDone, IsSessionHeld, IsUndone, IsOver, IsWorkIn}
 use Rattle.run_command.specs.Sessions.{planned_turn, turn_of}
-use Rattle.run_command.specs.Steps.{AreBegun, AreStepsMade, AreTapesMade}
+use Rattle.run_command.specs.Steps.{AreCellAsksBegun, AreBegun, AreStepsMade, AreCellTakesBegun, AreTapesMade}
 use Rattle.run_command.proofs.Zipped.{zip_at, zip_length}
 use Rattle.run_command.proofs.DeviceFaults.{faults_counted, none_counted}
 use Rattle.plant_store.proofs.BookReturns.{clock_of}
@@ -367,17 +367,27 @@ module _ {D : Type 0} (trace : D → Option Trace) (ticks faults : D → ℕ) (b
     history_at i c t below = zip_at (λ (x : Cell D) h. IsHistoryOfCell (trace x.journal.dev) (ticks x.journal.dev) (faults x.journal.dev) x h)
         cells s.tags.items i c t is.tags below
 
-    -- what the workers left are first rows of their files
+    -- what the workers left are first rows of their files: takes, questions about tags, and all of them
+    pub begun_takes : (earlier phases : ℕ) (rows : List (List RawRow)) (queries : List (List Query)) (refreshers : List Refresher)
+        → IsWorkIn base earlier phases rows queries refreshers g → AreCellTakesBegun g cells → AreTakesBegun (phase_item earlier) rows s
+    begun_takes earlier phases rows queries refreshers given was =
+        subst (λ n. AreTapesBegun tag_tape take_of (phase_item n) rows s.tags.items) given.its.earlier_is
+        (subst (λ files. AreTapesBegun tag_tape take_of (phase_item g.work.earlier) files s.tags.items) given.its.collectors
+        (begun_tapes (λ (c : Cell D). c.tape) tag_tape take_of (phase_item g.work.earlier) (lists_of g.work.collectors.items) cells
+        s.tags.items tags_many (λ i c t below. (history_at i c t below).tape_is) was))
+
+    pub begun_asks : (earlier phases : ℕ) (rows : List (List RawRow)) (queries : List (List Query)) (refreshers : List Refresher)
+        → IsWorkIn base earlier phases rows queries refreshers g → AreCellAsksBegun g cells → AreAsksBegun queries s
+    begun_asks earlier phases rows queries refreshers given was =
+        subst (λ files. AreTapesBegun tag_tape ask_of ask_item files s.tags.items) given.its.readers
+        (begun_tapes (λ (c : Cell D). c.tape) tag_tape ask_of ask_item (lists_of g.work.readers.items) cells s.tags.items tags_many
+        (λ i c t below. (history_at i c t below).tape_is) was)
+
     pub begun : (earlier phases : ℕ) (rows : List (List RawRow)) (queries : List (List Query)) (refreshers : List Refresher)
         → IsWorkIn base earlier phases rows queries refreshers g → AreBegun g cells books → IsBegun (phase_item earlier) rows queries s
     begun earlier phases rows queries refreshers given was = record {
-      takes = subst (λ n. AreTapesBegun tag_tape take_of (phase_item n) rows s.tags.items) given.its.earlier_is
-          (subst (λ files. AreTapesBegun tag_tape take_of (phase_item g.work.earlier) files s.tags.items) given.its.collectors
-          (begun_tapes (λ (c : Cell D). c.tape) tag_tape take_of (phase_item g.work.earlier) (lists_of g.work.collectors.items) cells
-          s.tags.items tags_many (λ i c t below. (history_at i c t below).tape_is) was.takes));
-      asks = subst (λ files. AreTapesBegun tag_tape ask_of ask_item files s.tags.items) given.its.readers
-          (begun_tapes (λ (c : Cell D). c.tape) tag_tape ask_of ask_item (lists_of g.work.readers.items) cells s.tags.items tags_many
-          (λ i c t below. (history_at i c t below).tape_is) was.asks);
+      takes = begun_takes earlier phases rows queries refreshers given was.takes;
+      asks = begun_asks earlier phases rows queries refreshers given was.asks;
       row_asks = subst (λ files. AreTapesBegun group_tape row_ask_of row_item files s.groups.items) given.its.readers
           (begun_tapes (λ (b : Book D). b.tape) group_tape row_ask_of row_item (lists_of g.work.readers.items) books s.groups.items
           is.groups.as_many (λ i b h below. (is.groups.each i b h (omega (arith, is.groups.as_many, below))).tape) was.row_asks);
@@ -418,7 +428,7 @@ module _ {D : Type 0} (trace : D → Option Trace) (ticks faults : D → ℕ) (b
       acknowledged = λ i t below. acknowledged i t below (λ c. (committed i c (omega (arith, tags_many, below))).none_waits);
     }
 
-    mixed : (earlier phases : ℕ) (rows : List (List RawRow)) (queries : List (List Query)) (refreshers : List Refresher)
+    pub mixed : (earlier phases : ℕ) (rows : List (List RawRow)) (queries : List (List Query)) (refreshers : List Refresher)
         → IsGoodBase base → IsWorkIn base earlier phases rows queries refreshers g → AreStepsMade g cells books
         → ArePulled (lists_of g.inputs.items) cells books → IsMixed (phase_item earlier) base rows queries s
     mixed earlier phases rows queries refreshers good given made pulled = record {
@@ -552,7 +562,7 @@ module _ {D : Type 0} (trace : D → Option Trace) (ticks faults : D → ℕ) (b
               some_text def.name 44 _ (sym (was.groups i d h below).text_is ∙ of.text ∙ none))));
         }
 
-    up_to_date : (earlier phases : ℕ) (rows : List (List RawRow)) (queries : List (List Query)) (refreshers : List Refresher)
+    pub up_to_date : (earlier phases : ℕ) (rows : List (List RawRow)) (queries : List (List Query)) (refreshers : List Refresher)
         → IsGoodBase base → IsWorkIn base earlier phases rows queries refreshers g → AreStepsMade g cells books
         → ArePulled (lists_of g.inputs.items) cells books
         → AreUnitsOpened base old s → (i : ℕ) (d : GroupDef) (h : GroupHistory) → i < length s.groups.items

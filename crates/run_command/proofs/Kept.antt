@@ -31,23 +31,19 @@ module _ {D : Type 0} where
   pub cells_longer : (IsOf : Entry → Type 0) (old new : List (Cell D)) → AreLonger IsOf old new → AreEach IsCellKept old new
   cells_longer IsOf old new longer = record {
     as_many = longer.as_many;
-    each = λ i d.
-        let one = longer.each i d in
-        record { def = one.same_def; opening = one.same_opening; room = one.same_room };
+    each = λ i d. record { def = (longer.each i d).same_def; opening = (longer.each i d).same_opening };
   }
 
   pub cells_pulled : (old new : List (Cell D)) → AreEach IsPulledMore old new → AreEach IsCellKept old new
   cells_pulled = each_weaker IsPulledMore IsCellKept (λ a b more. record {
     def = ap (λ (c : Cell D). c.def) more.changed;
     opening = ap (λ (c : Cell D). c.opening) more.changed;
-    room = ap (λ (c : Cell D). c.room) more.changed;
   })
 
   pub cells_joined : (a b c : List (Cell D)) → AreEach IsCellKept a b → AreEach IsCellKept b c → AreEach IsCellKept a c
   cells_joined = each_trans IsCellKept (λ a b c first second. record {
     def = second.def ∙ first.def;
     opening = second.opening ∙ first.opening;
-    room = second.room ∙ first.room;
   })
 
   pub books_asked : (old new : List (Book D)) → AreEach IsAskedMore old new → AreEach IsBookKept old new
@@ -97,7 +93,6 @@ module _ {D : Type 0} where
           records = ap (λ (o : TagOpening). o.recs.items) same.opening ∙ was.records;
           moment = ap (λ (o : TagOpening). o.moment) same.opening ∙ was.moment;
           faults = ap (λ (o : TagOpening). o.faults) same.opening ∙ was.faults;
-          room = same.room ∙ was.room;
         };
   }
 

@@ -21,7 +21,7 @@ pub mod DrillUndone
 pub mod DrillUnopened
 pub mod DrillNaming
 pub mod DrillGrowing
-pub mod DrillRooms
+pub mod DrillPulls
 pub mod DrillSound
 pub mod DrillFormulas
 pub mod Foreign

@@ -5,22 +5,26 @@ use Rattle.value_rows.specs.declared.asked.Query.{Query}
 use Rattle.value_rows.specs.declared.asked.Query.TheVariants.{Tag, Snap, Row}
 use Rattle.calc_refresh.specs.Lists.{lists_of}
 use Rattle.session_audit.specs.declared.agenda.Item.{Item}
+use Rattle.session_audit.specs.Agendas.{ask_item, phase_item, row_item}
 use Rattle.session_audit.specs.Found.{Reached}
-use Rattle.session_audit.specs.Workers.{AreOver}
+use Rattle.session_audit.specs.Tapes.{ask_of, take_of}
+use Rattle.session_audit.proofs.Begun.{tapes_begun}
+use Rattle.session_audit.specs.Workers.{AreOver, AreTapesFound}
 use Rattle.collector_pool.specs.Work.{IsQueryOf}
-use Rattle.session_audit.specs.Cells.{IsKnownAsk}
+use Rattle.session_audit.specs.Cells.{AreAllFound, IsKnownAsk, cell_tape}
+use Rattle.tag_cell.specs.Told.{ToldCell as Cell}
 use Rattle.group_book.specs.Told.{ToldBook as Book}
 use Rattle.session_audit.specs.Each.{AreEach}
-use Rattle.session_audit.specs.Books.{IsKnownRowAsk}
+use Rattle.session_audit.specs.Books.{IsKnownRowAsk, book_tape}
 use Rattle.session_audit.specs.Inputs.{AreInputs}
 use Rattle.session_audit.specs.declared.book_opening.KeptGroup.{KeptGroup}
 use Rattle.session_audit.specs.Openings.{AreAsKept}
 use Rattle.session_audit.specs.BookOpenings.{IsBookAsKept}
 use Rattle.trend_num.specs.declared.archive.Rec.{Rec}
 use Rattle.session_audit.specs.Refreshing.{AreBooksRefreshed}
-use Rattle.session_audit.specs.GroupTapes.{refreshes}
+use Rattle.session_audit.specs.GroupTapes.{refreshes, row_ask_of}
 use Rattle.run_command.specs.declared.work.Given.{Given}
-use Rattle.run_command.specs.Steps.{AreGivenFor, AreInputsFor, IsBookKept}
+use Rattle.run_command.specs.Steps.{AreCellAsksBegun, AreBegun, AreGivenFor, AreInputsFor, AreCellTakesBegun, IsBookKept}
 
 -- a query of a tag or a group is one of a tag, if it asks a tag
 known_ask : (tags groups : ℕ) (q : Query) → IsQueryOf tags groups q → IsKnownAsk tags q
@@ -50,6 +54,27 @@ known_row_asks tags groups xs ys same all =
     (λ i d below j e within. known_row_ask tags groups (get_or (get_or xs i d).items j e) (all i d below j e within))
 
 module _ {D : Type 0} where
+  -- if the progress of the workers agrees with the tapes, these show the first rows that are due there
+  pub takes_begun : (g : Given) (cells : List (Cell D)) (works : List Reached)
+      → AreOver (phase_item g.work.earlier) (length cells) (lists_of g.work.collectors.items) works → AreAllFound take_of cells works
+      → AreCellTakesBegun g cells
+  takes_begun g cells works over found = tapes_begun cell_tape take_of (phase_item g.work.earlier) _ _ cells works over found
+
+  pub asks_begun : (g : Given) (cells : List (Cell D)) (works : List Reached)
+      → AreOver ask_item (length cells) (lists_of g.work.readers.items) works → AreAllFound ask_of cells works → AreCellAsksBegun g cells
+  asks_begun g cells works over found = tapes_begun cell_tape ask_of ask_item _ _ cells works over found
+
+  pub all_begun : (g : Given) (cells : List (Cell D)) (books : List (Book D)) (takes asks row_asks : List Reached)
+      → AreOver (phase_item g.work.earlier) (length cells) (lists_of g.work.collectors.items) takes
+      → AreOver ask_item (length cells) (lists_of g.work.readers.items) asks
+      → AreOver row_item (length books) (lists_of g.work.readers.items) row_asks → AreAllFound take_of cells takes
+      → AreAllFound ask_of cells asks → AreTapesFound book_tape row_ask_of books row_asks → AreBegun g cells books
+  all_begun g cells books takes asks row_asks over_takes over_asks over_row_asks found found_asks found_row_asks = record {
+    takes = takes_begun g cells takes over_takes found;
+    asks = asks_begun g cells asks over_asks found_asks;
+    row_asks = tapes_begun book_tape row_ask_of row_item _ _ books row_asks over_row_asks found_row_asks;
+  }
+
   -- the inputs of books that are kept are their inputs
   pub inputs_kept : (many n : ℕ) (inputs more : List (List ℕ)) (old new : List (Book D)) → n ≡ many → more ≡ inputs
       → AreEach IsBookKept old new → AreInputs many inputs old → AreInputs n more new

@@ -1,6 +1,6 @@
 -- No refusal of a session or of a drill is a status that only the printing, or the words of a command line, give.
 use Rattle.std.proofs.Common.{◌≡◌, ◌∙◌, inl, inr, ℕ, List, Option, None, Some, Result, Ok, Err, IfErr, String, Global, ap, refl, subst, sym}
-use Rattle.std.specs.Prelude.{◌≢◌, IfSome}
+use Rattle.std.specs.Prelude.{◌≢◌, IfSome, IsSomeAnd, length, slice_get}
 use Rattle.plant_status.specs.declared.status.Status.{Status}
 use Rattle.plant_status.specs.declared.status.Status.TheVariants.{BadWords, Done, WantOfMemory, WriteFault}
 use Rattle.plant_files.specs.PlanRows as plan
@@ -14,9 +14,14 @@ use Rattle.value_rows.specs.declared.raw.RawRow.{RawRow}
 use Rattle.collector_pool.specs.declared.note.WorkerNote.{WorkerNote}
 use Rattle.collector_pool.specs.declared.work.Work.{Work}
 use Rattle.session_audit.specs.declared.agenda.Item.{Item}
+use Rattle.session_audit.specs.CellRefusals.{tag_rows, takes_mismatch}
+use Rattle.session_audit.specs.Tapes.{take_of}
+use Rattle.session_audit.specs.Workers.{LacksRow}
+use Rattle.tag_cell.specs.declared.history.TagHistory.{TagHistory}
+use Rattle.tag_cell.specs.Tapes.{taken}
 use Rattle.session_report.specs.declared.session.Session.{Session}
-use Rattle.run_command.specs.Causes.{IsSessionCause, OfDevice, OfLimit, OfMemory, OfCommit, OfOpening, OfPull, OfRefresh, OfStep, OfStop, OfTake, OfTape}
-use Rattle.run_command.specs.Drills.{InFirst, InReport, InSecond, IsDrillCause, IsDrilled, IsPhaseCause, drill_status}
+use Rattle.run_command.specs.Causes.{IsSessionCause, OfDevice, OfLimit, OfMemory, OfCommit, OfOpening, OfPull, OfRefresh, OfRoom, OfStep, OfStop, OfTake, OfTape}
+use Rattle.run_command.specs.Drills.{InFirst, InPull, InReport, InSecond, IsDrillCause, IsDrilled, IsPhaseCause, drill_status}
 use Rattle.run_command.specs.Headline.{IsPromised}
 use Rattle.run_command.specs.Runs as runs
 use Rattle.run_command.proofs.DrillUndone.{kept_or_fault}
@@ -25,11 +30,19 @@ use Rattle.run_command.proofs.DrillUndone.{kept_or_fault}
 
 module _ (item_of : ℕ → ℕ → RawRow → Option Item) (turns_of : ℕ → ℕ) (base : Base) (before : DeviceTraces) (rows : List (List RawRow))
     (queries : List (List Query)) (quiet : Type 0) (notes : List WorkerNote) (s : Session) where
+  -- a tape that lacks room is told as a mismatch
+  no_room : {P : Type 0} (x : Status) → ((tag takes rows : ℕ) → x ≡ takes_mismatch tag takes rows → ⊥) → (tag : ℕ) (t : Option TagHistory)
+      → IsSomeAnd t (λ t. (x ≡ takes_mismatch tag (length (taken t.tape.items)) (tag_rows tag rows)) × LacksRow take_of item_of rows tag t.tape.items)
+      → P
+  no_room x other tag (Some t) at = absurd (other tag _ _ at.0)
+  no_room x other tag None at = absurd at
+
   pub held_no_done : IsSessionCause item_of turns_of base before rows queries quiet notes s Done → ⊥
   held_no_done (OfOpening is) = is.changed
   held_no_done (OfTape is) = is
-  held_no_done (OfStop is) = is
+  held_no_done (OfStop within is) = is
   held_no_done (OfStep ended (OfTake (OfDevice tag same is))) = cc same
+  held_no_done (OfStep ended (OfTake (OfRoom tag at))) = no_room Done (λ i n m same. cc same) tag (slice_get s.tags.items tag) at
   held_no_done (OfStep ended (OfTake (OfLimit tag number same is))) = cc same
   held_no_done (OfStep ended (OfCommit on_tapes is)) = cc (is.told)
   held_no_done (OfStep ended (OfRefresh recorded is)) = is.cause
@@ -39,8 +52,9 @@ module _ (item_of : ℕ → ℕ → RawRow → Option Item) (turns_of : ℕ → 
   pub held_no_fault : IsSessionCause item_of turns_of base before rows queries quiet notes s WriteFault → ⊥
   held_no_fault (OfOpening is) = is.changed
   held_no_fault (OfTape is) = is
-  held_no_fault (OfStop is) = is
+  held_no_fault (OfStop within is) = is
   held_no_fault (OfStep ended (OfTake (OfDevice tag same is))) = cc same
+  held_no_fault (OfStep ended (OfTake (OfRoom tag at))) = no_room WriteFault (λ i n m same. cc same) tag (slice_get s.tags.items tag) at
   held_no_fault (OfStep ended (OfTake (OfLimit tag number same is))) = cc same
   held_no_fault (OfStep ended (OfCommit on_tapes is)) = cc (is.told)
   held_no_fault (OfStep ended (OfRefresh recorded is)) = is.cause
@@ -50,8 +64,9 @@ module _ (item_of : ℕ → ℕ → RawRow → Option Item) (turns_of : ℕ → 
   pub held_no_words : IsSessionCause item_of turns_of base before rows queries quiet notes s BadWords → ⊥
   held_no_words (OfOpening is) = is.changed
   held_no_words (OfTape is) = is
-  held_no_words (OfStop is) = is
+  held_no_words (OfStop within is) = is
   held_no_words (OfStep ended (OfTake (OfDevice tag same is))) = cc same
+  held_no_words (OfStep ended (OfTake (OfRoom tag at))) = no_room BadWords (λ i n m same. cc same) tag (slice_get s.tags.items tag) at
   held_no_words (OfStep ended (OfTake (OfLimit tag number same is))) = cc same
   held_no_words (OfStep ended (OfCommit on_tapes is)) = cc (is.told)
   held_no_words (OfStep ended (OfRefresh recorded is)) = is.cause
@@ -140,34 +155,37 @@ cause_is cause why no_memory told = elim (kept_or_fault cause) [
   | inr fault ↦ absurd (no_memory (told ∙ ap drill_status fault.1))
 ]
 
-module _ (number tags events : ℕ) (base : Base) (first : Work) (notes : List WorkerNote) (s : Session) where
-  phase_no_done : IsPhaseCause number tags events base first notes s Done → ⊥
+module _ (number tags events : ℕ) (base : Base) (first second : Work) (notes : List WorkerNote) (s : Session) where
+  phase_no_done : IsPhaseCause number tags events base first second notes s Done → ⊥
   phase_no_done (InFirst of_first is) = held_no_done _ _ _ _ _ _ _ _ s is
   phase_no_done (InSecond front more behind of_first ended is) = held_no_done _ _ _ _ _ _ _ _ s is
+  phase_no_done (InPull of_both ended mixed up_to_date elsewhere) = cc (elsewhere.told)
   phase_no_done (InReport same) = cc same
 
-  phase_no_fault : IsPhaseCause number tags events base first notes s WriteFault → ⊥
+  phase_no_fault : IsPhaseCause number tags events base first second notes s WriteFault → ⊥
   phase_no_fault (InFirst of_first is) = held_no_fault _ _ _ _ _ _ _ _ s is
   phase_no_fault (InSecond front more behind of_first ended is) = held_no_fault _ _ _ _ _ _ _ _ s is
+  phase_no_fault (InPull of_both ended mixed up_to_date elsewhere) = cc (elsewhere.told)
   phase_no_fault (InReport same) = cc same
 
-  phase_no_words : IsPhaseCause number tags events base first notes s BadWords → ⊥
+  phase_no_words : IsPhaseCause number tags events base first second notes s BadWords → ⊥
   phase_no_words (InFirst of_first is) = held_no_words _ _ _ _ _ _ _ _ s is
   phase_no_words (InSecond front more behind of_first ended is) = held_no_words _ _ _ _ _ _ _ _ s is
+  phase_no_words (InPull of_both ended mixed up_to_date elsewhere) = cc (elsewhere.told)
   phase_no_words (InReport same) = cc same
 
-module _ (number tags events : ℕ) (base : Base) (first : Work) (s : Session) where
-  pub drill_no_done : IsDrillCause number tags events base first s Done → ⊥
-  drill_no_done is = phase_no_done number tags events base first s.workers.items s
-      (subst (IsPhaseCause number tags events base first s.workers.items s) (cause_is is.cause Done (λ memory. cc memory) is.told) is.phase)
+module _ (number tags events : ℕ) (base : Base) (first second : Work) (s : Session) where
+  pub drill_no_done : IsDrillCause number tags events base first second s Done → ⊥
+  drill_no_done is = phase_no_done number tags events base first second s.workers.items s
+      (subst (IsPhaseCause number tags events base first second s.workers.items s) (cause_is is.cause Done (λ memory. cc memory) is.told) is.phase)
 
-  pub drill_no_fault : IsDrillCause number tags events base first s WriteFault → ⊥
-  drill_no_fault is = phase_no_fault number tags events base first s.workers.items s
-      (subst (IsPhaseCause number tags events base first s.workers.items s) (cause_is is.cause WriteFault (λ memory. cc memory) is.told) is.phase)
+  pub drill_no_fault : IsDrillCause number tags events base first second s WriteFault → ⊥
+  drill_no_fault is = phase_no_fault number tags events base first second s.workers.items s
+      (subst (IsPhaseCause number tags events base first second s.workers.items s) (cause_is is.cause WriteFault (λ memory. cc memory) is.told) is.phase)
 
-  pub drill_no_words : IsDrillCause number tags events base first s BadWords → ⊥
-  drill_no_words is = phase_no_words number tags events base first s.workers.items s
-      (subst (IsPhaseCause number tags events base first s.workers.items s) (cause_is is.cause BadWords (λ memory. cc memory) is.told) is.phase)
+  pub drill_no_words : IsDrillCause number tags events base first second s BadWords → ⊥
+  drill_no_words is = phase_no_words number tags events base first second s.workers.items s
+      (subst (IsPhaseCause number tags events base first second s.workers.items s) (cause_is is.cause BadWords (λ memory. cc memory) is.told) is.phase)
 
 -- nor of a drill
 pub drill_understood : (number tags events stops_before stops_now : ℕ) (session : Option Session) (answer : Result (String Global) Status)
@@ -176,5 +194,5 @@ pub drill_understood : (number tags events stops_before stops_now : ℕ) (sessio
 drill_understood number tags events stops_before stops_now session (Ok text) unheld held = tt
 drill_understood number tags events stops_before stops_now None (Err why) unheld held = λ same. cc (same, unheld refl)
 drill_understood number tags events stops_before stops_now (Some s) (Err why) unheld held =
-    λ same. drill_no_words number tags events held.base held.first s
-    (subst (IsDrillCause number tags events held.base held.first s) same held.cause)
+    λ same. drill_no_words number tags events held.base held.first held.second s
+    (subst (IsDrillCause number tags events held.base held.first held.second s) same held.cause)

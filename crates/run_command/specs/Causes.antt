@@ -9,6 +9,7 @@ use Rattle.calc_refresh.specs.Refreshed.{most_cells, most_copies}
 use Rattle.sheet_law.specs.Touched.{longer}
 use Rattle.sheet_law.specs.Windows.{complete_windows}
 use Rattle.tag_cell.specs.declared.history.TagHistory.{TagHistory}
+use Rattle.tag_cell.specs.Tapes.{taken}
 use Rattle.group_book.specs.declared.history.GroupHistory.{GroupHistory}
 use Rattle.group_book.specs.Tapes.{uncut}
 use Rattle.plant_status.specs.declared.mismatch.Place.TheVariants.{Ask, Opening, RowAsk, Take, Turns, Version}
@@ -27,18 +28,20 @@ use Rattle.collector_pool.specs.declared.note.WorkerNote.{WorkerNote}
 use Rattle.session_audit.specs.declared.agenda.Item.{Item}
 use Rattle.session_audit.specs.declared.book_opening.KeptGroup.{KeptGroup}
 use Rattle.session_audit.specs.declared.cell_opening.Kept.{Kept}
+use Rattle.session_audit.specs.declared.kind.Shown.{Shown}
 use Rattle.session_audit.specs.Agendas.{ask_item, row_item}
-use Rattle.session_audit.specs.BookOpenings.{IsGroupDifference}
-use Rattle.session_audit.specs.CellOpenings.{IsTagDifference}
-use Rattle.session_audit.specs.Found.{IsDifference}
-use Rattle.session_audit.specs.GroupTapes.{row_ask_of}
+use Rattle.session_audit.specs.BookOpenings.{IsGroupAsKept, IsGroupDifference}
+use Rattle.session_audit.specs.CellOpenings.{IsTagAsKept, IsTagDifference}
+use Rattle.session_audit.specs.CellRefusals.{tag_rows, takes_mismatch}
+use Rattle.session_audit.specs.Found.{IsDifference, IsFirstPart, tape_shows}
+use Rattle.session_audit.specs.GroupTapes.{refreshes, row_ask_of}
 use Rattle.session_audit.specs.GroupTurns.{IsAboveTurns}
 use Rattle.session_audit.specs.Pulls.{IsInputApart, IsInputPulled}
 use Rattle.session_audit.specs.Tapes.{ask_of, take_of}
 use Rattle.session_audit.specs.Workers.{LacksRow, file_due}
 use Rattle.session_report.specs.declared.session.Session.{Session}
 use Rattle.run_command.specs.Endings.{HaveAllEnded, IsStop}
-use Rattle.run_command.specs.Units.{AtEachGroup, IsAcknowledged, IsGroupOpened, IsGroupRefreshed, IsOnTapes, IsRecorded, IsTagOpened, WereTagsOpened, grid, tag_records_of}
+use Rattle.run_command.specs.Units.{AreAsksBegun, AreTakesBegun, AtEachGroup, IsAcknowledged, IsBegun, IsGroupOpened, IsGroupRefreshed, IsOnTapes, IsRecorded, IsTagOpened, grid, group_tape, tag_records_of, tag_tape}
 
 -- ---- an opening that has changed
 
@@ -52,14 +55,22 @@ pub record AreKept (base : Base) (before : DeviceTraces) (tags : List Kept) (gro
       k.text.items k.opening)
   pub few : sum_by (λ (k : Kept). length k.opening.recs.items) tags ≤ most_stored
 
--- The status has the first difference between the opening of a tag and what was kept of it, or else any two rooms.
+-- a tag is as it was kept, and a group
+abbrev pub IsTagKept : TagHistory → Kept → Type 0
+IsTagKept t k = IsTagAsKept t.def t.opening k
+
+abbrev pub IsGroupKept : GroupHistory → KeptGroup → Type 0
+IsGroupKept g k = IsGroupAsKept g.group g.def g.text.items g.opening k
+
+-- The status has the first difference between the opening of a tag and what was kept of it. The tags before it are as they
+-- were kept.
 pub record IsTagChanged (tags : List Kept) (s : Session) (tag : ℕ) (kept told : Seen) : Type 0 where
   pub known : Kept
   pub its : TagHistory
   pub known_there : slice_get tags tag ≡ Some known
   pub there : slice_get s.tags.items tag ≡ Some its
-  pub room : ℕ
-  pub differs : IsTagDifference its.def its.opening room known kept told
+  pub differs : IsTagDifference its.def its.opening known kept told
+  pub front : (i : ℕ) (t : TagHistory) (k : Kept) → i < tag → IsTagKept (slice_index_or s.tags.items i t) (slice_index_or tags i k)
 
 -- the same of a group
 pub record IsGroupChanged (groups : List KeptGroup) (s : Session) (group : ℕ) (kept told : Seen) : Type 0 where
@@ -68,43 +79,75 @@ pub record IsGroupChanged (groups : List KeptGroup) (s : Session) (group : ℕ) 
   pub known_there : slice_get groups group ≡ Some known
   pub there : slice_get s.groups.items group ≡ Some its
   pub differs : IsGroupDifference its.group its.def its.text.items its.opening known kept told
+  pub front : (i : ℕ) (g : GroupHistory) (k : KeptGroup) → i < group → IsGroupKept (slice_index_or s.groups.items i g) (slice_index_or groups i k)
 
--- the opening of one unit has changed; if it is a group, each tag was opened as what its device stood for
-abbrev pub IsUnitChanged : Base → DeviceTraces → List Kept → List KeptGroup → Session → Status → Type 0
-IsUnitChanged base before tags groups s (Mismatch (Opening (Tag tag)) kept told) = IsTagChanged tags s tag kept told
-IsUnitChanged base before tags groups s (Mismatch (Opening (Group group)) kept told) =
-    IsGroupChanged groups s group kept told × WereTagsOpened base before s.tags.items
-IsUnitChanged base before tags groups s why = ⊥
+-- each tag is as it was kept
+abbrev pub AreTagsKept : List Kept → Session → Type 0
+AreTagsKept tags s = (i : ℕ) (t : TagHistory) (k : Kept) → i < length s.tags.items
+    → IsTagKept (slice_index_or s.tags.items i t) (slice_index_or tags i k)
+
+-- the opening of one unit has changed; if it is a group, each tag is as it was kept
+abbrev pub IsUnitChanged : List Kept → List KeptGroup → Session → Status → Type 0
+IsUnitChanged tags groups s (Mismatch (Opening (Tag tag)) kept told) = IsTagChanged tags s tag kept told
+IsUnitChanged tags groups s (Mismatch (Opening (Group group)) kept told) =
+    IsGroupChanged groups s group kept told × AreTagsKept tags s
+IsUnitChanged tags groups s why = ⊥
 
 -- what was kept of all openings, and which unit has changed since
 pub record IsOpeningCause (base : Base) (before : DeviceTraces) (s : Session) (why : Status) : Type 0 where
   pub tags : List Kept
   pub groups : List KeptGroup
   pub kept : AreKept base before tags groups
-  pub changed : IsUnitChanged base before tags groups s why
+  pub changed : IsUnitChanged tags groups s why
 
 -- ---- what no file has
 
--- an entry of the tape of a tag or group is not the next row of its worker that is due there; or a group was refreshed
--- more often than it has turns
+-- An entry of the tape of a tag or group is not the next row of its worker that is due there. The tapes of those before it
+-- show first rows alone.
+pub record IsTapeDifference {U E A : Type 0} (tape_of : U → List E) (work : E → Option Shown) (item_of : ℕ → ℕ → A → Option Item)
+    (files : List (List A)) (units : List U) (unit place : ℕ) (kept told : Seen) : Type 0 where
+  pub its : U
+  pub there : slice_get units unit ≡ Some its
+  pub differs : IsDifference work (λ w. file_due item_of files w unit) (tape_of its) place kept told
+  pub front : (k worker : ℕ) (u : U) → k < unit
+      → IsFirstPart (tape_shows work worker (tape_of (slice_index_or units k u))) (file_due item_of files worker k)
+
+-- no group was refreshed more often than it has turns
+abbrev pub AreTurnsWithin : (ℕ → ℕ) → Session → Type 0
+AreTurnsWithin turns_of s = (group : ℕ) (g : GroupHistory) → group < length s.groups.items
+    → length (refreshes (slice_index_or s.groups.items group g).tape.items) ≤ turns_of group
+
+-- a group was refreshed more often than it has turns; those before it were not
+pub record AreTurnsPassed (turns_of : ℕ → ℕ) (s : Session) (group : ℕ) (kept told : Seen) : Type 0 where
+  pub its : GroupHistory
+  pub there : slice_get s.groups.items group ≡ Some its
+  pub above : IsAboveTurns (turns_of group) its.tape.items kept told
+  pub front : (k : ℕ) (g : GroupHistory) → k < group → length (refreshes (slice_index_or s.groups.items k g).tape.items) ≤ turns_of k
+
+-- An entry is not the next row of its worker: a take; or a question about a tag, while all takes are; or a question on a
+-- group's tape, while all takes and all questions about tags are. Or all entries are, and a group was refreshed too often.
 abbrev pub IsTapeCause : (ℕ → ℕ → RawRow → Option Item) → (ℕ → ℕ) → List (List RawRow) → List (List Query) → Session → Status → Type 0
 IsTapeCause item_of turns_of rows queries s (Mismatch (Take tag place) kept told) =
-    IsSomeAnd (slice_get s.tags.items tag) (λ t. IsDifference take_of (λ w. file_due item_of rows w tag) t.tape.items place kept told)
+    IsTapeDifference tag_tape take_of item_of rows s.tags.items tag place kept told
 IsTapeCause item_of turns_of rows queries s (Mismatch (Ask tag place) kept told) =
-    IsSomeAnd (slice_get s.tags.items tag) (λ t. IsDifference ask_of (λ w. file_due ask_item queries w tag) t.tape.items place kept told)
-IsTapeCause item_of turns_of rows queries s (Mismatch (RowAsk group place) kept told) =
-    IsSomeAnd (slice_get s.groups.items group) (λ g. IsDifference row_ask_of (λ w. file_due row_item queries w group) g.tape.items place kept told)
+    AreTakesBegun item_of rows s × IsTapeDifference tag_tape ask_of ask_item queries s.tags.items tag place kept told
+IsTapeCause item_of turns_of rows queries s (Mismatch (RowAsk group place) kept told) = AreTakesBegun item_of rows s × AreAsksBegun queries s
+    × IsTapeDifference group_tape row_ask_of row_item queries s.groups.items group place kept told
 IsTapeCause item_of turns_of rows queries s (Mismatch (Turns group) kept told) =
-    IsSomeAnd (slice_get s.groups.items group) (λ g. IsAboveTurns (turns_of group) g.tape.items kept told)
+    IsBegun item_of rows queries s × AreTurnsPassed turns_of s group kept told
 IsTapeCause item_of turns_of rows queries s why = ⊥
 
 -- ---- a step that cannot be made
 
--- Why a row is not taken. The tape of its tag lacks a row. The answer names the tag's device; or the tag could have too
--- many records.
+-- Why a row is not taken. The tape of its tag lacks a row. The answer names the tag's device. Or the tape is full, which a
+-- history does not show; the answer has the number of its takes and that of the tag's rows. Or the tag could have too many
+-- records.
 pub data IsTakeCause (item_of : ℕ → ℕ → RawRow → Option Item) (rows : List (List RawRow)) (s : Session) (why : Status) : Type 0 where
   OfDevice : (tag : ℕ) → why ≡ DeviceFault (Tag tag)
       → IsSomeAnd (slice_get s.tags.items tag) (λ t. LacksRow take_of item_of rows tag t.tape.items) → IsTakeCause item_of rows s why
+  OfRoom : (tag : ℕ) → IsSomeAnd (slice_get s.tags.items tag) (λ t.
+      (why ≡ takes_mismatch tag (length (taken t.tape.items)) (tag_rows tag rows)) × LacksRow take_of item_of rows tag t.tape.items)
+      → IsTakeCause item_of rows s why
   OfLimit : (tag number : ℕ) → why ≡ Limit Records number → IsSomeAnd (slice_get s.tags.items tag) (λ t.
       (number ≡ length t.recs.items) × (most_records < number + 2) × LacksRow take_of item_of rows tag t.tape.items)
       → IsTakeCause item_of rows s why
@@ -192,13 +235,13 @@ pub data IsStepCause (item_of : ℕ → ℕ → RawRow → Option Item) (turns_o
 -- ---- the cause
 
 -- Why a session has no report, with these notes of its workers. An opening has changed. A tape shows what no file has. A
--- worker was stopped or found no memory. All workers ended by themselves, and a step cannot be made. Memory was wanting;
--- this may come at any time.
+-- worker was stopped or found no memory, and no group was refreshed too often. All workers ended by themselves, and a step
+-- cannot be made. Memory was wanting; this may come at any time.
 pub data IsSessionCause (item_of : ℕ → ℕ → RawRow → Option Item) (turns_of : ℕ → ℕ) (base : Base) (before : DeviceTraces)
     (rows : List (List RawRow)) (queries : List (List Query)) (quiet : Type 0) (notes : List WorkerNote) (s : Session) (why : Status) : Type 0 where
   OfOpening : IsOpeningCause base before s why → IsSessionCause item_of turns_of base before rows queries quiet notes s why
   OfTape : IsTapeCause item_of turns_of rows queries s why → IsSessionCause item_of turns_of base before rows queries quiet notes s why
-  OfStop : IsStop notes why → IsSessionCause item_of turns_of base before rows queries quiet notes s why
+  OfStop : AreTurnsWithin turns_of s → IsStop notes why → IsSessionCause item_of turns_of base before rows queries quiet notes s why
   OfStep : HaveAllEnded notes → IsStepCause item_of turns_of base rows queries quiet s why
       → IsSessionCause item_of turns_of base before rows queries quiet notes s why
   OfMemory : why ≡ WantOfMemory → IsSessionCause item_of turns_of base before rows queries quiet notes s why

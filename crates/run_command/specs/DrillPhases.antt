@@ -3,10 +3,13 @@ use Rattle.std.specs.Prelude.{◌≡◌, ◌⊎◌, ℕ, List, [], ◌++◌}
 use Rattle.std.specs.List.{AllZip}
 use Rattle.plant_status.specs.declared.status.Status.{Status}
 use Rattle.plant_status.specs.declared.status.Status.TheVariants.{WantOfMemory}
+use Rattle.calc_refresh.specs.Lists.{lists_of}
 use Rattle.collector_pool.specs.declared.note.WorkerNote.{WorkerNote}
 use Rattle.collector_pool.specs.declared.work.Work.{Work}
 use Rattle.group_book.specs.Told.{ToldBook as Book}
 use Rattle.tag_cell.specs.Told.{ToldCell as Cell}
+use Rattle.session_audit.specs.FirstPulls.{IsFirstPullMismatch}
+use Rattle.session_audit.specs.Pulls.{ArePulled}
 use Rattle.run_command.specs.declared.work.Given.{Given}
 use Rattle.run_command.specs.Runs.{IsContinued, IsContinuedGroup, IsUndone}
 use Rattle.run_command.specs.Endings.{HaveAllEnded}
@@ -52,8 +55,10 @@ pub record AreNotesOfAllBehind (work : Work) (front notes : List WorkerNote) : T
 abbrev pub AreAllOrNone : Work → List WorkerNote → Type 0
 AreAllOrNone w notes = AreNotesOfAll w notes ⊎ (notes ≡ [])
 
--- Why two phases are not done. The first is not done, and no worker of the second began. Or the first is done with these
--- notes, its cells and books keep their openings, and the second is not done. Or memory for the report was wanting.
+-- Why two phases have no report. The first is not done, and no worker of the second began. Or the first is done with these
+-- notes, its cells and books keep their openings, and the second is not done. Or both are done, and a tag had another
+-- number of takes acknowledged than it has rows in the first phase, when a group first pulled from it. Or memory for the
+-- report was wanting.
 pub data IsUndoneOfBoth {D : Type 0} (first second : Given) (opened : List (Cell D)) (opened_books : List (Book D))
     (cells : List (Cell D)) (books : List (Book D)) (notes : List WorkerNote) (why : Status) : Type 0 where
   OfFirst : AreAllOrNone first.work notes → IsUndone first opened opened_books cells books notes why
@@ -61,5 +66,8 @@ pub data IsUndoneOfBoth {D : Type 0} (first second : Given) (opened : List (Cell
   OfSecond : (between : List (Cell D)) (between_books : List (Book D)) (front : List WorkerNote)
       → AreNotesOfAll first.work front → HaveAllEnded front → AllZip IsContinued opened between → AllZip IsContinuedGroup opened_books between_books
       → AreStepsMade first between between_books → IsUndoneBehind second between between_books front cells books notes why
+      → IsUndoneOfBoth first second opened opened_books cells books notes why
+  OfFirstPull : AreNotesOfAllBoth first.work second.work notes → HaveAllEnded notes → AreStepsMade second cells books
+      → ArePulled (lists_of second.inputs.items) cells books → IsFirstPullMismatch first.rooms.items cells why
       → IsUndoneOfBoth first second opened opened_books cells books notes why
   OfReport : why ≡ WantOfMemory → IsUndoneOfBoth first second opened opened_books cells books notes why

@@ -1,5 +1,5 @@
 -- What a drill comes to: its session, or why there is none.
-use Rattle.std.specs.Prelude.{◌≡◌, ◌⊎◌, ℕ, ◌/◌, List, [], ◌++◌, All, length, replicate, Option, None, Some, Result, Ok, Err, IfErr, IfOk, OnOk, String, string_bytes, ⊤}
+use Rattle.std.specs.Prelude.{◌≡◌, ◌≢◌, ◌⊎◌, ℕ, ◌/◌, ◌<◌, List, [], ◌++◌, All, length, replicate, slice_get, slice_index_or, Option, None, Some, Result, Ok, Err, IfErr, IfOk, OnOk, String, string_bytes, ⊤}
 use Rattle.std.specs.List.{AllZip}
 use Rattle.std.specs.declared.alloc.Global.{Global}
 use Rattle.trend_num.specs.declared.tag_def.TagDef.{TagDef}
@@ -19,16 +19,19 @@ use Rattle.group_book.specs.Told.{ToldBook as Book}
 use Rattle.plant_store.specs.Groups.{DeviceTraces, group_parts_of, group_definition_text}
 use Rattle.plant_status.specs.declared.status.Status.{Status}
 use Rattle.plant_status.specs.declared.status.Status.TheVariants.{DeviceFault, WantOfMemory}
+use Rattle.value_rows.specs.declared.raw.RawRow.{RawRow}
 use Rattle.session_audit.specs.Agendas.{phase_item}
+use Rattle.session_audit.specs.CellRefusals.{tag_rows, takes_mismatch}
+use Rattle.session_audit.specs.FirstPulls.{HaveFirstPulls, takes_at_pull}
 use Rattle.session_report.specs.declared.session.Session.{Session}
 use Rattle.run_command.specs.declared.work.Given.{Given}
 use Rattle.collector_pool.specs.declared.note.WorkerNote.{WorkerNote}
 use Rattle.collector_pool.specs.declared.work.Work.{Work}
 use Rattle.run_command.specs.Causes.{IsSessionCause}
 use Rattle.run_command.specs.Endings.{HaveAllEnded}
-use Rattle.run_command.specs.Headline.{IsBegun, IsDoneSo}
+use Rattle.run_command.specs.Headline.{IsDoneSo, IsMixed, IsUpToDate}
 use Rattle.run_command.specs.Sessions.{AreNotesOfAll, IsPlannedWork}
-use Rattle.run_command.specs.Units.{AreGroupsSound, AreUnitsOpened, AtEachGroup, IsTagSound}
+use Rattle.run_command.specs.Units.{AreGroupsSound, AreUnitsOpened, AtEachGroup, IsBegun, IsTagSound}
 use Rattle.run_command.specs.Refusals.{AdmitsForeign, IsOfOpening}
 use Rattle.run_command.specs.Runs.{IsSessionHeld, IsUnopened}
 use Rattle.run_command.specs.DrillPlant.{IsDrillGroup, drill_tags}
@@ -59,7 +62,7 @@ drill_answer (Err why) = Err (drill_status why)
 
 -- ---- the session
 
--- why it is not done: the refusal of one of the phases
+-- why it has no report: the refusal of one of the phases, or of what was pulled between them
 pub record IsDrillUndone {D : Type 0} (first second : Given) (opened : List (Cell D)) (opened_books : List (Book D))
     (cells : List (Cell D)) (books : List (Book D)) (s : Session) (why : Status) : Type 0 where
   pub cause : Status
@@ -67,14 +70,16 @@ pub record IsDrillUndone {D : Type 0} (first second : Given) (opened : List (Cel
   pub undone : IsUndoneOfBoth first second opened opened_books cells books s.workers.items cause
 
 -- A session of two phases over a base, and what came of it. The passes counted as many stops as workers were stopped. If
--- there is a text, there is a note of each worker. Unless the answer admits a take of no file, each tape shows only first
--- rows of its last phase. Both phases are done, or the answer has a cause.
+-- there is a text, there is a note of each worker, and each tag had as many takes acknowledged as it has rows in the first
+-- phase, when a group first pulled from it. Unless the answer admits a take of no file, each tape shows only first rows of
+-- its last phase. There is a report, or the answer has a cause.
 pub record IsRunInPhases {D : Type 0} (trace : D → Option Trace) (ticks faults : D → ℕ) (base : Base) (first second : Given)
     (old new : DeviceTraces) (before now stops_before stops_now : ℕ) (answer : Result (String Global) Status) (s : Session)
     : Type 0 where
   pub held : IsSessionHeld trace ticks faults base second old new before now answer s
   pub notes : AreNotesOfBoth first.work second.work stops_before stops_now s.workers.items
   pub ran : OnOk answer (AreNotesOfAllBoth first.work second.work s.workers.items)
+  pub apart : OnOk answer (HaveFirstPulls first.rooms.items held.cells)
   pub begun : (AdmitsForeign answer → ⊥) → AreBegun first held.cells held.books ⊎ AreBegun second held.cells held.books
   pub undone : IfErr answer (IsDrillUndone first second held.opened held.opened_books held.cells held.books s)
 
@@ -108,30 +113,50 @@ pub record AreNew (base : Base) (s : Session) : Type 0 where
   pub tags : AllZip IsTagNew base.tags.items s.tags.items
   pub groups : AtEachGroup base s IsGroupNew
 
--- Why a phase of a drill is not done. In the first, no worker of the second has begun. In the second, all workers of the
--- first have ended by themselves. Or memory for the report was wanting.
-pub data IsPhaseCause (number tags events : ℕ) (base : Base) (first : Work) (notes : List WorkerNote) (s : Session) (why : Status)
+-- each tag had as many takes acknowledged as the files have rows of it, when a group first pulled from it
+abbrev pub ArePhasesApart : List (List RawRow) → Session → Type 0
+ArePhasesApart rows s = (tag : ℕ) (t : TagHistory) → tag < length s.tags.items
+    → takes_at_pull (slice_index_or s.tags.items tag t).opening (slice_index_or s.tags.items tag t).tape.items ≡ tag_rows tag rows
+
+-- a tag had another number; the status has both, and those before it had theirs
+pub record IsPulledElsewhere (rows : List (List RawRow)) (s : Session) (why : Status) : Type 0 where
+  pub tag : ℕ
+  pub its : TagHistory
+  pub there : slice_get s.tags.items tag ≡ Some its
+  pub told : why ≡ takes_mismatch tag (takes_at_pull its.opening its.tape.items) (tag_rows tag rows)
+  pub differ : takes_at_pull its.opening its.tape.items ≢ tag_rows tag rows
+  pub front : (k : ℕ) (t : TagHistory) → k < tag
+      → takes_at_pull (slice_index_or s.tags.items k t).opening (slice_index_or s.tags.items k t).tape.items ≡ tag_rows k rows
+
+-- Why a drill has no report. The first phase is not done, and no worker of the second has begun. The second is not done, and
+-- all workers of the first have ended by themselves. Both are done, all workers have ended by themselves, and a tag was
+-- first pulled when it had acknowledged another number of takes. Memory for the report was wanting.
+pub data IsPhaseCause (number tags events : ℕ) (base : Base) (first second : Work) (notes : List WorkerNote) (s : Session) (why : Status)
     : Type 0 where
   InFirst : AreAllOrNone first notes
       → IsSessionCause (phase_item 0) (λ group. 0) base fresh_devices (drill_rows_of number tags 0 (events / 2)) [] ⊤ notes s why
-      → IsPhaseCause number tags events base first notes s why
+      → IsPhaseCause number tags events base first second notes s why
   InSecond : (front more : List WorkerNote) → notes ≡ front ++ more → AreNotesOfAll first front → HaveAllEnded front
       → IsSessionCause (phase_item (events / 2)) (λ group. 1) base fresh_devices (drill_rows_of number tags 0 events) [] ⊤ more s why
-      → IsPhaseCause number tags events base first notes s why
-  InReport : why ≡ WantOfMemory → IsPhaseCause number tags events base first notes s why
+      → IsPhaseCause number tags events base first second notes s why
+  InPull : AreNotesOfAllBoth first second notes → HaveAllEnded notes
+      → IsMixed (phase_item (events / 2)) base (drill_rows_of number tags 0 events) [] s
+      → AtEachGroup base s (λ i d g. IsUpToDate d 1 s g) → IsPulledElsewhere (drill_rows_of number tags 0 (events / 2)) s why
+      → IsPhaseCause number tags events base first second notes s why
+  InReport : why ≡ WantOfMemory → IsPhaseCause number tags events base first second notes s why
 
--- why a drill is not done, as it reports the cause
-pub record IsDrillCause (number tags events : ℕ) (base : Base) (first : Work) (s : Session) (why : Status) : Type 0 where
+-- why a drill has no report, as it reports the cause
+pub record IsDrillCause (number tags events : ℕ) (base : Base) (first second : Work) (s : Session) (why : Status) : Type 0 where
   pub cause : Status
   pub told : why ≡ drill_status cause
-  pub phase : IsPhaseCause number tags events base first s.workers.items s cause
+  pub phase : IsPhaseCause number tags events base first second s.workers.items s cause
 
 -- Whatever the answer is, each tag and each group is sound, and so is what a crash leaves of its device. Each was new,
 -- unless the answer reports that an opening has changed. Unless it admits a take of no file, each tape shows only first
 -- rows of one of the phases. If there is a text, the session is done and the text is its report: each tag has taken all
 -- events of its collector, numbered from 1 in each phase, and all are acknowledged; the group is up to date, was
--- refreshed twice, and was saved after that; there is a note of each worker. Otherwise there is a cause. The passes
--- counted each stopped worker, up to 2^64 - 1.
+-- refreshed twice, and was saved after that; it first pulled just the first phase; there is a note of each worker. Otherwise
+-- there is a cause. The passes counted each stopped worker, up to 2^64 - 1.
 pub record IsDrilled (number tags events stops_before stops_now : ℕ) (answer : Result (String Global) Status) (s : Session)
     : Type 0 where
   pub base : Base
@@ -145,11 +170,12 @@ pub record IsDrilled (number tags events stops_before stops_now : ℕ) (answer :
       ⊎ IsBegun (phase_item (events / 2)) (drill_rows_of number tags 0 events) [] s
   pub done : IfOk answer (λ text. IsDoneSo (phase_item (events / 2)) (λ group. 1) base (drill_rows_of number tags 0 events) [] s
       (string_bytes text))
+  pub apart : OnOk answer (ArePhasesApart (drill_rows_of number tags 0 (events / 2)) s)
   pub first : Work
   pub second : Work
   pub first_is : IsPlannedWork 0 (drill_rows_of number tags 0 (events / 2)) [] [] first
   pub second_is : IsPlannedWork (events / 2) (drill_rows_of number tags 0 events) [] [] second
-  pub cause : IfErr answer (IsDrillCause number tags events base first s)
+  pub cause : IfErr answer (IsDrillCause number tags events base first second s)
   pub notes : AreNotesOfBoth first second stops_before stops_now s.workers.items
   pub ran : OnOk answer (AreNotesOfAllBoth first second s.workers.items)
   pub no_log : s.log ≡ None

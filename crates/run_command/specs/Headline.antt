@@ -19,30 +19,18 @@ use Rattle.plant_status.specs.declared.unit.Unit.{Unit as Device}
 use Rattle.plant_store.specs.CellClosings.{HasRisen}
 use Rattle.plant_files.specs.RowFiles.{ToldFiles}
 use Rattle.session_audit.specs.declared.agenda.Item.{Item}
-use Rattle.session_audit.specs.Agendas.{ask_item, row_item, take_item}
-use Rattle.session_audit.specs.Tapes.{ask_of, take_of}
-use Rattle.session_audit.specs.Workers.{AreTapesBegun}
-use Rattle.session_audit.specs.GroupTapes.{pulled, reached, row_ask_of}
+use Rattle.session_audit.specs.Agendas.{take_item}
+use Rattle.session_audit.specs.GroupTapes.{pulled, reached}
 use Rattle.plant_files.specs.PlanRows.{IsPlanned}
 use Rattle.session_report.specs.declared.session.Session.{Session}
 use Rattle.session_report.specs.Report.{report}
 use Rattle.run_command.specs.Endings.{HaveAllEnded}
 use Rattle.run_command.specs.Refusals.{AdmitsForeign, IsOfOpening}
-use Rattle.run_command.specs.Units.{AreGroupsSound, AreUnitsOpened, AtEachGroup, IsGroupRefreshed, IsRecorded, IsTagSound, tag_tape, tag_records_of, group_tape, turns_in}
+use Rattle.run_command.specs.Units.{AreGroupsSound, AreUnitsOpened, AtEachGroup, IsBegun, IsGroupRefreshed, IsRecorded, IsTagSound, tag_records_of, turns_in}
 use Rattle.run_command.specs.Causes.{IsSessionCause}
 use Rattle.run_command.specs.Sessions.{AreNotes, AreNotesOfAll, IsPlannedWork}
 use Rattle.collector_pool.specs.declared.work.Work.{Work}
 use Rattle.plant_store.specs.Openings.{AreRestSame}
-
--- ---- a session that may not be done
-
--- Each tag has taken from each collector the first of the rows of its file that are its own, in their order, and nothing
--- else. An item states what a row leaves. The same holds for the readers' questions, at tags and at groups.
-pub record IsBegun (item_of : ℕ → ℕ → RawRow → Option Item) (rows : List (List RawRow)) (queries : List (List Query)) (s : Session)
-    : Type 0 where
-  pub takes : AreTapesBegun tag_tape take_of item_of rows s.tags.items
-  pub asks : AreTapesBegun tag_tape ask_of ask_item queries s.tags.items
-  pub row_asks : AreTapesBegun group_tape row_ask_of row_item queries s.groups.items
 
 -- ---- a session that is done
 

@@ -3,7 +3,7 @@ use Rattle.std.specs.Prelude.{◌≡◌, List, [], All, length, Vec, Result, Ok,
 use Rattle.std.specs.declared.alloc.Global.{Global}
 use Rattle.trend_num.specs.declared.refusal.WantOfMemory.{WantOfMemory as NoMemory}
 use Rattle.plant_status.specs.declared.status.Status.{Status}
-use Rattle.plant_status.specs.declared.mismatch.Place.TheVariants.{Ask, Opening, RowAsk, Take, Turns}
+use Rattle.plant_status.specs.declared.mismatch.Place.TheVariants.{Ask, Opening, RowAsk, Take}
 use Rattle.plant_status.specs.declared.status.Status.TheVariants.{Mismatch, WantOfMemory}
 use Rattle.session_audit.specs.Agendas.{ask_item, phase_item, row_item}
 use Rattle.session_audit.specs.Found.{Reached}
@@ -21,23 +21,24 @@ use Rattle.session_audit.specs.BookOpenings.{IsBookMismatch}
 use Rattle.session_audit.specs.Pulls.{IsPullMismatch}
 use Rattle.session_audit.specs.Refreshing.{durable_lists}
 use Rattle.session_audit.specs.BookRefusals.{IsRefreshRefusal}
-use Rattle.session_audit.specs.GroupTurns.{IsTurnsMismatch}
+use Rattle.session_audit.specs.GroupTurns.{IsTurnsMismatch, IsWithinTurns}
 use Rattle.run_command.specs.declared.work.Given.{Given}
 use Rattle.run_command.specs.Endings.{HaveAllEnded, IsStop}
-use Rattle.run_command.specs.Steps.{AreStepsMade, AreTapesMade}
+use Rattle.run_command.specs.Steps.{AreCellAsksBegun, AreBegun, AreStepsMade, AreCellTakesBegun, AreTapesMade}
 use Rattle.session_audit.specs.CellOpenings.{IsCellAsKept, IsCellMismatch}
 use Rattle.session_audit.specs.Openings.{AreAsKept}
 
--- the tapes differ from what the workers have to do: a take is not its collector's next row there, a question is not
--- its reader's next one there, or a group was refreshed more often than it has turns
+-- The tapes differ from what the workers have to do, in this order: a take is not its collector's next row there; a
+-- question about a tag, and then one on a group's tape, is not its reader's next one there; a group was refreshed more
+-- often than it has turns. What comes before is as it should be.
 pub data IsFindingRefusal {D : Type 0} (g : Given) (cells : List (Cell D)) (books : List (Book D)) (s : Status) : Type 0 where
   OfTake : (works : List Reached) → AreOver (phase_item g.work.earlier) (length cells) (lists_of g.work.collectors.items) works
       → AreUnfound (length cells) works → IsTakeMismatch cells works s → IsFindingRefusal g cells books s
-  OfAsk : (works : List Reached) → AreOver ask_item (length cells) (lists_of g.work.readers.items) works
+  OfAsk : AreCellTakesBegun g cells → (works : List Reached) → AreOver ask_item (length cells) (lists_of g.work.readers.items) works
       → AreUnfound (length cells) works → IsAskMismatch cells works s → IsFindingRefusal g cells books s
-  OfRowAsk : (works : List Reached) → AreOver row_item (length books) (lists_of g.work.readers.items) works
+  OfRowAsk : AreCellTakesBegun g cells → AreCellAsksBegun g cells → (works : List Reached) → AreOver row_item (length books) (lists_of g.work.readers.items) works
       → AreUnfound (length books) works → IsRowAskMismatch books works s → IsFindingRefusal g cells books s
-  OfTurns : IsTurnsMismatch g.turns.items books s → IsFindingRefusal g cells books s
+  OfTurns : AreBegun g cells books → IsTurnsMismatch g.turns.items books s → IsFindingRefusal g cells books s
 
 -- What the tapes lack cannot be done, in this order: a row is not taken; all is on the tapes, but a commit is refused; all
 -- is committed too, but a refresh or a save is refused. A lack of memory may come at any time.
@@ -49,12 +50,13 @@ pub data IsMakingRefusal {D : Type 0} (g : Given) (cells : List (Cell D)) (books
       → IsRefreshRefusal (durable_lists cells) (lists_of g.inputs.items) g.turns.items books s → IsMakingRefusal g cells books s
   OfMemory : s ≡ WantOfMemory → IsMakingRefusal g cells books s
 
--- the refusals, in order: one that comes of the tapes; a worker was stopped or found no memory; what the tapes lack
+-- the refusals, in order: one that comes of the tapes; a worker was stopped or found no memory, and no group was refreshed
+-- too often; what the tapes lack
 -- cannot be done; what a group has is not what it pulled of its inputs' tags. A lack of memory may come at any time.
 pub data IsRefused {D : Type 0} (g : Given) (notes : List WorkerNote) (cells : List (Cell D)) (books : List (Book D)) (s : Status)
     : Type 0 where
   OfFinding : IsFindingRefusal g cells books s → IsRefused g notes cells books s
-  OfStop : IsStop notes s → IsRefused g notes cells books s
+  OfStop : IsWithinTurns g.turns.items books → IsStop notes s → IsRefused g notes cells books s
   OfMaking : HaveAllEnded notes → IsMakingRefusal g cells books s → IsRefused g notes cells books s
   OfPull : HaveAllEnded notes → AreStepsMade g cells books → IsPullMismatch (lists_of g.inputs.items) cells books s
       → IsRefused g notes cells books s
@@ -71,15 +73,13 @@ abbrev pub IsOfOpening : {T : Type 0} → Result T Status → Type 0
 IsOfOpening (Ok x) = ⊥
 IsOfOpening (Err why) = IsOpening why
 
--- The refusals after which a tape may have a take or a question of no file: one that reports such an entry, a group that
--- was refreshed too often, or an opening that has changed; and want of memory, which may come before the tapes are
--- compared with the files.
+-- The refusals after which a tape may have a take or a question of no file: one that reports such an entry, or an opening
+-- that has changed; and want of memory, which may come before the tapes are compared with the files.
 abbrev pub MayBeForeign : Status → Type 0
 MayBeForeign (Mismatch (Opening unit) kept told) = ⊤
 MayBeForeign (Mismatch (Take tag place) kept told) = ⊤
 MayBeForeign (Mismatch (Ask tag place) kept told) = ⊤
 MayBeForeign (Mismatch (RowAsk group place) kept told) = ⊤
-MayBeForeign (Mismatch (Turns group) kept told) = ⊤
 MayBeForeign WantOfMemory = ⊤
 MayBeForeign other = ⊥
 

@@ -2,7 +2,6 @@
 use Rattle.std.specs.Prelude.{◌≡◌, ℕ, ◌≤◌, List, [], vec_capacity}
 use Rattle.std.specs.List.{AllZip}
 use Rattle.tag_cell.specs.Told.{ToldCell as Cell}
-use Rattle.session_audit.specs.declared.cell_opening.Kept.{Kept}
 use Rattle.run_command.specs.declared.phase.Room.{Room}
 
 -- each list is empty, and has room for the number of cells or books
@@ -19,11 +18,3 @@ pub record HasRoomFor {D : Type 0} (cells books : ℕ) (r : Room D) : Type 0 whe
 -- the tape of each tag can have so many takes
 abbrev pub AreRoomy : {D : Type 0} → List ℕ → List (Cell D) → Type 0
 AreRoomy takes cells = AllZip (λ n c. n ≤ c.room) takes cells
-
--- so could the tape of each tag that was copied
-abbrev pub WereRoomy : List ℕ → List Kept → Type 0
-WereRoomy takes known = AllZip (λ n k. n ≤ k.room) takes known
-
--- no number is above the one at its place
-abbrev pub AreAtMost : List ℕ → List ℕ → Type 0
-AreAtMost fewer more = AllZip (λ m n. m ≤ n) fewer more

@@ -124,14 +124,13 @@ pub record IsOver {D : Type 0} (trace : D → Option Trace) (ticks faults : D �
   pub others : AreRestSame base old new
   pub no_log : s.log ≡ None
 
--- a cell has the definition of another one, the same opening and the same room
+-- a cell has the definition of another one, and the same opening
 pub record IsContinued {D : Type 0} (first last : Cell D) : Type 0 where
   pub def : last.def ≡ first.def
   pub summary : last.opening.summary ≡ first.opening.summary
   pub records : last.opening.recs.items ≡ first.opening.recs.items
   pub moment : last.opening.moment ≡ first.opening.moment
   pub faults : last.opening.faults ≡ first.opening.faults
-  pub room : last.room ≡ first.room
 
 -- a book has the group of another one, and the same opening
 pub record IsContinuedGroup {D : Type 0} (first last : Book D) : Type 0 where

@@ -17,7 +17,6 @@ use Rattle.session_audit.specs.GroupTurns.{IsWithinTurns, turns_for}
 use Rattle.calc_refresh.specs.Lists.{lists_of}
 use Rattle.collector_pool.specs.Work.{IsWorkOf}
 use Rattle.run_command.specs.declared.work.Given.{Given}
-use Rattle.run_command.specs.Rooms.{AreRoomy}
 
 -- ---- what a session is compared with
 
@@ -31,13 +30,11 @@ pub record AreGivenFor (tags groups : ℕ) (g : Given) : Type 0 where
   pub turns : (group : ℕ) → group < groups → slice_index g.turns.items group ≡ g.phases + turns_for group g.work.refreshers.items
   pub few_turns : (group : ℕ) → group < groups → slice_index g.turns.items group + 1 < 2 ^ 32
 
--- not too many cells and books, the work for them, room on each tape for the rows of its tag, and the tags of each group's
--- inputs
+-- not too many cells and books, the work for them, and the tags of each group's inputs
 pub record AreReady {D : Type 0} (g : Given) (cells : List (Cell D)) (books : List (Book D)) : Type 0 where
   pub few_cells : length cells < 2 ^ 32
   pub few_books : length books < 2 ^ 32
   pub given : AreGivenFor (length cells) (length books) g
-  pub roomy : AreRoomy g.rooms.items cells
   pub inputs : AreInputs (length cells) (lists_of g.inputs.items) books
 
 -- the progress of the workers is over their rows: of collectors, of readers at tags, and of readers at groups
@@ -54,10 +51,18 @@ pub record AreFoundAll {D : Type 0} (g : Given) (cells : List (Cell D)) (books :
   pub row_readers : AreTapesFound book_tape row_ask_of books row_asks
   pub turns : IsWithinTurns g.turns.items books
 
+-- each tape shows, of each collector, the first of its rows that are due there, and no other take
+abbrev pub AreCellTakesBegun : {D : Type 0} → Given → List (Cell D) → Type 0
+AreCellTakesBegun g cells = AreAllBegun take_of (phase_item g.work.earlier) (lists_of g.work.collectors.items) cells
+
+-- the same of readers and questions about tags
+abbrev pub AreCellAsksBegun : {D : Type 0} → Given → List (Cell D) → Type 0
+AreCellAsksBegun g cells = AreAllBegun ask_of ask_item (lists_of g.work.readers.items) cells
+
 -- each tape shows, of each worker, the first of its rows that are due there, and nothing of any other worker
 pub record AreBegun {D : Type 0} (g : Given) (cells : List (Cell D)) (books : List (Book D)) : Type 0 where
-  pub takes : AreAllBegun take_of (phase_item g.work.earlier) (lists_of g.work.collectors.items) cells
-  pub asks : AreAllBegun ask_of ask_item (lists_of g.work.readers.items) cells
+  pub takes : AreCellTakesBegun g cells
+  pub asks : AreCellAsksBegun g cells
   pub row_asks : AreTapesBegun book_tape row_ask_of row_item (lists_of g.work.readers.items) books
 
 -- each tape shows all rows of each worker that are due there, and none of any other worker
@@ -73,11 +78,10 @@ pub record AreStepsMade {D : Type 0} (g : Given) (cells : List (Cell D)) (books 
   pub committed : All IsCommittedCell cells
   pub refreshed : AreBooksRefreshed (durable_lists cells) (lists_of g.inputs.items) g.turns.items books
 
--- a cell keeps its definition, its opening and its room
+-- a cell keeps its definition and its opening
 pub record IsCellKept {D : Type 0} (old new : Cell D) : Type 0 where
   pub def : new.def ≡ old.def
   pub opening : new.opening ≡ old.opening
-  pub room : new.room ≡ old.room
 
 -- a book keeps its group, its definition, its text, its tags and its opening
 pub record IsBookKept {D : Type 0} (old new : Book D) : Type 0 where

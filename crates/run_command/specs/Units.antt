@@ -38,7 +38,7 @@ use Rattle.value_rows.specs.declared.raw.RawRow.{RawRow}
 use Rattle.session_audit.specs.declared.agenda.Item.{Item}
 use Rattle.session_audit.specs.Agendas.{ask_item, row_item}
 use Rattle.session_audit.specs.Tapes.{ask_of, take_of}
-use Rattle.session_audit.specs.Workers.{AreTapesWhole}
+use Rattle.session_audit.specs.Workers.{AreTapesBegun, AreTapesWhole}
 use Rattle.session_audit.specs.Refreshing.{EndsInSave}
 use Rattle.session_audit.specs.Durable.{ArePullsDurable}
 use Rattle.session_audit.specs.GroupTapes.{refreshes, row_ask_of}
@@ -169,6 +169,22 @@ tag_records_of s tag = slice_index_or (map (λ t. t.recs.items) s.tags.items) ta
 -- how many turns the refreshers of a group make together
 abbrev pub turns_in : ℕ → List Refresher → ℕ
 turns_in group refreshers = sum_by (λ r. if nat_eq r.group group then r.turns else 0) refreshers
+
+-- Each tag has taken from each collector the first of the rows of its file that are its own, in their order, and nothing
+-- else. An item states what a row leaves.
+abbrev pub AreTakesBegun : (ℕ → ℕ → RawRow → Option Item) → List (List RawRow) → Session → Type 0
+AreTakesBegun item_of rows s = AreTapesBegun tag_tape take_of item_of rows s.tags.items
+
+-- the same of the readers' questions about tags
+abbrev pub AreAsksBegun : List (List Query) → Session → Type 0
+AreAsksBegun queries s = AreTapesBegun tag_tape ask_of ask_item queries s.tags.items
+
+-- the same of all of them, and of the questions on the groups' tapes
+pub record IsBegun (item_of : ℕ → ℕ → RawRow → Option Item) (rows : List (List RawRow)) (queries : List (List Query)) (s : Session)
+    : Type 0 where
+  pub takes : AreTakesBegun item_of rows s
+  pub asks : AreAsksBegun queries s
+  pub row_asks : AreTapesBegun group_tape row_ask_of row_item queries s.groups.items
 
 -- Each tag has taken from each collector exactly the rows of its file that are its own, in their order, each once. An
 -- item states what a row leaves. The same holds for the readers' questions, at tags and at groups.

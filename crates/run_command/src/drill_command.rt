@@ -6,7 +6,7 @@ ghost use Rattle.plant_store.specs.Openings.{AreRestSame};
 ghost use Rattle.plant_store.specs.Shelves.{HasPlacesOf, IsShelfFor};
 ghost use Rattle.run_command.specs.DrillRows.{drill_rows_of};
 ghost use Rattle.run_command.specs.Drills.{IsDrillBase, IsDrillUnopened, IsDrilled, IsRunInPhases, drill_answer, drill_status, fresh_devices, memory_faults, memory_ticks, memory_trace};
-ghost use Rattle.run_command.specs.Rooms.{AreAtMost, AreRoomy};
+ghost use Rattle.run_command.specs.Rooms.{AreRoomy};
 ghost use Rattle.run_command.specs.Runs.{AreDefined, AreUnitsOpen, IsWorkIn};
 ghost use Rattle.run_command.specs.Steps.{AreGivenFor};
 ghost use Rattle.std.specs.Option.{IsSome};
@@ -68,7 +68,6 @@ fn run_drill<P: Passes, R: Threads + Wait + Sync>(
     requires good { IsGoodBase drill.now.base }
     requires first { (earlier : ℕ) × (rows : List (List RawRow)) × IsWorkIn drill.now.base earlier 0 rows [] [] drill.now.first }
     requires second { (earlier : ℕ) × (rows : List (List RawRow)) × IsWorkIn drill.now.base earlier 1 rows [] [] drill.now.second }
-    requires growing { AreAtMost drill.now.first.rooms.items drill.now.second.rooms.items }
     ensures held { OnOk result.answer (IsSome result.session) }
     ensures session { IfSome result.session (λ s. (new : DeviceTraces) × (now : ℕ) × IsRunInPhases memory_trace memory_ticks memory_faults
         drill.now.base drill.now.first drill.now.second fresh_devices new 0 now (P.stops passes.old) (P.stops passes.new) result.answer s) }
@@ -108,7 +107,6 @@ pub(crate) fn drill_of(
     ensures good { IfOk result (λ d. IsGoodBase d.base) }
     ensures first { IfOk result (λ d. IsWorkIn d.base 0 0 (drill_rows_of number tags 0 (events / 2)) [] [] d.first) }
     ensures second { IfOk result (λ d. IsWorkIn d.base (events / 2) 1 (drill_rows_of number tags 0 events) [] [] d.second) }
-    ensures growing { IfOk result (λ d. AreAtMost d.first.rooms.items d.second.rooms.items) }
 {
     let base = drill_base(alloc, tags)?;
     let half = events / 2;
@@ -151,7 +149,6 @@ pub(crate) fn hold_in<S: Store, P: Passes, R: Threads + Wait + Sync>(
     requires good { IsGoodBase base.now }
     requires first { AreGivenFor (length base.now.tags.items) (length base.now.groups.items) first.now }
     requires second { AreGivenFor (length base.now.tags.items) (length base.now.groups.items) second.now }
-    requires growing { AreAtMost first.now.rooms.items second.now.rooms.items }
     requires inputs { lists_of first.now.inputs.items ≡ map (λ d. d.inputs.items) base.now.groups.items }
     requires same_inputs { lists_of second.now.inputs.items ≡ lists_of first.now.inputs.items }
     requires no_readers { first.now.work.readers.items ≡ [] }
@@ -201,7 +198,6 @@ fn hold_drill<S: Store, P: Passes, R: Threads + Wait + Sync>(
     requires good { IsGoodBase base.now }
     requires first { AreGivenFor (length base.now.tags.items) (length base.now.groups.items) first.now }
     requires second { AreGivenFor (length base.now.tags.items) (length base.now.groups.items) second.now }
-    requires growing { AreAtMost first.now.rooms.items second.now.rooms.items }
     requires inputs { lists_of first.now.inputs.items ≡ map (λ d. d.inputs.items) base.now.groups.items }
     requires same_inputs { lists_of second.now.inputs.items ≡ lists_of first.now.inputs.items }
     requires no_readers { first.now.work.readers.items ≡ [] }

@@ -1,12 +1,12 @@
 // Two phases of a session over the same cells and books.
-ghost use Rattle.std.specs.Prelude.{◌≡◌, ◌⊎◌, ◌++◌, [], ◌<◌, ◌≤◌, ◌+◌, ◌^◌, IfErr, OnOk, length, vec_capacity, vec_len};
+ghost use Rattle.std.specs.Prelude.{◌≡◌, ◌⊎◌, ◌++◌, [], ◌<◌, ◌≤◌, ◌+◌, ◌^◌, Err, IfErr, OnOk, length, vec_capacity, vec_len};
 ghost use Rattle.std.specs.List.{AllZip};
 ghost use Rattle.calc_refresh.specs.Lists.{lists_of};
+ghost use Rattle.session_audit.specs.FirstPulls.{HaveFirstPulls, IsFirstPullMismatch};
 ghost use Rattle.session_audit.specs.Inputs.{AreInputs};
 ghost use Rattle.session_audit.specs.Pulls.{ArePulled};
 ghost use Rattle.run_command.specs.Endings.{HaveAllEnded};
 ghost use Rattle.run_command.specs.Refusals.{AdmitsForeign, IsOfOpening};
-ghost use Rattle.run_command.specs.Rooms.{AreAtMost, AreRoomy};
 ghost use Rattle.run_command.specs.Runs.{IsContinued, IsContinuedGroup};
 ghost use Rattle.run_command.specs.Steps.{AreBegun, AreGivenFor, AreStepsMade};
 ghost use Rattle.run_command.specs.DrillPhases.{AreNotesBehind, AreNotesOfAllBehind, AreNotesOfAllBoth, AreNotesOfBoth, IsUndoneBehind, IsUndoneOfBoth};
@@ -17,6 +17,7 @@ use collector_pool::{Work, WorkerNote};
 use disk_model::Disk;
 use group_book::Book;
 use plant_status::{Passes, Status};
+use session_audit::compare_first_pulls;
 use snapshot_table::Board;
 use std::alloc::Global;
 use std::sync::Wait;
@@ -24,7 +25,8 @@ use std::thread::Threads;
 use tag_cell::Cell;
 
 // Runs the first phase of a session over cells and books that are open. If it is done, runs the second one. Neither has
-// readers. The notes are those of the workers of the first phase, then those of the second.
+// readers. The notes are those of the workers of the first phase, then those of the second. Once both are done, each tag has
+// to have had as many takes acknowledged as it has rows in the first phase, when a group first pulled from it.
 pub(crate) fn hold_both<D: Disk + Send, P: Passes, R: Threads + Wait + Sync>(
     rt: &R,
     alloc: Global,
@@ -39,8 +41,6 @@ pub(crate) fn hold_both<D: Disk + Send, P: Passes, R: Threads + Wait + Sync>(
     requires few_books { vec_len books < 2 ^ 32 }
     requires first { AreGivenFor (vec_len cells) (vec_len books) first.now }
     requires second { AreGivenFor (vec_len cells) (vec_len books) second.now }
-    requires roomy { AreRoomy second.now.rooms.items cells.items }
-    requires growing { AreAtMost first.now.rooms.items second.now.rooms.items }
     requires inputs { AreInputs (vec_len cells) (lists_of first.now.inputs.items) books.items }
     requires same_inputs { lists_of second.now.inputs.items ≡ lists_of first.now.inputs.items }
     requires board { vec_len cells ≤ length board.now }
@@ -55,6 +55,7 @@ pub(crate) fn hold_both<D: Disk + Send, P: Passes, R: Threads + Wait + Sync>(
     ensures ended { OnOk result.answer (HaveAllEnded result.notes.items) }
     ensures made { OnOk result.answer (AreStepsMade second.now result.cells.items result.books.items) }
     ensures pulled { OnOk result.answer (ArePulled (lists_of second.now.inputs.items) result.cells.items result.books.items) }
+    ensures apart { OnOk result.answer (HaveFirstPulls first.now.rooms.items result.cells.items) }
 
     // Unless the answer reports that an opening has changed.
     ensures same_cells { (IsOfOpening result.answer → ⊥) → AllZip IsContinued cells.items result.cells.items }
@@ -84,7 +85,21 @@ pub(crate) fn hold_both<D: Disk + Send, P: Passes, R: Threads + Wait + Sync>(
         passes,
     );
     match answer {
-        Ok(()) => go_on(rt, alloc, cells, books, notes, board, second, passes),
+        Ok(()) => {
+            let EndedPhase {
+                cells,
+                books,
+                notes,
+                answer,
+            } = go_on(rt, alloc, cells, books, notes, board, second, passes);
+            let answer = compare_phases(answer, &cells, &first.rooms);
+            EndedPhase {
+                cells,
+                books,
+                notes,
+                answer,
+            }
+        }
         Err(why) => EndedPhase {
             cells,
             books,
@@ -109,7 +124,6 @@ fn go_on<D: Disk + Send, P: Passes, R: Threads + Wait + Sync>(
     requires few_cells { vec_len cells < 2 ^ 32 }
     requires few_books { vec_len books < 2 ^ 32 }
     requires second { AreGivenFor (vec_len cells) (vec_len books) second.now }
-    requires roomy { AreRoomy second.now.rooms.items cells.items }
     requires inputs { AreInputs (vec_len cells) (lists_of second.now.inputs.items) books.items }
     requires board { vec_len cells ≤ length board.now }
     requires no_readers { second.now.work.readers.items ≡ [] }
@@ -161,6 +175,25 @@ fn go_on<D: Disk + Send, P: Passes, R: Threads + Wait + Sync>(
         books,
         notes,
         answer,
+    }
+}
+
+// Returns the answer of two phases. If they are done, it compares what each tag had acknowledged when a group first pulled
+// from it with its rows in the first phase.
+fn compare_phases<D: Disk>(
+    answer: Result<(), Status>,
+    cells: &[Cell<D>],
+    rows: &[u32],
+) -> Result<(), Status>
+    requires few { length cells.now < 2 ^ 32 }
+    requires rows { length rows.now ≡ length cells.now }
+    ensures undone { IfErr answer (λ why. result ≡ Err why) }
+    ensures apart { OnOk result (HaveFirstPulls rows.now cells.now) }
+    ensures differs { OnOk answer (IfErr result (IsFirstPullMismatch rows.now cells.now)) }
+{
+    match answer {
+        Ok(()) => compare_first_pulls(cells, rows),
+        Err(why) => Err(why),
     }
 }
 

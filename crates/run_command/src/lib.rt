@@ -18,8 +18,9 @@
 //! **A drill** is a session of two phases over new devices in memory. [`drill`] generates its plant (`drill_plant`):
 //! some tags, one group over all of them, and the rows of one collector for each tag. In the first phase the collectors
 //! take the first half of their rows, and in the second the rest, over the same cells and the same book. At the end of
-//! each phase the session commits all values and refreshes the group once. The same numbers make the same plant and the
-//! same report each time.
+//! each phase the session commits all values and refreshes the group once. At last it compares what each tag had
+//! acknowledged when the group first pulled from it with its rows in the first phase. The same numbers make the same
+//! plant and the same report each time.
 //!
 //! **Promise.** `IsPromised` says what a user may rely on, and why a session has no report (`IsSessionCause`). `IsUnheld`
 //! says why no session was held, and `IsDrilled` what a drill promises. Any call may report want of memory.

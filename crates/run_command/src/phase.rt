@@ -4,7 +4,7 @@ ghost use Rattle.collector_pool.specs.Notes.{AreNotesOf, stops_with};
 ghost use Rattle.collector_pool.specs.Work.{IsWorkOf};
 ghost use Rattle.run_command.specs.Endings.{HaveAllEnded};
 ghost use Rattle.run_command.specs.Refusals.{AdmitsForeign, IsOfOpening, IsSettlingRefusal, notes_of};
-ghost use Rattle.run_command.specs.Rooms.{AreRoomy, HasRoomFor, WereRoomy};
+ghost use Rattle.run_command.specs.Rooms.{HasRoomFor};
 ghost use Rattle.run_command.specs.Runs.{IsContinued, IsContinuedGroup, IsUndone};
 ghost use Rattle.run_command.specs.Sessions.{AreNotes, AreNotesOfAll};
 ghost use Rattle.run_command.specs.Steps.{AreBegun, AreGivenFor, AreInputsFor, AreStepsMade};
@@ -47,7 +47,6 @@ pub(crate) fn hold_phase<D: Disk + Send, P: Passes, R: Threads + Wait + Sync>(
     requires few_cells { vec_len cells < 2 ^ 32 }
     requires few_books { vec_len books < 2 ^ 32 }
     requires given { AreGivenFor (vec_len cells) (vec_len books) given.now }
-    requires roomy { AreRoomy given.now.rooms.items cells.items }
     requires inputs { AreInputs (vec_len cells) (lists_of given.now.inputs.items) books.items }
     requires board { vec_len cells ≤ length board.now }
     requires lookers { vec_len lookers ≡ vec_len given.now.work.readers }
@@ -122,7 +121,6 @@ pub(crate) fn hold<D: Disk + Send, P: Passes, R: Threads + Wait + Sync>(
     requires known_are { vec_len ready.tags ≡ vec_len cells }
     requires groups_are { vec_len ready.groups ≡ vec_len books }
     requires given { AreGivenFor (vec_len cells) (vec_len books) given.now }
-    requires roomy { WereRoomy given.now.rooms.items ready.tags.items }
     requires inputs { AreInputsFor (vec_len cells) (lists_of given.now.inputs.items) ready.groups.items }
     requires board { vec_len cells ≤ length board.now }
     requires lookers { vec_len lookers ≡ vec_len given.now.work.readers }
@@ -157,7 +155,7 @@ pub(crate) fn hold<D: Disk + Send, P: Passes, R: Threads + Wait + Sync>(
         &given.work,
         passes,
     );
-    let answer = settle_all(
+    let answer = settle(
         rt, alloc, &mut cells, &mut books, &tags, &groups, given, &notes,
     );
     EndedPhase {
@@ -166,47 +164,6 @@ pub(crate) fn hold<D: Disk + Send, P: Passes, R: Threads + Wait + Sync>(
         notes: notes_in(alloc, notes),
         answer,
     }
-}
-
-// Settles the cells and books. It exists only for the proof, which needs them as slices.
-fn settle_all<D: Disk, R: Wait>(
-    rt: &R,
-    alloc: Global,
-    cells: &mut Vec<Cell<D>>,
-    books: &mut Vec<Book<D>>,
-    known: &[Kept],
-    known_groups: &[KeptGroup],
-    given: &Given,
-    notes: &Result<Vec<WorkerNote>, WantOfMemory>,
-) -> Result<(), Status>
-    requires few_cells { vec_len cells.old < 2 ^ 32 }
-    requires few_books { vec_len books.old < 2 ^ 32 }
-    requires known_are { length known.now ≡ vec_len cells.old }
-    requires groups_are { length known_groups.now ≡ vec_len books.old }
-    requires given { AreGivenFor (vec_len cells.old) (vec_len books.old) given.now }
-    requires roomy { WereRoomy given.now.rooms.items known.now }
-    requires inputs { AreInputsFor (vec_len cells.old) (lists_of given.now.inputs.items) known_groups.now }
-    ensures made { OnOk result (AreStepsMade given.now cells.new.items books.new.items) }
-    ensures pulled { OnOk result (ArePulled (lists_of given.now.inputs.items) cells.new.items books.new.items) }
-    ensures as_many_cells { vec_len cells.new ≡ vec_len cells.old }
-    ensures as_many_books { vec_len books.new ≡ vec_len books.old }
-    ensures ran { (AdmitsForeign result → ⊥) → is_ok notes.now ≡ true }
-    ensures ended { OnOk result (HaveAllEnded (notes_of notes.now)) }
-    ensures begun { (AdmitsForeign result → ⊥) → AreBegun given.now cells.new.items books.new.items }
-    ensures known { (IsOfOpening result → ⊥) → AreAsKept IsCellAsKept cells.new.items known.now }
-    ensures known_groups { (IsOfOpening result → ⊥) → AreAsKept IsBookAsKept books.new.items known_groups.now }
-    ensures refused { IfErr result (IsSettlingRefusal given.now (notes_of notes.now) known.now known_groups.now cells.new.items books.new.items) }
-{
-    settle(
-        rt,
-        alloc,
-        cells.as_mut_slice(),
-        books.as_mut_slice(),
-        known,
-        known_groups,
-        given,
-        notes,
-    )
 }
 
 // Returns the notes of the workers. There are none if no worker began.

@@ -3,7 +3,6 @@ ghost use Rattle.calc_refresh.specs.Lists.{lists_of};
 ghost use Rattle.collector_pool.specs.declared.note.Ending.TheVariants.{WantOfMemory as NoMemory};
 ghost use Rattle.run_command.specs.Endings.{HaveAllEnded, IsStop};
 ghost use Rattle.run_command.specs.Refusals.{AdmitsForeign, IsFindingRefusal, IsMakingRefusal, IsOfOpening, IsRefused, IsSettlingRefusal, notes_of};
-ghost use Rattle.run_command.specs.Rooms.{WereRoomy};
 ghost use Rattle.run_command.specs.Steps.{AreBegun, AreFoundAll, AreGivenFor, AreInputsFor, AreOverAll, AreReady, IsBookKept, IsCellKept, AreStepsMade};
 ghost use Rattle.session_audit.specs.BookOpenings.{IsBookAsKept};
 ghost use Rattle.session_audit.specs.CellOpenings.{IsCellAsKept};
@@ -11,7 +10,7 @@ ghost use Rattle.session_audit.specs.Each.{AreEach};
 ghost use Rattle.session_audit.specs.Openings.{AreAsKept};
 ghost use Rattle.session_audit.specs.Pulls.{ArePulled};
 ghost use Rattle.session_audit.specs.Starting.{AreUnfound};
-ghost use Rattle.std.specs.Prelude.{All, Any, IfErr, MatchBool, OnOk, is_ok, length, true, ◌<◌, ◌^◌, ◌≡◌, ◌≢◌};
+ghost use Rattle.std.specs.Prelude.{All, Any, IfErr, MatchBool, OnOk, is_ok, length, true, vec_len, ◌<◌, ◌^◌, ◌≡◌, ◌≢◌};
 
 use crate::work::Given;
 use collector_pool::{Ending, WorkerNote};
@@ -34,35 +33,41 @@ use trend_num::{Steps, WantOfMemory};
 pub(crate) fn settle<D: Disk, R: Wait>(
     rt: &R,
     alloc: Global,
-    cells: &mut [Cell<D>],
-    books: &mut [Book<D>],
+    cells: &mut Vec<Cell<D>>,
+    books: &mut Vec<Book<D>>,
     known: &[Kept],
     known_groups: &[KeptGroup],
     given: &Given,
     notes: &Result<Vec<WorkerNote>, WantOfMemory>,
 ) -> Result<(), Status>
-    requires few_cells { length cells.old < 2 ^ 32 }
-    requires few_books { length books.old < 2 ^ 32 }
-    requires known_are { length known.now ≡ length cells.old }
-    requires groups_are { length known_groups.now ≡ length books.old }
-    requires given { AreGivenFor (length cells.old) (length books.old) given.now }
-    requires roomy { WereRoomy given.now.rooms.items known.now }
-    requires inputs { AreInputsFor (length cells.old) (lists_of given.now.inputs.items) known_groups.now }
-    ensures made { OnOk result (AreStepsMade given.now cells.new books.new) }
-    ensures pulled { OnOk result (ArePulled (lists_of given.now.inputs.items) cells.new books.new) }
-    ensures as_many_cells { length cells.new ≡ length cells.old }
-    ensures as_many_books { length books.new ≡ length books.old }
+    requires few_cells { vec_len cells.old < 2 ^ 32 }
+    requires few_books { vec_len books.old < 2 ^ 32 }
+    requires known_are { length known.now ≡ vec_len cells.old }
+    requires groups_are { length known_groups.now ≡ vec_len books.old }
+    requires given { AreGivenFor (vec_len cells.old) (vec_len books.old) given.now }
+    requires inputs { AreInputsFor (vec_len cells.old) (lists_of given.now.inputs.items) known_groups.now }
+    ensures made { OnOk result (AreStepsMade given.now cells.new.items books.new.items) }
+    ensures pulled { OnOk result (ArePulled (lists_of given.now.inputs.items) cells.new.items books.new.items) }
+    ensures as_many_cells { vec_len cells.new ≡ vec_len cells.old }
+    ensures as_many_books { vec_len books.new ≡ vec_len books.old }
     ensures ran { (AdmitsForeign result → ⊥) → is_ok notes.now ≡ true }
     ensures ended { OnOk result (HaveAllEnded (notes_of notes.now)) }
-    ensures begun { (AdmitsForeign result → ⊥) → AreBegun given.now cells.new books.new }
-    ensures known { (IsOfOpening result → ⊥) → AreAsKept IsCellAsKept cells.new known.now }
-    ensures known_groups { (IsOfOpening result → ⊥) → AreAsKept IsBookAsKept books.new known_groups.now }
-    ensures refused { IfErr result (IsSettlingRefusal given.now (notes_of notes.now) known.now known_groups.now cells.new books.new) }
+    ensures begun { (AdmitsForeign result → ⊥) → AreBegun given.now cells.new.items books.new.items }
+    ensures known { (IsOfOpening result → ⊥) → AreAsKept IsCellAsKept cells.new.items known.now }
+    ensures known_groups { (IsOfOpening result → ⊥) → AreAsKept IsBookAsKept books.new.items known_groups.now }
+    ensures refused { IfErr result (IsSettlingRefusal given.now (notes_of notes.now) known.now known_groups.now cells.new.items books.new.items) }
 {
-    compare_all(cells, known)?;
-    compare_all(books, known_groups)?;
+    compare_all(cells.as_slice(), known)?;
+    compare_all(books.as_slice(), known_groups)?;
     match notes {
-        Ok(notes) => complete_all(rt, alloc, cells, books, given, notes),
+        Ok(notes) => complete_all(
+            rt,
+            alloc,
+            cells.as_mut_slice(),
+            books.as_mut_slice(),
+            given,
+            notes,
+        ),
         Err(_) => Err(Status::WantOfMemory),
     }
 }

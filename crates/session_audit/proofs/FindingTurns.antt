@@ -1,18 +1,19 @@
 -- The tapes of units, gone over one after another. `tape_of` has the tape of a unit.
 use Rattle.std.proofs.Common.{◌≡◌, ◌≢◌, ℕ, ◌+◌, ◌<◌, ◌≤◌, inl, inr, List, [], All, length, get_or, take, Option, Some, refl, sym, ap, subst, ◌∙◌, arith}
 use Rattle.std.specs.Prelude.{slice_get}
-use Rattle.std.specs.Option.{option_map_or, unwrap_or}
-use Rattle.std.proofs.lemmas.Bool.{cases_eq, cases_lt}
+use Rattle.std.specs.Option.{unwrap_or}
+use Rattle.std.proofs.lemmas.Bool.{cases_eq}
 use Rattle.std.proofs.lemmas.List.{get_or_default}
 use Rattle.std.proofs.lemmas.List.Elements.{All-from_get_or, All-get_or}
-use Rattle.std.proofs.lemmas.Option.{slice_get-get_or, slice_get_past}
+use Rattle.std.proofs.lemmas.Option.{slice_get-get_or}
 use Rattle.plant_status.specs.declared.mismatch.Seen.{Seen}
 use Rattle.plant_status.specs.declared.mismatch.Seen.TheVariants.{Nothing}
 use Rattle.session_audit.specs.declared.agenda.Item.{Item}
 use Rattle.session_audit.specs.declared.kind.Shown.{Shown}
-use Rattle.session_audit.specs.Agendas.{IsNext, due}
-use Rattle.session_audit.specs.Found.{AreFound, AreFurther, IsDifference, IsFirstPart, IsUnfound, Reached, due_of, place_at, tape_shows}
+use Rattle.session_audit.specs.Agendas.{IsNext}
+use Rattle.session_audit.specs.Found.{AreFound, AreFurther, IsDifference, IsFirstPart, IsUnfound, Reached, due_of, found_of, place_at, tape_shows}
 use Rattle.session_audit.proofs.Walking.{found_beside}
+use Rattle.session_audit.proofs.Begun.{due_same, found_of_first}
 use Rattle.session_audit.specs.Workers.{AreOver, AreTapesFound}
 use Rattle.session_audit.specs.Starting.{AreUnfound}
 use Rattle.session_audit.specs.Finding.{AreSameRows, IsMismatchAt}
@@ -90,9 +91,9 @@ found_all tape_of work upto cells first now end so = record { each = λ tag d be
 
 -- an entry that is not its worker's next row, by the rows as they were at first
 pub mismatch_here : {C E : Type 0} (tape_of : C → List E) (work : E → Option Shown) (tag place : ℕ) (kept told : Seen) (cells : List C)
-    (c : C) (first now : List Reached) → tag < length cells → c ≡ get_or cells tag c → AreSameRows first now
+    (c : C) (first now : List Reached) → tag < length cells → c ≡ get_or cells tag c → AreFoundTo tape_of work tag cells first now
     → IsDifference work (due_of now tag) (tape_of c) place kept told → IsMismatchAt tape_of work cells first tag place kept told
-mismatch_here tape_of work tag place kept told cells c first now within is same d = record {
+mismatch_here tape_of work tag place kept told cells c first now within is so d = record {
   one = c;
   there = slice_get-get_or cells tag c within ∙ ap Some (sym is);
   differs = record {
@@ -100,23 +101,17 @@ mismatch_here tape_of work tag place kept told cells c first now within is same 
     worker = d.worker;
     there = d.there;
     shows = d.shows;
-    before = subst (IsFirstPart (tape_shows work d.worker (take place (tape_of c)))) (rows d.worker) d.before;
-    told_is = d.told_is ∙ ap (λ l. unwrap_or (slice_get l (length (tape_shows work d.worker (take place (tape_of c))))) Nothing) (rows d.worker);
+    before = λ w. subst (IsFirstPart (tape_shows work w (take place (tape_of c)))) (rows tag w) (d.before w);
+    told_is = d.told_is ∙ ap (λ l. unwrap_or (slice_get l (length (tape_shows work d.worker (take place (tape_of c))))) Nothing) (rows tag d.worker);
     differ = d.differ;
   };
+  front = λ k worker e before.
+      subst (λ l. IsFirstPart l (due_of first k worker)) (sym ((so.found k e before).each worker))
+      (subst (IsFirstPart (found_of now worker k)) (rows k worker) (found_of_first now k worker));
 }
   where
-    rows : (worker : ℕ) → due_of now tag worker ≡ due_of first tag worker
-    rows worker = elim (cases_lt worker (length first)) [
-      | inl below ↦
-          let none : Reached = record { items = []; at = [] } in
-          ap (λ o. option_map_or (λ p. due tag p.items) o []) (slice_get-get_or now worker none (omega (arith, below, same.as_many)))
-          ∙ (ap (due tag) (same.items worker none)
-          ∙ sym (ap (λ o. option_map_or (λ p. due tag p.items) o []) (slice_get-get_or first worker none below)))
-      | inr past ↦
-          ap (λ o. option_map_or (λ p. due tag p.items) o []) (slice_get_past now worker (omega (arith, past, same.as_many)))
-          ∙ sym (ap (λ o. option_map_or (λ p. due tag p.items) o []) (slice_get_past first worker past))
-    ]
+    rows : (unit worker : ℕ) → due_of now unit worker ≡ due_of first unit worker
+    rows = due_same first now so.same.as_many so.same.items
 
 -- progress over files is over them still
 pub over_same : {A : Type 0} (item_of : ℕ → ℕ → A → Option Item) (tags : ℕ) (files : List (List A)) (old new : List Reached)

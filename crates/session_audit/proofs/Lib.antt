@@ -23,3 +23,4 @@ pub mod DurableLaws
 pub mod Starts
 pub mod AddedRows
 pub mod Begun
+pub mod TakeCounts

@@ -69,7 +69,6 @@ longer_by old new step = record {
         tape = ap (λ c. c.tape) one.changed;
         same_def = ap (λ c. c.def) one.changed;
         same_opening = ap (λ c. c.opening) one.changed;
-        same_room = ap (λ c. c.room) one.changed;
       });
 }
 

@@ -15,7 +15,7 @@ use Rattle.session_audit.specs.declared.agenda.Item.{Item}
 use Rattle.session_audit.specs.declared.kind.Shown.{Shown}
 use Rattle.session_audit.specs.Agendas.{IsNext, due, due_at, seen_at}
 use Rattle.session_audit.specs.Found.{AreFound, AreFurther, IsAdvanced, IsDifference, IsFirstPart, IsFollowed, IsFurther, IsOtherDue, IsUnfound, Reached, due_of, found, found_of, next_due, place_at, seen_by, tape_shows}
-use Rattle.session_audit.proofs.Begun.{found_first}
+use Rattle.session_audit.proofs.Begun.{due_same, found_of_first}
 
 -- ---- rows that were passed
 
@@ -277,17 +277,10 @@ difference_at work unit worker place kept told tape e d first now within is show
   worker = worker;
   there = slice_get-get_or tape place d within ∙ ap Some (sym is);
   shows = shows;
-  before = elim (slice_get_cases now worker).1 [
-    | inl (p, below, there, got) ↦
-        subst (λ l. IsFirstPart l (due_of first unit worker)) (sym (found_so.each worker ∙ ap (λ o. option_map_or (λ q. found q unit) o []) there))
-        (subst (IsFirstPart (found p unit)) (sym (rows p below got)) (found_first p unit))
-    | inr (past, none) ↦
-        record {
-          rest = due_of first unit worker;
-          is = sym (ap (λ l. l ++ due_of first unit worker)
-              (found_so.each worker ∙ ap (λ o. option_map_or (λ q. found q unit) o []) none));
-        }
-  ];
+  before = λ w.
+      subst (λ l. IsFirstPart l (due_of first unit w)) (sym (found_so.each w))
+      (subst (IsFirstPart (found_of now w unit)) (due_same first now further.as_many (λ v p. (further.each v p).same_items) unit w)
+      (found_of_first now unit w));
   told_is = other.told_is ∙ ap (λ o. unwrap_or o Nothing) (elim (slice_get_cases now worker).1 [
     | inl (p, below, there, got) ↦
         let count : length (tape_shows work worker (take place tape)) ≡ length (due unit (take (place_at p unit) p.items))

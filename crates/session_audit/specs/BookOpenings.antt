@@ -39,10 +39,14 @@ pub record IsDefinedSo (group : ℕ) (def : GroupDefParts) (text : List ℕ) (k 
   pub def_is : def ≡ k.def
   pub text_is : text ≡ k.text.items
 
--- the book has the definition and the opening of the copy
-pub record IsBookAsKept {D : Type 0} (b : ToldBook D) (k : KeptGroup) : Type 0 where
-  pub defined : IsDefinedSo b.group b.def b.text k
-  pub opened : IsSameOpening b.opening k.opening
+-- a group has the definition and the opening of the copy
+pub record IsGroupAsKept (group : ℕ) (def : GroupDefParts) (text : List ℕ) (o : GroupOpening) (k : KeptGroup) : Type 0 where
+  pub defined : IsDefinedSo group def text k
+  pub opened : IsSameOpening o k.opening
+
+-- the same of a book
+abbrev pub IsBookAsKept : {D : Type 0} → ToldBook D → KeptGroup → Type 0
+IsBookAsKept b k = IsGroupAsKept b.group b.def b.text b.opening k
 
 -- ---- what is compared in turn
 
@@ -107,6 +111,6 @@ pub data IsGroupDifference (group : ℕ) (def : GroupDefParts) (text : List ℕ)
 abbrev pub IsBookDifference : {D : Type 0} → ToldBook D → KeptGroup → Seen → Seen → Type 0
 IsBookDifference b k kept told = IsGroupDifference b.group b.def b.text b.opening k kept told
 
--- the book of a group differs from its copy
+-- the book of a group is the first that differs from its copy
 abbrev pub IsBookMismatch : {D : Type 0} → List (ToldBook D) → List KeptGroup → Status → Type 0
-IsBookMismatch books known why = IsOpeningMismatch Group IsBookDifference books known why
+IsBookMismatch books known why = IsOpeningMismatch Group IsBookAsKept IsBookDifference books known why

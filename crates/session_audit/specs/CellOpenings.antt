@@ -11,30 +11,32 @@ use Rattle.tag_cell.specs.Told.{ToldCell}
 use Rattle.session_audit.specs.declared.cell_opening.Kept.{Kept}
 use Rattle.session_audit.specs.Openings.{IsOpeningMismatch}
 
--- the copy has a cell's definition, its opening and its room
+-- the copy has a cell's definition and its opening
 pub record IsCellCopied {D : Type 0} (c : ToldCell D) (k : Kept) : Type 0 where
   pub def : k.def ≡ c.def
   pub summary : k.opening.summary ≡ c.opening.summary
   pub records : k.opening.recs.items ≡ c.opening.recs.items
   pub moment : k.opening.moment ≡ c.opening.moment
   pub faults : k.opening.faults ≡ c.opening.faults
-  pub room : k.room ≡ c.room
 
--- a cell has the definition, the opening and the room of the copy
-pub record IsCellAsKept {D : Type 0} (c : ToldCell D) (k : Kept) : Type 0 where
-  pub def : c.def ≡ k.def
-  pub summary : c.opening.summary ≡ k.opening.summary
-  pub records : c.opening.recs.items ≡ k.opening.recs.items
-  pub moment : c.opening.moment ≡ k.opening.moment
-  pub faults : c.opening.faults ≡ k.opening.faults
-  pub room : c.room ≡ k.room
+-- a tag has the definition and the opening of the copy
+pub record IsTagAsKept (its : TagDef) (o : TagOpening) (k : Kept) : Type 0 where
+  pub def : its ≡ k.def
+  pub summary : o.summary ≡ k.opening.summary
+  pub records : o.recs.items ≡ k.opening.recs.items
+  pub moment : o.moment ≡ k.opening.moment
+  pub faults : o.faults ≡ k.opening.faults
+
+-- the same of a cell
+abbrev pub IsCellAsKept : {D : Type 0} → ToldCell D → Kept → Type 0
+IsCellAsKept c k = IsTagAsKept c.def c.opening k
 
 -- ---- the first difference
 
 -- the items that are compared in turn, before the records themselves
-abbrev pub opening_items : TagDef → TagOpening → ℕ → List Seen
-opening_items def o room = Def def ∷ Number o.faults ∷ Number o.moment ∷ Summary o.summary ∷ Number (length o.recs.items)
-    ∷ Number room ∷ []
+abbrev pub opening_items : TagDef → TagOpening → List Seen
+opening_items def o =
+    Def def ∷ Number o.faults ∷ Number o.moment ∷ Summary o.summary ∷ Number (length o.recs.items) ∷ []
 
 -- an item that can be compared
 abbrev pub IsItem : Seen → Type 0
@@ -60,18 +62,17 @@ pub record RecordsDiffer (found known : List Rec) (kept told : Seen) : Type 0 wh
   pub told_is : told ≡ Number (length known)
   pub fewer : same < length known
 
--- the first difference: of the definition, the faults, the moment, the state, the number of records and the room;
--- otherwise, of the records
-pub data IsTagDifference (def : TagDef) (o : TagOpening) (room : ℕ) (k : Kept) (kept told : Seen) : Type 0 where
-  OfItem : FirstDiffer (opening_items def o room) (opening_items k.def k.opening k.room) kept told
-      → IsTagDifference def o room k kept told
-  OfRecords : opening_items def o room ≡ opening_items k.def k.opening k.room
-      → RecordsDiffer o.recs.items k.opening.recs.items kept told → IsTagDifference def o room k kept told
+-- the first difference: of the definition, the faults, the moment, the state and the number of records; otherwise, of
+-- the records
+pub data IsTagDifference (def : TagDef) (o : TagOpening) (k : Kept) (kept told : Seen) : Type 0 where
+  OfItem : FirstDiffer (opening_items def o) (opening_items k.def k.opening) kept told → IsTagDifference def o k kept told
+  OfRecords : opening_items def o ≡ opening_items k.def k.opening → RecordsDiffer o.recs.items k.opening.recs.items kept told
+      → IsTagDifference def o k kept told
 
 -- the same of a cell
 abbrev pub IsCellDifference : {D : Type 0} → ToldCell D → Kept → Seen → Seen → Type 0
-IsCellDifference c k kept told = IsTagDifference c.def c.opening c.room k kept told
+IsCellDifference c k kept told = IsTagDifference c.def c.opening k kept told
 
--- the cell of a tag differs from its copy
+-- the cell of a tag is the first that differs from its copy
 abbrev pub IsCellMismatch : {D : Type 0} → List (ToldCell D) → List Kept → Status → Type 0
-IsCellMismatch cells known why = IsOpeningMismatch Tag IsCellDifference cells known why
+IsCellMismatch cells known why = IsOpeningMismatch Tag IsCellAsKept IsCellDifference cells known why

@@ -1,16 +1,19 @@
 -- Why a step of a session is refused.
-use Rattle.std.specs.Prelude.{◌≡◌, ℕ, ◌+◌, ◌<◌, List, [], ◌∷◌, length, slice_get, slice_index_or, Option, Some, true, false, nat_eq}
+use Rattle.std.specs.Prelude.{◌≡◌, ℕ, ◌+◌, ◌<◌, ◌≤◌, List, [], ◌∷◌, length, slice_get, slice_index_or, Option, Some, true, false, nat_eq}
 use Rattle.trend_num.specs.Limits.{most_records}
 use Rattle.trend_num.specs.declared.refusal.What.TheVariants.{Records}
 use Rattle.std.specs.List.{count_by}
 use Rattle.value_rows.specs.declared.raw.RawRow.{RawRow}
+use Rattle.plant_status.specs.declared.mismatch.Place.TheVariants.{Takes}
+use Rattle.plant_status.specs.declared.mismatch.Seen.TheVariants.{Number}
 use Rattle.plant_status.specs.declared.unit.Unit.TheVariants.{Tag}
 use Rattle.plant_status.specs.declared.status.Status.{Status}
-use Rattle.plant_status.specs.declared.status.Status.TheVariants.{DeviceFault, Limit, WantOfMemory}
+use Rattle.plant_status.specs.declared.status.Status.TheVariants.{DeviceFault, Limit, Mismatch, WantOfMemory}
 use Rattle.tag_cell.specs.declared.entry.CommitNo.{CommitNo}
 use Rattle.tag_cell.specs.declared.entry.CommitNo.TheVariants as commit
 use Rattle.tag_cell.specs.declared.entry.TakeNo.{TakeNo}
 use Rattle.tag_cell.specs.declared.entry.TakeNo.TheVariants as take_no
+use Rattle.tag_cell.specs.Tapes.{taken}
 use Rattle.tag_cell.specs.Told.{ToldCell, takes_waiting}
 use Rattle.session_audit.specs.declared.agenda.Item.{Item}
 use Rattle.session_audit.specs.Tapes.{take_of}
@@ -27,21 +30,28 @@ abbrev pub tag_rows : ℕ → List (List RawRow) → ℕ
 tag_rows tag [] = 0
 tag_rows tag (rows ∷ files) = count_by (λ r. nat_eq r.tag tag) rows + tag_rows tag files
 
--- why a row that is due at a tag, and that its tape lacks, is not taken: the tag's device has failed; or the tag could
--- have too many records
+-- the status of a tag that has so many takes, of so many rows
+abbrev pub takes_mismatch : ℕ → ℕ → ℕ → Status
+takes_mismatch tag takes rows = Mismatch (Takes tag) (Number takes) (Number rows)
+
+-- Why a row that is due at a tag, and that its tape lacks, is not taken. The tag's device has failed. Or the tape has no
+-- room; the status has the number of its takes, and that of the tag's rows. Or the tag could have too many records.
 pub data IsTakeRefusal {D : Type 0} (item_of : ℕ → ℕ → RawRow → Option Item) (files : List (List RawRow)) (cells : List (ToldCell D))
     (why : Status) : Type 0 where
   OfBroken : (tag : ℕ) → why ≡ DeviceFault (Tag tag) → IsSo cells tag (λ c.
       (c.journal.failed ≡ true) × LacksRow take_of item_of files tag c.tape) → IsTakeRefusal item_of files cells why
+  OfRoom : (tag takes rows : ℕ) → why ≡ takes_mismatch tag takes rows → IsSo cells tag (λ c.
+      (takes ≡ length (taken c.tape)) × (rows ≡ tag_rows tag files) × (takes < rows) × (c.room ≤ takes)
+      × LacksRow take_of item_of files tag c.tape) → IsTakeRefusal item_of files cells why
   OfLimit : (tag number : ℕ) → why ≡ Limit Records number → IsSo cells tag (λ c.
       (number ≡ length c.state.records) × (most_records < number + 2) × LacksRow take_of item_of files tag c.tape)
       → IsTakeRefusal item_of files cells why
 
--- a status is that of a refused row of a tag; no row is refused because a tape is full
-abbrev pub IsTakeStatus : ℕ → TakeNo → Status → Type 0
-IsTakeStatus tag take_no.Broken why = why ≡ DeviceFault (Tag tag)
-IsTakeStatus tag (take_no.RoomFull room) why = ⊥
-IsTakeStatus tag (take_no.Full records) why = why ≡ Limit Records records
+-- the status of a refused row of a tag whose tape has so many takes, and which has so many rows
+abbrev pub take_status : ℕ → ℕ → ℕ → TakeNo → Status
+take_status tag takes rows take_no.Broken = DeviceFault (Tag tag)
+take_status tag takes rows (take_no.RoomFull room) = takes_mismatch tag takes rows
+take_status tag takes rows (take_no.Full records) = Limit Records records
 
 -- no value waits on this cell, and its device has not failed
 pub record IsCommittedCell {D : Type 0} (c : ToldCell D) : Type 0 where

@@ -28,14 +28,13 @@ IsCommitEntry other = ⊥
 
 -- ---- cells that have gained entries
 
--- the tape has gained entries of a kind; the definition, the opening and the room stay
+-- the tape has gained entries of a kind; the definition and the opening stay
 pub record IsLonger {D : Type 0} (IsOf : Entry → Type 0) (old new : ToldCell D) : Type 0 where
   pub more : List Entry
   pub each : All IsOf more
   pub tape : new.tape ≡ old.tape ++ more
   pub same_def : new.def ≡ old.def
   pub same_opening : new.opening ≡ old.opening
-  pub same_room : new.room ≡ old.room
 
 -- each cell has gained entries like that
 abbrev pub AreLonger : {D : Type 0} → (Entry → Type 0) → List (ToldCell D) → List (ToldCell D) → Type 0

@@ -1,5 +1,5 @@
 -- Entries on the tapes of all cells and books that are not the next rows of their workers.
-use Rattle.std.specs.Prelude.{◌≡◌, ℕ, List, length, slice_get, slice_index_or, Option, Some}
+use Rattle.std.specs.Prelude.{◌≡◌, ℕ, ◌<◌, List, length, slice_get, slice_index_or, Option, Some}
 use Rattle.plant_status.specs.declared.mismatch.Place.TheVariants.{Take, Ask, RowAsk}
 use Rattle.plant_status.specs.declared.mismatch.Seen.{Seen}
 use Rattle.plant_status.specs.declared.status.Status.{Status}
@@ -7,7 +7,7 @@ use Rattle.plant_status.specs.declared.status.Status.TheVariants.{Mismatch}
 use Rattle.tag_cell.specs.Told.{ToldCell as Cell}
 use Rattle.group_book.specs.Told.{ToldBook as Book}
 use Rattle.session_audit.specs.declared.kind.Shown.{Shown}
-use Rattle.session_audit.specs.Found.{IsDifference, Reached, due_of}
+use Rattle.session_audit.specs.Found.{IsDifference, IsFirstPart, Reached, due_of, tape_shows}
 use Rattle.session_audit.specs.Tapes.{ask_of, take_of}
 use Rattle.session_audit.specs.Books.{book_tape}
 use Rattle.session_audit.specs.Cells.{cell_tape}
@@ -19,12 +19,14 @@ pub record AreSameRows (old new : List Reached) : Type 0 where
   pub items : (worker : ℕ) (p : Reached) → (slice_index_or new worker p).items ≡ (slice_index_or old worker p).items
   pub units : (worker : ℕ) (p : Reached) → length (slice_index_or new worker p).at ≡ length (slice_index_or old worker p).at
 
--- an entry of a unit's tape (`tape_of` has the tape of a unit) is not its worker's next row there
+-- An entry of a unit's tape (`tape_of` has the tape of a unit) is not its worker's next row there. The tapes of the units
+-- before it show first rows alone.
 pub record IsMismatchAt {C E : Type 0} (tape_of : C → List E) (work : E → Option Shown) (units : List C)
     (works : List Reached) (unit place : ℕ) (kept told : Seen) : Type 0 where
   pub one : C
   pub there : slice_get units unit ≡ Some one
   pub differs : IsDifference work (due_of works unit) (tape_of one) place kept told
+  pub front : (k worker : ℕ) (c : C) → k < unit → IsFirstPart (tape_shows work worker (tape_of (slice_index_or units k c))) (due_of works k worker)
 
 -- the status reports such an entry, which is a take
 abbrev pub IsTakeMismatch : {D : Type 0} → List (Cell D) → List Reached → Status → Type 0

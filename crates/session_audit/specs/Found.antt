@@ -122,14 +122,14 @@ pub record IsFirstPart {A : Type 0} (part whole : List A) : Type 0 where
   pub rest : List A
   pub is : whole ≡ part ++ rest
 
--- A worker's entry is not the row that is due next. Its entries before that are the first rows due there. `kept` is what
--- the entry shows. `told` is the row due next, or nothing.
+-- A worker's entry is not the row that is due next. The entries before it show, of each worker, the first rows that are due
+-- there. `kept` is what the entry shows. `told` is the row due next, or nothing.
 pub record IsDifference {E : Type 0} (work : E → Option Shown) (rows : ℕ → List Seen) (tape : List E) (place : ℕ) (kept told : Seen)
     : Type 0 where
   pub entry : E
   pub worker : ℕ
   pub there : slice_get tape place ≡ Some entry
   pub shows : work entry ≡ Some (record { worker = worker; seen = kept })
-  pub before : IsFirstPart (tape_shows work worker (take place tape)) (rows worker)
+  pub before : (w : ℕ) → IsFirstPart (tape_shows work w (take place tape)) (rows w)
   pub told_is : told ≡ unwrap_or (slice_get (rows worker) (length (tape_shows work worker (take place tape)))) Nothing
   pub differ : kept ≢ told

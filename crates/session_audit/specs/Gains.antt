@@ -17,7 +17,6 @@ longer_refl IsOf c = record {
   tape = sym (append-nil c.tape);
   same_def = refl;
   same_opening = refl;
-  same_room = refl;
 }
 
 -- a cell that has gained entries twice
@@ -29,7 +28,6 @@ longer_trans IsOf a b c first second = record {
   tape = second.tape ∙ (ap (λ l. l ++ second.more) first.tape ∙ append_assoc a.tape first.more second.more);
   same_def = second.same_def ∙ first.same_def;
   same_opening = second.same_opening ∙ first.same_opening;
-  same_room = second.same_room ∙ first.same_room;
 }
 
 -- a book that has answered no question

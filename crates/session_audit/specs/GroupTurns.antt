@@ -26,11 +26,12 @@ pub record IsAboveTurns (turns : ℕ) (tape : List Turn) (kept told : Seen) : Ty
   pub told_is : told ≡ Number turns
   pub above : turns < length (refreshes tape)
 
--- the same of a book
+-- the same of a book; those before it were not
 pub record IsBookAbove {D : Type 0} (turns : List ℕ) (books : List (ToldBook D)) (group : ℕ) (kept told : Seen) : Type 0 where
   pub book : ToldBook D
   pub there : slice_get books group ≡ Some book
   pub above : IsAboveTurns (slice_index turns group) book.tape kept told
+  pub front : (k : ℕ) (b : ToldBook D) → k < group → length (refreshes (slice_index_or books k b).tape) ≤ slice_index turns k
 
 abbrev pub IsTurnsMismatch : {D : Type 0} → List ℕ → List (ToldBook D) → Status → Type 0
 IsTurnsMismatch turns books (Mismatch (Turns group) kept told) = IsBookAbove turns books group kept told

@@ -5,6 +5,7 @@ pub mod Each
 pub mod Cells
 pub mod CellOpenings
 pub mod CellRefusals
+pub mod FirstPulls
 pub mod Starting
 pub mod Finding
 pub mod Adding

@@ -1,5 +1,5 @@
 // The copy of a cell's opening, and the comparison of the cell with it.
-ghost use Rattle.std.specs.Prelude.{◌≡◌, ◌↔◌, ◌≢◌, ◌<◌, ◌≤◌, All, IfErr, IsTrue, OnOk, length, slice_get, take};
+ghost use Rattle.std.specs.Prelude.{◌≡◌, ◌↔◌, All, IfErr, IsTrue, OnOk, length, take};
 ghost use Rattle.session_audit.specs.CellOpenings.{FirstDiffer, IsItem, RecordsDiffer, opening_items};
 
 use crate::opening::{Difference, Opened};
@@ -9,13 +9,11 @@ use std::alloc::Global;
 use tag_cell::{Cell, TagOpening};
 use trend_num::{Rec, TagDef, WantOfMemory, same_name, same_rec, same_summary, same_tuning};
 
-/// A copy of a tag's opening, with its definition and the room of its tape.
+/// A copy of a tag's opening, with its definition.
 #[derive(Drop)]
 pub struct Kept {
     pub def: TagDef,
     pub opening: TagOpening,
-    /// How many takes the tape can have.
-    pub room: u32,
 }
 
 impl<D: Disk> Opened for Cell<D> {
@@ -45,17 +43,13 @@ impl<D: Disk> Opened for Cell<D> {
                 moment: opening.moment,
                 faults: opening.faults,
             },
-            room: self.room(),
         })
     }
 
     fn compare(&self, known: &Kept) -> Result<(), Difference> {
         let opening = self.opening();
-        let found = opening_items(self.def(), opening, self.room());
-        compare_items(
-            &found,
-            &opening_items(&known.def, &known.opening, known.room),
-        )?;
+        let found = opening_items(self.def(), opening);
+        compare_items(&found, &opening_items(&known.def, &known.opening))?;
         compare_records(&opening.recs, &known.opening.recs)
     }
 
@@ -65,8 +59,8 @@ impl<D: Disk> Opened for Cell<D> {
 }
 
 // Returns what is compared before the records, in turn.
-fn opening_items(def: &TagDef, opening: &TagOpening, room: u32) -> [Seen; 6]
-    ensures { result ≡ opening_items def.now opening.now room }
+fn opening_items(def: &TagDef, opening: &TagOpening) -> [Seen; 5]
+    ensures { result ≡ opening_items def.now opening.now }
 {
     [
         Seen::Def(*def),
@@ -74,17 +68,16 @@ fn opening_items(def: &TagDef, opening: &TagOpening, room: u32) -> [Seen; 6]
         Seen::Number(opening.moment),
         Seen::Summary(opening.summary),
         Seen::Number(opening.recs.len() as u64),
-        Seen::Number(u64::from(room)),
     ]
 }
 
 // Compares these in turn, and returns the first that differs.
-fn compare_items(found: &[Seen; 6], known: &[Seen; 6]) -> Result<(), Difference>
+fn compare_items(found: &[Seen; 5], known: &[Seen; 5]) -> Result<(), Difference>
     requires { All IsItem found.now }
     ensures same { OnOk result (found.now ≡ known.now) }
     ensures differs { IfErr result (λ d. FirstDiffer found.now known.now d.kept d.told) }
 {
-    for i in 0..6 {
+    for i in 0..5 {
         if !same_item(&found[i], &known[i]) {
             return Err(Difference {
                 kept: found[i],

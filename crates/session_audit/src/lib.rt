@@ -17,8 +17,8 @@
 //!
 //! **Steps**, in the order in which a session makes them:
 //!
-//! 1. Before the workers begin, [`copies_of`] copies the openings, each with the room of its tape. Once they have ended,
-//!    [`compare_all`] compares each opening with its copy.
+//! 1. Before the workers begin, [`copies_of`] copies the openings. Once they have ended, [`compare_all`] compares each
+//!    opening with its copy.
 //! 2. [`collectors_of`], [`readers_of`] and [`row_askers_of`] make the progress of the workers (by [`start`]); no row
 //!    is found yet. [`rooms_of`] counts the rows of each tag, and [`turns_of`] the turns of each group.
 //! 3. [`find_all_takes`], [`find_all_asks`] and [`find_all_row_asks`] go over each tape once (by [`find`]). They stop
@@ -27,7 +27,8 @@
 //! 4. [`take_missing`], [`ask_missing`] and [`ask_rows_missing`] do what the tapes lack. Then [`commit_cells`] commits
 //!    until no value waits.
 //! 5. [`refresh_missing`] makes the missing refreshes of each group, then one more and a save.
-//! 6. [`compare_pulls`] compares what each group has of its inputs with what it pulled of their tags.
+//! 6. [`compare_pulls`] compares what each group has of its inputs with what it pulled of their tags. After a drill,
+//!    [`compare_first_pulls`] compares what each tag had acknowledged at its first pull with its rows of the first phase.
 //!
 //! **Promise.** What is found is `AreFound`: the entries of each worker on a tape are the first of its rows there, in
 //! the file's order, and no other worker has an entry. Each step appends entries of its own kind to the tapes, and
@@ -44,6 +45,7 @@ mod cell_committing;
 mod cell_opening;
 mod durable_law;
 mod finding;
+mod first_pulls;
 mod group_pulls;
 mod group_refreshing;
 mod group_turns;
@@ -61,6 +63,7 @@ pub use cell_committing::commit_cells;
 pub use cell_opening::{Kept, compare_records};
 pub use durable_law::{all_records_are_durable, what_was_pulled_is_durable};
 pub use finding::{find_all_asks, find_all_row_asks, find_all_takes};
+pub use first_pulls::compare_first_pulls;
 pub use group_pulls::compare_pulls;
 pub use group_refreshing::refresh_missing;
 pub use group_turns::{compare_turns, turns_of};

@@ -69,7 +69,7 @@ pub fn compare_all<T: Opened>(opened: &[T], known: &[T::Kept]) -> Result<(), Sta
     requires as_many { length known.now ≡ length opened.now }
     requires few { length opened.now < 2 ^ 32 }
     ensures same { OnOk result (AreAsKept T.is_as_kept opened.now known.now) }
-    ensures differs { IfErr result (IsOpeningMismatch T.unit_of T.differs opened.now known.now) }
+    ensures differs { IfErr result (IsOpeningMismatch T.unit_of T.is_as_kept T.differs opened.now known.now) }
 {
     for number in 0..opened.len() {
         if let Err(differs) = opened[number].compare(&known[number]) {

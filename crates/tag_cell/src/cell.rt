@@ -107,13 +107,6 @@ impl<D: Disk> Cell<D> {
         &self.tape
     }
 
-    /// Returns how many takes the tape can have.
-    pub fn room(&self) -> u32
-        ensures { result ≡ self.now.room }
-    {
-        self.room
-    }
-
     /// Returns how many calls of the device have failed.
     pub fn device_faults(&self) -> u64
         ensures { result ≡ D.fault_count self.now.journal.dev }

@@ -2,6 +2,7 @@ use Rattle.std.proofs.Common.{Vec, arith, length, subst, sym}
 use Rattle.std.specs.Prelude.{IfErr, OnOk}
 use Rattle.std.specs.declared.alloc.Global.{Global}
 use Rattle.collector_pool.specs.declared.note.WorkerNote.{WorkerNote}
+use Rattle.session_audit.specs.FirstPulls.{HaveFirstPulls}
 use Rattle.run_command.proofs.Continued.{inputs_of_base}
 use Rattle.run_command.proofs.Told.{foreign_told, held_told, ran_told}
 use Rattle.run_command.specs.Endings.{HaveAllEnded}
@@ -32,6 +33,7 @@ returns g c old before was rest same =
     (g.P.Passes.stops c.hold_both-ended.new.passes) v.items) (sym closed.notes) end.notes)
     (ran_told (AreNotesOfAllBoth first.work second.work s.workers.items) base second s ended.answer _ closed.told
     (subst (λ (v : Vec WorkerNote Global). OnOk ended.answer (AreNotesOfAllBoth first.work second.work v.items)) (sym closed.notes) end.ran))
+    (ran_told (HaveFirstPulls first.rooms.items ended.cells.items) base second s ended.answer _ closed.told end.apart)
     (λ none. end.begun (λ of. none (foreign_told base second s ended.answer _ closed.told of)))
     (both_told base first second s _ _ ended.cells.items ended.books.items s.workers.items ended.answer _ closed.told
     (subst (λ (v : Vec WorkerNote Global). IfErr ended.answer (IsUndoneOfBoth first second c.args.plant.cells.items c.args.plant.books.items

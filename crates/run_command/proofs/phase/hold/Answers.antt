@@ -22,33 +22,33 @@ returns-clause-notes g c =
 
 pub returns-clause-known : goal.returns-clause-known
 returns-clause-known g c = λ none.
-    subst (λ (l : List Kept). AreAsKept IsCellAsKept c.settle_all-answer.new.cells.items l) c.deref.ensures.value (c.settle_all-answer.ensures.known none)
+    subst (λ (l : List Kept). AreAsKept IsCellAsKept c.settle-answer.new.cells.items l) c.deref.ensures.value (c.settle-answer.ensures.known none)
 
 pub returns-clause-known_groups : goal.returns-clause-known_groups
 returns-clause-known_groups g c = λ none.
-    subst (λ (l : List KeptGroup). AreAsKept IsBookAsKept c.settle_all-answer.new.books.items l) c.deref-2.ensures.value
-    (c.settle_all-answer.ensures.known_groups none)
+    subst (λ (l : List KeptGroup). AreAsKept IsBookAsKept c.settle-answer.new.books.items l) c.deref-2.ensures.value
+    (c.settle-answer.ensures.known_groups none)
 
 pub returns-clause-refused : goal.returns-clause-refused
 returns-clause-refused g c =
     let given = c.args.given.now in
     let notes = notes_of c.run_workers-cells.result.notes in
-    let cells = c.settle_all-answer.new.cells.items in
-    let books = c.settle_all-answer.new.books.items in
+    let cells = c.settle-answer.new.cells.items in
+    let books = c.settle-answer.new.books.items in
     let tags = c.args.ready.tags.items in
     let groups = c.args.ready.groups.items in
-    err_weaker c.settle_all-answer.result (λ why is.
+    err_weaker c.settle-answer.result (λ why is.
     subst (λ (l : List WorkerNote). IsSettlingRefusal given l tags groups cells books why) (sym c.notes_in.ensures)
     (subst (λ (l : List Kept). IsSettlingRefusal given notes l groups cells books why) c.deref.ensures.value
     (subst (λ (l : List KeptGroup). IsSettlingRefusal given notes c.deref.result.now l cells books why) c.deref-2.ensures.value is)))
-    c.settle_all-answer.ensures.refused
+    c.settle-answer.ensures.refused
 
 pub returns-clause-ran : goal.returns-clause-ran
 returns-clause-ran g c = λ none.
     subst (λ (l : List WorkerNote). AreNotesOfAll c.args.given.now.work l) (sym c.notes_in.ensures)
     (ran_all c.args.given.now.work c.run_workers-cells.result.notes c.run_workers-cells.ensures.notes
-    (c.settle_all-answer.ensures.ran none))
+    (c.settle-answer.ensures.ran none))
 
 pub returns-clause-ended : goal.returns-clause-ended
 returns-clause-ended g c =
-    subst (λ (l : List WorkerNote). OnOk c.settle_all-answer.result (HaveAllEnded l)) (sym c.notes_in.ensures) c.settle_all-answer.ensures.ended
+    subst (λ (l : List WorkerNote). OnOk c.settle-answer.result (HaveAllEnded l)) (sym c.notes_in.ensures) c.settle-answer.ensures.ended

@@ -13,18 +13,12 @@ use Rattle.run_command.specs.Sessions.{OfNone}
 use Rattle.run_command.specs.Runs as runs
 use Rattle.run_command.proofs.Continued.{as_many_known, continued, groups_continued, groups_still, inputs_copied, still}
 use Rattle.run_command.proofs.Results.{err_weaker}
-use Rattle.run_command.proofs.Roomy.{copies_roomy}
 use Rattle.run_command.proofs.phase.hold_phase.Goals as goal
 
 pub hold-requires-clause-inputs : goal.hold-requires-clause-inputs
 hold-requires-clause-inputs g c κs within =
     inputs_copied _ _ c.args.books.items c.in-Ok.ready.groups.items c.requires.inputs
     (subst (λ (l : List (Book g.row.D.Denot)). AllZip IsBookCopied l c.in-Ok.ready.groups.items) c.deref-2.ensures.value c.in-Ok.ensures.groups)
-
-pub hold-requires-clause-roomy : goal.hold-requires-clause-roomy
-hold-requires-clause-roomy g c κs within =
-    copies_roomy c.args.given.now.rooms.items c.args.cells.items c.in-Ok.ready.tags.items c.requires.roomy
-    (subst (λ (l : List (Cell g.row.D.Denot)). AllZip IsCellCopied l c.in-Ok.ready.tags.items) c.deref.ensures.value c.in-Ok.ensures.tags)
 
 pub returns-in-Ok-clause-same_cells : goal.returns-in-Ok-clause-same_cells
 returns-in-Ok-clause-same_cells g c = λ none.

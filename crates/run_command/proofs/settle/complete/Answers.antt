@@ -5,7 +5,7 @@ use Rattle.calc_refresh.specs.Lists.{lists_of}
 use Rattle.session_audit.specs.Pulls.{ArePulled, IsPullMismatch}
 use Rattle.run_command.specs.Refusals.{OfFinding, OfMaking, OfPull, OfStop}
 use Rattle.run_command.proofs.Making.{few_refreshes, inputs_kept}
-use Rattle.run_command.proofs.Foreign.{finding_foreign}
+use Rattle.run_command.proofs.Foreign.{finding_begun}
 use Rattle.run_command.proofs.Results.{at_ok, err_weaker, ok_weaker}
 use Rattle.run_command.proofs.settle.complete.Goals as goal
 
@@ -42,7 +42,7 @@ returns-clause-pulled g c = ok_weaker c.compare_pulls.result
 pub returns-in_err-find_all-clause-begun : goal.returns-in_err-find_all-clause-begun
 returns-in_err-find_all-clause-begun g c =
     let p = err_from_is_err_and c.from_residual.result c.from_residual.ensures.1 in
-    rw (p.1, p.2) (λ none. absurd (none (finding_foreign c.args.given.now c.args.cells.now c.args.books.now _ c.in_err-find_all.ensures.differs)))
+    rw (p.1, p.2) (finding_begun c.args.given.now c.args.cells.now c.args.books.now _ c.in_err-find_all.ensures.differs)
 
 pub returns-in_err-check_endings-clause-begun : goal.returns-in_err-check_endings-clause-begun
 returns-in_err-check_endings-clause-begun g c = λ none. c.in_ok-find_all.ensures.begun
@@ -59,4 +59,4 @@ returns-clause-ended g c = at_ok c.compare_pulls.result c.in_ok-check_endings.en
 pub returns-in_err-check_endings-clause-refused : goal.returns-in_err-check_endings-clause-refused
 returns-in_err-check_endings-clause-refused g c =
     let p = err_from_is_err_and c.from_residual-in_err-check_endings.result c.from_residual-in_err-check_endings.ensures.1 in
-    rw (p.1, p.2) (OfStop c.in_err-check_endings.ensures.stopped)
+    rw (p.1, p.2) (OfStop c.in_ok-find_all.ensures.found.turns c.in_err-check_endings.ensures.stopped)

@@ -1,13 +1,8 @@
 use Rattle.std.proofs.Common.{List, ℕ, subst}
 use Rattle.std.proofs.lemmas.Result.{err_from_is_err_and}
-use Rattle.session_audit.specs.Agendas.{ask_item, phase_item, row_item}
-use Rattle.session_audit.specs.Books.{book_tape}
-use Rattle.session_audit.specs.Cells.{cell_tape}
-use Rattle.session_audit.specs.GroupTapes.{row_ask_of}
 use Rattle.session_audit.specs.GroupTurns.{IsTurnsMismatch, IsWithinTurns}
-use Rattle.session_audit.specs.Tapes.{ask_of, take_of}
-use Rattle.session_audit.proofs.Begun.{tapes_begun}
 use Rattle.run_command.specs.Refusals.{OfAsk, OfRowAsk, OfTake, OfTurns}
+use Rattle.run_command.proofs.Making.{all_begun, asks_begun, takes_begun}
 use Rattle.run_command.proofs.Results.{at_ok, err_weaker, ok_weaker}
 use Rattle.run_command.proofs.settle.find_all.Goals as goal
 
@@ -19,12 +14,18 @@ returns-in_err-find_all_takes-clause-differs g c =
 pub returns-in_err-find_all_asks-clause-differs : goal.returns-in_err-find_all_asks-clause-differs
 returns-in_err-find_all_asks-clause-differs g c =
     let p = err_from_is_err_and c.from_residual-in_err-find_all_asks.result c.from_residual-in_err-find_all_asks.ensures.1 in
-    rw (p.1, p.2) (OfAsk c.args.asks.now c.requires.over.readers c.requires.no_asks c.in_err-find_all_asks.ensures.differs)
+    rw (p.1, p.2) (OfAsk (takes_begun c.args.given.now c.args.cells.now c.find_all_takes.new.works
+    (c.find_all_takes.ensures.over _ _ _ c.requires.over.collectors) c.in_ok-find_all_takes.ensures.found)
+    c.args.asks.now c.requires.over.readers c.requires.no_asks c.in_err-find_all_asks.ensures.differs)
 
 pub returns-in_err-find_all_row_asks-clause-differs : goal.returns-in_err-find_all_row_asks-clause-differs
 returns-in_err-find_all_row_asks-clause-differs g c =
     let p = err_from_is_err_and c.from_residual-in_err-find_all_row_asks.result c.from_residual-in_err-find_all_row_asks.ensures.1 in
-    rw (p.1, p.2) (OfRowAsk c.args.row_asks.now c.requires.over.row_readers c.requires.no_row_asks c.in_err-find_all_row_asks.ensures.differs)
+    rw (p.1, p.2) (OfRowAsk (takes_begun c.args.given.now c.args.cells.now c.find_all_takes.new.works
+    (c.find_all_takes.ensures.over _ _ _ c.requires.over.collectors) c.in_ok-find_all_takes.ensures.found)
+    (asks_begun c.args.given.now c.args.cells.now c.find_all_asks.new.works (c.find_all_asks.ensures.over _ _ c.requires.over.readers)
+    c.in_ok-find_all_asks.ensures.found)
+    c.args.row_asks.now c.requires.over.row_readers c.requires.no_row_asks c.in_err-find_all_row_asks.ensures.differs)
 
 pub returns-clause-over : goal.returns-clause-over
 returns-clause-over g c = at_ok c.compare_turns.result (record {
@@ -43,15 +44,16 @@ returns-clause-found g c = ok_weaker c.compare_turns.result (λ within. record {
 
 pub returns-clause-differs : goal.returns-clause-differs
 returns-clause-differs g c = err_weaker c.compare_turns.result
-    (λ why is. OfTurns (subst (λ (l : List ℕ). IsTurnsMismatch l c.args.books.now why) c.deref.ensures.value is))
+    (λ why is. OfTurns (all_begun c.args.given.now c.args.cells.now c.args.books.now c.find_all_takes.new.works c.find_all_asks.new.works
+    c.find_all_row_asks.new.works (c.find_all_takes.ensures.over _ _ _ c.requires.over.collectors)
+    (c.find_all_asks.ensures.over _ _ c.requires.over.readers) (c.find_all_row_asks.ensures.over _ _ c.requires.over.row_readers)
+    c.in_ok-find_all_takes.ensures.found c.in_ok-find_all_asks.ensures.found c.in_ok-find_all_row_asks.ensures.found)
+    (subst (λ (l : List ℕ). IsTurnsMismatch l c.args.books.now why) c.deref.ensures.value is))
     c.compare_turns.ensures.differs
 
 pub returns-clause-begun : goal.returns-clause-begun
-returns-clause-begun g c = at_ok c.compare_turns.result (record {
-  takes = tapes_begun cell_tape take_of (phase_item c.args.given.now.work.earlier) _ _ c.args.cells.now c.find_all_takes.new.works
-      (c.find_all_takes.ensures.over _ _ _ c.requires.over.collectors) c.in_ok-find_all_takes.ensures.found;
-  asks = tapes_begun cell_tape ask_of ask_item _ _ c.args.cells.now c.find_all_asks.new.works
-      (c.find_all_asks.ensures.over _ _ c.requires.over.readers) c.in_ok-find_all_asks.ensures.found;
-  row_asks = tapes_begun book_tape row_ask_of row_item _ _ c.args.books.now c.find_all_row_asks.new.works
-      (c.find_all_row_asks.ensures.over _ _ c.requires.over.row_readers) c.in_ok-find_all_row_asks.ensures.found;
-})
+returns-clause-begun g c = at_ok c.compare_turns.result
+    (all_begun c.args.given.now c.args.cells.now c.args.books.now c.find_all_takes.new.works c.find_all_asks.new.works
+    c.find_all_row_asks.new.works (c.find_all_takes.ensures.over _ _ _ c.requires.over.collectors)
+    (c.find_all_asks.ensures.over _ _ c.requires.over.readers) (c.find_all_row_asks.ensures.over _ _ c.requires.over.row_readers)
+    c.in_ok-find_all_takes.ensures.found c.in_ok-find_all_asks.ensures.found c.in_ok-find_all_row_asks.ensures.found)

@@ -1,4 +1,4 @@
-use Rattle.std.proofs.Common.{◌≡◌, ◌∙◌, ◌<◌, ◌≤◌, ℕ, List, Vec, ap, sym, subst, length, get_or, slice_index}
+use Rattle.std.proofs.Common.{◌≡◌, ◌∙◌, ◌<◌, ℕ, List, Vec, ap, sym, subst, length, slice_index}
 use Rattle.std.specs.Prelude.{All}
 use Rattle.std.specs.declared.alloc.Global.{Global}
 use Rattle.calc_refresh.specs.Lists.{lists_of}
@@ -22,7 +22,6 @@ use Rattle.run_command.specs.Refusals.{OfCommit, OfRefresh, OfTaking}
 use Rattle.run_command.specs.Steps.{AreTapesMade}
 use Rattle.run_command.proofs.Kept.{books_asked, books_joined, books_refreshed, cells_joined, cells_longer, cells_pulled, committed}
 use Rattle.run_command.proofs.Making.{inputs_kept, known_asks, known_row_asks}
-use Rattle.run_command.proofs.Roomy.{room_at}
 use Rattle.std.proofs.lemmas.Result.{err_from_is_err_and}
 use Rattle.run_command.proofs.Results.{err_weaker, ok_weaker}
 use Rattle.run_command.proofs.settle.make_up.Given as given
@@ -40,13 +39,6 @@ take_missing-requires-clause-counted g c = λ tag below.
     ap (λ (l : List ℕ). slice_index l tag) rooms
     ∙ c.requires.ready.given.rooms tag (subst (λ n. tag < n) (ap length rooms ∙ c.requires.ready.given.rooms_are) below)
     ∙ ap (λ (l : List (Vec RawRow Global)). tag_rows tag (lists_of l)) (sym c.deref.ensures.value)
-
-pub take_missing-requires-clause-roomy : goal.take_missing-requires-clause-roomy
-take_missing-requires-clause-roomy g c = λ tag d below.
-    let rooms = c.deref-2.ensures.value in
-    subst (λ (l : List ℕ). slice_index l tag ≤ (get_or c.args.cells.now tag d).room) (sym rooms)
-    (room_at c.args.given.now.rooms.items c.args.cells.now tag d c.requires.ready.roomy
-    (subst (λ n. tag < n) (ap length rooms ∙ c.requires.ready.given.rooms_are) below))
 
 pub returns-in_err-take_missing-clause-cells : goal.returns-in_err-take_missing-clause-cells
 returns-in_err-take_missing-clause-cells g c = cells_longer IsTakeEntry _ _ c.take_missing.ensures.longer

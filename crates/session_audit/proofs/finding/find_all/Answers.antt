@@ -25,7 +25,7 @@ returns-in-Err-clause-differs g c =
     let cell = c.index-units-unit.result in
     mismatch_here g.T.Taped.tape_of g.K.Kind.shows c.loop-unit.unit c.in-Err.differs.place c.in-Err.differs.kept c.in-Err.differs.told cells cell
     c.args.works.now c.loop-unit.works c.loop-unit-test.true
-    c.index-units-unit.is c.loop-unit.invariant.same
+    c.index-units-unit.is c.loop-unit.invariant
     (subst (λ l. IsDifference g.K.Kind.shows (due_of c.loop-unit.works c.loop-unit.unit) l c.in-Err.differs.place c.in-Err.differs.kept
     c.in-Err.differs.told) c.tape.ensures c.in-Err.ensures.differs)
 

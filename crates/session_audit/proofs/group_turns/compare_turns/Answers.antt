@@ -14,6 +14,7 @@ returns-then-made-turns-clause-differs g c =
       book = b;
       there = slice_get-get_or c.args.books.now c.loop-group.group b c.loop-group-test.true ∙ ap Some (sym c.index-books-group.is);
       above = record { kept_is = ap Number made; told_is = ap Number c.from.ensures; above = omega (arith, c.if-made-turns.true, made) };
+      front = c.loop-group.invariant;
     }
 
 pub loop-group-preserved : goal.loop-group-preserved

@@ -17,6 +17,7 @@ returns-in-Err-clause-differs g c =
         copy_there = slice_get-get_or c.args.known.now at k (omega (arith, c.loop-number-test.true, c.requires.as_many))
             ∙ ap Some (sym c.index-known-number.is);
         differing = c.in-Err.ensures.differs;
+        front = c.loop-number.invariant;
       },
     )
 

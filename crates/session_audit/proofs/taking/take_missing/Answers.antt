@@ -1,16 +1,17 @@
-use Rattle.std.proofs.Common.{◌<◌, ◌∙◌, length, sym}
-use Rattle.std.specs.Prelude.{slice_index}
+use Rattle.std.proofs.Common.{◌<◌, ◌∙◌, [], ap, arith, get_or, length, subst, sym}
+use Rattle.std.proofs.lemmas.Option.{get_or_from_slice_get, slice_get_within}
 use Rattle.calc_refresh.specs.Lists.{lists_of}
 use Rattle.tag_cell.specs.Tapes.{taken}
+use Rattle.tag_cell.specs.Told.{ToldCell}
 use Rattle.session_audit.specs.Agendas.{phase_item}
+use Rattle.session_audit.specs.CellRefusals.{IsTakeRefusal}
 use Rattle.session_audit.specs.Cells.{IsTakeEntry, cell_tape}
 use Rattle.session_audit.specs.Tapes.{ask_of, take_of}
 use Rattle.session_audit.specs.Workers.{LacksRow}
 use Rattle.session_audit.proofs.Begun.{tapes_begun}
 use Rattle.session_audit.proofs.EntryKinds.{longer_found, taken_asks}
-use Rattle.session_audit.proofs.FullTapes.{room_left, rows_lacking}
-use Rattle.session_audit.proofs.Refused.{never_full, take_refused}
-use Rattle.session_audit.proofs.taking.take_missing.Given as given
+use Rattle.session_audit.proofs.FullTapes.{rows_lacking}
+use Rattle.session_audit.proofs.Refused.{take_refused}
 use Rattle.session_audit.proofs.taking.take_missing.Goals as goal
 use Rattle.session_audit.proofs.taking.take_missing.Goals.{In-Err}
 
@@ -32,24 +33,36 @@ pub returns-in-Err-clause-asks : goal.returns-in-Err-clause-asks
 returns-in-Err-clause-asks g c = λ asked.
     longer_found ask_of IsTakeEntry c.args.cells.now c.add_missing.new.units asked taken_asks c.add_missing.ensures.gained
 
--- the tape of a refused row's tag has fewer takes than the tag has rows, and lacks one of these
-lacking : (g : given.Over) (c : In-Err g) → (length (taken c.in-Err.ensures.refused.one.tape) < slice_index c.args.rooms.now c.in-Err.tag)
-    × LacksRow take_of (phase_item c.args.earlier) (lists_of c.args.files.now) c.in-Err.tag c.in-Err.ensures.refused.one.tape
-lacking g c =
-    rows_lacking c.args.rooms.now c.add_missing.new.units c.in-Err.tag (c.requires.rooms ∙ sym c.add_missing.ensures.gained.as_many)
-    c.args.earlier _ (lists_of c.args.files.now) c.add_missing.new.works c.in-Err.no c.add_missing.ensures.over
-    c.add_missing.ensures.found c.requires.counted c.in-Err.ensures.refused
-
-pub take_status-requires : goal.take_status-requires
-take_status-requires g c =
-    let stop = c.in-Err.ensures.refused in
-    let gained = c.add_missing.ensures.gained in
-    never_full stop.one c.in-Err.no stop.refused (room_left c.args.rooms.now c.add_missing.new.units c.in-Err.tag
-    (c.requires.rooms ∙ sym gained.as_many) c.args.cells.now stop.one gained c.requires.roomy stop.there
-    (lacking g (goal.at.take_status-requires g c).In-Err).0)
-
 pub returns-in-Err-clause-refused : goal.returns-in-Err-clause-refused
 returns-in-Err-clause-refused g c =
+    let files = lists_of c.args.files.now in
+    let cells = c.add_missing.new.units in
+    let rooms = c.args.rooms.now in
+    let tag = c.in-Err.tag in
     let stop = c.in-Err.ensures.refused in
-    take_refused (phase_item c.args.earlier) (lists_of c.args.files.now) c.add_missing.new.units c.in-Err.tag stop.one c.in-Err.no
-    c.take_status.result stop.there stop.refused (lacking g (goal.at.returns-in-Err-clause-refused g c).In-Err).1 c.take_status.ensures
+    let over = c.add_missing.ensures.over in
+    let within = slice_get_within cells tag stop.one stop.there in
+    let as_many = c.requires.rooms ∙ sym c.add_missing.ensures.gained.as_many in
+    let lack = rows_lacking c.args.earlier (length cells) stop.worker rooms files cells c.add_missing.new.works
+    (record { items = []; at = [] }) tag stop.one over c.add_missing.ensures.found
+    (subst (λ n. stop.worker < n) over.as_many stop.working) as_many c.requires.counted within
+    (stop.due (record { items = []; at = [] })) in
+    let here = get_or_from_slice_get cells tag stop.one stop.one stop.there in
+    let rows = get_or rooms tag 0 in
+    subst (IsTakeRefusal (phase_item c.args.earlier) files cells) (sym c.take_status.ensures)
+    (take_refused (phase_item c.args.earlier) files cells tag c.takes_on-takes.result rows stop.one c.in-Err.no stop.there stop.refused
+    (c.takes_on-takes.ensures stop.one ∙ ap (λ (x : ToldCell _). length (taken x.tape)) here)
+    (c.requires.counted tag (omega (arith, within, as_many)))
+    (subst (λ (x : ToldCell _). length (taken x.tape) < rows) here lack.0)
+    (subst (λ (x : ToldCell _). LacksRow take_of (phase_item c.args.earlier) files tag x.tape) here lack.1))
+
+pub takes_on-takes-requires : goal.takes_on-takes-requires
+takes_on-takes-requires g c =
+    let stop = c.in-Err.ensures.refused in
+    record { known = slice_get_within c.add_missing.new.units c.in-Err.tag stop.one stop.there }
+
+pub bounds-rooms-tag : goal.bounds-rooms-tag
+bounds-rooms-tag g c =
+    let stop = c.in-Err.ensures.refused in
+    let within = slice_get_within c.add_missing.new.units c.in-Err.tag stop.one stop.there in
+    omega (arith, within, c.requires.rooms, c.add_missing.ensures.gained.as_many)
