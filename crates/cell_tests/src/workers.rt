@@ -3,7 +3,7 @@ ghost use Rattle.std.specs.Prelude.{◌≡◌, All, IfSome, length};
 ghost use Rattle.std.specs.Arc.{arc_value};
 ghost use Rattle.snapshot_table.specs.Boards.{LooksAt};
 
-use crate::cells::tag;
+use crate::cells::{calls_of_opening, tag};
 use collector_pool::{CellNo, Ending, GroupTurns, Refresh, TurnNo, Work, WorkerNote, run_session};
 use disk_model::MemDisk;
 use plant_status::{OpenPasses, Passes};
@@ -21,14 +21,15 @@ use value_rows::{Query, RawRow};
 // How often a held worker checks whether the others have come. If they do not come, it is then stopped.
 const BRIEF: u64 = 10_000;
 
-// One group without calculations. A turn pulls from the first tag, and a question gets no value.
+// Two groups without calculations. A turn of the first pulls from the first tag, and a question gets no value. The second
+// is broken.
 #[derive(Drop)]
 struct Puller {
     answers: AtomicU64,
 }
 
 impl GroupTurns<MemDisk> for Puller {
-    ghost groups = { λ _. 1 };
+    ghost groups = { λ _. 2 };
 
     fn refresh<R: Wait>(
         &self,
@@ -36,6 +37,9 @@ impl GroupTurns<MemDisk> for Puller {
         group: u32,
         cells: &[Mutex<Cell<MemDisk>>],
     ) -> Result<(), TurnNo> {
+        if group != 0 {
+            return Err(TurnNo::Broken);
+        }
         let Some(cell) = cells.first() else {
             return Ok(());
         };
@@ -56,10 +60,13 @@ impl GroupTurns<MemDisk> for Puller {
         _rt: &R,
         _reader: u32,
         _row: u64,
-        _group: u32,
+        group: u32,
         _calc: u32,
         _k: u64,
     ) -> Result<(u64, Option<CalcValue>), TurnNo> {
+        if group != 0 {
+            return Err(TurnNo::Broken);
+        }
         Ok((self.answers.fetch_add(1, Ordering::SeqCst), None))
     }
 }
@@ -79,7 +86,7 @@ fn twice(alloc: Global, board: Board) -> Option<(Arc<Board, Global>, Arc<Board, 
 struct Ran {
     notes: Vec<WorkerNote>,
     history: TagHistory,
-    // How many questions the group was asked.
+    // How many questions the first group was asked.
     answers: u64,
 }
 
@@ -87,6 +94,20 @@ struct Ran {
 fn session_over<P: Passes, R: Threads + Wait + Sync>(
     rt: &R,
     alloc: Global,
+    room: u32,
+    filled: u32,
+    work: &Work,
+    passes: &mut P,
+) -> Option<Ran> {
+    let dev = MemDisk::new(Vec::new(alloc), Vec::new(alloc));
+    session_on(rt, alloc, dev, room, filled, work, passes)
+}
+
+// Runs such a session on a device.
+fn session_on<P: Passes, R: Threads + Wait + Sync>(
+    rt: &R,
+    alloc: Global,
+    dev: MemDisk,
     room: u32,
     filled: u32,
     work: &Work,
@@ -100,7 +121,6 @@ fn session_over<P: Passes, R: Threads + Wait + Sync>(
     let Some((board, shared)) = twice(alloc, board) else {
         return None
     };
-    let dev = MemDisk::new(Vec::new(alloc), Vec::new(alloc));
     if !tuning_ok(&def.tuning) {
         return None;
     }
@@ -124,7 +144,7 @@ fn work_over<P: Passes, R: Threads + Wait + Sync>(
 {
     let mut cells = Vec::new(alloc);
     cells.push(Mutex::new(cell)).ok()?;
-    if !work.fits(cells.len(), 1) || lookers.len() != work.readers.len() {
+    if !work.fits(cells.len(), 2) || lookers.len() != work.readers.len() {
         return None;
     }
     let groups = Puller {
@@ -400,6 +420,25 @@ fn a_collector_commits_after_64_rows_and_after_its_last(rt: HostRuntime) -> Resu
     Ok(())
 }
 
+// Returns a new device whose first call after the opening of its tag fails.
+fn failing_at_commit(rt: &impl Wait, alloc: Global) -> Option<MemDisk> {
+    let call = calls_of_opening(rt, alloc, &tag(false, 0)?, 64)?;
+    Some(MemDisk::new(Vec::new(alloc), vec![in alloc; call].ok()?))
+}
+
+#[test]
+fn a_commit_that_fails_ends_its_collector(rt: HostRuntime) -> Result<(), Fail> {
+    let rows = rising(rt.alloc(), 130).ok_or("memory")?;
+    let work = one_collector(rt.alloc(), rows).ok_or("memory")?;
+    let dev = failing_at_commit(&rt, rt.alloc()).ok_or("refused")?;
+    let ran = session_on(&rt, rt.alloc(), dev, 130, 0, &work, &mut OpenPasses).ok_or("refused")?;
+    let fault = CellNo::DeviceFault;
+    assert!(rt; ended_by(&ran, &[Ending::Tag { tag: 0, why: fault }]));
+    assert!(rt; all_stand(&ran, &work));
+    assert!(rt; ran.notes.first().is_some_and(|note| note.steps == 64));
+    Ok(())
+}
+
 // The most values that a tag takes if each but the last is kept.
 const MOST_TAKEN: u32 = 1_048_576;
 
@@ -435,6 +474,27 @@ fn a_tape_without_room_ends_its_collector(rt: HostRuntime) -> Result<(), Fail> {
         letters(rt.alloc(), &ran.history).ok_or("memory")?.as_str(),
         "tt"
     );
+    Ok(())
+}
+
+#[test]
+fn a_broken_group_ends_its_workers(rt: HostRuntime) -> Result<(), Fail> {
+    let question = Query::Row {
+        group: 1,
+        calc: 0,
+        k: 3,
+    };
+    let mut work = one_of_each(rt.alloc(), &[question]).ok_or("memory")?;
+    for refresh in &mut work.refreshers {
+        refresh.group = 1;
+    }
+    let ran = session_over(&rt, rt.alloc(), 2, 0, &work, &mut OpenPasses).ok_or("refused")?;
+    let broken = Ending::Group {
+        group: 1,
+        why: TurnNo::Broken,
+    };
+    assert!(rt; ended_by(&ran, &[Ending::Ended, broken, broken]));
+    assert!(rt; ran.notes.iter().skip(1).all(|note| note.steps == 0));
     Ok(())
 }
 

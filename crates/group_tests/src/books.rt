@@ -216,14 +216,14 @@ fn an_input_without_its_tag_gives_nothing(rt: HostRuntime) -> Result<(), Fail> {
     Ok(())
 }
 
-// Refreshes a book from a cell, and then from a cell that has taken nothing. Returns why the second refresh is refused,
-// and how long the tape is.
+// Refreshes a book from a cell of two records, and then from one of one record. Returns why the second refresh is
+// refused, and how long the tape is.
 fn ahead(rt: &impl Wait, alloc: Global) -> Option<(Option<RefreshNo>, usize)> {
     let mut book = book_of(alloc)?;
     let cell = cell_with(rt, alloc, "0,0 3000,0 4000,9 commit")?;
     refresh(rt, &mut book, &[cell]).ok()?;
-    let other = cell_of(rt, alloc)?;
-    let why = refresh(rt, &mut book, &[Mutex::new(other)]).err();
+    let other = cell_with(rt, alloc, "0,0 3000,9 commit")?;
+    let why = refresh(rt, &mut book, &[other]).err();
     Some((why, book.tape().len()))
 }
 
@@ -232,7 +232,7 @@ fn a_version_above_the_records_is_ahead(rt: HostRuntime) {
     let why = RefreshNo::Ahead {
         input: 0,
         version: 2,
-        records: 0,
+        records: 1,
     };
     assert!(&rt; ahead(&rt, rt.alloc()) == Some((Some(why), 1)));
 }
