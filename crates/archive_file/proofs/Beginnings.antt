@@ -1,9 +1,9 @@
 -- What a crash leaves while a layout with a text is begun.
-use Rattle.std.proofs.Common.{◌≡◌, inl, inr, ℕ, zero, suc, ◌^◌, ◌<◌, ◌≤◌, List, [], ◌∷◌, length, get_or, Option, None, Some, Result, sym, ◌∙◌, ap, subst, arith}
+use Rattle.std.proofs.Common.{◌≡◌, inl, inr, ℕ, zero, suc, ◌+◌, ◌^◌, ◌<◌, ◌≤◌, List, [], ◌∷◌, length, get_or, Option, None, Some, Result, Ok, Err, OnOk, sym, ◌∙◌, ap, subst, arith}
 use Rattle.std.proofs.lemmas.Bool.{cases_eq}
 use Rattle.std.proofs.lemmas.Grind.{same_number_lists}
-use Rattle.disk_model.specs.Calls.{IsNoted, HasLength, Sees, Shows}
-use Rattle.disk_model.specs.Gates.{Holds, IsClosing, IsGuarded, IsOpen, IsShut, open_byte}
+use Rattle.disk_model.specs.Calls.{IsNoted, IsTimed, HasLength, Sees, Shows}
+use Rattle.disk_model.specs.Gates.{Holds, IsClosing, IsGuarded, IsOpen, IsShut, closing_calls, layout_calls, open_byte, open_gates}
 use Rattle.disk_model.specs.Images.{MayLeave, Now, FromOld, IsSettled}
 use Rattle.disk_model.specs.Moments.{During}
 use Rattle.disk_model.specs.Traces.{Wrote, WroteInPart, Synced, Idle, Trace, seen, written}
@@ -66,6 +66,37 @@ pub left_closed : (o o1 o2 : Option Trace) → o1 ≡ o → During o1 o2 (FromOl
 left_closed o o1 o2 same closing =
     weaker o o2 (FromOld o (IsClosing 0 1)) (IsLeftOrNew o) (λ c from. left_torn o from.0 c from.1 from.2)
     (subst (λ x. During x o2 (FromOld x (IsClosing 0 1))) same closing)
+
+-- how many calls that took, where the device had a gate
+closed_of : (c : List ℕ) (n first last : ℕ) → length c ≡ n → 0 < n → last ≡ first + (open_gates 0 1 c + 1) → last ≡ first + closing_calls c
+closed_of [] n first last long some calls = absurd (omega (arith, long))
+closed_of (b ∷ c) n first last long some calls = omega (arith, calls)
+
+pub closed_counted : {E : Type 0} (r : Result (Unit {0}) E) (o o1 : Option Trace) (n first mid last : ℕ) → o1 ≡ o → HasLength o n → 0 < n
+    → mid ≡ first → OnOk r (Shows o1 (λ c. last ≡ mid + (open_gates 0 1 c + 1))) → OnOk r (Shows o (λ c. last ≡ first + closing_calls c))
+closed_counted (Err e) o o1 n first mid last same long some none calls = tt
+closed_counted (Ok x) None o1 n first mid last same long some none calls = tt
+closed_counted (Ok x) (Some t) o1 n first mid last same long some none calls =
+    let here = subst (λ x. Shows x (λ c. last ≡ mid + (open_gates 0 1 c + 1))) same calls in
+    closed_of (seen (Some t)) n first last long some (here ∙ ap (λ m. m + (open_gates 0 1 (seen (Some t)) + 1)) none)
+
+-- and where it had none
+wrote_of : (c : List ℕ) (n first mid after last : ℕ) → length c ≡ n → n ≤ 0 → mid ≡ first → after ≡ mid + 1 → last ≡ after + 1 → last ≡ first + closing_calls c
+wrote_of [] n first mid after last long none kept wrote synced = omega (arith, kept, wrote, synced)
+wrote_of (b ∷ c) n first mid after last long none kept wrote synced = absurd (omega (arith, long))
+
+pub wrote_counted : {E : Type 0} (r : Result (Unit {0}) E) (o : Option Trace) (n first mid after last : ℕ) → HasLength o n → n ≤ 0
+    → mid ≡ first → after ≡ mid + 1 → IsTimed after last r → OnOk r (Shows o (λ c. last ≡ first + closing_calls c))
+wrote_counted (Err e) o n first mid after last long none kept wrote synced = tt
+wrote_counted (Ok x) None n first mid after last long none kept wrote synced = tt
+wrote_counted (Ok x) (Some t) n first mid after last long none kept wrote synced =
+    wrote_of (seen (Some t)) n first mid after last long none kept wrote (omega (arith, synced.counted, synced.in_time))
+
+-- then four calls more begin the layout
+pub layout_counted : (o : Option Trace) (first mid last : ℕ) → Shows o (λ c. mid ≡ first + closing_calls c) → last ≡ mid + 4
+    → Shows o (λ c. last ≡ first + layout_calls c)
+layout_counted None first mid last closed wrote = tt
+layout_counted (Some t) first mid last closed wrote = omega (arith, closed, wrote)
 
 -- ---- the head is written after it
 

@@ -1,7 +1,7 @@
-// Begins a layout with a text on a device.
+// Begins a layout on a device: closes its gate, and writes a head with a text behind it.
 ghost use Rattle.std.specs.Prelude.{◌≡◌, ℕ, ◌+◌, ◌≤◌, IfOk, IsErrOf, OnOk, length};
 ghost use Rattle.disk_model.specs.Calls.{CountsFault, HasCause, Shows};
-ghost use Rattle.disk_model.specs.Gates.{IsShut};
+ghost use Rattle.disk_model.specs.Gates.{IsShut, closing_calls, layout_calls};
 ghost use Rattle.disk_model.specs.Images.{IsSettled, Now};
 ghost use Rattle.disk_model.specs.Moments.{During};
 ghost use Rattle.archive_file.specs.declared.failure.PutNo.TheVariants.{DeviceFault, WantOfMemory as NoMemory};
@@ -36,6 +36,7 @@ pub fn begin_layout<D: Disk>(
     ensures no_memory { IsErrOf result NoMemory → dev.new ≡ dev.old }
     ensures cause { CountsFault result DeviceFault (D.fault_count dev.old) (D.fault_count dev.new) }
     ensures later { D.ticks dev.old ≤ D.ticks dev.new }
+    ensures calls { OnOk result (Shows (D.trace dev.old) (λ c. D.ticks dev.new ≡ D.ticks dev.old + layout_calls c)) }
 {
     let Ok(size) = u32::try_from(text.len()) else {
         return Err(PutNo::WantOfMemory);
@@ -70,12 +71,17 @@ fn head_bytes(
     Ok(bytes)
 }
 
-// Closes the gate of the layout, and syncs. If the device has length 0, it writes the closed gate as its first byte.
-fn close_layout<D: Disk>(dev: &mut D) -> Result<(), Failed>
+/// Makes sure that the gate of a layout, the first byte of a device, is there and closed, and syncs. If the device has
+/// length 0, it writes the closed gate. It writes any other only if the gate is open. After a failure the device has to
+/// be opened again before it is used.
+pub fn close_layout<D: Disk>(dev: &mut D) -> Result<(), Failed>
     requires settled { IsSettled (D.trace dev.old) }
+
+    // A crash at any moment leaves what it might have left before, or no finished layout.
     ensures any_moment { During (D.trace dev.old) (D.trace dev.new) (IsLeftOrNew (D.trace dev.old)) }
     ensures shut { OnOk result (Now (D.trace dev.new) (IsShut 0)) }
     ensures later { D.ticks dev.old ≤ D.ticks dev.new }
+    ensures calls { OnOk result (Shows (D.trace dev.old) (λ c. D.ticks dev.new ≡ D.ticks dev.old + closing_calls c)) }
     ensures cause { HasCause (D.fault_count dev.old) (D.fault_count dev.new) result }
 {
     if dev.len()? > 0 {

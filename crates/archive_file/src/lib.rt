@@ -19,7 +19,7 @@
 //! **Heads with a text.** A layout may begin with four letters and a text (`specs/TextHeads.antt`). [`begin_layout`]
 //! begins such a layout on a device, and [`read_text`] reads its text, and no more of the device than the head. If a
 //! crash comes while a layout is begun, the device has what a crash might have left before, no finished layout, or this
-//! layout without blocks.
+//! layout without blocks. [`close_layout`] closes the gate of any layout before another is written.
 #![tactic(auto)]
 
 mod failure;
@@ -35,7 +35,7 @@ mod summary;
 pub use failure::{DeviceFault, PutNo, ScanNo};
 pub use field::{put, put_point, take_number, take_point};
 pub use head_reader::read_text;
-pub use head_writer::begin_layout;
+pub use head_writer::{begin_layout, close_layout};
 pub use layout_field::{Field, byte_at, check, long_at, short_at};
 pub use log::{put_records, read_bytes, read_records};
 pub use piece::read_piece;

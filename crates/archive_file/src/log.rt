@@ -28,7 +28,7 @@ pub fn put_records<D: Disk>(alloc: Global, dev: &mut D, at: u64, recs: &[Rec]) -
         (D.trace dev.old) (D.trace dev.new) }
     ensures unwritten { IsErrOf result WantOfMemory → dev.new ≡ dev.old }
     ensures cause { CountsFault result PutFault (D.fault_count dev.old) (D.fault_count dev.new) }
-    ensures clock { OnOk result (D.ticks dev.old < D.ticks dev.new) }
+    ensures clock { OnOk result (D.ticks dev.new ≡ D.ticks dev.old + 1) }
     ensures later { D.ticks dev.old ≤ D.ticks dev.new }
 {
     let Ok(bytes) = bytes_of(alloc, recs) else {

@@ -1,6 +1,6 @@
 -- What a crash leaves while a layout is made: a new device, or the whole layout.
 use Rattle.std.proofs.Common.{◌≡◌, inl, inr, ℕ, ◌+◌, ◌-◌, ◌*◌, ◌<◌, ◌≤◌, List, [], ◌∷◌, ◌++◌, length}
-use Rattle.std.proofs.Common.{get_or, take, drop, replicate, Option, None, Some, IfSome, Result, refl, sym}
+use Rattle.std.proofs.Common.{get_or, take, drop, replicate, Option, None, Some, IfSome, refl, sym}
 use Rattle.std.proofs.Common.{◌∙◌, ap}
 use Rattle.std.proofs.Common.{subst, arith, length-append, length-take, length-drop, take-take, take_at}
 use Rattle.std.proofs.Common.{get_or-take, get_or-drop}
@@ -10,13 +10,14 @@ use Rattle.trend_num.specs.declared.tag_def.TagDef.{TagDef}
 use Rattle.trend_num.specs.Names.{IsName}
 use Rattle.trend_num.specs.Ranges.{TuningInRange}
 use Rattle.trend_model.specs.State.{nothing_taken}
-use Rattle.disk_model.specs.Traces.{Wrote, WroteInPart, Synced, Idle, Trace, seen, written}
-use Rattle.disk_model.specs.Images.{MayLeave, Now, FromOld, IsSettled}
+use Rattle.disk_model.specs.Traces.{Trace, seen, written}
+use Rattle.disk_model.specs.Images.{Now, FromOld, IsSettled}
 use Rattle.disk_model.specs.Moments.{During}
-use Rattle.disk_model.specs.Calls.{IsNoted, HasLength, Reaches, Sees}
+use Rattle.disk_model.specs.Calls.{Reaches, Sees}
 use Rattle.disk_model.specs.Gates.{open_byte, IsShut, IsGuarded}
-use Rattle.disk_model.proofs.Images.{present, wrote_now, synced_now}
-use Rattle.disk_model.proofs.Moments.{started, during_now, weaker, in_turn, goes_on}
+use Rattle.disk_model.proofs.Images.{present}
+use Rattle.disk_model.proofs.Moments.{during_now, weaker, in_turn}
+use Rattle.archive_file.specs.TextHeads.{IsLeftOrNew}
 use Rattle.event_queue.specs.Slots.{lane_end}
 use Rattle.device_layout.specs.Headers.{header_image}
 use Rattle.disk_model.specs.Gates.{IsNew}
@@ -32,38 +33,14 @@ pub new_now : (o : Option Trace) → IfSome o (λ t. IsNew (seen (Some t))) → 
 new_now None new settled = record { each = λ c may. absurd may.image }
 new_now (Some t) new settled = record { each = λ c may. subst IsNew (sym (settled.each c may)) new }
 
--- nothing was called
-pub new_kept : (o o1 : Option Trace) → IfSome o (λ t. IsNew (seen (Some t))) → IsSettled o → o1 ≡ o
+-- until its gate is closed, a new device stays one
+pub new_closed : (o o1 : Option Trace) → IfSome o (λ t. IsNew (seen (Some t))) → IsSettled o → During o o1 (IsLeftOrNew o)
     → During o o1 IsNew
-new_kept o o1 new settled same =
-    subst (λ x. During o x IsNew) (sym same) (started o IsNew (new_now o new settled))
-
--- an image of an empty device is short
-short_now : (o : Option Trace) (c : List ℕ) → IsSettled o → HasLength o 0 → MayLeave o c → length c ≡ 0
-short_now None c settled empty may = absurd may.image
-short_now (Some t) c settled empty may = ap length (settled.each c may) ∙ empty
-
--- an empty device was begun by one byte
-pub new_wrote : {E : Type 0} (r : Result (Unit {0}) E) (o o1 o2 : Option Trace) (n : ℕ)
-    → IfSome o (λ t. IsNew (seen (Some t))) → IsSettled o → o1 ≡ o → HasLength o n → n ≤ 0
-    → IsNoted (Wrote 0 (0 ∷ [])) (WroteInPart 0 (0 ∷ [])) r o1 o2 → During o o2 IsNew
-new_wrote r o o1 o2 n new settled same long none wrote =
-    let zero_long : n ≡ 0 = omega arith in
-    let empty : HasLength o 0 = subst (HasLength o) zero_long long in
-    let short : (c : List ℕ) → MayLeave o2 c → IsNew c =
-    λ c may.
-    let from = wrote_now r o1 o2 0 (0 ∷ []) c wrote may in
-    let old = short_now o from.0 settled empty (subst (λ x. MayLeave x from.0) same from.1) in
-    inl (omega (arith, from.2.no_longer, old)) in
-    goes_on (Wrote 0 (0 ∷ [])) (WroteInPart 0 (0 ∷ [])) r o o1 o2 IsNew (new_kept o o1 new settled same) wrote
-    (record { each = short })
-
--- and synced
-pub new_synced : {E : Type 0} (q : Result (Unit {0}) E) (o o2 o3 : Option Trace) → During o o2 IsNew
-    → IsNoted Synced Idle q o2 o3 → During o o3 IsNew
-new_synced q o o2 o3 so_far synced =
-    goes_on Synced Idle q o o2 o3 IsNew so_far synced
-    (record { each = λ c may. (during_now o o2 IsNew so_far).each c (synced_now q o2 o3 c synced may) })
+new_closed o o1 new settled closing = weaker o o1 (IsLeftOrNew o) IsNew either closing
+  where
+    either : (c : List ℕ) → IsLeftOrNew o c → IsNew c
+    either c (inl left) = (new_now o new settled).each c left
+    either c (inr is) = is
 
 -- ---- the layout is written after it
 

@@ -4,10 +4,10 @@ ghost use Rattle.trend_num.specs.Names.{IsName};
 ghost use Rattle.trend_num.specs.Ranges.{TuningInRange};
 ghost use Rattle.trend_model.specs.State.{nothing_taken};
 ghost use Rattle.disk_model.specs.Traces.{seen};
-ghost use Rattle.disk_model.specs.Images.{Now, IsSettled};
+ghost use Rattle.disk_model.specs.Images.{IsSettled};
 ghost use Rattle.disk_model.specs.Moments.{During};
-ghost use Rattle.disk_model.specs.Calls.{CountsFault, HasCause};
-ghost use Rattle.disk_model.specs.Gates.{IsShut};
+ghost use Rattle.disk_model.specs.Calls.{CountsFault, Shows};
+ghost use Rattle.disk_model.specs.Gates.{layout_calls};
 ghost use Rattle.archive_file.specs.declared.failure.PutNo.TheVariants.{DeviceFault, WantOfMemory};
 ghost use Rattle.device_layout.specs.Headers.{header_image};
 ghost use Rattle.disk_model.specs.Gates.{IsNew};
@@ -15,17 +15,14 @@ ghost use Rattle.device_layout.specs.Recovery.{Recovers};
 ghost use Rattle.device_layout.specs.Layouts.{IsMade};
 
 use crate::header::header_bytes;
-use archive_file::PutNo;
-use disk_model::{Disk, Failed, close_gates, write_guarded};
+use archive_file::{PutNo, close_layout};
+use disk_model::{Disk, write_guarded};
 use event_queue::SLOT_LEN;
 use std::alloc::{AllocError, Global};
 use trend_num::TagDef;
 
 // The place of the gate of the layout.
 const GATE: u64 = 0;
-
-// The byte of the gate before the layout is whole.
-const CLOSED: u8 = 0;
 
 // How many bytes lie between the gate of the layout and those of the lane slots.
 const FRONT: usize = 399;
@@ -52,6 +49,7 @@ pub fn make_layout<D: Disk>(
     ensures no_memory { IsErrOf result WantOfMemory → dev.new ≡ dev.old }
     ensures cause { CountsFault result DeviceFault (D.fault_count dev.old) (D.fault_count dev.new) }
     ensures later { D.ticks dev.old ≤ D.ticks dev.new }
+    ensures calls { OnOk result (Shows (D.trace dev.old) (λ c. D.ticks dev.new ≡ D.ticks dev.old + layout_calls c)) }
 {
     let Ok(bytes) = layout_bytes(alloc, def, slots) else {
         return Err(PutNo::WantOfMemory);
@@ -77,21 +75,4 @@ fn layout_bytes(alloc: Global, def: &TagDef, slots: u32) -> Result<Vec<u8>, Allo
     bytes.extend_from_slice(&header_bytes(def, slots))?;
     bytes.resize(size, 0)?;
     Ok(bytes)
-}
-
-// Makes sure that a new device has a closed gate, and syncs. A device of length 0 gets one. Any other is written only
-// if its gate is open, and then it has no other byte.
-fn close_layout<D: Disk>(dev: &mut D) -> Result<(), Failed>
-    requires new { IfSome (D.trace dev.old) (λ t. IsNew (seen (Some t))) }
-    requires settled { IsSettled (D.trace dev.old) }
-    ensures any_moment { During (D.trace dev.old) (D.trace dev.new) IsNew }
-    ensures shut { OnOk result (Now (D.trace dev.new) (IsShut 0)) }
-    ensures later { D.ticks dev.old ≤ D.ticks dev.new }
-    ensures cause { HasCause (D.fault_count dev.old) (D.fault_count dev.new) result }
-{
-    if dev.len()? > 0 {
-        return close_gates(dev, GATE, 1);
-    }
-    dev.write_at(GATE, &[CLOSED])?;
-    dev.sync()
 }

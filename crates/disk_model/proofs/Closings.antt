@@ -1,12 +1,12 @@
 -- What a crash leaves while gates are closed, one after the other.
-use Rattle.std.proofs.Common.{◌≡◌, ◌≢◌, ◌⊎◌, inl, inr, ⊎_elim, ℕ, ◌+◌, ◌-◌, ◌<◌, ◌≤◌, List, [], ◌∷◌, length, get_or, drop, Option, None, Some, Result, Ok, Err, OnOk, refl, sym, ◌∙◌, ap, subst, arith, add-zero}
-use Rattle.std.proofs.lemmas.Bool.{cases_lt}
+use Rattle.std.proofs.Common.{◌≡◌, ◌≢◌, ◌⊎◌, inl, inr, ⊎_elim, ℕ, ◌+◌, ◌-◌, ◌<◌, ◌≤◌, List, [], ◌∷◌, length, get_or, drop, Option, None, Some, Result, Ok, Err, OnOk, refl, sym, ◌∙◌, ap, subst, arith, add-zero, add-one, cond, ◌==◌}
+use Rattle.std.proofs.lemmas.Bool.{cases_lt, eq-eqb, ne_eqb, cond-true, cond-false}
 use Rattle.std.proofs.lemmas.List.{get_or_past, get_or-take, get_or-drop}
 use Rattle.disk_model.specs.Traces.{Wrote, WroteInPart, Synced, Idle, Trace, seen, noted, written}
 use Rattle.disk_model.specs.Images.{IsOutside, IsTorn, MayLeave, Now, FromOld}
 use Rattle.disk_model.specs.Moments.{ComesAfter, During}
-use Rattle.disk_model.specs.Calls.{IsNoted, Reaches, Reads}
-use Rattle.disk_model.specs.Gates.{open_byte, HasGatesOf, AreShut, IsClosing}
+use Rattle.disk_model.specs.Calls.{IsNoted, IsTimed, Reaches, Reads, Shows}
+use Rattle.disk_model.specs.Gates.{open_byte, open_gate, open_gates, HasGatesOf, AreShut, IsClosing}
 use Rattle.disk_model.proofs.Bytes.{torn_written}
 use Rattle.disk_model.proofs.Images.{wrote_now, synced_now}
 use Rattle.disk_model.proofs.Moments.{started, during_now, goes_on, in_turn, weaker}
@@ -97,6 +97,7 @@ pub record AreClosed (at count k : ℕ) (o now : Option Trace) : Type 0 where
   pub any_moment : During o now (FromOld o (IsClosing at count))
   pub reads : IsClosing at count (seen o) (seen now)
   pub shut : (i : ℕ) → at ≤ i → i < at + k → get_or (seen now) i 0 ≢ open_byte
+  pub ahead : (i : ℕ) → at + k ≤ i → get_or (seen now) i 0 ≡ get_or (seen o) i 0
   pub left : Now now (HasGatesOf (seen now) (at + k) (count - k))
   pub room : Reaches now (at + count)
 
@@ -106,6 +107,7 @@ none_closed at count o room gates = record {
   any_moment = started o (FromOld o (IsClosing at count)) (record { each = λ c may. (c, may, closing_self at count c) });
   reads = closing_self at count (seen o);
   shut = λ i low high. absurd (omega arith);
+  ahead = λ i low. refl;
   left = record { each = λ c may. let has = gates.each c may in record { there = omega (arith, has.there); same = λ i low high. has.same i (omega arith) (omega arith) } };
   room = room;
 }
@@ -134,6 +136,7 @@ module _ (at count k gate : ℕ) (o now next : Option Trace) (before : AreClosed
     reads = closing_more at count gate (seen o) (seen now) (seen next) (omega arith) (omega arith) before.reads reads;
     shut = λ i low high. ⊎_elim (λ below opened. before.shut i low below (sym (reads.same i (inl (inl (omega (arith, below, is_gate))))) ∙ opened))
         (λ above opened. let is : i ≡ gate = omega arith in shut (ap (λ j. get_or (seen next) j 0) (sym is) ∙ opened)) (cases_lt i (at + k));
+    ahead = λ i low. reads.same i (inl (inr (omega (arith, low, is_gate)))) ∙ before.ahead i (omega (arith, low));
     left = record { each = others };
     room = reaches_after now next (at + count) during.later reads.same_length before.room;
   }
@@ -178,3 +181,51 @@ pub all_shut : {E : Type 0} (at count k : ℕ) (o now next : Option Trace) (r : 
 all_shut at count k o now next (Ok x) all before synced =
     record { each = λ c may. shut_in at count k now all before.room before.shut c (subst (λ y. MayLeave y c) synced may) }
 all_shut at count k o now next (Err e) all before synced = tt
+
+-- ---- how many calls closed them
+
+-- a gate that reads closed took none
+pub shut_counted : (o : Option Trace) (first last gate : ℕ) (b : List ℕ) → length b ≡ 1 → Reads o gate b → get_or b 0 0 ≢ open_byte → last ≡ first
+    → Shows o (λ c. last ≡ first + open_gate gate c)
+shut_counted None first last gate b one reads shut none = tt
+shut_counted (Some t) first last gate b one reads shut none =
+    let closed : get_or (seen (Some t)) gate 0 ≢ open_byte = λ opened. shut (byte_read t gate b one reads ∙ opened) in
+    let is : open_gate gate (seen (Some t)) ≡ 0 = cond-false _ 1 0 (ne_eqb (get_or (seen (Some t)) gate 0) open_byte closed) in
+    omega (arith, none, is)
+
+-- one that reads open took a write
+pub open_counted : {E : Type 0} (r : Result (Unit {0}) E) (o : Option Trace) (first mid last gate : ℕ) (b : List ℕ) → length b ≡ 1 → Reads o gate b
+    → get_or b 0 0 ≡ open_byte → mid ≡ first → IsTimed mid last r → OnOk r (Shows o (λ c. last ≡ first + open_gate gate c))
+open_counted (Err e) o first mid last gate b one reads opened none timed = tt
+open_counted (Ok x) None first mid last gate b one reads opened none timed = tt
+open_counted (Ok x) (Some t) first mid last gate b one reads opened none timed =
+    let is : open_gate gate (seen (Some t)) ≡ 1 =
+    cond-true _ 1 0 (eq-eqb (get_or (seen (Some t)) gate 0) open_byte (sym (byte_read t gate b one reads) ∙ opened)) in
+    omega (arith, none, is, timed.counted, timed.in_time)
+
+-- before the first gate
+pub none_counted : (at first : ℕ) (o : Option Trace) → Shows o (λ c. first ≡ first + open_gates at 0 c)
+none_counted at first None = tt
+none_counted at first (Some t) = sym (add-zero first)
+
+-- one gate more
+pub one_counted : (at k gate first mid last : ℕ) (o now : Option Trace) → gate ≡ at + k → ComesAfter o now
+    → get_or (seen now) gate 0 ≡ get_or (seen o) gate 0 → Shows o (λ c. mid ≡ first + open_gates at k c)
+    → Shows now (λ c. last ≡ mid + open_gate gate c) → Shows o (λ c. last ≡ first + open_gates at (k + 1) c)
+one_counted at k gate first mid last None now is later same before this = tt
+one_counted at k gate first mid last (Some t) None is later same before this = absurd later
+one_counted at k gate first mid last (Some t) (Some u) is later same before this =
+    let here : open_gate gate (seen (Some u)) ≡ open_gate (at + k) (seen (Some t)) =
+    ap (λ n. cond (n == open_byte) 1 0) same ∙ ap (λ g. open_gate g (seen (Some t))) is in
+    let more : open_gates at (k + 1) (seen (Some t)) ≡ open_gates at k (seen (Some t)) + open_gate (at + k) (seen (Some t)) =
+    ap (λ n. open_gates at n (seen (Some t))) (add-one k) in
+    omega (arith, before, this, here, more)
+
+-- and the sync
+pub all_counted : {E : Type 0} (r : Result (Unit {0}) E) (at count k first mid last : ℕ) (o : Option Trace) → k ≡ count → IsTimed mid last r
+    → Shows o (λ c. mid ≡ first + open_gates at k c) → OnOk r (Shows o (λ c. last ≡ first + (open_gates at count c + 1)))
+all_counted (Err e) at count k first mid last o all timed before = tt
+all_counted (Ok x) at count k first mid last None all timed before = tt
+all_counted (Ok x) at count k first mid last (Some t) all timed before =
+    let same = ap (λ n. open_gates at n (seen (Some t))) all in
+    omega (arith, before, same, timed.counted, timed.in_time)

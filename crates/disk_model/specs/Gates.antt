@@ -1,5 +1,5 @@
 -- Gates: a byte that says whether the bytes that it guards count.
-use Rattle.std.specs.Prelude.{◌≡◌, ◌≢◌, ◌⊎◌, ℕ, ◌+◌, ◌<◌, ◌≤◌, max, List, length, take, drop, slice_index}
+use Rattle.std.specs.Prelude.{◌≡◌, ◌≢◌, ◌⊎◌, ◌==◌, ℕ, zero, suc, ◌+◌, ◌<◌, ◌≤◌, max, if◌then◌else◌, List, [], ◌∷◌, length, take, drop, slice_index}
 use Rattle.disk_model.specs.Images.{IsOutside}
 
 -- the byte of an open gate; any other byte is that of a closed one
@@ -48,3 +48,21 @@ AreShut at n c = (i : ℕ) → at ≤ i → i < at + n → IsShut i c
 pub record IsClosing (at n : ℕ) (old new : List ℕ) : Type 0 where
   pub same_length : length new ≡ length old
   pub same : (i : ℕ) → IsOutside at n i ⊎ (slice_index old i ≢ open_byte) → slice_index new i ≡ slice_index old i
+
+-- 1 if the gate is open, and else 0
+abbrev pub open_gate : ℕ → List ℕ → ℕ
+open_gate gate c = if slice_index c gate == open_byte then 1 else 0
+
+-- how many of the n gates from at on are open
+abbrev pub open_gates : ℕ → ℕ → List ℕ → ℕ
+open_gates at zero c = 0
+open_gates at (suc n) c = open_gates at n c + open_gate (at + n) c
+
+-- how many calls leave a closed gate as the first byte, synced: a write, if there is no byte or the gate is open, and a sync
+abbrev pub closing_calls : List ℕ → ℕ
+closing_calls [] = 2
+closing_calls (gate ∷ rest) = open_gate 0 (gate ∷ rest) + 1
+
+-- how many calls begin a layout: those that close its gate, and four that write the rest and open the gate
+abbrev pub layout_calls : List ℕ → ℕ
+layout_calls c = closing_calls c + 4

@@ -3,8 +3,8 @@ ghost use Rattle.std.specs.Prelude.{◌≡◌, ◌⊎◌, ◌+◌, ◌<◌, ◌�
 ghost use Rattle.disk_model.specs.Traces.{seen, written};
 ghost use Rattle.disk_model.specs.Images.{Now, FromOld, IsSettled, IsOutside};
 ghost use Rattle.disk_model.specs.Moments.{During};
-ghost use Rattle.disk_model.specs.Calls.{HasCause, Reaches, Sees};
-ghost use Rattle.disk_model.specs.Gates.{IsShut, IsGuarded, HasGatesOf, AreShut, IsClosing, open_byte};
+ghost use Rattle.disk_model.specs.Calls.{HasCause, Reaches, Sees, Shows};
+ghost use Rattle.disk_model.specs.Gates.{IsShut, IsGuarded, HasGatesOf, AreShut, IsClosing, open_byte, open_gate, open_gates};
 
 use crate::{Disk, Failed};
 
@@ -56,6 +56,7 @@ pub fn close_gates<D: Disk>(dev: &mut D, at: u64, count: u32) -> Result<(), Fail
     ensures settled { OnOk result (IsSettled (D.trace dev.new)) }
     ensures later { D.ticks dev.old ≤ D.ticks dev.new }
     ensures clock { D.ticks dev.new ≤ D.ticks dev.old + (count + 1) }
+    ensures calls { OnOk result (Shows (D.trace dev.old) (λ c. D.ticks dev.new ≡ D.ticks dev.old + (open_gates at count c + 1))) }
     ensures cause { HasCause (D.fault_count dev.old) (D.fault_count dev.new) result }
 {
     for k in 0..count {
@@ -74,6 +75,7 @@ fn close_gate<D: Disk>(dev: &mut D, gate: u64) -> Result<(), Failed>
     ensures shut { OnOk result (slice_index (seen (D.trace dev.new)) gate ≢ open_byte) }
     ensures later { D.ticks dev.old ≤ D.ticks dev.new }
     ensures clock { D.ticks dev.new ≤ D.ticks dev.old + 1 }
+    ensures calls { OnOk result (Shows (D.trace dev.old) (λ c. D.ticks dev.new ≡ D.ticks dev.old + open_gate gate c)) }
     ensures cause { HasCause (D.fault_count dev.old) (D.fault_count dev.new) result }
 {
     let mut byte = [0];

@@ -5,8 +5,8 @@ ghost use Rattle.trend_num.specs.Ranges.{InRange};
 ghost use Rattle.disk_model.specs.Traces.{seen, written};
 ghost use Rattle.disk_model.specs.Images.{Now, FromOld, IsSettled};
 ghost use Rattle.disk_model.specs.Moments.{During};
-ghost use Rattle.disk_model.specs.Calls.{CountsFault, HasCause, Sees};
-ghost use Rattle.disk_model.specs.Gates.{IsGuarded, HasGatesOf, IsClosing, open_byte};
+ghost use Rattle.disk_model.specs.Calls.{CountsFault, HasCause, Sees, Shows};
+ghost use Rattle.disk_model.specs.Gates.{IsGuarded, HasGatesOf, IsClosing, open_byte, open_gates};
 ghost use Rattle.event_queue.specs.declared.failure.LaneNo.TheVariants.{LaneFull, DeviceFault as Fault};
 ghost use Rattle.event_queue.specs.Slots.{gate_of, place_of, batch_bytes};
 ghost use Rattle.event_queue.specs.Places.{HasRoom};
@@ -98,6 +98,8 @@ impl Lane {
         ensures settled { OnOk result (IsSettled (D.trace dev.new)) }
         ensures room_left { OnOk result (Now (D.trace dev.new) (HasRoom self.new.slots self.new.used)) }
         ensures clock { D.ticks dev.new ≤ D.ticks dev.old + (self.old.used + 1) }
+        ensures calls { OnOk result (Shows (D.trace dev.old)
+            (λ c. D.ticks dev.new ≡ D.ticks dev.old + (open_gates (gate_of 0) self.old.used c + 1))) }
         ensures later { D.ticks dev.old ≤ D.ticks dev.new }
         ensures cause { HasCause (D.fault_count dev.old) (D.fault_count dev.new) result }
     {

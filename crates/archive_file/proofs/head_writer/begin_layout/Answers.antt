@@ -1,5 +1,5 @@
 use Rattle.std.proofs.Common.{refl, ◌∙◌, arith}
-use Rattle.archive_file.proofs.Beginnings.{head_written, layout_begun, layout_ready, left_kept, not_begun}
+use Rattle.archive_file.proofs.Beginnings.{head_written, layout_begun, layout_counted, layout_ready, left_kept, not_begun}
 use Rattle.archive_file.proofs.ReadImages.{shut_reached}
 use Rattle.archive_file.proofs.head_writer.begin_layout.Goals as goal
 
@@ -36,3 +36,6 @@ returns-clause-ready g c =
     (layout_begun c.args.letters c.args.text.now c.deref.result.now (omega arith) (omega (arith, c.in-Ok.ensures))
     (c.deref.ensures.value ∙ c.in-Ok-head_bytes.ensures) _ _ c.close_layout.ensures.any_moment _
     c.write_guarded.ensures.any_moment c.in-Ok-write_guarded.ensures.reads) c.in-Ok-write_guarded.ensures.settled
+
+pub returns-clause-calls : goal.returns-clause-calls
+returns-clause-calls g c = layout_counted _ _ _ _ c.in-Ok-close_layout.ensures.calls c.in-Ok-write_guarded.ensures.clock

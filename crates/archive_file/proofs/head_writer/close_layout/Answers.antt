@@ -1,4 +1,5 @@
-use Rattle.archive_file.proofs.Beginnings.{left_closed, left_kept, left_then_synced, left_wrote}
+use Rattle.std.proofs.Common.{arith}
+use Rattle.archive_file.proofs.Beginnings.{closed_counted, left_closed, left_kept, left_then_synced, left_wrote, wrote_counted}
 use Rattle.archive_file.proofs.head_writer.close_layout.Goals as goal
 
 pub returns-in_err-len-clause-any_moment : goal.returns-in_err-len-clause-any_moment
@@ -18,3 +19,13 @@ returns-clause-any_moment g c =
     (left_wrote c.write_at.result _ _ _ c.in_ok-len.field-0 c.requires.settled c.len.ensures.same
     c.in_ok-len.ensures.length c.if-branch-gt0.false c.write_at.ensures.noted)
     c.sync.ensures.noted
+
+pub returns-then-branch-gt0-clause-calls : goal.returns-then-branch-gt0-clause-calls
+returns-then-branch-gt0-clause-calls g c =
+    closed_counted c.close_gates.result _ _ c.in_ok-len.field-0 _ _ _ c.len.ensures.same c.in_ok-len.ensures.length c.if-branch-gt0.true
+    c.len.ensures.untimed c.close_gates.ensures.calls
+
+pub returns-clause-calls : goal.returns-clause-calls
+returns-clause-calls g c =
+    wrote_counted c.sync.result _ c.in_ok-len.field-0 _ _ _ _ c.in_ok-len.ensures.length c.if-branch-gt0.false c.len.ensures.untimed
+    (omega (arith, c.write_at.ensures.clock.counted, c.in_ok-write_at.ensures.clock.in_time)) c.sync.ensures.clock

@@ -1,11 +1,14 @@
-use Rattle.std.proofs.Common.{refl, ◌∙◌}
-use Rattle.device_layout.proofs.LayoutMoments.{new_kept, new_recovers, shut_reached, layout_recovers}
+use Rattle.std.proofs.Common.{◌∙◌}
+use Rattle.disk_model.specs.Gates.{IsNew}
+use Rattle.disk_model.proofs.Moments.{started}
+use Rattle.archive_file.proofs.Beginnings.{layout_counted}
+use Rattle.device_layout.proofs.LayoutMoments.{new_closed, new_now, new_recovers, shut_reached, layout_recovers}
 use Rattle.device_layout.proofs.LayoutMoments.{layout_made}
 use Rattle.device_layout.proofs.layout.make_layout.Goals as goal
 
 pub returns-in_default-clause-any_moment : goal.returns-in_default-clause-any_moment
 returns-in_default-clause-any_moment g c =
-    new_recovers c.args.def.now _ _ (new_kept _ _ c.requires.new c.requires.settled refl)
+    new_recovers c.args.def.now _ _ (started _ IsNew (new_now _ c.requires.new c.requires.settled))
 
 pub write_guarded-requires-clause-room : goal.write_guarded-requires-clause-room
 write_guarded-requires-clause-room g c = shut_reached _ c.in-Ok-close_layout.ensures.shut
@@ -15,16 +18,19 @@ pub returns-in_default-write_guarded-clause-any_moment
 returns-in_default-write_guarded-clause-any_moment g c =
     layout_recovers c.args.def.now c.args.slots c.deref.result.now c.in-Ok.ensures.name
     (c.deref.ensures.value ∙ c.in-Ok.ensures.image) c.requires.tuned c.requires.some c.requires.few _ _
-    c.close_layout.ensures.any_moment _ c.write_guarded.ensures.any_moment
+    (new_closed _ _ c.requires.new c.requires.settled c.close_layout.ensures.any_moment) _ c.write_guarded.ensures.any_moment
 
 pub returns-clause-any_moment : goal.returns-clause-any_moment
 returns-clause-any_moment g c =
     layout_recovers c.args.def.now c.args.slots c.deref.result.now c.in-Ok.ensures.name
     (c.deref.ensures.value ∙ c.in-Ok.ensures.image) c.requires.tuned c.requires.some c.requires.few _ _
-    c.close_layout.ensures.any_moment _ c.write_guarded.ensures.any_moment
+    (new_closed _ _ c.requires.new c.requires.settled c.close_layout.ensures.any_moment) _ c.write_guarded.ensures.any_moment
 
 pub returns-clause-made : goal.returns-clause-made
 returns-clause-made g c =
     layout_made c.args.def.now c.args.slots c.deref.result.now c.in-Ok.ensures.name
     (c.deref.ensures.value ∙ c.in-Ok.ensures.image) c.requires.tuned c.requires.some c.requires.few _ _
-    c.close_layout.ensures.any_moment _ c.write_guarded.ensures.any_moment c.in-Ok-write_guarded.ensures.reads
+    (new_closed _ _ c.requires.new c.requires.settled c.close_layout.ensures.any_moment) _ c.write_guarded.ensures.any_moment c.in-Ok-write_guarded.ensures.reads
+
+pub returns-clause-calls : goal.returns-clause-calls
+returns-clause-calls g c = layout_counted _ _ _ _ c.in-Ok-close_layout.ensures.calls c.in-Ok-write_guarded.ensures.clock

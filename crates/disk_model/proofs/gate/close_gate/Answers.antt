@@ -1,4 +1,4 @@
-use Rattle.disk_model.proofs.Closings.{closing_kept, closing_wrote, closing_answered}
+use Rattle.disk_model.proofs.Closings.{closing_kept, closing_wrote, closing_answered, shut_counted, open_counted}
 use Rattle.disk_model.proofs.gate.close_gate.Goals as goal
 
 pub returns-clause-reads : goal.returns-clause-reads
@@ -14,3 +14,12 @@ returns-then-byte-clause-any_moment g c = closing_kept _ _ c.args.gate c.read.en
 pub returns-clause-any_moment : goal.returns-clause-any_moment
 returns-clause-any_moment g c =
     closing_wrote _ _ _ c.args.gate c.read.new.buf c.write_at.result c.requires.gates c.read.auto.buf c.in_ok-read.ensures.bytes c.if-byte.false c.read.ensures.same c.write_at.ensures.noted
+
+pub returns-then-byte-clause-calls : goal.returns-then-byte-clause-calls
+returns-then-byte-clause-calls g c =
+    shut_counted _ _ _ c.args.gate c.read.new.buf c.read.auto.buf c.in_ok-read.ensures.bytes c.if-byte.true c.read.ensures.untimed
+
+pub returns-clause-calls : goal.returns-clause-calls
+returns-clause-calls g c =
+    open_counted c.write_at.result _ _ _ _ c.args.gate c.read.new.buf c.read.auto.buf c.in_ok-read.ensures.bytes c.if-byte.false
+    c.read.ensures.untimed c.write_at.ensures.clock

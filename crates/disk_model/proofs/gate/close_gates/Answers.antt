@@ -1,5 +1,5 @@
 use Rattle.std.proofs.Common.{refl, arith, ◌∙◌}
-use Rattle.disk_model.proofs.Closings.{none_closed, closing_goes_on, one_closed, all_moments, all_read, all_shut}
+use Rattle.disk_model.proofs.Closings.{none_closed, closing_goes_on, one_closed, all_moments, all_read, all_shut, none_counted, one_counted, all_counted}
 use Rattle.disk_model.proofs.gate.close_gates.Goals as goal
 
 pub loop-k-init : goal.loop-k-init
@@ -7,6 +7,7 @@ loop-k-init g c = record {
   closed = none_closed c.args.at c.args.count (g.D.Disk.trace c.args.dev.now) c.requires.room c.requires.gates;
   later = omega arith;
   clock = omega arith;
+  calls = none_counted c.args.at _ _;
   faultless = refl;
 }
 
@@ -20,6 +21,8 @@ loop-k-preserved g c = record {
       c.in_ok-close_gate.ensures.reads c.in_ok-close_gate.ensures.shut;
   later = omega (arith, c.loop-k.invariant.later, c.close_gate.ensures.later);
   clock = omega (arith, c.loop-k.invariant.clock, c.close_gate.ensures.clock);
+  calls = one_counted c.args.at c.loop-k.k _ _ _ _ _ _ (omega (arith, c.from.ensures)) c.loop-k.invariant.closed.any_moment.later
+      (c.loop-k.invariant.closed.ahead _ (omega (arith, c.from.ensures))) c.loop-k.invariant.calls c.in_ok-close_gate.ensures.calls;
   faultless = c.in_ok-close_gate.ensures.cause.passed ∙ c.loop-k.invariant.faultless;
 }
 
@@ -34,3 +37,7 @@ returns-clause-reads g c =
 pub returns-clause-shut : goal.returns-clause-shut
 returns-clause-shut g c =
     all_shut c.args.at c.args.count c.loop-k.k _ _ _ c.sync.result c.loop-k-test.false c.loop-k.invariant.closed c.sync.ensures.noted
+
+pub returns-clause-calls : goal.returns-clause-calls
+returns-clause-calls g c = all_counted c.sync.result c.args.at c.args.count c.loop-k.k _ _ _ _ (omega (arith, c.loop-k-test.false)) c.sync.ensures.clock
+    c.loop-k.invariant.calls
