@@ -1,11 +1,11 @@
 -- What becomes of a device that is opened: its layout, its free lane slots, and whether a sync is all that it gains.
 use Rattle.std.proofs.Common.{◌≡◌, inl, inr, ℕ, ◌+◌, ◌-◌, ◌<◌, ◌≤◌, false, true, cond, List, Option, None}
-use Rattle.std.proofs.Common.{Some, refl, ◌∙◌, ap, subst, arith}
+use Rattle.std.proofs.Common.{Some, IfSome, length, refl, sym, ◌∙◌, ap, subst, arith}
 use Rattle.std.proofs.lemmas.Bool.{cases_Bool}
 use Rattle.trend_num.specs.declared.tag_def.TagDef.{TagDef}
-use Rattle.trend_model.specs.State.{State, nothing_taken}
+use Rattle.trend_model.specs.State.{State, after, nothing_taken}
 use Rattle.disk_model.specs.Traces.{Trace, Synced, seen, noted}
-use Rattle.disk_model.specs.Gates.{IsNew, IsBegun}
+use Rattle.disk_model.specs.Gates.{IsNew, IsBegun, layout_calls}
 use Rattle.disk_model.specs.Calls.{Shows}
 use Rattle.event_queue.specs.Slots.{batch_at}
 use Rattle.event_queue.specs.Lanes.{IsStale}
@@ -13,7 +13,9 @@ use Rattle.device_layout.specs.Recovery.{counting}
 use Rattle.device_layout.proofs.OneState.{one_state}
 use Rattle.crash_recovery.specs.declared.seat.Seat.{Seat}
 use Rattle.crash_recovery.specs.Journals.{IsSeat, free_in, taken_of}
-use Rattle.crash_recovery.specs.Opening.{IsReadAs, HasFree, HasFreeAtFirst, LeavesFree, MakesLayout, GainsSync}
+use Rattle.crash_recovery.specs.Opening.{IsReadAs, HasFree, HasFreeAtFirst, LeavesFree, MakesLayout, GainsSync, OpensAt}
+use Rattle.crash_recovery.specs.Seats.{checkpoint_calls}
+use Rattle.trend_model.specs.History.{Tune}
 use Rattle.crash_recovery.proofs.Openings.{shown_before}
 
 -- a device whose layout was finished is not new
@@ -138,3 +140,40 @@ pub synced_retuned : (def : TagDef) (o mid new : Option Trace) (r : State) → I
 synced_retuned def None mid new r read = tt
 synced_retuned def (Some t) mid new r read = λ begun s recovered tuned. absurd (read.3.0
     (ap (λ x. x.summary.tuning) (one_state def (seen (Some t)) read.0 s read.1 recovered) ∙ tuned))
+
+-- ---- when the opening ends
+
+-- without a retuning
+pub opens_read : (def : TagDef) (o mid : Option Trace) (r : State) (before now : ℕ) → IfSome o (λ t. length t.calls ≡ before)
+    → IsReadAs def o mid false r → Shows o (λ c. IsNew c → now ≡ before + (layout_calls c + 1))
+    → Shows o (λ c. (IsNew c → ⊥) → now ≡ before + 1) → OpensAt def o now
+opens_read def None mid r before now told read new kept = tt
+opens_read def (Some t) mid r before now told read new kept = record {
+  new = λ is. omega (arith, told, new is);
+  kept = λ begun s recovered tuned. omega (arith, told, kept begun);
+  retuned = λ s recovered other. absurd (other (ap (λ x. x.summary.tuning)
+      (one_state def (seen (Some t)) s read.0 recovered read.1) ∙ read.3.0));
+}
+
+-- and with one: a checkpoint follows
+pub opens_retuned : (def : TagDef) (o mid : Option Trace) (r : State) (before first now : ℕ) → IfSome o (λ t. length t.calls ≡ before)
+    → IsReadAs def o mid true r → Shows o (λ c. (IsNew c → ⊥) → mid ≡ noted Synced o)
+    → Shows o (λ c. (IsNew c → ⊥) → first ≡ before + 1)
+    → Shows mid (λ c. now ≡ first + checkpoint_calls (length r.records) c) → OpensAt def o now
+opens_retuned def None mid r before first now told read synced kept put = tt
+opens_retuned def (Some t) mid r before first now told read synced kept put = record {
+  new = λ is. absurd (begun is);
+  kept = λ not_new s recovered tuned. absurd (read.3.0 (ap (λ x. x.summary.tuning)
+      (one_state def (seen (Some t)) read.0 s read.1 recovered) ∙ tuned));
+  retuned = λ s recovered other.
+      let same : s ≡ read.0 = one_state def (seen (Some t)) s read.0 recovered read.1 in
+      let state : r ≡ after def.step s (Tune def.tuning) = read.3.1 ∙ ap (λ x. after def.step x (Tune def.tuning)) (sym same) in
+      let many : checkpoint_calls (length r.records) (seen (Some t))
+          ≡ checkpoint_calls (length (after def.step s (Tune def.tuning)).records) (seen (Some t)) =
+      ap (λ x. checkpoint_calls (length x.records) (seen (Some t))) state in
+      omega (arith, told, kept begun, subst (λ m. Shows m (λ c. now ≡ first + checkpoint_calls (length r.records) c)) (synced begun) put, many);
+}
+  where
+    begun : IsNew (seen (Some t)) → ⊥
+    begun new = read.3.0 (ap (λ x. x.summary.tuning)
+        (one_state def (seen (Some t)) read.0 (nothing_taken def.tuning) read.1 (inl (new, refl))))

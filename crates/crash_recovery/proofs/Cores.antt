@@ -36,6 +36,7 @@ use Rattle.disk_model.specs.Calls.{Shows}
 use Rattle.device_layout.specs.Readings.{IsReadFrom, IsCause}
 use Rattle.crash_recovery.specs.Opening.{HoldsValue, IsOverfull}
 use Rattle.crash_recovery.proofs.Stored.{taken_stored, records_stored}
+use Rattle.crash_recovery.proofs.Calls.{some_open}
 
 -- a record has 17 bytes
 length-recs : (rs : List Rec) → length (recs_image rs) ≡ 17 * length rs
@@ -134,6 +135,9 @@ module _ (def : TagDef) (slots : ℕ) (x : Stored) (c : List ℕ) (read : IsRead
           stale = subst (λ n. (k : ℕ) → k < n → IsOpen (gate_of k) c → IsStale x.summary.taken (batch_at n c k))
               (sym inside.slots_same) (scanned_overtaken slots x.summary.taken c s scanned inside is).stale;
         };
+        some = λ is.
+            let one = scanned.stale.0 is in
+            some_open (gate_of 0) s.lane.slots one.0 c (omega (arith, one.1, inside.slots_same)) one.2;
       }
 
   -- a value that finds no room

@@ -19,3 +19,4 @@ pub mod DeviceReads
 pub mod Stored
 pub mod Takes
 pub mod Turns
+pub mod Calls

@@ -42,6 +42,7 @@ made_seat def slots c made tuned name some few = record {
     number = λ stale. refl;
   };
   overrun = λ stale. absurd (cc (stale));
+  some = λ stale. absurd (cc (stale));
 }
 
 -- the same of a device

@@ -194,7 +194,7 @@ pub seated_on : (p : Seat) (o : Option Trace) → p.stale ≡ false → LaidOn p
 seated_on p None fresh laid = tt
 seated_on p (Some t) fresh laid = record {
   settled = laid.settled;
-  seat = record { laid = laid.laid; overrun = λ stale. absurd (cc (fresh, stale)) };
+  seat = record { laid = laid.laid; overrun = λ stale. absurd (cc (fresh, stale)); some = λ stale. absurd (cc (fresh, stale)) };
 }
 
 -- an overtaken one

@@ -7,7 +7,7 @@ use Rattle.trend_model.specs.State.{State, replay}
 use Rattle.disk_model.specs.Traces.{Trace, seen}
 use Rattle.disk_model.specs.Images.{Now, IsSettled}
 use Rattle.disk_model.specs.Moments.{During}
-use Rattle.disk_model.specs.Gates.{IsOpen}
+use Rattle.disk_model.specs.Gates.{IsOpen, open_gates}
 use Rattle.event_queue.specs.Slots.{gate_of, lane_end, batch_at}
 use Rattle.event_queue.specs.Lanes.{IsStale, lane_points, IsLane}
 use Rattle.event_queue.specs.Places.{HasRoom}
@@ -106,10 +106,11 @@ pub record IsLaid (p : Seat) (c : List ℕ) : Type 0 where
 pub record IsOverrun (p : Seat) (c : List ℕ) : Type 0 where
   pub stale : (k : ℕ) → k < p.lane.slots → IsOpen (gate_of k) c → IsStale p.taken (batch_at p.lane.slots c k)
 
--- a place on a device of these bytes, where each open lane slot of an overtaken lane is stale
+-- a place on a device of these bytes; an overtaken lane has an open slot, and each open one is stale
 pub record IsSeat (p : Seat) (c : List ℕ) : Type 0 where
   pub laid : IsLaid p c
   pub overrun : p.stale ≡ true → IsOverrun p c
+  pub some : p.stale ≡ true → 0 < open_gates (gate_of 0) p.lane.slots c
 
 -- a device on which that is a place, and of which a crash leaves what a read returns
 pub record IsSeated (p : Seat) (t : Trace) : Type 0 where

@@ -6,13 +6,13 @@ use Rattle.trend_num.specs.declared.point.Point.{Point}
 use Rattle.trend_num.specs.declared.tag_def.TagDef.{TagDef}
 use Rattle.trend_model.specs.History.{Tune}
 use Rattle.trend_model.specs.State.{State, after}
-use Rattle.disk_model.specs.Traces.{Trace, Synced, seen, noted}
+use Rattle.disk_model.specs.Traces.{Trace, Synced, moment, seen, noted}
 use Rattle.disk_model.specs.Images.{MayLeave}
 use Rattle.disk_model.specs.Moments.{During}
 use Rattle.device_layout.specs.declared.failure.OpenNo.{OpenNo}
 use Rattle.device_layout.specs.declared.failure.OpenNo.TheVariants.{DeviceFault, Damaged}
 use Rattle.device_layout.specs.declared.failure.OpenNo.TheVariants.{WantOfMemory}
-use Rattle.disk_model.specs.Gates.{open_byte, IsOpen, IsNew}
+use Rattle.disk_model.specs.Gates.{open_byte, layout_calls, IsOpen, IsNew}
 use Rattle.event_queue.specs.Slots.{gate_of, batch_at}
 use Rattle.event_queue.specs.Lanes.{IsStale}
 use Rattle.event_queue.specs.Places.{IsFilled}
@@ -23,6 +23,7 @@ use Rattle.device_layout.specs.Recovery.{header_of, counting}
 use Rattle.device_layout.specs.Recovery.{Recovers}
 use Rattle.device_layout.specs.Layouts.{IsMade}
 use Rattle.crash_recovery.specs.Journals.{AllRecover, taken_of}
+use Rattle.crash_recovery.specs.Seats.{checkpoint_calls}
 use Rattle.device_layout.specs.Damages.{StandsThere, IsValuePlace}
 use Rattle.disk_model.specs.Calls.{Shows}
 
@@ -131,3 +132,15 @@ MakesLayout def slots old new = Shows old (λ c. IsNew c → Shows new (IsMade d
 abbrev pub GainsSync : TagDef → Option Trace → Option Trace → Type 0
 GainsSync def old new = Shows old (λ c. (IsNew c → ⊥) → (s : State) → Recovers def c s
     → s.summary.tuning ≡ Some def.tuning → new ≡ noted Synced old)
+
+-- How many calls a device has made at the end of an opening, if it made `before` until then and has these bytes. It begins
+-- with a sync. A new device is given its layout, and the device of a tag that is retuned gains a checkpoint.
+pub record CountsOpening (def : TagDef) (c : List ℕ) (before now : ℕ) : Type 0 where
+  pub new : IsNew c → now ≡ before + (layout_calls c + 1)
+  pub kept : (IsNew c → ⊥) → (s : State) → Recovers def c s → s.summary.tuning ≡ Some def.tuning → now ≡ before + 1
+  pub retuned : (s : State) → Recovers def c s → s.summary.tuning ≢ Some def.tuning
+      → now ≡ before + (checkpoint_calls (length (after def.step s (Tune def.tuning)).records) c + 1)
+
+-- the opening of a device that had these calls ends at this moment
+abbrev pub OpensAt : TagDef → Option Trace → ℕ → Type 0
+OpensAt def old t = Shows old (λ c. CountsOpening def c (moment old) t)

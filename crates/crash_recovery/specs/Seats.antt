@@ -1,15 +1,19 @@
 -- What the steps of a journal keep true of its place, and what they make of the device.
-use Rattle.std.specs.Prelude.{◌≡◌, ◌≢◌, ◌⊎◌, ℕ, ◌<◌, ◌≤◌, false, List, length, drop}
+use Rattle.std.specs.Prelude.{◌≡◌, ◌≢◌, ◌⊎◌, ◌==◌, ℕ, ◌+◌, ◌<◌, ◌≤◌, nat_lt, if◌then◌else◌, false, List, length, drop}
 use Rattle.std.specs.Prelude.{slice_index, Option, None, Some, IfSome}
 use Rattle.trend_num.specs.declared.archive.Rec.{Rec}
 use Rattle.disk_model.specs.Traces.{Trace, seen}
 use Rattle.disk_model.specs.Images.{IsSettled}
-use Rattle.disk_model.specs.Gates.{open_byte, IsShut, Holds}
+use Rattle.disk_model.specs.Gates.{open_byte, open_gate, open_gates, IsShut, Holds}
+use Rattle.disk_model.specs.Moments.{ComesAfter}
 use Rattle.archive_file.specs.Records.{recs_image}
 use Rattle.crash_recovery.specs.declared.seat.Seat.{Seat}
 use Rattle.device_layout.specs.declared.slot.Slot.{Slot}
 use Rattle.device_layout.specs.declared.slot.Slot.TheVariants.{First, Second}
-use Rattle.crash_recovery.specs.Journals.{log_end, IsLaid, IsOverrun}
+use Rattle.event_queue.specs.Slots.{gate_of}
+use Rattle.device_layout.specs.Headers.{slots_in}
+use Rattle.device_layout.specs.Recovery.{header_of, summary_gate, counting}
+use Rattle.crash_recovery.specs.Journals.{log_end, journal_records_of, IsLaid, IsOverrun}
 
 -- the slot into which the next summary goes: one that does not count
 abbrev pub spare_slot : Option Slot → Slot
@@ -50,3 +54,33 @@ pub record IsReady (p : Seat) (gate : ℕ) (recs : List Rec) (c : List ℕ) : Ty
 -- the same if the device records its calls
 abbrev pub ReadyOn : Seat → ℕ → List Rec → Option Trace → Type 0
 ReadyOn p gate recs o = IfSome o (λ t. IsReady p gate recs (seen (Some t)))
+
+-- ---- how many calls a checkpoint makes
+
+-- how many close the open gates of a lane with so many slots: a write for each and a sync, or none if none is open
+abbrev pub lane_calls : ℕ → List ℕ → ℕ
+lane_calls slots c = if open_gates (gate_of 0) slots c == 0 then 0 else open_gates (gate_of 0) slots c + 1
+
+-- how many write the records behind the stored ones: one, or none if there are none
+abbrev pub record_calls : ℕ → ℕ → ℕ
+record_calls stored records = if nat_lt stored records then 1 else 0
+
+-- How many make a checkpoint with so many records on a device with these bytes. First the records are written that the summary
+-- does not count. If the gate of the next summary's slot is open, one call closes it, and then comes a sync. Four write the
+-- summary, and the others close the lane.
+abbrev pub checkpoint_calls : ℕ → List ℕ → ℕ
+checkpoint_calls records c = record_calls (journal_records_of c (counting c)) records
+    + (open_gate (summary_gate (spare_slot (counting c))) c + 5) + lane_calls (slots_in (header_of c)) c
+
+-- of these, so many close the gates of an overtaken lane before anything is written
+abbrev pub stale_calls : Seat → List ℕ → ℕ
+stale_calls p c = if p.stale then open_gates (gate_of 0) p.lane.used c + 1 else 0
+
+-- and so many write the records, and close the gate of the next summary
+abbrev pub log_calls : Seat → ℕ → List ℕ → ℕ
+log_calls p records c = record_calls p.records records + (open_gate (summary_gate (spare_slot p.counts)) c + 1)
+
+-- over some calls, the bytes that a read returns of these places stay the same
+pub record KeepsPlaces (from to : ℕ) (old new : Option Trace) : Type 0 where
+  pub later : ComesAfter old new
+  pub same : (i : ℕ) → from ≤ i → i < to → slice_index (seen new) i ≡ slice_index (seen old) i

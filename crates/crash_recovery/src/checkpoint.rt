@@ -6,15 +6,15 @@ ghost use Rattle.trend_model.specs.State.{State};
 ghost use Rattle.disk_model.specs.Traces.{seen, written};
 ghost use Rattle.disk_model.specs.Images.{FromOld, IsTorn};
 ghost use Rattle.disk_model.specs.Moments.{During};
-ghost use Rattle.disk_model.specs.Calls.{CountsFault, HasCause, Reaches, Sees};
+ghost use Rattle.disk_model.specs.Calls.{CountsFault, HasCause, Reaches, Sees, Shows};
 ghost use Rattle.archive_file.specs.Records.{recs_image};
 ghost use Rattle.archive_file.specs.declared.failure.PutNo.TheVariants.{DeviceFault as PutFault};
 ghost use Rattle.archive_file.specs.declared.failure.PutNo.TheVariants.{WantOfMemory as NoMemory};
-ghost use Rattle.event_queue.specs.Slots.{lane_end};
+ghost use Rattle.event_queue.specs.Slots.{gate_of, lane_end};
 ghost use Rattle.device_layout.specs.Recovery.{summary_gate, Recovers};
 ghost use Rattle.crash_recovery.specs.Journals.{AllRecover, GoesOnFrom, RecoversEither, SeatedOn, IsNumbered};
 ghost use Rattle.crash_recovery.specs.Journals.{free_in, log_end};
-ghost use Rattle.crash_recovery.specs.Seats.{spare_slot, LaidOn, OverrunOn, ReadyOn};
+ghost use Rattle.crash_recovery.specs.Seats.{checkpoint_calls, log_calls, record_calls, spare_slot, KeepsPlaces, LaidOn, OverrunOn, ReadyOn};
 
 use crate::seat::Seat;
 use archive_file::{DeviceFault, PutNo, REC_LEN, put_records, summary_bytes};
@@ -62,6 +62,8 @@ impl Seat {
             → IsOk result × ((self.new ≡ self.old) × (dev.new ≡ dev.old)) }
         ensures untouched { IsErrOf result NoMemory → free_in self.old ≡ 0
             → (self.new ≡ self.old) × (dev.new ≡ dev.old) }
+        ensures calls { OnOk result (self.old.lane.next < core.now.state.summary.taken → Shows (D.trace dev.old)
+            (λ c. D.ticks dev.new ≡ D.ticks dev.old + checkpoint_calls (length core.now.state.records) c)) }
         ensures ticked { OnOk result (self.old.lane.next < core.now.state.summary.taken
             → D.ticks dev.old < D.ticks dev.new) }
         ensures still_seated { IsErrOf result NoMemory → SeatedOn self.new (D.trace dev.new) }
@@ -118,6 +120,9 @@ impl Seat {
         ensures laid { OnOk result (LaidOn self.now (D.trace dev.new)) }
         ensures ready { OnOk result (ReadyOn self.now (summary_gate (spare_slot self.now.counts)) recs.now
             (D.trace dev.new)) }
+        ensures gates { OnOk result (KeepsPlaces (gate_of 0) (gate_of self.now.lane.slots) (D.trace dev.old) (D.trace dev.new)) }
+        ensures calls { OnOk result (Shows (D.trace dev.old)
+            (λ c. D.ticks dev.new ≡ D.ticks dev.old + log_calls self.now (length recs.now) c)) }
         ensures unwritten { IsErrOf result NoMemory → dev.new ≡ dev.old }
         ensures cause { CountsFault result PutFault (D.fault_count dev.old) (D.fault_count dev.new) }
         ensures later { D.ticks dev.old ≤ D.ticks dev.new }
@@ -144,6 +149,7 @@ impl Seat {
         ensures reads { OnOk result (Sees (D.trace dev.new)
             (written (seen (D.trace dev.old)) (log_end self.now)
             (recs_image (drop self.now.records recs.now)))) }
+        ensures calls { OnOk result (D.ticks dev.new ≡ D.ticks dev.old + record_calls self.now.records (length recs.now)) }
         ensures unwritten { IsErrOf result NoMemory → dev.new ≡ dev.old }
         ensures cause { CountsFault result PutFault (D.fault_count dev.old) (D.fault_count dev.new) }
         ensures later { D.ticks dev.old ≤ D.ticks dev.new }
@@ -182,8 +188,10 @@ impl Seat {
         ensures same_lane { IfOk result (λ p. (p.lane.slots ≡ self.now.lane.slots)
             × (p.lane.used ≡ self.now.lane.used)) }
         ensures stale { IfOk result (λ p. p.stale ≡ false → p.lane.used ≡ 0) }
+        ensures overtaken { IfOk result (λ p. p.stale ≡ true → 0 < p.lane.used) }
         ensures taken { IfOk result (λ p. p.taken ≡ core.now.state.summary.taken) }
-        ensures ticked { OnOk result (D.ticks dev.old < D.ticks dev.new) }
+        ensures gates { OnOk result (KeepsPlaces (gate_of 0) (gate_of self.now.lane.slots) (D.trace dev.old) (D.trace dev.new)) }
+        ensures clock { OnOk result (D.ticks dev.new ≡ D.ticks dev.old + 4) }
         ensures later { D.ticks dev.old ≤ D.ticks dev.new }
         ensures cause { HasCause (D.fault_count dev.old) (D.fault_count dev.new) result }
     {

@@ -5,7 +5,7 @@ ghost use Rattle.trend_num.specs.Ranges.{InRange};
 ghost use Rattle.trend_num.specs.declared.tag_def.TagDef.{TagDef};
 ghost use Rattle.trend_model.specs.History.{Raw};
 ghost use Rattle.trend_model.specs.State.{State, replay};
-ghost use Rattle.disk_model.specs.Calls.{CountsFault};
+ghost use Rattle.disk_model.specs.Calls.{CountsFault, Shows};
 ghost use Rattle.archive_file.specs.declared.failure.PutNo.TheVariants.{DeviceFault as PutFault, WantOfMemory as NoMemory};
 ghost use Rattle.event_queue.specs.declared.failure.LaneNo.TheVariants.{LaneFull, DeviceFault as LaneFault};
 
@@ -45,6 +45,7 @@ impl<D: Disk> Model for Journal<D> {
 impl<D: Disk> Journal<D> {
     ghost use Rattle.crash_recovery.specs.Journals.{AllRecover, GoesOnFrom, LeavesEither, IsCommitted, IsCheckpointed};
     ghost use Rattle.crash_recovery.specs.Journals.{StaysAs, SeatedOn, IsNumbered, free_in};
+    ghost use Rattle.crash_recovery.specs.Seats.{checkpoint_calls};
     ghost use Rattle.device_layout.specs.Recovery.{AllFit};
 
     // Returns the journal of a device that was opened.
@@ -133,6 +134,8 @@ impl<D: Disk> Journal<D> {
         ensures untouched { IsErrOf result NoMemory → self.old.free ≡ 0 → self.new ≡ self.old }
         ensures no_memory { IsErrOf result NoMemory → StaysAs false self.old self.new }
         ensures failed { IsErrOf result PutFault → StaysAs true self.old self.new }
+        ensures calls { OnOk result (self.old.acked < core.now.state.summary.taken → Shows (D.trace self.old.dev)
+            (λ c. D.ticks self.new.dev ≡ D.ticks self.old.dev + checkpoint_calls (length core.now.state.records) c)) }
         ensures ticked { OnOk result (self.old.acked < core.now.state.summary.taken
             → D.ticks self.old.dev < D.ticks self.new.dev) }
         ensures later { D.ticks self.old.dev ≤ D.ticks self.new.dev }

@@ -9,7 +9,7 @@ ghost use Rattle.disk_model.specs.Traces.{Synced, noted};
 ghost use Rattle.disk_model.specs.Images.{IsSettled};
 ghost use Rattle.disk_model.specs.Moments.{During};
 ghost use Rattle.disk_model.specs.Calls.{CountsFault, HasCause};
-ghost use Rattle.disk_model.specs.Gates.{IsBegun};
+ghost use Rattle.disk_model.specs.Gates.{IsBegun, layout_calls};
 ghost use Rattle.device_layout.specs.declared.failure.OpenNo.TheVariants.{DeviceFault, WantOfMemory, Full as TooFull};
 ghost use Rattle.disk_model.specs.Gates.{IsNew};
 ghost use Rattle.device_layout.specs.Recovery.{IsRecovered, Recovers};
@@ -17,7 +17,8 @@ ghost use Rattle.crash_recovery.specs.Journals.{AllRecover, GoesOnFrom, Recovers
 ghost use Rattle.disk_model.specs.Calls.{Shows};
 ghost use Rattle.crash_recovery.specs.Opening.{IsOpenedAs, OpensAs, StaysSame, RecoversThen};
 ghost use Rattle.crash_recovery.specs.Opening.{HasSlots, IsTagLeftOrSame, IsReadAs, HasFreeAtFirst, LeavesFree};
-ghost use Rattle.crash_recovery.specs.Opening.{MakesLayout, GainsSync};
+ghost use Rattle.crash_recovery.specs.Opening.{MakesLayout, GainsSync, OpensAt};
+ghost use Rattle.crash_recovery.specs.Seats.{checkpoint_calls};
 ghost use Rattle.device_layout.specs.Layouts.{IsMade};
 ghost use Rattle.device_layout.specs.Readings.{IsCause, CountsRefusal};
 ghost use Rattle.crash_recovery.specs.Opening.{refusal_of_put};
@@ -76,6 +77,7 @@ pub fn open_tag<D: Disk>(
     ensures free { IfOk result (λ o. Shows (D.trace dev) (LeavesFree def.now o.journal.slots o.journal.free)) }
     ensures made { IfOk result (λ o. MakesLayout def.now lane_slots (D.trace dev) (D.trace o.journal.dev)) }
     ensures synced { IfOk result (λ o. GainsSync def.now (D.trace dev) (D.trace o.journal.dev)) }
+    ensures moment { IfOk result (λ o. OpensAt def.now (D.trace dev) (D.ticks o.journal.dev)) }
     ensures usable { IfOk result (λ o. o.journal.failed ≡ false) }
     ensures step { IfOk result (λ o. o.core.step ≡ def.now.step) }
     ensures tuning { IfOk result (λ o. o.core.state.summary.tuning ≡ Some def.now.tuning) }
@@ -124,6 +126,8 @@ impl<D: Disk> Opened<D> {
         ensures slots { IfOk result (λ o. o.journal.slots ≡ self.journal.slots) }
         ensures free { IfOk result (λ o. o.journal.free ≡ o.journal.slots) }
         ensures usable { IfOk result (λ o. o.journal.failed ≡ false) }
+        ensures calls { IfOk result (λ o. self.journal.acked < self.core.state.summary.taken → Shows (D.trace self.journal.dev)
+            (λ c. D.ticks o.journal.dev ≡ D.ticks self.journal.dev + checkpoint_calls (length self.core.state.records) c)) }
         ensures cause { IfErr result (λ e. (e.why ≡ DeviceFault)
             ⊎ (e.why ≡ WantOfMemory)) }
         ensures faultless { IfOk result (λ o. D.fault_count o.journal.dev ≡ D.fault_count self.journal.dev) }
@@ -176,10 +180,14 @@ fn read_tag<L: Ledger, D: Disk>(
     ensures made { OnOk result (MakesLayout def.now lane_slots (D.trace dev.old) (D.trace dev.new)) }
     ensures synced { OnOk result (Shows (D.trace dev.old) (λ c. (IsNew c → ⊥)
         → D.trace dev.new ≡ noted Synced (D.trace dev.old))) }
+    ensures new_calls { OnOk result (Shows (D.trace dev.old) (λ c. IsNew c
+        → D.ticks dev.new ≡ D.ticks dev.old + (layout_calls c + 1))) }
+    ensures calls { OnOk result (Shows (D.trace dev.old) (λ c. (IsNew c → ⊥) → D.ticks dev.new ≡ D.ticks dev.old + 1)) }
     ensures used { IfOk result (λ r. r.seat.lane.used ≤ r.seat.lane.slots) }
     ensures numbered { IfOk result (λ r. IsNumbered r.seat) }
     ensures countable { IfOk result (λ r. r.core.state.summary.taken < 2 ^ 63) }
     ensures acked { IfOk result (λ r. r.retuned ≡ false → r.seat.lane.next ≡ r.core.state.summary.taken) }
+    ensures unacked { IfOk result (λ r. r.retuned ≡ true → r.seat.lane.next < r.core.state.summary.taken) }
     ensures step { IfOk result (λ r. r.core.step ≡ def.now.step) }
     ensures tuning { IfOk result (λ r. r.core.state.summary.tuning ≡ Some def.now.tuning) }
     ensures room { IfOk result (λ r. 2 * room ≤ r.core.spare) }
@@ -219,6 +227,7 @@ fn made<D: Disk>(
     ensures lane { IfOk result (λ r. r.seat.lane ≡ record { slots = lane_slots; used = 0; next = 0 }) }
     ensures numbered { IfOk result (λ r. IsNumbered r.seat) }
     ensures retuned { IfOk result (λ r. r.retuned ≡ false) }
+    ensures calls { OnOk result (Shows (D.trace dev.old) (λ c. D.ticks dev.new ≡ D.ticks dev.old + layout_calls c)) }
     ensures step { IfOk result (λ r. r.core.step ≡ def.now.step) }
     ensures room { IfOk result (λ r. r.core.spare ≡ 2 * room) }
     ensures cause { IfErr result (IsCause def.now (D.trace dev.old)) }
@@ -267,6 +276,7 @@ fn read_back<L: Ledger, D: Disk>(
     ensures numbered { IfOk result (λ r. IsNumbered r.seat) }
     ensures countable { IfOk result (λ r. r.core.state.summary.taken < 2 ^ 63) }
     ensures acked { IfOk result (λ r. r.retuned ≡ false → r.seat.lane.next ≡ r.core.state.summary.taken) }
+    ensures unacked { IfOk result (λ r. r.retuned ≡ true → r.seat.lane.next < r.core.state.summary.taken) }
     ensures step { IfOk result (λ r. r.core.step ≡ def.now.step) }
     ensures tuning { IfOk result (λ r. r.core.state.summary.tuning ≡ Some def.now.tuning) }
     ensures room { IfOk result (λ r. 2 * room ≤ r.core.spare) }
@@ -298,6 +308,7 @@ fn tuned<L: Ledger>(
     ensures tuning { IfOk result (λ r. r.core.state.summary.tuning ≡ Some def.now.tuning) }
     ensures room { IfOk result (λ r. core.spare ≤ r.core.spare + 2) }
     ensures counted { IfOk result (λ r. r.core.state.summary.taken ≤ core.state.summary.taken + 1) }
+    ensures unacked { IfOk result (λ r. r.retuned ≡ true → core.state.summary.taken < r.core.state.summary.taken) }
     ensures full { IfErr result (λ why. why ≡ TooFull (length core.state.records)) }
     ensures many { OnErr result (most_records < length core.state.records + 2) }
     ensures other { OnErr result (core.state.summary.tuning ≢ Some def.now.tuning) }

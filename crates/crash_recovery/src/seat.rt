@@ -7,10 +7,11 @@ ghost use Rattle.trend_num.specs.declared.tag_def.TagDef.{TagDef};
 ghost use Rattle.trend_model.specs.History.{Raw};
 ghost use Rattle.trend_model.specs.State.{State, replay};
 ghost use Rattle.disk_model.specs.Moments.{During};
-ghost use Rattle.disk_model.specs.Calls.{HasCause};
+ghost use Rattle.disk_model.specs.Calls.{HasCause, Shows};
+ghost use Rattle.event_queue.specs.Slots.{gate_of};
 ghost use Rattle.device_layout.specs.Recovery.{AllFit, Recovers};
 ghost use Rattle.crash_recovery.specs.Journals.{AllRecover, RecoversEither, SeatedOn, IsNumbered, free_in};
-ghost use Rattle.crash_recovery.specs.Seats.{LaidOn, OverrunOn, restarted};
+ghost use Rattle.crash_recovery.specs.Seats.{KeepsPlaces, LaidOn, OverrunOn, restarted, stale_calls};
 
 use device_layout::Slot;
 use disk_model::Disk;
@@ -112,6 +113,8 @@ impl Seat {
         ensures idle { self.old.stale ≡ false → dev.new ≡ dev.old }
         ensures restarted { self.old.stale ≡ true → OnOk result (self.new ≡ restarted self.old) }
         ensures unmoved { OnErr result (self.new ≡ self.old) }
+        ensures front { OnOk result (KeepsPlaces 0 (gate_of 0) (D.trace dev.old) (D.trace dev.new)) }
+        ensures calls { OnOk result (Shows (D.trace dev.old) (λ c. D.ticks dev.new ≡ D.ticks dev.old + stale_calls self.old c)) }
         ensures later { D.ticks dev.old ≤ D.ticks dev.new }
         ensures cause { HasCause (D.fault_count dev.old) (D.fault_count dev.new) result }
     {

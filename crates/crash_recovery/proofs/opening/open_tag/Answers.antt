@@ -1,4 +1,7 @@
-use Rattle.std.proofs.Common.{◌≡◌, ◌<◌, ◌^◌, Option, IfOk, ap, sym, subst, true, false}
+use Rattle.std.proofs.Common.{◌≡◌, ◌+◌, ◌<◌, ◌^◌, Option, IfOk, length, ap, sym, subst, true, false}
+use Rattle.disk_model.specs.Gates.{IsNew}
+use Rattle.disk_model.specs.Traces.{Synced, noted}
+use Rattle.crash_recovery.specs.Seats.{checkpoint_calls}
 use Rattle.trend_num.specs.declared.tag_def.TagDef.{TagDef}
 use Rattle.trend_model.specs.State.{State}
 use Rattle.disk_model.specs.Traces.{Trace}
@@ -10,8 +13,8 @@ use Rattle.device_layout.proofs.Shows.{if_ok, if_ok₂, if_err}
 use Rattle.crash_recovery.proofs.Openings.{Promises, during_same, opened_shown, recovers_read, stays_retuned}
 use Rattle.crash_recovery.proofs.Openings.{recovers_retuned, stays_read, now_read, now_retuned}
 use Rattle.disk_model.specs.Moments.{ComesAfter, During}
-use Rattle.crash_recovery.specs.Opening.{LeavesFree, MakesLayout, GainsSync}
-use Rattle.crash_recovery.proofs.Afterwards.{free_read, free_retuned, layout_retuned, synced_read, synced_retuned}
+use Rattle.crash_recovery.specs.Opening.{LeavesFree, MakesLayout, GainsSync, OpensAt}
+use Rattle.crash_recovery.proofs.Afterwards.{free_read, free_retuned, layout_retuned, opens_read, opens_retuned, synced_read, synced_retuned}
 use Rattle.crash_recovery.proofs.opening.open_tag.Goals as goal
 
 -- what was read, where it was retuned, as the device that the journal has shows it, and what a crash left of that on the way
@@ -152,3 +155,33 @@ returns-else-read-clause-synced g c =
     let o = g.D.Disk.trace c.args.dev in
     subst (λ j. GainsSync c.args.def.now o (g.D.Disk.trace j.dev)) (sym same)
     (synced_read c.args.def.now o (g.D.Disk.trace c.read_tag.new.dev) c.in-Ok.ensures.synced)
+
+pub returns-then-read-clause-moment : goal.returns-then-read-clause-moment
+returns-then-read-clause-moment g c =
+    let def = c.args.def.now in
+    let old = c.args.dev in
+    let o = g.D.Disk.trace old in
+    let core = c.in-Ok.read.core in
+    let same = sym c.new-2.ensures in
+    let mid = c.new-2.result.dev in
+    let unacked : c.new-2.result.acked < core.state.summary.taken =
+    subst (λ j. j.acked < core.state.summary.taken) same (c.in-Ok.ensures.unacked c.if-read.true) in
+    let synced : Shows o (λ b. (IsNew b → ⊥) → g.D.Disk.trace mid ≡ noted Synced o) =
+    subst (λ j. Shows o (λ b. (IsNew b → ⊥) → g.D.Disk.trace j.dev ≡ noted Synced o)) same c.in-Ok.ensures.synced in
+    let calls : Shows o (λ b. (IsNew b → ⊥) → g.D.Disk.ticks mid ≡ g.D.Disk.ticks old + 1) =
+    subst (λ j. Shows o (λ b. (IsNew b → ⊥) → g.D.Disk.ticks j.dev ≡ g.D.Disk.ticks old + 1)) same c.in-Ok.ensures.calls in
+    if_ok c.with_checkpoint.result
+    (λ x. c.new-2.result.acked < core.state.summary.taken → Shows (g.D.Disk.trace mid)
+    (λ b. g.D.Disk.ticks x.journal.dev ≡ g.D.Disk.ticks mid + checkpoint_calls (length core.state.records) b))
+    (λ x. OpensAt def o (g.D.Disk.ticks x.journal.dev))
+    (λ x put. opens_retuned def o (g.D.Disk.trace mid) core.state (g.D.Disk.ticks old) (g.D.Disk.ticks mid)
+    (g.D.Disk.ticks x.journal.dev) (g.met.D.Disk.told old) (read_retuned g c) synced calls (put unacked))
+    c.with_checkpoint.ensures.calls
+
+pub returns-else-read-clause-moment : goal.returns-else-read-clause-moment
+returns-else-read-clause-moment g c =
+    let def = c.args.def.now in
+    let o = g.D.Disk.trace c.args.dev in
+    subst (λ j. OpensAt def o (g.D.Disk.ticks j.dev)) (sym c.new-2.ensures)
+    (opens_read def o (g.D.Disk.trace c.new-2.result.dev) c.in-Ok.read.core.state _ _ (g.met.D.Disk.told c.args.dev) (read_else g c)
+    c.in-Ok.ensures.new_calls c.in-Ok.ensures.calls)

@@ -1,5 +1,7 @@
-use Rattle.std.proofs.Common.{◌≡◌, ap, subst, sym}
+use Rattle.std.proofs.Common.{◌≡◌, ◌+◌, ◌<◌, OnOk, ap, length, subst, sym}
 use Rattle.crash_recovery.specs.Journals.{AllRecover, LeavesEither, Logged}
+use Rattle.disk_model.specs.Calls.{Shows}
+use Rattle.crash_recovery.specs.Seats.{checkpoint_calls}
 use Rattle.crash_recovery.proofs.Turns.{on_ok}
 use Rattle.crash_recovery.proofs.journal.Journal.checkpoint.Goals as goal
 
@@ -14,3 +16,9 @@ returns-in_default-2-clause-crash g c = λ small def s all goes.
       durable = on_ok c.checkpoint.result (λ durable. durable small def s before goes)
           c.checkpoint.ensures.durable;
     })
+
+pub returns-in_default-2-clause-calls : goal.returns-in_default-2-clause-calls
+returns-in_default-2-clause-calls g c =
+    let many = length c.args.core.now.state.records in
+    subst (λ (v : Logged _). OnOk c.checkpoint.result (v.acked < c.args.core.now.state.summary.taken → Shows (g.D.Disk.trace v.dev)
+    (λ b. g.D.Disk.ticks c.checkpoint.new.dev ≡ g.D.Disk.ticks v.dev + checkpoint_calls many b))) c.self.view_is c.checkpoint.ensures.calls

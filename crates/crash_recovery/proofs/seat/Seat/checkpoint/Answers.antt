@@ -4,6 +4,10 @@ use Rattle.disk_model.specs.Moments.{During}
 use Rattle.disk_model.proofs.Moments.{during_now}
 use Rattle.device_layout.specs.Recovery.{Recovers}
 use Rattle.crash_recovery.specs.Journals.{AllRecover, GoesOnFrom, RecoversEither}
+use Rattle.std.proofs.Common.{◌≡◌, ◌+◌, ap, subst, length}
+use Rattle.disk_model.specs.Calls.{Shows}
+use Rattle.crash_recovery.specs.Seats.{log_calls}
+use Rattle.crash_recovery.proofs.Calls.{checkpoint_counted}
 use Rattle.crash_recovery.proofs.Done.{done_recovers}
 use Rattle.crash_recovery.proofs.Places.{laid_on, overrun_on}
 use Rattle.crash_recovery.proofs.Turns.{either_kept, either_first, then_same, then_either, then_second}
@@ -88,3 +92,19 @@ returns-clause-durable g c = λ small def s all goes.
     let here = goal.at.returns-clause-durable g c in
     let counted = counted g here.After-close_stale-2 def s (logged g here.After-log_records def s all) goes in
     during_now _ _ (λ x. Recovers def x c.args.core.now.state) counted
+
+pub returns-clause-calls : goal.returns-clause-calls
+returns-clause-calls g c = λ more.
+    checkpoint_counted c.args.self.now c.close_stale.new.self c.in-Ok-put_summary.seat (record {
+      within = c.requires.within;
+      kept = c.close_stale.ensures.kept;
+      restarted = c.in-Ok.ensures.restarted;
+      used = c.in-Ok-put_summary.ensures.same_lane.1;
+      fresh = c.in-Ok-put_summary.ensures.stale;
+      overtaken = c.in-Ok-put_summary.ensures.overtaken;
+    }) (length c.args.core.now.state.records) _ _ _ _ _ _ _ _ _ c.requires.seated
+    (λ fresh. ap (λ d. g.D.Disk.trace d) (c.close_stale.ensures.idle fresh)) c.in-Ok.ensures.calls c.in-Ok.ensures.front
+    (subst (λ rs. Shows (g.D.Disk.trace c.close_stale.new.dev) (λ b. g.D.Disk.ticks c.log_records.new.dev
+    ≡ g.D.Disk.ticks c.close_stale.new.dev + log_calls c.close_stale.new.self (length rs) b)) c.recs.ensures.value
+    c.in_ok-log_records.ensures.calls) c.in_ok-log_records.ensures.gates c.in-Ok-put_summary.ensures.clock c.in-Ok-put_summary.ensures.gates
+    c.in-Ok-close_stale.ensures.calls

@@ -3,6 +3,7 @@ use Rattle.archive_file.specs.Records.{recs_image}
 use Rattle.device_layout.specs.Recovery.{summary_gate}
 use Rattle.crash_recovery.specs.Seats.{spare_slot}
 use Rattle.crash_recovery.proofs.Logged.{put_moments, gates_torn, log_moments, log_laid, ready_on}
+use Rattle.crash_recovery.proofs.Calls.{log_counted, log_front, log_gates}
 use Rattle.crash_recovery.proofs.seat.Seat.log_records.Goals as goal
 
 pub returns-in_err-put_new_records-clause-any_moment : goal.returns-in_err-put_new_records-clause-any_moment
@@ -34,6 +35,12 @@ returns-in-Ok g c =
           c.put_new_records.ensures.any_moment c.close_gates.ensures.any_moment
           c.in_ok-put_new_records.ensures.reads
           c.in-Ok.ensures.reads c.in-Ok.ensures.shut;
+      gates = log_gates p (recs_image (drop p.records c.args.recs.now)) c.gate.result _ _ _ gate c.requires.laid
+          c.put_new_records.ensures.any_moment.later c.in_ok-put_new_records.ensures.reads c.close_gates.ensures.any_moment.later
+          c.in-Ok.ensures.reads;
+      calls = log_counted p (length c.args.recs.now) _ _ _ c.gate.result _ _ gate
+          (log_front p (recs_image (drop p.records c.args.recs.now)) _ _ c.requires.laid c.put_new_records.ensures.any_moment.later
+          c.in_ok-put_new_records.ensures.reads) c.in_ok-put_new_records.ensures.calls c.in-Ok.ensures.calls;
       unwritten = search rules;
       cause = search rules;
       later = search rules;

@@ -1,10 +1,13 @@
-use Rattle.std.proofs.Common.{◌∙◌, sym, ap, subst, rules}
+use Rattle.std.proofs.Common.{◌∙◌, length, sym, ap, subst, rules}
+use Rattle.std.proofs.lemmas.Bool.{ltb-true}
 use Rattle.std.specs.Prelude.{nat_lt}
 use Rattle.archive_file.specs.Summaries.{summary_image}
 use Rattle.device_layout.specs.Recovery.{summary_place, summary_gate}
 use Rattle.crash_recovery.specs.Seats.{LaidOn, OverrunOn}
 use Rattle.crash_recovery.proofs.Checkpoints.{IsFit, fit_of, none_used, summed_as, summary_moments, summary_durable}
 use Rattle.crash_recovery.proofs.Checkpoints.{summary_overrun, summary_laid}
+use Rattle.device_layout.proofs.SlotNumbers.{length-summary_image}
+use Rattle.crash_recovery.proofs.Calls.{put_gates}
 use Rattle.crash_recovery.proofs.seat.Seat.put_summary.Given as given
 use Rattle.crash_recovery.proofs.seat.Seat.put_summary.Goals as goal
 use Rattle.crash_recovery.proofs.seat.Seat.put_summary.Goals.{After-write_guarded}
@@ -62,7 +65,10 @@ returns g c =
       same_lane = search rules;
       stale = none_used p.lane.used;
       taken = ap (λ x. x.taken) value;
-      ticked = search rules;
+      overtaken = ltb-true 0 p.lane.used;
+      gates = put_gates p c.place.result c.gate.result c.summary_bytes.result _ _ at gate
+          (ap length bytes ∙ length-summary_image r.summary) c.requires.laid c.write_guarded.ensures.any_moment.later c.in-Ok.ensures.reads;
+      clock = search rules;
       later = search rules;
       cause = search rules;
     }
