@@ -1,15 +1,15 @@
 -- What a crash leaves while a layout with a text is begun.
-use Rattle.std.proofs.Common.{◌≡◌, inl, inr, ℕ, zero, suc, ◌+◌, ◌^◌, ◌<◌, ◌≤◌, List, [], ◌∷◌, length, get_or, Option, None, Some, Result, Ok, Err, OnOk, sym, ◌∙◌, ap, subst, arith}
+use Rattle.std.proofs.Common.{◌≡◌, inl, inr, ℕ, zero, suc, ◌+◌, ◌^◌, ◌<◌, ◌≤◌, List, [], ◌∷◌, length, get_or, Option, None, Some, IfSome, Result, Ok, Err, OnOk, sym, ◌∙◌, ap, subst, arith}
 use Rattle.std.proofs.lemmas.Bool.{cases_eq}
 use Rattle.std.proofs.lemmas.Grind.{same_number_lists}
 use Rattle.disk_model.specs.Calls.{IsNoted, IsTimed, HasLength, Sees, Shows}
-use Rattle.disk_model.specs.Gates.{Holds, IsClosing, IsGuarded, IsOpen, IsShut, closing_calls, layout_calls, open_byte, open_gates}
+use Rattle.disk_model.specs.Gates.{Holds, IsBegun, IsClosing, IsGuarded, IsNew, IsOpen, IsShut, closing_calls, layout_calls, open_byte, open_gates}
 use Rattle.disk_model.specs.Images.{MayLeave, Now, FromOld, IsSettled}
 use Rattle.disk_model.specs.Moments.{During}
-use Rattle.disk_model.specs.Traces.{Wrote, WroteInPart, Synced, Idle, Trace, seen, written}
+use Rattle.disk_model.specs.Traces.{Wrote, WroteInPart, Synced, Idle, Trace, noted, seen, written}
 use Rattle.disk_model.proofs.Images.{present, wrote_now, synced_now}
 use Rattle.disk_model.proofs.Moments.{started, during_now, weaker, in_turn, goes_on}
-use Rattle.archive_file.specs.TextHeads.{IsEmpty, IsLeftOrBegun, IsLeftOrNew, blocks_at, head_image}
+use Rattle.archive_file.specs.TextHeads.{HasHead, IsEmpty, IsLeftOrBegun, IsLeftOrNew, TextOpensAt, blocks_at, head_image}
 use Rattle.archive_file.proofs.TextHeads.{head_is}
 
 -- ---- the gate of the layout is closed
@@ -137,4 +137,31 @@ pub layout_ready : (letters text : List ℕ) (o : Option Trace) → Shows o (IsE
 layout_ready letters text None made settled = record { each = λ c may. absurd may.image }
 layout_ready letters text (Some t) made settled = record {
   each = λ c may. subst (IsShut (blocks_at (length text))) (sym (settled.each c may)) made.shut;
+}
+
+-- ---- when an opening ends
+
+-- a device whose layout was finished is not new
+pub not_new : (c : List ℕ) → IsBegun c → IsNew c → ⊥
+not_new c begun (inl short) = absurd (omega (arith, short, begun.long))
+not_new c begun (inr shut) = shut begun.opened
+
+-- a layout that is there is kept
+pub opens_kept : (P Q : List ℕ → Type 0) (o mid : Option Trace) (before now : ℕ) → IfSome o (λ t. length t.calls ≡ before) → mid ≡ noted Synced o
+    → Shows mid Q → ((c : List ℕ) → Q c → P c → ⊥) → now ≡ before + 1 → TextOpensAt P o now
+opens_kept P Q None mid before now told is shown apart synced = tt
+opens_kept P Q (Some t) mid before now told is shown apart synced = record {
+  begun = λ p. absurd (apart (seen (Some t)) (subst (λ m. Shows m Q) is shown) p);
+  kept = λ there. omega (arith, told, synced);
+}
+
+-- one that is not there is begun
+pub opens_begun : {T E : Type 0} (r : Result T E) (P : List ℕ → Type 0) (o mid : Option Trace) (before first now : ℕ)
+    → IfSome o (λ t. length t.calls ≡ before) → mid ≡ noted Synced o → Shows o P → first ≡ before + 1
+    → OnOk r (Shows mid (λ c. now ≡ first + layout_calls c)) → OnOk r (TextOpensAt P o now)
+opens_begun (Err e) P o mid before first now told is shown synced begun = tt
+opens_begun (Ok x) P None mid before first now told is shown synced begun = tt
+opens_begun (Ok x) P (Some t) mid before first now told is shown synced begun = record {
+  begun = λ p. omega (arith, told, synced, subst (λ m. Shows m (λ c. now ≡ first + layout_calls c)) is begun);
+  kept = λ none. absurd (none shown);
 }

@@ -1,8 +1,9 @@
 -- A layout that begins with four letters and a text: its head, and where its blocks begin.
 use Rattle.std.specs.Prelude.{◌≡◌, ◌⊎◌, ℕ, ◌+◌, true, List, [], ◌∷◌, ◌++◌, All, length, take, drop, slice_index, nat_eq, Option}
-use Rattle.disk_model.specs.Gates.{IsBegun, IsNew, IsShut}
+use Rattle.disk_model.specs.Calls.{Shows}
+use Rattle.disk_model.specs.Gates.{IsBegun, IsNew, IsShut, layout_calls}
 use Rattle.disk_model.specs.Images.{MayLeave}
-use Rattle.disk_model.specs.Traces.{Trace}
+use Rattle.disk_model.specs.Traces.{Trace, moment}
 use Rattle.archive_file.specs.Fields.{number_bytes}
 use Rattle.archive_file.specs.declared.layout_field.Field.{Field}
 use Rattle.archive_file.specs.LayoutFields.{Keeps, short_at}
@@ -57,3 +58,15 @@ IsLeftOrNew o c = MayLeave o c ⊎ IsNew c
 -- or the image is the layout of this text, without blocks
 abbrev pub IsLeftOrBegun : List ℕ → List ℕ → Option Trace → List ℕ → Type 0
 IsLeftOrBegun letters text o c = IsLeftOrNew o c ⊎ IsEmpty letters text c
+
+-- ---- a device that is opened
+
+-- How many calls a device has made at the end of an opening, if it made `before` until then and has these bytes. It begins
+-- with a sync. If its layout has to be begun, the calls for that follow.
+pub record CountsTextOpening (is_begun : Type 0) (c : List ℕ) (before now : ℕ) : Type 0 where
+  pub begun : is_begun → now ≡ before + (layout_calls c + 1)
+  pub kept : (is_begun → ⊥) → now ≡ before + 1
+
+-- the opening of a device that had these calls ends at this moment; its layout is begun if its bytes have P
+abbrev pub TextOpensAt : (List ℕ → Type 0) → Option Trace → ℕ → Type 0
+TextOpensAt P old t = Shows old (λ c. CountsTextOpening (P c) c (moment old) t)

@@ -15,7 +15,7 @@ use Rattle.archive_file.specs.LayoutFields.{BreaksFirst, short_at}
 use Rattle.archive_file.specs.TextHeads.{IsEmpty, IsOfText, blocks_at, head_fields}
 use Rattle.archive_file.proofs.FieldLaws.{field_of}
 use Rattle.commit_log.specs.Images.{BadBlock, BadHead, ByBlocks, ByNothing, IsLogDamage, LogsNothing, StandsForRows, letters}
-use Rattle.commit_log.specs.Openings.{IsFound, IsLogLeftOrSame, IsLeftOrStands, IsTooMany, ListsRows}
+use Rattle.commit_log.specs.Openings.{IsFound, IsLogLeftOrSame, IsLeftOrStands, IsTooMany, ListsRows, Stores}
 use Rattle.commit_log.specs.Told.{IsReady}
 use Rattle.commit_log.proofs.Commits.{stores_stand}
 
@@ -26,6 +26,12 @@ pub settled_after : (o mid new : Option Trace) → mid ≡ noted Synced o → ne
 settled_after o mid new synced same = subst IsSettled (sym (same ∙ synced)) (settled o)
 
 -- ---- a log that is there
+
+-- it is stored
+pub found_stores : (plant : List ℕ) (tags : ℕ) (o : Option Trace) (f : Option Stored) (s : Stored) → f ≡ Some s
+    → Shows o (IsFound plant tags f) → Shows o (Stores plant tags s.rows.items s.end)
+found_stores plant tags None f s is found = tt
+found_stores plant tags (Some t) f s is found = subst (λ x. IsFound plant tags x (seen (Some t))) is found
 
 -- what is stored is stood for
 pub found_stands : (plant : List ℕ) (tags : ℕ) (o : Option Trace) (f : Option Stored) (s : Stored) → f ≡ Some s

@@ -1,5 +1,5 @@
 -- What opening a log returns, and what its type keeps at first.
-use Rattle.std.proofs.Common.{◌≡◌, ℕ, ◌+◌, ◌<◌, ◌≤◌, false, All, List, [], length, Option, Result, Ok, Err, IfErr, IfOk, IfSome, IsErrOf, OnErr, refl, sym, ◌∙◌, subst, arith}
+use Rattle.std.proofs.Common.{◌≡◌, ℕ, ◌+◌, ◌<◌, ◌≤◌, false, All, List, [], length, Option, Result, Ok, Err, IfErr, IfOk, IfSome, IsErrOf, OnErr, OnOk, refl, sym, ◌∙◌, subst, arith}
 use Rattle.std.proofs.lemmas.List.{append-nil}
 use Rattle.disk_model.specs.Calls.{Shows}
 use Rattle.disk_model.specs.Moments.{LeftSince}
@@ -41,6 +41,10 @@ ok_both (Err e) rows P is has = tt
 ok_both (Ok p) rows P is has = subst (λ l. P l p.end) (sym is) has
 
 -- what holds in any case
+pub on_ok : {T E : Type 0} (r : Result T E) {P : Type 0} → P → OnOk r P
+on_ok (Ok x) p = p
+on_ok (Err e) p = tt
+
 pub on_err : {T E : Type 0} (r : Result T E) (P : Type 0) → P → OnErr r P
 on_err (Ok x) P p = tt
 on_err (Err e) P p = p

@@ -5,7 +5,7 @@ use Rattle.archive_file.specs.declared.failure.ScanNo.TheVariants as scan
 use Rattle.disk_model.specs.Calls.{CountsFault, Shows}
 use Rattle.disk_model.specs.Gates.{IsNew, IsOpen}
 use Rattle.disk_model.specs.Images.{MayLeave}
-use Rattle.disk_model.specs.Traces.{Synced, Trace, moment, noted, seen}
+use Rattle.disk_model.specs.Traces.{Synced, Trace, noted, seen}
 use Rattle.commit_log.specs.declared.block_reader.Stored.{Stored}
 use Rattle.commit_log.specs.declared.refusal.LogNo.{LogNo}
 use Rattle.commit_log.specs.declared.refusal.LogNo.TheVariants.{DeviceFault, Damaged, OtherPlant, TooMany, WantOfMemory}
@@ -87,10 +87,6 @@ IsLogLeftOrSame plant tags o c = MayLeave o c ⊎ StandsSame plant tags (seen o)
 -- a device that is not new gains one sync, and nothing else
 abbrev pub GainsLogSync : Option Trace → Option Trace → Type 0
 GainsLogSync old new = Shows old (λ c. (IsNew c → ⊥) → new ≡ noted Synced old)
-
--- then the moment at the end of the opening is the number of the device's calls before, and one more
-abbrev pub IsNextMoment : Option Trace → ℕ → Type 0
-IsNextMoment old t = Shows old (λ c. (IsNew c → ⊥) → t ≡ moment old + 1)
 
 -- a device that is refused gains one sync, and nothing else, whether it is new or not; or a call of it has failed
 abbrev pub GainsSyncOnly : LogNo → Option Trace → Option Trace → Type 0

@@ -1,13 +1,14 @@
 // Opening a log.
 ghost use Rattle.std.specs.Prelude.{◌≡◌, ◌≢◌, ℕ, ◌+◌, ◌<◌, ◌≤◌, [], All, Option, IfErr, IfOk, IfSome, IsErrOf, OnErr, OnOk, false, length, vec_capacity};
 ghost use Rattle.disk_model.specs.Calls.{CountsFault, Shows};
-ghost use Rattle.disk_model.specs.Gates.{IsNew};
+ghost use Rattle.disk_model.specs.Gates.{IsNew, layout_calls};
 ghost use Rattle.disk_model.specs.Images.{IsSettled};
 ghost use Rattle.disk_model.specs.Moments.{During};
 ghost use Rattle.commit_log.specs.declared.refusal.LogNo.TheVariants.{Damaged, DeviceFault, OtherPlant, TooMany};
 ghost use Rattle.commit_log.specs.Blocks.{IsLogRow};
 ghost use Rattle.commit_log.specs.Images.{LogsNothing, StandsForRows};
-ghost use Rattle.commit_log.specs.Openings.{CountsLogRefusal, GainsLogSync, GainsSyncOnly, IsLogCause, IsLogLeftOrSame, IsLeftOrStands, IsNextMoment, most_rows};
+ghost use Rattle.commit_log.specs.Openings.{CountsLogRefusal, GainsLogSync, GainsSyncOnly, IsLogCause, IsLogLeftOrSame, IsLeftOrStands, most_rows};
+ghost use Rattle.archive_file.specs.TextHeads.{TextOpensAt};
 ghost use Rattle.commit_log.specs.Told.{IsReady};
 
 use crate::block_reader::Stored;
@@ -47,7 +48,7 @@ pub fn open_log<D: Disk>(
 
     // A device that is not new gains only a sync. A refused one gains only a sync too, unless a call of it failed.
     ensures synced { IfOk result (λ l. GainsLogSync (D.trace dev) (D.trace l.dev)) }
-    ensures next_moment { IfOk result (λ l. IsNextMoment (D.trace dev) l.moment) }
+    ensures opened_at { IfOk result (λ l. TextOpensAt IsNew (D.trace dev) l.moment) }
     ensures synced_refused { IfErr result (λ e. GainsSyncOnly e.why (D.trace dev) (D.trace e.dev)) }
 
     ensures plant { IfOk result (λ l. l.plant ≡ plant.now) }
@@ -138,6 +139,7 @@ fn open_parts<D: Disk>(
         (IsLeftOrStands plant.now tags p.rows.items (D.trace dev.old))) }
     ensures any_moment_refused { OnErr result (During (D.trace dev.old) (D.trace dev.new) (IsLogLeftOrSame plant.now tags (D.trace dev.old))) }
     ensures synced { OnOk result (GainsLogSync (D.trace dev.old) (D.trace dev.new)) }
+    ensures moment { OnOk result (TextOpensAt IsNew (D.trace dev.old) (D.ticks dev.new)) }
     ensures synced_refused { IfErr result (λ why. GainsSyncOnly why (D.trace dev.old) (D.trace dev.new)) }
     ensures rows { IfOk result (λ p. All (IsLogRow tags) p.rows.items) }
     ensures plant { IfOk result (λ p. p.plant.items ≡ plant.now) }
@@ -202,6 +204,7 @@ fn begin<D: Disk>(
     ensures ready { IfOk result (λ p. IfSome (D.trace dev.new) (IsReady plant.now tags [] p.end)) }
     ensures any_moment { During (D.trace dev.old) (D.trace dev.new) (LogsNothing plant.now) }
     ensures unwritten { IfErr result (λ why. why ≢ DeviceFault → D.trace dev.new ≡ D.trace dev.old) }
+    ensures calls { OnOk result (Shows (D.trace dev.old) (λ c. D.ticks dev.new ≡ D.ticks dev.old + layout_calls c)) }
     ensures plant { IfOk result (λ p. p.plant.items ≡ plant.now) }
     ensures tape { IfOk result (λ p. p.tape.items ≡ []) }
     ensures capacity { IfOk result (λ p. room ≤ vec_capacity p.tape) }

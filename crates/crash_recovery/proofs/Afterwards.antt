@@ -9,6 +9,7 @@ use Rattle.disk_model.specs.Gates.{IsNew, IsBegun, layout_calls}
 use Rattle.disk_model.specs.Calls.{Shows}
 use Rattle.event_queue.specs.Slots.{batch_at}
 use Rattle.event_queue.specs.Lanes.{IsStale}
+use Rattle.archive_file.proofs.Beginnings.{not_new}
 use Rattle.device_layout.specs.Recovery.{counting}
 use Rattle.device_layout.proofs.OneState.{one_state}
 use Rattle.crash_recovery.specs.declared.seat.Seat.{Seat}
@@ -17,11 +18,6 @@ use Rattle.crash_recovery.specs.Opening.{IsReadAs, HasFree, HasFreeAtFirst, Leav
 use Rattle.crash_recovery.specs.Seats.{checkpoint_calls}
 use Rattle.trend_model.specs.History.{Tune}
 use Rattle.crash_recovery.proofs.Openings.{shown_before}
-
--- a device whose layout was finished is not new
-pub not_new : (c : List ℕ) → IsBegun c → IsNew c → ⊥
-not_new c begun (inl short) = absurd (omega (arith, short, begun.long))
-not_new c begun (inr shut) = shut begun.opened
 
 -- a device that has the place of a journal is not new
 not_seated : (p : Seat) (c : List ℕ) → IsSeat p c → IsNew c → ⊥

@@ -23,6 +23,7 @@ use Rattle.event_queue.specs.Lanes.{slot_points_of, points_before, lane_points, 
 use Rattle.event_queue.specs.Damages.{BreaksSlotAt as SlotBreaksAt, IsLaneDamage}
 use Rattle.event_queue.proofs.Batches.{length-points_in}
 use Rattle.event_queue.proofs.Steps.{points_open, points_more}
+use Rattle.archive_file.proofs.Beginnings.{not_new}
 use Rattle.device_layout.specs.Headers.{is_field_ok, slots_in, tuning_in}
 use Rattle.device_layout.specs.Recovery.{header_of, log_place, counting, slot_bytes, HasSummary, start_of, AllFit, recovered_tuning}
 use Rattle.device_layout.specs.Recovery.{IsOfTag, IsStored, IsReplayed, Recovers}
@@ -46,10 +47,6 @@ damaged_begun def c a byte (BadLog s d) = tag_begun def c d.tag
 damaged_begun def c a byte (BadParts rs s i d) = tag_begun def c d.tag
 damaged_begun def c a byte (BadQueue rs s d) = tag_begun def c d.stored.tag
 damaged_begun def c a byte (BadValue rs s n j i d) = tag_begun def c d.stored.tag
-
-begun_not_new : (c : List ℕ) → IsBegun c → IsNew c → ⊥
-begun_not_new c begun (inl short) = absurd (omega (arith, short, begun.long))
-begun_not_new c begun (inr shut) = shut begun.opened
 
 -- ---- the log
 
@@ -223,5 +220,5 @@ module _ (def : TagDef) (c : List ℕ) (rs : List Rec) (sum : Summary) (s : Stat
 
 pub undamaged : (def : TagDef) (c : List ℕ) (s : State) (a : ℕ) (byte : Option ℕ) → Recovers def c s
     → IsTagDamage def c a byte → ⊥
-undamaged def c s a byte (inl new) damage = begun_not_new c (damaged_begun def c a byte damage) new.0
+undamaged def c s a byte (inl new) damage = not_new c (damaged_begun def c a byte damage) new.0
 undamaged def c s a byte (inr (rs, sum, stored, replayed)) damage = not_damaged def c rs sum s stored replayed a byte damage

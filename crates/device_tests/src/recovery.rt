@@ -3,7 +3,7 @@ ghost use Rattle.std.specs.Prelude.{◌≡◌, ◌<◌};
 
 use crate::spelled::{change, point, rows_tell, same};
 use crash_recovery::{OpenFail, OpenNo, Opened, open_tag};
-use disk_model::MemDisk;
+use disk_model::{Disk, MemDisk};
 use event_queue::LaneNo;
 use std::alloc::Global;
 use std::fmt::Write;
@@ -16,19 +16,20 @@ use trend_num::{Kind, Point, Rec, Steps, TagDef, Tuning, in_range, name_from, tu
 // How many lane slots there are, and what happens. The name of a tuning opens the device with that tuning. A value is
 // put into the lane or, if the lane is full, a checkpoint keeps it. `check` makes a checkpoint. Then come the records,
 // the held point, and how many raw values are acknowledged and how many lane slots are free. Last come the writes and
-// syncs since the device was opened last.
+// syncs since the last opening began.
 //
-// A batch takes four writes and syncs. A checkpoint takes two for new records, two for the summary and two for its
-// gate. It also takes one for each gate of the lane that it closes, and one after these. It takes two more if the gate
-// of its summary slot was open.
+// An opening takes a sync. A new device takes six more: two for its gate, and four for the layout. If the tuning is
+// another one, a checkpoint follows. A batch takes four. A checkpoint takes two for new records, two for the summary and
+// two for its gate. It also takes one for each gate of the lane that it closes, and one after these. It takes one more if
+// the gate of its summary slot was open.
 const STORIES: &str = "\
-64 plain => none 0 64 0
-1 plain 0,0 10,10 20,0 30,5 => 0,0 10,10 20,0 held 30,5 4 1 24
-1 plain 0,0 10,10 plain 20,0 30,5 => 0,0 10,10 20,0 held 30,5 4 1 12
-4 plain 0,5 10,60 check 20,5 check check 30,5 check => 0,5 10,60 held 20,5 4 4 41
-64 plain 0,0 10,10 20,20 loose 30,33 40,40 => 0,0 20,20 held 40,40 6 62 8
-64 dull 0,0 10,1 plain => 0,0 10,1 held 10,1 3 64 0
-4 plain 0,0 dull 10,1 5,3 => 0,0 5,3* held 10,1 4 2 8";
+64 plain => none 0 64 7
+1 plain 0,0 10,10 20,0 30,5 => 0,0 10,10 20,0 held 30,5 4 1 31
+1 plain 0,0 10,10 plain 20,0 30,5 => 0,0 10,10 20,0 held 30,5 4 1 13
+4 plain 0,5 10,60 check 20,5 check check 30,5 check => 0,5 10,60 held 20,5 4 4 48
+64 plain 0,0 10,10 20,20 loose 30,33 40,40 => 0,0 20,20 held 40,40 6 62 19
+64 dull 0,0 10,1 plain => 0,0 10,1 held 10,1 3 64 10
+4 plain 0,0 dull 10,1 5,3 => 0,0 5,3* held 10,1 4 2 17";
 
 // Changed bytes of the device of the tag T1, and the answer when it is opened. Of the header: letters, the name and its
 // zeros, the tuning, the number of lane slots, the kind, zeros. Of the summary: flags, zeros, absent parts that have
@@ -145,7 +146,7 @@ fn put(rt: &impl Abort, alloc: Global, tag: &mut Opened<MemDisk>, p: Point) -> R
     keep::<Brand>(rt, alloc, tag, p, Blank::new(1))
 }
 
-// Opens a device with the tuning of a name. It returns the tag, and the clock of the device then.
+// Opens a device with the tuning of a name. It returns the tag, and the clock of the device before.
 fn begun(
     alloc: Global,
     dev: MemDisk,
@@ -153,8 +154,8 @@ fn begun(
     name: &str,
 ) -> Result<(Opened<MemDisk>, u64), Fail> {
     let def = tag(name).ok_or("tag")?;
+    let start = dev.clock();
     let now = opened(alloc, dev, &def, slots).ok().ok_or("refused")?;
-    let start = now.journal.clock();
     Ok((now, start))
 }
 
@@ -187,7 +188,7 @@ fn gone_on(
     Ok((now, start))
 }
 
-// Plays a story to its end. It returns the tag, and the clock of its device when that was opened last.
+// Plays a story to its end. It returns the tag, and the clock of its device before the last opening.
 fn stored(
     rt: &impl Abort,
     alloc: Global,

@@ -8,6 +8,8 @@ ghost use Rattle.calc_refresh.specs.Lists.{lists_of};
 ghost use Rattle.calc_refresh.specs.Refreshed.{fresh};
 ghost use Rattle.calc_refresh.specs.Sheet.{AreRowsWhole, IsCopy, IsGrid, IsGroup, grid_of};
 ghost use Rattle.group_layout.specs.Readings.{GainsGroupSync, HasShape, IsReadOf};
+ghost use Rattle.group_layout.specs.Images.{IsUnsaved};
+ghost use Rattle.archive_file.specs.TextHeads.{TextOpensAt};
 ghost use Rattle.group_book.specs.declared.refusal.LoadNo.TheVariants.{Ahead, Damaged, DeviceFault, Shape};
 ghost use Rattle.group_book.specs.Openings.{CountsBookRefusal, IsAheadOrMemory, IsBookCause, IsRefused, StandsForGroup, BookStaysSame, scan_refusal};
 ghost use Rattle.group_book.specs.Tapes.{cut};
@@ -90,6 +92,7 @@ pub fn load<D: Disk>(
     ensures device { IfOk result (λ b. IsSome b.dev) }
     ensures usable { IfOk result (λ b. b.failed ≡ false) }
     ensures moment { IfOk result (λ b. b.opening.moment ≡ count_of D.ticks b.dev) }
+    ensures opened_at { IfOk result (λ b. TextOpensAt (IsUnsaved text.now) (D.trace dev) b.opening.moment) }
     ensures faults { IfOk result (λ b. b.opening.faults ≡ count_of D.fault_count b.dev) }
 
     // A refusal names its cause. The device counts one fault if a call of it failed, and none otherwise.

@@ -13,6 +13,7 @@ use Rattle.group_layout.specs.declared.layout_reader.Found.TheVariants.{New, Oth
 use Rattle.group_layout.specs.declared.layout_reader.SavedGroup.{SavedGroup}
 use Rattle.group_layout.specs.Blocks.{last_of, parts_of, unsaved}
 use Rattle.archive_file.specs.TextHeads.{IsEmpty}
+use Rattle.archive_file.proofs.Beginnings.{not_new}
 use Rattle.group_layout.specs.Images.{ByBlocks, ByNothing, HasSaved, IsUnsaved, StandsFor, letters}
 use Rattle.group_layout.specs.Readings.{GainsGroupSync, HasShape, IsFound, IsLeftOrSame, IsReadOf, SavesNothing, StandsSame}
 use Rattle.group_layout.specs.Rows.{AreRowsOf, block_lists_of}
@@ -82,12 +83,18 @@ left_begun text inputs calcs o mid new synced is before begun =
     unsaved_seen None y synced is = inl (inl (omega arith))
     unsaved_seen (Some t) y synced is = subst (λ x. Shows x (IsUnsaved text)) synced is
 
+-- blocks were read
+pub read_of : (text : List ℕ) (inputs calcs : ℕ) (o : Option Trace) (f : Found) (g : SavedGroup) → f ≡ Saved g
+    → Shows o (IsFound text inputs calcs f) → Shows o (λ c. IsReadOf text inputs calcs c g)
+read_of text inputs calcs None f g is found = tt
+read_of text inputs calcs (Some t) f g is found = subst (λ x. IsFound text inputs calcs x (seen (Some t))) is found
+
 -- what was read of blocks is what they stand for
 pub read_stands : (text : List ℕ) (inputs calcs : ℕ) (o : Option Trace) (f : Found) (g : SavedGroup) → f ≡ Saved g
     → Shows o (IsFound text inputs calcs f) → Shows o (λ c. StandsFor text inputs calcs c g.versions.items (block_lists_of g.rows.items))
 read_stands text inputs calcs None f g is found = tt
 read_stands text inputs calcs (Some t) f g is found =
-    let read : IsReadOf text inputs calcs (seen (Some t)) g = subst (λ x. IsFound text inputs calcs x (seen (Some t))) is found in
+    let read = read_of text inputs calcs (Some t) f g is found in
     ByBlocks read.blocks read.has read.versions
 
 -- where no blocks were found nothing is saved
@@ -116,6 +123,13 @@ gains_sync text (Some t) new synced = λ saved. synced
 pub gains_nothing : (text : List ℕ) (o new : Option Trace) → Shows o (IsUnsaved text) → GainsGroupSync text o new
 gains_nothing text None new is = tt
 gains_nothing text (Some t) new is = λ saved. absurd (saved is)
+
+-- ---- when the opening ends
+
+-- a device with saved rows of this text has something saved for it
+pub saved_is : (text : List ℕ) (inputs calcs : ℕ) (g : SavedGroup) (c : List ℕ) → IsReadOf text inputs calcs c g → IsUnsaved text c → ⊥
+saved_is text inputs calcs g c read (inl new) = not_new c read.has.of_text.head.begun new
+saved_is text inputs calcs g c read (inr other) = other.other read.has.of_text.same
 
 -- ---- how long what was read is
 

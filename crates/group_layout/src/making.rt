@@ -4,7 +4,7 @@ ghost use Rattle.disk_model.specs.Traces.{seen, written};
 ghost use Rattle.disk_model.specs.Images.{FromOld, IsSettled, Now};
 ghost use Rattle.disk_model.specs.Moments.{During};
 ghost use Rattle.disk_model.specs.Calls.{CountsFault, Sees, Shows};
-ghost use Rattle.disk_model.specs.Gates.{IsGuarded, IsShut, open_byte};
+ghost use Rattle.disk_model.specs.Gates.{IsGuarded, IsShut, layout_calls, open_byte};
 ghost use Rattle.archive_file.specs.declared.failure.PutNo.TheVariants.{DeviceFault, WantOfMemory as NoMemory};
 ghost use Rattle.group_layout.specs.Blocks.{block_image, block_size, parts_of};
 ghost use Rattle.group_layout.specs.Images.{IsUnsaved, letters};
@@ -35,6 +35,7 @@ pub fn make_group<D: Disk>(alloc: Global, dev: &mut D, text: &[u8]) -> Result<()
     ensures no_memory { IsErrOf result NoMemory → dev.new ≡ dev.old }
     ensures cause { CountsFault result DeviceFault (D.fault_count dev.old) (D.fault_count dev.new) }
     ensures later { D.ticks dev.old ≤ D.ticks dev.new }
+    ensures calls { OnOk result (Shows (D.trace dev.old) (λ c. D.ticks dev.new ≡ D.ticks dev.old + layout_calls c)) }
 {
     begin_layout(alloc, dev, LETTERS, text)
 }

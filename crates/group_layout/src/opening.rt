@@ -1,9 +1,10 @@
 // Opening a group's device.
-ghost use Rattle.std.specs.Prelude.{◌≡◌, ℕ, ◌^◌, ◌<◌, ◌≤◌, [], Option, IfOk, IsErrOf, OnOk, length, replicate};
+ghost use Rattle.std.specs.Prelude.{◌≡◌, ℕ, ◌+◌, ◌^◌, ◌<◌, ◌≤◌, [], Option, IfOk, IsErrOf, OnOk, length, replicate};
 ghost use Rattle.disk_model.specs.Images.{IsSettled, Now};
 ghost use Rattle.disk_model.specs.Moments.{During};
 ghost use Rattle.disk_model.specs.Calls.{CountsFault, Shows};
-ghost use Rattle.disk_model.specs.Gates.{IsShut};
+ghost use Rattle.disk_model.specs.Gates.{IsShut, layout_calls};
+ghost use Rattle.archive_file.specs.TextHeads.{TextOpensAt};
 ghost use Rattle.archive_file.specs.declared.failure.ScanNo.TheVariants.{Damaged, DeviceFault};
 ghost use Rattle.group_layout.specs.Images.{IsGroupDamage, IsUnsaved, StandsFor};
 ghost use Rattle.group_layout.specs.Readings.{GainsGroupSync, HasShape, IsLeftOrSame, IsReadOf, SavesNothing};
@@ -36,6 +37,7 @@ pub fn open_group<D: Disk>(
     ensures ready { IfOk result (λ g. Now (D.trace dev.new) (IsShut g.end)) }
     ensures settled { OnOk result (IsSettled (D.trace dev.new)) }
     ensures synced { (IsErrOf result DeviceFault → ⊥) → GainsGroupSync text.now (D.trace dev.old) (D.trace dev.new) }
+    ensures moment { OnOk result (TextOpensAt (IsUnsaved text.now) (D.trace dev.old) (D.ticks dev.new)) }
     ensures any_moment { During (D.trace dev.old) (D.trace dev.new) (IsLeftOrSame text.now inputs calcs (D.trace dev.old)) }
     ensures damaged { (a : ℕ) (byte : Option ℕ) → IsErrOf result (Damaged a byte)
         → Shows (D.trace dev.old) (λ c. IsGroupDamage text.now inputs calcs c a byte) }
@@ -73,6 +75,7 @@ fn begin<D: Disk>(
     ensures undamaged { (a : ℕ) (byte : Option ℕ) → IsErrOf result (Damaged a byte) → ⊥ }
     ensures cause { CountsFault result DeviceFault (D.fault_count dev.old) (D.fault_count dev.new) }
     ensures later { D.ticks dev.old ≤ D.ticks dev.new }
+    ensures calls { OnOk result (Shows (D.trace dev.old) (λ c. D.ticks dev.new ≡ D.ticks dev.old + layout_calls c)) }
 {
     let at = 9 + text.len();
     let none = Blocks {

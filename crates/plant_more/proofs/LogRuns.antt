@@ -17,7 +17,8 @@ use Rattle.commit_log.specs.declared.history.LogTurn.{LogTurn}
 use Rattle.commit_log.specs.declared.row.LogRow.{LogRow}
 use Rattle.commit_log.specs.Blocks.{IsLogRow}
 use Rattle.commit_log.specs.Images.{StandsForRows}
-use Rattle.commit_log.specs.Openings.{IsNextMoment}
+use Rattle.disk_model.specs.Gates.{IsNew}
+use Rattle.archive_file.specs.TextHeads.{TextOpensAt}
 use Rattle.commit_log.specs.Tapes.{puts, log_begin}
 use Rattle.commit_log.specs.Told.{IsHandedOut, ToldLog}
 use Rattle.commit_log.proofs.Tapes.{fit_rows}
@@ -197,7 +198,7 @@ is_run {D} trace ticks faults base rows known first e old mid new before now sto
         record {
           plant = is.plant ∙ (found.plant ∙ plant);
           tags = is.tags ∙ (found.tags ∙ tags);
-          next_moment = subst (IsNextMoment (old log_name)) (kept.moment ∙ (sym found.moment ∙ sym is.moment)) opened.next_moment;
+          opened_at = subst (TextOpensAt IsNew (old log_name)) (kept.moment ∙ (sym found.moment ∙ sym is.moment)) opened.opened_at;
           opening = subst (λ (l : List LogRow). Shows (old log_name) (λ c. StandsForRows (plant_text base.tags.items) (length base.tags.items) c l))
               (kept.rows ∙ (sym found.rows ∙ sym is.opening)) opened.rows;
         }

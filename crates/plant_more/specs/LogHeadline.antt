@@ -14,7 +14,8 @@ use Rattle.plant_files.specs.RowFiles.{ToldFiles}
 use Rattle.plant_files.specs.PlanRows.{IsCollected, IsCollectingRefusal}
 use Rattle.commit_log.specs.declared.history.LogHistory.{LogHistory}
 use Rattle.commit_log.specs.Images.{StandsForRows}
-use Rattle.commit_log.specs.Openings.{IsNextMoment}
+use Rattle.disk_model.specs.Gates.{IsNew}
+use Rattle.archive_file.specs.TextHeads.{TextOpensAt}
 use Rattle.commit_log.specs.Tapes.{puts}
 use Rattle.commit_log.specs.Told.{IsHandedOut, ToldLog}
 use Rattle.plant_more.specs.declared.log_note.LogNote.{LogNote}
@@ -87,12 +88,12 @@ pub record IsDone (base : Base) (rows : List (List RawRow)) (h : LogHistory) (te
   pub acknowledged : length h.opening.items + length (puts h.tape.items) ≤ h.acked
   pub told : IsLineToldOf base.tags.items (log_rows h) text
 
--- The log is that of the base, and its opening has the rows for which its device stood before. If the device was not
--- new, the moment of the opening is the number of its calls before, and one more.
+-- The log is that of the base, and its opening has the rows for which its device stood before. The opening ends one call
+-- after those that the device had made, or, if the device was new, a few more (`TextOpensAt`).
 pub record IsLogOpenedAs (base : Base) (before : Option Trace) (h : LogHistory) : Type 0 where
   pub plant : h.plant.items ≡ plant_text base.tags.items
   pub tags : h.tags ≡ length base.tags.items
-  pub next_moment : IsNextMoment before h.moment
+  pub opened_at : TextOpensAt IsNew before h.moment
   pub opening : Shows before (λ c. StandsForRows (plant_text base.tags.items) (length base.tags.items) c h.opening.items)
 
 -- Why a log is not done. Either it was refused after its workers had ended. Or only its report is missing: there was no

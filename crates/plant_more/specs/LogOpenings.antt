@@ -11,7 +11,8 @@ use Rattle.plant_status.specs.declared.status.Status.TheVariants.{Damaged, Devic
 use Rattle.commit_log.specs.declared.refusal.LogNo.{LogNo}
 use Rattle.commit_log.specs.declared.refusal.LogNo.TheVariants as no
 use Rattle.commit_log.specs.Images.{StandsForRows}
-use Rattle.commit_log.specs.Openings.{GainsLogSync, IsLogCause, IsLogLeftOrSame, IsLeftOrStands, IsNextMoment}
+use Rattle.archive_file.specs.TextHeads.{TextOpensAt}
+use Rattle.commit_log.specs.Openings.{GainsLogSync, IsLogCause, IsLogLeftOrSame, IsLeftOrStands}
 use Rattle.commit_log.specs.Told.{ToldLog}
 use Rattle.plant_more.specs.LogTexts.{log_name}
 
@@ -26,7 +27,7 @@ AreOthersSame old new = (n : List ℕ) → n ≢ log_name → new n ≡ old n
 -- The log of a plant with this text and so many tags is opened on a device with this trace, with room for so many puts.
 -- It has the rows for which the device's bytes stood. A crash at any moment since left an image that a crash might have
 -- left before, or one that stands for the same rows. If the device was not new, it has gained one sync, and nothing
--- else: so the moment of the opening is the number of its calls before, and one more.
+-- else. The moment of the opening follows from its bytes.
 pub record IsLogOpened {D : Type 0} (trace : D → Option Trace) (ticks faults : D → ℕ) (text : List ℕ) (tags room : ℕ) (before : Option Trace)
     (l : ToldLog D) : Type 0 where
   pub plant : l.plant ≡ text
@@ -36,7 +37,7 @@ pub record IsLogOpened {D : Type 0} (trace : D → Option Trace) (ticks faults :
   pub any_moment : During before (trace l.dev) (IsLeftOrStands text tags l.opening before)
   pub synced : GainsLogSync before (trace l.dev)
   pub moment : l.moment ≡ ticks l.dev
-  pub next_moment : IsNextMoment before l.moment
+  pub opened_at : TextOpensAt IsNew before l.moment
   pub faults_are : l.faults ≡ 0
   pub faultless : faults l.dev ≡ 0
   pub tape : l.tape ≡ []

@@ -5,7 +5,7 @@ use Rattle.trend_num.specs.declared.tag_def.TagDef.{TagDef}
 use Rattle.tag_core.specs.Core.{Core}
 use Rattle.disk_model.specs.Calls.{Shows}
 use Rattle.disk_model.specs.Traces.{Trace}
-use Rattle.crash_recovery.specs.Opening.{HasSlots, LeavesFree, StaysSame}
+use Rattle.crash_recovery.specs.Opening.{HasSlots, LeavesFree, OpensAt, StaysSame}
 use Rattle.tag_cell.specs.Tapes.{opened}
 use Rattle.tag_cell.specs.Told.{ToldCell}
 use Rattle.plant_store.specs.Tags.{lane_slots, tag_trace_of, IsOpened, IsLeft}
@@ -29,6 +29,7 @@ pub record IsCellOpened {D : Type 0} (def : TagDef) (old new : Option Trace) (ti
   pub acked_is : c.journal.acked ≡ c.opening.summary.taken
   pub usable : c.journal.failed ≡ false
   pub moment_is : c.opening.moment ≡ ticks
+  pub opened_at : OpensAt def old c.opening.moment
   pub opened_faultless : c.opening.faults ≡ 0
   pub faultless : faults ≡ 0
 

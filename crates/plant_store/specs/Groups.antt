@@ -8,6 +8,8 @@ use Rattle.disk_model.specs.Traces.{Trace}
 use Rattle.calc_refresh.specs.declared.definition.GroupDefParts.{GroupDefParts}
 use Rattle.calc_refresh.specs.Lists.{lists_of}
 use Rattle.calc_refresh.specs.Sheet.{AreRowsWhole}
+use Rattle.archive_file.specs.TextHeads.{TextOpensAt}
+use Rattle.group_layout.specs.Images.{IsUnsaved}
 use Rattle.group_layout.specs.Readings.{GainsGroupSync}
 use Rattle.group_layout.specs.Texts.{definition_text}
 use Rattle.tag_base.specs.declared.definition.GroupDef.{GroupDef}
@@ -48,12 +50,13 @@ group_definition_text g = definition_text g.name g.start g.period g.calcs
 abbrev pub input_records_of : List (List Rec) → GroupDef → List (List Rec)
 input_records_of records g = map (λ tag. slice_index_or records tag []) g.inputs.items
 
--- a group is opened with these versions and rows: its device stood for them, and no version is above the number of
--- records of its tag
+-- A group is opened with these versions and rows: its device stood for them, and no version is above the number of
+-- records of its tag. The opening ends one call after those that the device had made, or, if it was begun, a few more.
 pub record IsGroupOpening (g : GroupDef) (recovered : List (List Rec)) (o : Option Trace) (opening : GroupOpening) : Type 0 where
   pub stood : Shows o (StandsForGroup (group_definition_text g) (group_parts_of g) opening.versions.items (lists_of opening.rows.items))
   pub within : map length (cut opening.versions.items recovered) ≡ opening.versions.items
   pub faults : opening.faults ≡ 0
+  pub moment : TextOpensAt (IsUnsaved (group_definition_text g)) o opening.moment
 
 -- each of the first groups is opened so
 abbrev pub AreGroupsOpened : ℕ → List GroupDef → List (List Rec) → DeviceTraces → List GroupOpening → Type 0

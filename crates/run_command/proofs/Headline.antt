@@ -56,6 +56,9 @@ use Rattle.collector_pool.specs.declared.work.Refresh.{Refresh}
 use Rattle.tag_base.specs.declared.definition.Base.{Base}
 use Rattle.tag_base.specs.declared.definition.GroupDef.{GroupDef}
 use Rattle.tag_base.specs.declared.schedule.Refresher.{Refresher}
+use Rattle.archive_file.specs.TextHeads.{TextOpensAt}
+use Rattle.crash_recovery.specs.Opening.{OpensAt}
+use Rattle.group_layout.specs.Images.{IsUnsaved}
 use Rattle.plant_store.specs.Tags.{IsLeft, IsOpened, tag_trace_of}
 use Rattle.plant_store.specs.CellClosings.{AreHistoriesAt, AreHistoriesOf, IsHistoryAt, IsHistoryOfCell}
 use Rattle.plant_store.specs.CellNames.{device_names_of}
@@ -131,6 +134,7 @@ tag_opened trace ticks faults clocked def before c its o was same records summar
       left = subst (IsLeft def before (trace c.journal.dev)) core was.left;
       same = was.same;
       clock = subst (λ n. IfSome (trace c.journal.dev) (λ t. length t.calls ≡ n)) (sym (moment ∙ was.moment_is)) (clocked c.journal.dev);
+      opened_at = subst (OpensAt def before) (sym moment) was.opened_at;
       faultless = faults_same ∙ was.opened_faultless;
     }
 
@@ -294,6 +298,7 @@ group_opened trace ticks faults clocked i d before recovered records b group def
         within = subst (λ v. map length (cut v records) ≡ v) (sym versions)
             (subst (λ l. map length (cut b.opening.versions.items l) ≡ b.opening.versions.items) same was.opening.within);
         faults = faults_same ∙ was.opening.faults;
+        moment = subst (TextOpensAt (IsUnsaved (group_definition_text d)) before) (sym moment) was.opening.moment;
       };
       after = trace_of trace b.dev;
       synced = was.synced;

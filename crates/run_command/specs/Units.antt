@@ -29,7 +29,7 @@ use Rattle.tag_base.specs.declared.definition.Base.{Base}
 use Rattle.tag_base.specs.declared.definition.GroupDef.{GroupDef}
 use Rattle.tag_base.specs.declared.schedule.Refresher.{Refresher}
 use Rattle.plant_store.specs.Tags.{IsLeft, IsOpened, tag_trace_of}
-use Rattle.crash_recovery.specs.Opening.{StaysSame}
+use Rattle.crash_recovery.specs.Opening.{OpensAt, StaysSame}
 use Rattle.tag_core.specs.Core.{Core}
 use Rattle.group_layout.specs.Readings.{GainsGroupSync}
 use Rattle.group_book.specs.Openings.{BookStaysSame}
@@ -76,8 +76,9 @@ abbrev pub core_of : TagDef → TagOpening → Core
 core_of def o = record { state = opened o; step = def.step; spare = 0 }
 
 -- A tag is that of a base, and was opened as what its device, with these calls, recovered. `after` are the device's calls
--- at the end of the opening: none had failed, and as many were made as the opening's moment says. A crash at any moment
--- until then leaves what one could leave before, or what recovers the same, perhaps retuned (`StaysSame`).
+-- at the end of the opening: none had failed, and as many were made as the opening's moment says. How many the opening makes
+-- follows from the device's bytes (`OpensAt`). A crash at any moment until then leaves what one could leave before, or what
+-- recovers the same, perhaps retuned (`StaysSame`).
 pub record IsTagOpened (def : TagDef) (before : Option Trace) (its : TagDef) (o : TagOpening) : Type 0 where
   pub def_is : its ≡ def
   pub found : IsOpened def before (core_of its o)
@@ -85,6 +86,7 @@ pub record IsTagOpened (def : TagDef) (before : Option Trace) (its : TagDef) (o 
   pub left : IsLeft def before after (core_of its o)
   pub same : StaysSame def before after
   pub clock : IfSome after (λ t. length t.calls ≡ o.moment)
+  pub opened_at : OpensAt def before o.moment
   pub faultless : o.faults ≡ 0
 
 -- ---- a group

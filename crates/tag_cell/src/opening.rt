@@ -6,7 +6,7 @@ ghost use Rattle.trend_model.specs.State.{State};
 ghost use Rattle.trend_model.specs.Contents.{listed};
 ghost use Rattle.device_layout.specs.declared.failure.OpenNo.TheVariants.{WantOfMemory as NoMemory};
 ghost use Rattle.device_layout.specs.Recovery.{Recovers};
-ghost use Rattle.crash_recovery.specs.Opening.{GainsSync, HasSlots, IsOpenedAs, LeavesFree, MakesLayout, RecoversThen, StaysSame};
+ghost use Rattle.crash_recovery.specs.Opening.{GainsSync, HasSlots, IsOpenedAs, LeavesFree, MakesLayout, OpensAt, RecoversThen, StaysSame};
 ghost use Rattle.device_layout.specs.Readings.{CountsRefusal, IsCause};
 ghost use Rattle.disk_model.specs.Calls.{Shows};
 ghost use Rattle.snapshot_table.specs.Boards.{PostsTo};
@@ -57,6 +57,7 @@ pub fn open_cell<D: Disk, R: Wait>(
     ensures usable { IfOk result (λ c. c.journal.failed ≡ false) }
     ensures room { IfOk result (λ c. c.room ≡ room) }
     ensures moment { IfOk result (λ c. c.opening.moment ≡ D.ticks c.journal.dev) }
+    ensures opened_at { IfOk result (λ c. OpensAt def.now (D.trace dev) c.opening.moment) }
     ensures faults_told { IfOk result (λ c. c.opening.faults ≡ D.fault_count c.journal.dev) }
     ensures cause { IfErr result (λ e. IsCause def.now (D.trace dev) e.why) }
     ensures faultless { IfOk result (λ c. D.fault_count c.journal.dev ≡ D.fault_count dev) }

@@ -1,14 +1,16 @@
-use Rattle.std.proofs.Common.{[], List, Err, IfErr, refl, sym, subst}
+use Rattle.std.proofs.Common.{[], List, Err, IfErr, refl, sym, ◌∙◌, arith, subst}
+use Rattle.disk_model.specs.Gates.{IsNew}
+use Rattle.archive_file.proofs.Beginnings.{not_new, opens_begun, opens_kept}
 use Rattle.std.proofs.lemmas.Result.{err_from_is_err_and}
 use Rattle.disk_model.specs.Calls.{Shows}
 use Rattle.disk_model.specs.Moments.{During}
 use Rattle.disk_model.specs.Traces.{seen}
 use Rattle.commit_log.specs.declared.row.LogRow.{LogRow}
 use Rattle.commit_log.specs.Images.{LogsNothing, StandsForRows}
-use Rattle.commit_log.specs.Openings.{IsLogCause, IsLogLeftOrSame, IsLeftOrStands, IsTooMany, StandsSame}
+use Rattle.commit_log.specs.Openings.{IsLogCause, IsLogLeftOrSame, IsLeftOrStands, IsTooMany, StandsSame, Stores}
 use Rattle.archive_file.proofs.ReadImages.{during_same, left_synced, shown_before}
-use Rattle.commit_log.proofs.Opened.{begun_same, begun_stands, found_many, found_new, found_stands}
-use Rattle.commit_log.proofs.Openings.{ok_rows, on_err, parts_cause, read_cause}
+use Rattle.commit_log.proofs.Opened.{begun_same, begun_stands, found_many, found_new, found_stands, found_stores}
+use Rattle.commit_log.proofs.Openings.{ok_rows, on_err, on_ok, parts_cause, read_cause}
 use Rattle.commit_log.proofs.opening.open_parts.Given as given
 use Rattle.commit_log.proofs.opening.open_parts.Goals as goal
 use Rattle.commit_log.proofs.opening.open_parts.Goals.{After-read_log}
@@ -92,3 +94,22 @@ returns-in-None-clause-any_moment_refused g c =
     (found_new x.plant.now x.tags _ c.in_ok-stored.field-0 c.in-None.is c.in_ok-stored.ensures.found)
     (left_synced (StandsSame x.plant.now x.tags (seen o)) c.sync.result _ _ c.sync.ensures.noted)
     (subst (λ t. During t new (LogsNothing x.plant.now)) c.read_log.ensures.same c.begin.ensures.any_moment))
+
+pub returns-in-Some-clause-moment : goal.returns-in-Some-clause-moment
+returns-in-Some-clause-moment g c =
+    let x = c.args in
+    let stored = c.in-Some.stored in
+    on_ok c.parts_of.result (opens_kept IsNew (Stores x.plant.now x.tags stored.rows.items stored.end) _ (g.D.Disk.trace c.sync.new.self) _ _
+    (g.met.D.Disk.told x.dev.now) c.in-Ok.ensures.noted
+    (found_stores x.plant.now x.tags _ c.in_ok-stored.field-0 stored c.in-Some.is c.in_ok-stored.ensures.found)
+    (λ i stores. not_new i stores.of_plant.head.begun)
+    (omega (arith, c.in-Ok.ensures.clock.in_time, c.sync.ensures.clock.counted, c.read_log.ensures.untimed)))
+
+pub returns-in-None-clause-moment : goal.returns-in-None-clause-moment
+returns-in-None-clause-moment g c =
+    let x = c.args in
+    opens_begun c.begin.result IsNew _ (g.D.Disk.trace c.read_log.new.dev) _ (g.D.Disk.ticks c.read_log.new.dev) _
+    (g.met.D.Disk.told x.dev.now) (c.read_log.ensures.same ∙ c.in-Ok.ensures.noted)
+    (shown_before _ _ IsNew c.in-Ok.ensures.noted
+    (found_new x.plant.now x.tags _ c.in_ok-stored.field-0 c.in-None.is c.in_ok-stored.ensures.found))
+    (omega (arith, c.in-Ok.ensures.clock.in_time, c.sync.ensures.clock.counted, c.read_log.ensures.untimed)) c.begin.ensures.calls

@@ -1,13 +1,14 @@
-use Rattle.std.proofs.Common.{◌∙◌, subst}
+use Rattle.std.proofs.Common.{◌∙◌, arith, subst}
 use Rattle.std.proofs.lemmas.Result.{err_from_is_err_and}
 use Rattle.disk_model.specs.Moments.{During}
 use Rattle.disk_model.specs.Traces.{seen}
 use Rattle.group_layout.specs.Images.{IsGroupDamage, IsUnsaved, StandsFor}
-use Rattle.group_layout.specs.Readings.{IsLeftOrSame, SavesNothing, StandsSame}
+use Rattle.group_layout.specs.Readings.{IsLeftOrSame, IsReadOf, SavesNothing, StandsSame}
 use Rattle.group_layout.specs.Rows.{block_lists_of}
 use Rattle.archive_file.proofs.FieldLaws.{told_through}
 use Rattle.archive_file.proofs.ReadImages.{during_same, left_synced, shown_before}
-use Rattle.group_layout.proofs.Openings.{found_unsaved, gains_nothing, gains_sync, left_begun, read_stands, unsaved_stands}
+use Rattle.group_layout.proofs.Openings.{found_unsaved, gains_nothing, gains_sync, left_begun, read_of, read_stands, saved_is, unsaved_stands}
+use Rattle.archive_file.proofs.Beginnings.{opens_begun, opens_kept}
 use Rattle.group_layout.proofs.opening.open_group.Goals as goal
 
 pub returns-in_default-clause-any_moment : goal.returns-in_default-clause-any_moment
@@ -70,3 +71,21 @@ returns-clause-synced g c = λ unfailed.
     let x = c.args in
     gains_nothing x.text.now _ _ (shown_before _ _ (IsUnsaved x.text.now) c.in-Ok.ensures.noted
     (found_unsaved x.text.now x.inputs x.calcs _ c.in_ok-saved.field-0 c.in-New.is c.in_ok-saved.ensures.found))
+
+pub returns-in-Saved-clause-moment : goal.returns-in-Saved-clause-moment
+returns-in-Saved-clause-moment g c =
+    let x = c.args in
+    let saved = c.in-Saved.saved in
+    opens_kept (IsUnsaved x.text.now) (λ l. IsReadOf x.text.now x.inputs x.calcs l saved) _ (g.D.Disk.trace c.sync.new.self) _ _
+    (g.met.D.Disk.told x.dev.now) c.in-Ok.ensures.noted
+    (read_of x.text.now x.inputs x.calcs _ c.in_ok-saved.field-0 saved c.in-Saved.is c.in_ok-saved.ensures.found)
+    (saved_is x.text.now x.inputs x.calcs saved) (omega (arith, c.in-Ok.ensures.clock.in_time, c.sync.ensures.clock.counted, c.read_group.ensures.untimed))
+
+pub returns-clause-moment : goal.returns-clause-moment
+returns-clause-moment g c =
+    let x = c.args in
+    opens_begun c.begin.result (IsUnsaved x.text.now) _ (g.D.Disk.trace c.read_group.new.dev) _ (g.D.Disk.ticks c.read_group.new.dev) _
+    (g.met.D.Disk.told x.dev.now) (c.read_group.ensures.same ∙ c.in-Ok.ensures.noted)
+    (shown_before _ _ (IsUnsaved x.text.now) c.in-Ok.ensures.noted
+    (found_unsaved x.text.now x.inputs x.calcs _ c.in_ok-saved.field-0 c.in-New.is c.in_ok-saved.ensures.found))
+    (omega (arith, c.in-Ok.ensures.clock.in_time, c.sync.ensures.clock.counted, c.read_group.ensures.untimed)) c.begin.ensures.calls

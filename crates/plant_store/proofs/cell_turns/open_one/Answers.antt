@@ -29,6 +29,7 @@ returns-in-Ok-open_cell-clause-opened g c =
       acked_is = is.acked;
       usable = is.usable;
       moment_is = is.moment;
+      opened_at = is.opened_at;
       opened_faultless = is.faults_told ∙ faultless;
       faultless = faultless;
     })

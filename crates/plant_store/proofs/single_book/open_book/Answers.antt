@@ -4,6 +4,8 @@ use Rattle.disk_model.specs.Moments.{During}
 use Rattle.disk_model.specs.Traces.{Trace}
 use Rattle.calc_refresh.specs.declared.definition.GroupDefParts.{GroupDefParts}
 use Rattle.calc_refresh.specs.Lists.{lists_of}
+use Rattle.archive_file.specs.TextHeads.{TextOpensAt}
+use Rattle.group_layout.specs.Images.{IsUnsaved}
 use Rattle.group_layout.specs.Readings.{GainsGroupSync}
 use Rattle.group_book.specs.Openings.{StandsForGroup, BookStaysSame}
 use Rattle.group_book.specs.Tapes.{cut}
@@ -44,6 +46,8 @@ returns-in-Ok-load-clause-opened g c =
             is.opened));
         within = sym (is.versions ∙ ap (map length) copies);
         faults = is.faults ∙ (is.faultless ∙ told.faultless);
+        moment = subst (λ (o : Option Trace). TextOpensAt (IsUnsaved (group_definition_text group)) o b.opening.moment) told.told
+            (subst (λ (t : List ℕ). TextOpensAt (IsUnsaved t) (D.trace c.in-Ok-device.dev) b.opening.moment) text is.opened_at);
       };
       moment = is.moment;
       versions = is.versions;
