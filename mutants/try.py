@@ -8,8 +8,9 @@ script tries the mutants of the crates that are named, or of all. It does so in 
 prints each mutant that was not refused or not tried, and last `N passed, N failed`. The exit status is 1 if one failed, and 2 for a
 crate without mutants.
 
-`rt ci` proves the copy, and takes over what it proved on this machine before. So after a gate only the mutants take time: about a minute
-of a processor each, and a check of each crate. Run it before you change a contract, and over all crates at the end of a piece of work.
+The copy takes over the libraries that `rt check` or `rt lib` has built here; `rt must-fail` builds the others. Then a crate takes one check
+from nothing, and each of its mutants about a minute of a processor. Run it before you change a contract, and over all crates at the end of
+a piece of work.
 """
 import re
 import shutil
@@ -29,17 +30,19 @@ def crates_with_mutants():
 
 
 def copy_repository(scratch, crates):
-    """Copies what `rt ci` reads, with the mutants of these crates in place of all edits."""
+    """Copies the crates and their built libraries, with the mutants of these crates in place of all edits."""
     for name in ("crates.txt", "HANDLES"):
         shutil.copy(TOP / name, scratch / name)
     shutil.copytree(TOP / "crates", scratch / "crates", ignore=shutil.ignore_patterns("out", "must-fail"))
+    for library in TOP.glob("crates/*/out/rlib"):
+        shutil.copytree(library, scratch / library.relative_to(TOP))
     for crate in crates:
         shutil.copytree(MUTANTS / crate, scratch / "crates" / crate / "must-fail")
 
 
 def verdicts(scratch, crates):
-    """What `rt ci` reports of each mutant, by crate and name. A mutant that it does not name was not tried."""
-    run = subprocess.run(["rt", "ci", *crates], cwd=scratch, stdout=subprocess.PIPE, stderr=subprocess.STDOUT, text=True, errors="replace")
+    """What `rt must-fail` reports of each mutant, by crate and name. A mutant that it does not name was not tried."""
+    run = subprocess.run(["rt", "must-fail", *crates], cwd=scratch, stdout=subprocess.PIPE, stderr=subprocess.STDOUT, text=True, errors="replace")
     told = {}
     for line in run.stdout.splitlines():
         found = VERDICT.search(line)
