@@ -9,7 +9,7 @@ use Rattle.disk_model.specs.Moments.{During}
 use Rattle.disk_model.specs.Traces.{Wrote, WroteInPart, Synced, Idle, Trace, noted, seen, written}
 use Rattle.disk_model.proofs.Images.{present, wrote_now, synced_now}
 use Rattle.disk_model.proofs.Moments.{started, during_now, weaker, in_turn, goes_on}
-use Rattle.archive_file.specs.TextHeads.{HasHead, IsEmpty, IsLeftOrBegun, IsLeftOrNew, TextOpensAt, blocks_at, head_image}
+use Rattle.archive_file.specs.TextHeads.{IsEmpty, IsLeftOrBegun, IsLeftOrNew, TextOpensAt, blocks_at, head_image}
 use Rattle.archive_file.proofs.TextHeads.{head_is}
 
 -- ---- the gate of the layout is closed

@@ -165,7 +165,7 @@ opens_retuned def (Some t) mid r before first now told read synced kept put = re
       let same : s ≡ read.0 = one_state def (seen (Some t)) s read.0 recovered read.1 in
       let state : r ≡ after def.step s (Tune def.tuning) = read.3.1 ∙ ap (λ x. after def.step x (Tune def.tuning)) (sym same) in
       let many : checkpoint_calls (length r.records) (seen (Some t))
-          ≡ checkpoint_calls (length (after def.step s (Tune def.tuning)).records) (seen (Some t)) =
+      ≡ checkpoint_calls (length (after def.step s (Tune def.tuning)).records) (seen (Some t)) =
       ap (λ x. checkpoint_calls (length x.records) (seen (Some t))) state in
       omega (arith, told, kept begun, subst (λ m. Shows m (λ c. now ≡ first + checkpoint_calls (length r.records) c)) (synced begun) put, many);
 }

@@ -1,5 +1,5 @@
 -- How many calls close a lane's gates, and how many make a checkpoint.
-use Rattle.std.proofs.Common.{◌≡◌, ◌≢◌, ◌==◌, inl, inr, ℕ, zero, suc, ◌+◌, ◌-◌, ◌<◌, ◌≤◌, true, false, cond, List, [], ◌∷◌, length, get_or, Option, None, Some, refl, sym, ◌∙◌, ap, subst, arith, add-zero, add-one}
+use Rattle.std.proofs.Common.{◌≡◌, ◌≢◌, ◌==◌, inl, inr, ℕ, zero, suc, ◌+◌, ◌-◌, ◌<◌, ◌≤◌, true, false, cond, List, [], ◌∷◌, length, get_or, Option, None, Some, refl, sym, ◌∙◌, ap, subst, arith, add-zero}
 use Rattle.std.proofs.lemmas.Bool.{cases_Bool, cases_eq, eq-eqb, ne_eqb, cond-true, cond-false}
 use Rattle.disk_model.specs.Traces.{Trace, seen, written}
 use Rattle.disk_model.specs.Calls.{Sees, Shows}
@@ -8,7 +8,7 @@ use Rattle.disk_model.specs.Moments.{ComesAfter}
 use Rattle.disk_model.specs.Gates.{open_byte, open_gate, open_gates, IsClosing, IsOpen}
 use Rattle.disk_model.proofs.Bytes.{torn_written}
 use Rattle.disk_model.proofs.Moments.{after_both}
-use Rattle.event_queue.specs.Slots.{gate_of, lane_end}
+use Rattle.event_queue.specs.Slots.{gate_of}
 use Rattle.device_layout.specs.Headers.{slots_in}
 use Rattle.device_layout.specs.Recovery.{header_of, summary_gate, summary_place, counting}
 use Rattle.crash_recovery.specs.declared.seat.Seat.{Seat}
@@ -60,14 +60,6 @@ some_open at (suc n) k c below opened = elim (cases_eq k n) [
 ]
 
 -- ---- what some calls leave the same
-
--- no call
-pub places_kept : (from to : ℕ) (o new : Option Trace) → new ≡ o → KeepsPlaces from to o new
-places_kept from to o new same = subst (KeepsPlaces from to o) (sym same) (record { later = stays o; same = λ i low below. refl })
-  where
-    stays : (x : Option Trace) → ComesAfter x x
-    stays None = tt
-    stays (Some t) = (refl, [], refl)
 
 -- some, and then some more
 pub places_then : (from to : ℕ) (a b c : Option Trace) → KeepsPlaces from to a b → KeepsPlaces from to b c → KeepsPlaces from to a c
@@ -146,10 +138,10 @@ pub record IsStepped (p q r : Seat) : Type 0 where
 module _ (p q r : Seat) (step : IsStepped p q r) where
   -- the summary that counts is the same
   counts_same : q.counts ≡ p.counts
-  counts_same = elim (cases_Bool p.stale) [ | inl is ↦ ap (λ x. x.counts) (step.restarted is) | inr is ↦ ap (λ x. x.counts) (step.kept is) ]
+  counts_same = elim (cases_Bool p.stale) [ inl is ↦ ap (λ x. x.counts) (step.restarted is) | inr is ↦ ap (λ x. x.counts) (step.kept is) ]
 
   records_same : q.records ≡ p.records
-  records_same = elim (cases_Bool p.stale) [ | inl is ↦ ap (λ x. x.records) (step.restarted is) | inr is ↦ ap (λ x. x.records) (step.kept is) ]
+  records_same = elim (cases_Bool p.stale) [ inl is ↦ ap (λ x. x.records) (step.restarted is) | inr is ↦ ap (λ x. x.records) (step.kept is) ]
 
   module _ (a d : List ℕ) (seat : IsSeat p a) where
     -- an overtaken lane is closed first

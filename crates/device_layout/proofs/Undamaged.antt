@@ -12,7 +12,7 @@ use Rattle.trend_num.specs.Ranges.{InRange}
 use Rattle.trend_model.specs.History.{Raw}
 use Rattle.trend_model.specs.Parts.{ArePartsOk}
 use Rattle.trend_model.specs.State.{State, after, replay}
-use Rattle.disk_model.specs.Gates.{IsNew, IsBegun}
+use Rattle.disk_model.specs.Gates.{IsBegun}
 use Rattle.archive_file.specs.Fields.{point_bytes, point_at}
 use Rattle.archive_file.specs.Records.{rec_image, recs_image}
 use Rattle.archive_file.specs.Places.{AreInRange, HasRecords, BreaksAt, IsDamage}
