@@ -1,22 +1,18 @@
 -- Fields one after the other: those that are kept, and the first that is not.
-use Rattle.std.proofs.Common.{◌≡◌, inl, inr, ℕ, ◌≤◌, Bool, true, All, List, [], ◌∷◌, ◌++◌, length, take, drop, Option, Result, Err, IsErrOf, refl, sym, ap, ◌∙◌, subst, arith, append_assoc, length-append}
+use Rattle.std.proofs.Common.{◌≡◌, ℕ, Bool, All, List, [], ◌∷◌, ◌++◌, length, take, drop, Option, Result, Err, IsErrOf, refl, sym, ap, ◌∙◌, subst, arith, append_assoc, length-append}
 use Rattle.std.proofs.Math.Seq.{take-add}
 use Rattle.std.proofs.lemmas.List.{append-nil, drop-drop}
 use Rattle.std.proofs.lemmas.List.Elements.{All-append, All-cons, All-nil}
 use Rattle.archive_file.specs.declared.failure.ScanNo.{ScanNo}
 use Rattle.archive_file.specs.declared.failure.ScanNo.TheVariants.{Damaged}
 use Rattle.archive_file.specs.declared.layout_field.Field.{Field}
-use Rattle.archive_file.specs.LayoutFields.{Spells, Keeps, EndsIn, Breaks, BreaksFirst}
+use Rattle.archive_file.specs.LayoutFields.{Spells, Keeps, BreaksFirst}
 
 -- a field at a place, and whether it is kept
 abbrev pub field_of : ℕ → ℕ → Bool → Field
 field_of place size is_kept = record { place = place; size = size; is_kept = is_kept }
 
 -- ---- what was read
-
--- nothing is at a place
-pub spells_none : (c : List ℕ) (at : ℕ) → at ≤ length c → Spells c at [] at
-spells_none c at within = record { spelled = refl; ends = omega arith; within = within }
 
 -- two pieces, one after the other
 pub spells_both : (c : List ℕ) (at mid end : ℕ) (xs ys : List ℕ) → Spells c at xs mid → Spells c mid ys end
@@ -42,10 +38,6 @@ all_six P f g h i j k pf pg ph pi pj pk =
 
 -- ---- the first field that breaks
 
-pub breaks_here : (c : List ℕ) (f : Field) (fs : List Field) (a : ℕ) (byte : Option ℕ) → Breaks c f a byte
-    → BreaksFirst c (f ∷ fs) a byte
-breaks_here c f fs a byte breaks = record { before = []; field = f; behind = fs; are = refl; kept = All-nil (Keeps c); breaks = breaks }
-
 -- after fields that are kept
 pub breaks_behind : (c : List ℕ) (fs gs : List Field) (a : ℕ) (byte : Option ℕ) → All (Keeps c) fs
     → BreaksFirst c gs a byte → BreaksFirst c (fs ++ gs) a byte
@@ -57,11 +49,6 @@ breaks_behind c fs gs a byte kept first = record {
   kept = All-append (Keeps c) fs first.before kept first.kept;
   breaks = first.breaks;
 }
-
--- after one
-pub breaks_next : (c : List ℕ) (f : Field) (fs : List Field) (a : ℕ) (byte : Option ℕ) → Keeps c f
-    → BreaksFirst c fs a byte → BreaksFirst c (f ∷ fs) a byte
-breaks_next c f fs a byte kept first = breaks_behind c (f ∷ []) fs a byte (All-cons (Keeps c) f [] kept (All-nil (Keeps c))) first
 
 -- with others after
 pub breaks_within : (c : List ℕ) (fs gs : List Field) (a : ℕ) (byte : Option ℕ) → BreaksFirst c fs a byte
@@ -119,22 +106,3 @@ pub breaks_part : (c : List ℕ) (fields fs rest : List Field) (a : ℕ) (byte :
     → BreaksFirst c fs a byte → BreaksFirst c fields a byte
 breaks_part c fields fs rest a byte so_far breaks =
     breaks_after c fields (fs ++ rest) a byte so_far (breaks_within c fs rest a byte breaks)
-
--- a single field with no rule breaks where the image ends in it
-one_breaks : (c : List ℕ) (f field : Field) (before behind : List Field) (a : ℕ) (byte : Option ℕ)
-    → f ∷ [] ≡ before ++ field ∷ behind → Breaks c field a byte → Breaks c f a byte
-one_breaks c f field [] behind a byte are breaks =
-    subst (λ x. Breaks c x a byte) (sym (head_is f field behind are)) breaks
-  where
-    head_is : (x y : Field) (ys : List Field) → x ∷ [] ≡ y ∷ ys → x ≡ y
-    head_is x y ys e = cc
-one_breaks c f field (x ∷ before) behind a byte are breaks =
-    absurd (omega (arith, ap length are, length-append before (field ∷ behind)))
-
-pub only_ends : (c : List ℕ) (at n a : ℕ) (byte : Option ℕ) → BreaksFirst c (field_of at n true ∷ []) a byte
-    → EndsIn c (field_of at n true) a byte
-only_ends c at n a byte first =
-    elim (one_breaks c (field_of at n true) first.field first.before first.behind a byte first.are first.breaks) [
-      | inl ends ↦ ends
-      | inr broken ↦ absurd (cc (broken.broken))
-    ]

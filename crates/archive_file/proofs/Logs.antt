@@ -3,7 +3,7 @@ use Rattle.std.proofs.Common.{◌≡◌, ⊎_elim, inl, inr, ℕ, ◌+◌, ◌*�
 use Rattle.std.proofs.Common.{get_or, take, drop, Option, None, Some, unsigned_abs, refl, sym, ap, ◌∙◌, subst}
 use Rattle.std.proofs.Common.{arith, zero-add, IfSome, length-append}
 use Rattle.disk_model.specs.Traces.{Trace, seen}
-use Rattle.disk_model.specs.Calls.{HasLength, Reaches, Reads}
+use Rattle.disk_model.specs.Calls.{Reaches, Reads}
 use Rattle.std.proofs.Math.Seq.{take-add}
 use Rattle.std.proofs.lemmas.Bool.{cases_lt}
 use Rattle.std.proofs.lemmas.Grind.{flat_map-append}
@@ -232,8 +232,3 @@ damage_next None at k m count a byte part old mid room fits before long reads br
 damage_next (Some t) at k m count a byte part old mid room fits before long reads broken =
     damage_behind (Some t) at k m count a byte old mid room fits before
     (damage_at (Some t) (at + 17 * k) m a byte part (omega (arith, room, fits)) long reads broken)
-
--- a device of this length reaches as far
-pub reaches_from : (o : Option Trace) (len n : ℕ) → HasLength o len → n ≤ len → Reaches o n
-reaches_from None len n is le = tt
-reaches_from (Some t) len n is le = omega (arith, is, le)

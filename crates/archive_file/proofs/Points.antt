@@ -1,5 +1,5 @@
 -- A point is read of its bytes, and its bytes are those that it was read of.
-use Rattle.std.proofs.Common.{◌≡◌, ◌≢◌, ⊎_elim, ℕ, ◌+◌, ◌^◌, ◌<◌, cond, List, [], ◌∷◌, ◌++◌, length, get_or}
+use Rattle.std.proofs.Common.{◌≡◌, ⊎_elim, ℕ, ◌+◌, ◌^◌, ◌<◌, cond, List, [], ◌∷◌, ◌++◌, length, get_or}
 use Rattle.std.proofs.Common.{take, drop, Option, None, Some, is_some, IfSome, refl, sym, ap, ◌∙◌, subst}
 use Rattle.std.proofs.Common.{arith, length-take, length-drop, take-append-drop}
 use Rattle.std.specs.Int.{w64, from_be_bytes, to_be_bytes}
@@ -128,13 +128,7 @@ rec_here b k long bytes says inside r = (spelled, λ both. ap Some (rec_read b k
         let same = of_some (record { kind = k; point = point_at (drop 1 b) }) r is in
         (subst (λ x. InRange x.point) same inside, rec_spelled b k long bytes says ∙ ap rec_image same)
 
--- nothing is read of bytes that say no kind
-pub rec_unkind : (b : List ℕ) → ((k : Kind) → get_or b 0 0 ≢ kind_byte k) → (r : Rec)
-    → (None ≡ Some r → InRange r.point × (b ≡ rec_image r))
-    × (InRange r.point × (b ≡ rec_image r) → None ≡ Some r)
-rec_unkind b none r = (λ is. absurd (cc (is)), λ both. absurd (none r.kind (ap (λ l. get_or l 0 0) both.1)))
-
--- nor of those whose point is out of range
+-- nothing is read of bytes whose point is out of range
 pub rec_outside : (b : List ℕ) (k : Kind) → get_or b 0 0 ≡ kind_byte k → (InRange (point_at (drop 1 b)) → ⊥)
     → (r : Rec)
     → (None ≡ Some r → InRange r.point × (b ≡ rec_image r))

@@ -20,11 +20,6 @@ pub text_place : (letters text c : List ℕ) → IsOfText letters text c → blo
 text_place letters text c is =
     omega (arith, sym (ap length is.same), length-take (short_at c 5) (drop 9 c), length-drop 9 c, head_long letters c is.head)
 
--- a head that was read
-pub head_found : (letters c : List ℕ) → 1 < length c → get_or c 0 0 ≡ open_byte
-    → ((k : ℕ) (d : _) → k < 6 → Keeps c (get_or (head_fields letters c) k d)) → HasHead letters c
-head_found letters c long opened kept = record { begun = record { long = long; opened = opened }; fields = kept }
-
 -- ---- a head that was written
 
 -- what is after the letters

@@ -1,5 +1,5 @@
 // Begins a layout on a device: closes its gate, and writes a head with a text behind it.
-ghost use Rattle.std.specs.Prelude.{◌≡◌, ℕ, ◌+◌, ◌≤◌, IfOk, IsErrOf, OnOk, length};
+ghost use Rattle.std.specs.Prelude.{◌≡◌, ◌+◌, ◌≤◌, IfOk, IsErrOf, OnOk, length};
 ghost use Rattle.disk_model.specs.Calls.{CountsFault, HasCause, Shows};
 ghost use Rattle.disk_model.specs.Gates.{IsShut, closing_calls, layout_calls};
 ghost use Rattle.disk_model.specs.Images.{IsSettled, Now};

@@ -1,5 +1,5 @@
 // Fields of an image that is in memory.
-ghost use Rattle.std.specs.Prelude.{◌≡◌, ℕ, ◌+◌, All, Option, IfOk, IsErrOf, OnOk, slice_index};
+ghost use Rattle.std.specs.Prelude.{◌≡◌, ℕ, ◌+◌, All, Option, IsErrOf, OnOk, slice_index};
 ghost use Rattle.archive_file.specs.declared.failure.ScanNo.TheVariants.{Damaged, DeviceFault, WantOfMemory};
 ghost use Rattle.archive_file.specs.LayoutFields.{Breaks, BreaksFirst, Keeps, long_at, short_at};
 

@@ -1,6 +1,6 @@
 // Records on a device.
 ghost use Rattle.std.specs.Prelude.{◌≡◌, ◌+◌, ◌*◌, ◌^◌, ◌<◌, ◌≤◌, ℕ, Option, min, length, take, drop, slice_index, Some, IfOk};
-ghost use Rattle.std.specs.Prelude.{IfSome, OnOk, OnErr, IsErrOf, vec_len, vec_capacity};
+ghost use Rattle.std.specs.Prelude.{IfSome, OnOk, IsErrOf, vec_len, vec_capacity};
 ghost use Rattle.disk_model.specs.Traces.{Wrote, WroteInPart, seen};
 ghost use Rattle.disk_model.specs.Calls.{CountsFault, IsNoted, Reaches, Reads};
 ghost use Rattle.archive_file.specs.declared.failure.ScanNo.TheVariants.{DeviceFault, Damaged};

@@ -1,5 +1,5 @@
 // The bytes of a summary.
-ghost use Rattle.std.specs.Prelude.{◌≡◌, ◌↔◌, ◌+◌, ◌≤◌, ◌^◌, ◌<◌, ◌++◌, length, take, drop, None, Option, Some, IfSome, is_some, IsTrue, if◌then◌else◌};
+ghost use Rattle.std.specs.Prelude.{◌≡◌, ◌↔◌, ◌+◌, ◌≤◌, ◌<◌, ◌++◌, length, drop, None, Option, Some, IfSome, is_some, IsTrue, if◌then◌else◌};
 ghost use Rattle.archive_file.specs.Fields.{point_at};
 ghost use Rattle.arrayvec.specs.ArrayVec.{array_vec_len};
 ghost use Rattle.trend_num.specs.declared.archive.Summary.{Summary};

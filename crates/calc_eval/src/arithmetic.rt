@@ -1,5 +1,5 @@
 // Operations on values.
-ghost use Rattle.std.specs.Prelude.{◌≡◌, ◌≢◌, pos, IsTrue};
+ghost use Rattle.std.specs.Prelude.{◌≡◌, ◌≢◌, pos};
 ghost use Rattle.sheet_law.specs.Number.{bounded, measured_value, floor_div, floor_rem, divided, operated, holds, compared};
 
 use calc_parser::{Cmp, Op};

@@ -193,12 +193,6 @@ sum_ends (Multiplying sign ∷ ts) ends differs = absurd ends
 sum_ends (Summing sign ∷ ts) ends differs = absurd (differs sign refl)
 sum_ends (token ∷ ts) ends differs = tt
 
--- where no sign of terms comes next a term is whole
-pub term_ends : (ts : List Token) → ((sign : Product) → head ts ≡ Multiplying sign → ⊥) → EndsTerms ts
-term_ends [] differs = tt
-term_ends (Multiplying sign ∷ ts) differs = absurd (differs sign refl)
-term_ends (token ∷ ts) differs = tt
-
 -- tokens that are left after a formula may not occur there
 pub left_over : (ts : List Token) → (length ts == 0) ≡ false → scan [] ts ≡ refused ts
 left_over [] differs = cc

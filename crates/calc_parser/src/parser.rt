@@ -1,11 +1,11 @@
 // From tokens to a tree, one method for each level of the grammar.
 
-ghost use Rattle.std.specs.Prelude.{◌≡◌, ◌+◌, ◌<◌, ◌≤◌, Bool, true, [], ◌∷◌, length, drop, IfOk, OnOk};
+ghost use Rattle.std.specs.Prelude.{◌≡◌, ◌+◌, ◌<◌, ◌≤◌, Bool, [], ◌∷◌, length, drop, IfOk, OnOk};
 ghost use Rattle.calc_parser.specs.Formulas.{deepest};
 ghost use Rattle.calc_parser.specs.Grammar.{formula, sums, terms, factor};
 ghost use Rattle.calc_parser.specs.Tree.{tree_of};
 ghost use Rattle.calc_parser.specs.declared.token.Token.TheVariants.{Summing, Open, Close, Comma, Quoted, Picking, Choice};
-ghost use Rattle.calc_parser.specs.Scan.{head, Stack, operand, more, bracket, name, comma, close, whole, scan, refused, deep, fine, SpellsTokens, SpellsFirst, SpellsNext, SpellsAfter, LeavesVerdict, EndsTerms, EndsSums};
+ghost use Rattle.calc_parser.specs.Scan.{head, Stack, operand, more, bracket, name, comma, close, whole, scan, fine, SpellsTokens, SpellsFirst, SpellsNext, SpellsAfter, LeavesVerdict, EndsTerms, EndsSums};
 
 use crate::Expr;
 use crate::builder::{absolute, chosen, compared, negated, pick_op, product_op, sum_op, two};

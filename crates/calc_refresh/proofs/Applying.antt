@@ -95,6 +95,3 @@ due_counted w rss mores n = length-filter (is_due w rss mores) (range_with_len 0
 -- a part of a product
 pub part_fits : (a b n m : ℕ) → a ≤ n → n * b ≤ m → a * b ≤ m
 part_fits a b n m part whole = (let h : a * b ≤ n * b = mul-le-mul_right b part in omega arith)
-
-pub factor_fits : (n b m : ℕ) → 1 ≤ b → n * b ≤ m → n ≤ m
-factor_fits n b m some whole = (let h : n * 1 ≤ n * b = mul-le-mul_left n some in omega arith)

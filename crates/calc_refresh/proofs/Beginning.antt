@@ -6,16 +6,13 @@ use Rattle.calc_refresh.specs.declared.refusal.SheetNo.{SheetNo}
 use Rattle.calc_refresh.specs.declared.refusal.SheetNo.TheVariants.{Shape, CellLimit, CopyLimit, WantOfMemory}
 use Rattle.std.proofs.lemmas.Bool.{cases_eq, cases_lt, eq-eqb, ne_eqb}
 use Rattle.std.proofs.Math.Nat.{zero-div}
-use Rattle.std.proofs.lemmas.List.{get_or-replicate, length-replicate}
 use Rattle.std.proofs.lemmas.List.Elements.{All-cons, All-head, All-nil}
 use Rattle.trend_num.specs.declared.value.CalcValue.{CalcValue}
 use Rattle.trend_num.specs.declared.value.Bad.TheVariants.{NoData}
 use Rattle.trend_num.specs.declared.value.CalcValue.TheVariants.{Bad}
 use Rattle.std.proofs.lemmas.Option.{slice_get-get_or, slice_get_past}
-use Rattle.calc_check.specs.Group.{Group}
 use Rattle.sheet_law.specs.declared.grid.Grid.{Grid}
 use Rattle.sheet_law.specs.Windows.{complete_windows}
-use Rattle.sheet_law.specs.Scratch.{IsScratch}
 use Rattle.calc_refresh.specs.Refreshed.{IsRefreshToldOf, shape_fault}
 
 -- where no row is reported each has its length
@@ -38,16 +35,6 @@ none_complete w (suc zero) = no_window (w.start) (w.period)
     no_window : (s p : ℕ) → (0 - 1 - s) / p ≡ 0
     no_window s p = (let none : 0 - 1 - s ≡ 0 = omega arith in ap (λ n. n / p) none ∙ zero-div p)
 none_complete w (suc (suc n)) = (let rest = none_complete w (suc n) in omega arith)
-
--- and rows without values are from scratch
-pub empty_is_scratch : (g : Group) (w : Grid) (n : ℕ) → IsScratch g w (replicate n []) (replicate (length g.calcs) [])
-empty_is_scratch g w n = record {
-  calcs = length-replicate (length g.calcs) [];
-  windows = λ k d within.
-      ap length (get_or-replicate (length g.calcs) k [] d (omega (arith, within, length-replicate {A = List CalcValue} (length g.calcs) [])))
-      ∙ sym (none_complete w n);
-  values = λ k within. absurd (omega (arith, none_complete w n, within));
-}
 
 -- a value is in a row exactly at a calculation and a complete window
 pub row_there : (rows : List (List CalcValue)) (calcs n i k : ℕ) (o : Option CalcValue)

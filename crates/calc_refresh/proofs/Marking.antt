@@ -45,14 +45,6 @@ marks_span ms i b c k within is =
 pub cut_end : (k b c most : ℕ) → k < most → c ≡ min b most → nat_lt k c ≡ nat_lt k b
 cut_end k b c most below is = grind (arith, nat_tests)
 
--- a span that begins after all windows marks none
-pub marks_none : (ms : List ℕ) (i b k : ℕ) → length ms ≤ i → k < length ms
-    → is_marked ms k ≡ (is_marked ms k || (nat_le i k && nat_lt k b))
-marks_none ms i b k behind within = unseen k i b (furthest (take (k + 1) ms)) (omega arith)
-  where
-    unseen : (k i b f : ℕ) → k < i → nat_lt k f ≡ (nat_lt k f || (nat_le i k && nat_lt k b))
-    unseen k i b f before = grind (arith, nat_tests)
-
 -- where nothing was written no window is marked
 pub unmarked : (n k : ℕ) → is_marked (replicate n 0) k ≡ false
 unmarked n k = none (k + 1) n

@@ -1,5 +1,5 @@
 // Rows: making them longer, and evaluating windows.
-ghost use Rattle.std.specs.Prelude.{◌≡◌, ◌≢◌, ℕ, ◌+◌, ◌*◌, ◌<◌, ◌≤◌, List, length, map, All, Contains, Some};
+ghost use Rattle.std.specs.Prelude.{◌≡◌, ◌≢◌, ℕ, ◌+◌, ◌*◌, ◌<◌, ◌≤◌, length, map, All, Contains, Some};
 ghost use Rattle.std.specs.Prelude.{vec_len, vec_capacity};
 ghost use Rattle.trend_num.specs.Ranges.{last_time};
 ghost use Rattle.sheet_law.specs.Value.{points_in, values};

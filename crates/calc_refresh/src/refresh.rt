@@ -1,7 +1,6 @@
 // A sheet with more records, once there is memory for all of them.
-ghost use Rattle.std.specs.Prelude.{◌≡◌, ℕ, ◌+◌, ◌*◌, ◌^◌, ◌<◌, ◌≤◌, false, List, length, map, All};
+ghost use Rattle.std.specs.Prelude.{◌≡◌, ◌+◌, ◌*◌, ◌^◌, ◌<◌, ◌≤◌, length, All};
 ghost use Rattle.std.specs.Prelude.{replicate, OnErr, OnOk, vec_capacity};
-ghost use Rattle.trend_model.specs.Contents.{ContentState, listed};
 ghost use Rattle.sheet_law.specs.Windows.{complete_windows};
 ghost use Rattle.sheet_law.specs.Touched.{longer};
 ghost use Rattle.calc_refresh.specs.Lists.{lists_of};

@@ -1,8 +1,7 @@
 // A group's sheet.
-ghost use Rattle.std.specs.Prelude.{◌≡◌, ◌↔◌, ℕ, ◌+◌, ◌*◌, ◌^◌, ◌<◌, ◌≤◌, [], List, length, map, replicate, All, Err, Some, IsSome};
-ghost use Rattle.std.specs.Prelude.{IfErr, IfOk, OnErr, OnOk, option_and_then, slice_get, slice_index_or, vec_len};
+ghost use Rattle.std.specs.Prelude.{◌≡◌, ◌↔◌, ◌+◌, ◌*◌, ◌<◌, ◌≤◌, [], List, length, replicate, All, Err, Some, IsSome};
+ghost use Rattle.std.specs.Prelude.{IfErr, IfOk, OnErr, OnOk, option_and_then, slice_get, slice_index_or};
 ghost use Rattle.sheet_law.specs.Windows.{complete_windows};
-ghost use Rattle.sheet_law.specs.Touched.{longer};
 ghost use Rattle.sheet_law.specs.Scratch.{IsScratch};
 ghost use Rattle.calc_refresh.specs.declared.refusal.SheetNo.{SheetNo};
 ghost use Rattle.calc_refresh.specs.Lists.{lists_of};

@@ -1,5 +1,5 @@
 // Windows of a grid by times: how many end before a time, and which meet a stretch.
-ghost use Rattle.std.specs.Prelude.{◌≡◌, ℕ, ◌+◌, ◌<◌, ◌≤◌, ◌&&◌, All, nat_le, nat_lt};
+ghost use Rattle.std.specs.Prelude.{◌≡◌, ℕ, ◌+◌, ◌≤◌, ◌&&◌, All, nat_le, nat_lt};
 ghost use Rattle.trend_num.specs.Ranges.{last_time};
 ghost use Rattle.trend_model.specs.Contents.{IsRising};
 ghost use Rattle.sheet_law.specs.Windows.{window_from, window_to, windows_before};

@@ -1,5 +1,5 @@
 -- How workers end whose calls were refused.
-use Rattle.std.proofs.Common.{◌≡◌, ℕ, ◌+◌, ◌<◌, ◌≤◌, Bool, true, false, nat_le, nat_lt, List, length, get_or, take, refl, sym, subst, inl, inr, ap, ◌∙◌, arith}
+use Rattle.std.proofs.Common.{◌≡◌, ℕ, ◌+◌, ◌<◌, ◌≤◌, Bool, true, false, nat_le, nat_lt, List, length, get_or, take, refl, sym, subst, inr, ap, ◌∙◌, arith}
 use Rattle.std.specs.Prelude.{slice_range, IfErr, MatchResult, None, Some, Result, Ok, Err, if◌then◌else◌}
 use Rattle.std.specs.Option.{option_map}
 use Rattle.std.proofs.lemmas.Bool.Decides.{nat_tests}
@@ -18,8 +18,7 @@ use Rattle.collector_pool.specs.declared.group_turns.TurnNo.TheVariants as turn
 use Rattle.collector_pool.specs.declared.note.CellNo.{CellNo}
 use Rattle.collector_pool.specs.declared.note.Ending.{Ending}
 use Rattle.collector_pool.specs.declared.note.Ending.TheVariants.{Ended, Halted, Tag, Group, WantOfMemory}
-use Rattle.collector_pool.specs.declared.work.Refresh.{Refresh}
-use Rattle.collector_pool.specs.Notes.{AsksGroup, EndsAtCommit, EndsAtQuery, EndsCollector, EndsReader, EndsRefresher, IsRefusedCommit, MayRefuseRow, RefusesRow, halts}
+use Rattle.collector_pool.specs.Notes.{AsksGroup, EndsAtCommit, EndsAtQuery, EndsCollector, EndsReader, IsRefusedCommit, MayRefuseRow, RefusesRow, halts}
 use Rattle.collector_pool.specs.Refusals.{refusal_of_take, ending_of_commit, ending_of_turn}
 use Rattle.collector_pool.proofs.Places.{any_at, any_of_range, found_at}
 
@@ -82,16 +81,6 @@ query_stops_none refuses query (Tag tag why) ends = refl
 query_stops_none refuses query (Group group why) ends = refl
 query_stops_none refuses query WantOfMemory ends = refl
 
--- a refresher whom its group refused a turn
-pub ends_refresher : (refuses : ℕ → TurnNo → Type 0) (refresh : Refresh) (turns : ℕ) (no : TurnNo) → turns < refresh.turns
-    → refuses refresh.group no → EndsRefresher refuses refresh turns (ending_of_turn refresh.group no)
-ends_refresher refuses refresh turns (turn.Ahead input version records) few refused = (few, refl, tt, refused)
-ends_refresher refuses refresh turns (turn.CellLimit cells) few refused = (few, refl, tt, refused)
-ends_refresher refuses refresh turns (turn.CopyLimit records) few refused = (few, refl, tt, refused)
-ends_refresher refuses refresh turns turn.Broken few refused = (few, refl, tt, refused)
-ends_refresher refuses refresh turns turn.DeviceFault few refused = (few, refl, tt, refused)
-ends_refresher refuses refresh turns turn.WantOfMemory few refused = few
-
 -- a collector that ends at a commit of one of these rows
 pub ends_at_commit : (rows : List RawRow) (i : ℕ) (d : RawRow) (ending : Ending) → i < length rows
     → IsRefusedCommit (get_or rows i d).tag ending → EndsAtCommit rows ending
@@ -139,10 +128,3 @@ commit_stops_none rows ending ends = ap halts ends.refused.ending_is ∙ by_why 
     by_why commit.Broken = refl
     by_why commit.DeviceFault = refl
     by_why commit.WantOfMemory = refl
-
--- a collector whose next row is refused
-pub ends_at_take : (rows : List RawRow) (taken : ℕ) (d : RawRow) (why : CellNo) → taken < length rows
-    → RefusesRow (get_or rows taken d) (get_or rows taken d).tag why
-    → EndsCollector rows taken (Tag (get_or rows taken d).tag why)
-ends_at_take rows taken d why within refused =
-    inl (found_at (λ (r : RawRow). RefusesRow r (get_or rows taken d).tag why) rows taken d within refused)

@@ -121,10 +121,3 @@ module _ (queries : List Query) (i : ℕ) (d : Query) (snaps : List (Option Snap
 
   pub snaps_seen_on : AreSnapsSeen queries snaps old → AreSnapsSeen queries (snaps ++ x ∷ []) new
   snaps_seen_on seen = seen_on queries (get_or queries i d) snaps old new x next here seen
-
--- a reader that has answered nothing yet
-pub none_rise : (queries : List Query) → DoSnapsRise queries []
-none_rise queries = λ i j tag first later before asked later_asked at later_at. absurd (cc)
-
-pub none_seen : (queries : List Query) (seen : List Snap) → AreSnapsSeen queries [] seen
-none_seen queries seen = λ i tag first last asked at last_at. absurd (cc)

@@ -1,5 +1,5 @@
 // A collector: it takes its rows in order, and commits them.
-ghost use Rattle.std.specs.Prelude.{◌≡◌, ◌==◌, ◌||◌, ◌%◌, ℕ, ◌+◌, ◌<◌, ◌≤◌, All, IfErr, IsErrOf, OnErr, OnOk, Some, MatchResult, None, length, true};
+ghost use Rattle.std.specs.Prelude.{◌≡◌, ◌==◌, ◌||◌, ◌%◌, ◌+◌, ◌<◌, All, IfErr, IsErrOf, OnErr, OnOk, Some, MatchResult, None, length, true};
 ghost use Rattle.std.specs.Option.{option_map};
 ghost use Rattle.trend_num.specs.Ranges.{InRange};
 ghost use Rattle.tag_cell.specs.declared.entry.CommitNo.TheVariants.{Broken, DeviceFault};

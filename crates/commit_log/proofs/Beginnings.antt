@@ -1,5 +1,5 @@
 -- What a crash leaves while a plant's log is begun on a device.
-use Rattle.std.proofs.Common.{◌≡◌, inl, inr, ℕ, ◌*◌, List, [], ◌∷◌, ◌++◌, length, Option, refl, arith, length-append}
+use Rattle.std.proofs.Common.{◌≡◌, inl, ℕ, ◌*◌, List, [], ◌∷◌, ◌++◌, length, Option, refl, arith, length-append}
 use Rattle.disk_model.specs.Traces.{Trace}
 use Rattle.disk_model.specs.Images.{IsSettled}
 use Rattle.disk_model.specs.Moments.{During}
@@ -8,9 +8,8 @@ use Rattle.disk_model.specs.Gates.{IsNew}
 use Rattle.disk_model.proofs.Moments.{started, weaker}
 use Rattle.commit_log.specs.declared.row.LogRow.{LogRow}
 use Rattle.commit_log.specs.Blocks.{log_block_image, log_block_size, row_image, rows_image}
-use Rattle.archive_file.specs.TextHeads.{IsLeftOrBegun}
 use Rattle.archive_file.proofs.ReadImages.{shown_now}
-use Rattle.commit_log.specs.Images.{LogsNothing, letters}
+use Rattle.commit_log.specs.Images.{LogsNothing}
 
 -- ---- a device is begun
 
@@ -18,16 +17,6 @@ use Rattle.commit_log.specs.Images.{LogsNothing, letters}
 pub nothing_yet : (plant : List ℕ) (o : Option Trace) → Shows o IsNew → IsSettled o → During o o (LogsNothing plant)
 nothing_yet plant o is settled =
     weaker o o IsNew (LogsNothing plant) (λ c new. inl new) (started o IsNew (shown_now o IsNew is settled))
-
--- nor while its layout is begun
-pub logs_nothing : (plant : List ℕ) (o o1 : Option Trace) → Shows o IsNew → IsSettled o
-    → During o o1 (IsLeftOrBegun letters plant o) → During o o1 (LogsNothing plant)
-logs_nothing plant o o1 is settled begun = weaker o o1 (IsLeftOrBegun letters plant o) (LogsNothing plant) each begun
-  where
-    each : (c : List ℕ) → IsLeftOrBegun letters plant o c → LogsNothing plant c
-    each c (inl (inl may)) = inl ((shown_now o IsNew is settled).each c may)
-    each c (inl (inr new)) = inl new
-    each c (inr empty) = inr empty
 
 -- ---- a block
 

@@ -7,7 +7,6 @@ pub mod Tapes
 pub mod Puts
 pub mod Commits
 pub mod Written
-pub mod Differences
 pub mod Prefixes
 pub mod Opened
 pub mod Openings

@@ -1,29 +1,19 @@
 -- A log while it is opened.
-use Rattle.std.proofs.Common.{◌≡◌, inl, inr, ℕ, ◌+◌, ◌≤◌, true, All, List, [], ◌∷◌, length, drop, Option, None, Some, IfSome, refl, sym, ap, ◌∙◌, subst, arith, lit<, length-take}
-use Rattle.std.proofs.lemmas.List.Elements.{All-append, All-nil}
+use Rattle.std.proofs.Common.{◌≡◌, inl, inr, ℕ, ◌+◌, ◌≤◌, true, List, [], length, drop, Option, None, Some, refl, sym, ap, subst, arith, lit<, length-take}
 use Rattle.disk_model.specs.Calls.{Reaches, Shows}
 use Rattle.disk_model.specs.Gates.{IsBegun, IsNew}
-use Rattle.disk_model.specs.Images.{IsSettled}
 use Rattle.disk_model.specs.Moments.{During}
 use Rattle.disk_model.specs.Traces.{Synced, Trace, noted, seen}
-use Rattle.disk_model.proofs.Images.{settled}
 use Rattle.disk_model.proofs.Moments.{in_turn, weaker}
 use Rattle.commit_log.specs.declared.block_reader.Stored.{Stored}
 use Rattle.commit_log.specs.declared.row.LogRow.{LogRow}
-use Rattle.commit_log.specs.Blocks.{HasBlocks, IsBlockDamage, IsLogRow, log_block_size, rows_of}
+use Rattle.commit_log.specs.Blocks.{IsBlockDamage}
 use Rattle.archive_file.specs.LayoutFields.{BreaksFirst, short_at}
-use Rattle.archive_file.specs.TextHeads.{IsEmpty, IsOfText, blocks_at, head_fields}
+use Rattle.archive_file.specs.TextHeads.{IsOfText, blocks_at, head_fields}
 use Rattle.archive_file.proofs.FieldLaws.{field_of}
 use Rattle.commit_log.specs.Images.{BadBlock, BadHead, ByBlocks, ByNothing, IsLogDamage, LogsNothing, StandsForRows, letters}
-use Rattle.commit_log.specs.Openings.{IsFound, IsLogLeftOrSame, IsLeftOrStands, IsTooMany, ListsRows, Stores}
-use Rattle.commit_log.specs.Told.{IsReady}
+use Rattle.commit_log.specs.Openings.{IsFound, IsLogLeftOrSame, IsLeftOrStands, IsTooMany, Stores}
 use Rattle.commit_log.proofs.Commits.{stores_stand}
-
--- ---- a sync
-
--- it has settled
-pub settled_after : (o mid new : Option Trace) → mid ≡ noted Synced o → new ≡ mid → IsSettled new
-settled_after o mid new synced same = subst IsSettled (sym (same ∙ synced)) (settled o)
 
 -- ---- a log that is there
 
@@ -40,13 +30,6 @@ found_stands plant tags None f s is found = tt
 found_stands plant tags (Some t) f s is found =
     stores_stand plant tags s.rows.items s.end (seen (Some t)) (subst (λ x. IsFound plant tags x (seen (Some t))) is found)
 
--- and the device is ready
-pub found_ready : (plant : List ℕ) (tags : ℕ) (o : Option Trace) (f : Option Stored) (s : Stored) → f ≡ Some s
-    → Shows o (IsFound plant tags f) → IsSettled o → IfSome o (IsReady plant tags s.rows.items s.end)
-found_ready plant tags None f s is found settled = tt
-found_ready plant tags (Some t) f s is found settled =
-    record { settled = settled; stores = subst (λ x. IsFound plant tags x (seen (Some t))) is found }
-
 -- with the room its rows are too many
 pub found_many : (plant : List ℕ) (tags room n : ℕ) (o : Option Trace) (f : Option Stored) (s : Stored) → f ≡ Some s
     → n ≡ length s.rows.items + room → Shows o (IsFound plant tags f) → Shows o (IsTooMany plant tags room n)
@@ -56,16 +39,6 @@ found_many plant tags room n (Some t) f s is together found = record {
   stands = stores_stand plant tags s.rows.items s.end (seen (Some t)) (subst (λ x. IsFound plant tags x (seen (Some t))) is found);
   together = together;
 }
-
--- the rows of blocks are rows
-blocks_rows : (c : List ℕ) (tags number at : ℕ) (bs : List (List LogRow)) → HasBlocks c tags number at bs → All (IsLogRow tags) (rows_of bs)
-blocks_rows c tags number at [] has = All-nil (IsLogRow tags)
-blocks_rows c tags number at (b ∷ bs) has =
-    All-append (IsLogRow tags) b (rows_of bs) has.0.rows_are.each (blocks_rows c tags (number + length b) (at + log_block_size b) bs has.1)
-
-pub lists_rows : (c : List ℕ) (tags at : ℕ) (rows : List LogRow) (end : ℕ) → ListsRows c tags at rows end → All (IsLogRow tags) rows
-lists_rows c tags at rows end lists =
-    subst (All (IsLogRow tags)) (sym lists.rows_are) (blocks_rows c tags 0 at lists.blocks lists.are.blocks)
 
 -- after the text there is the gate of the first block
 text_room : (text c : List ℕ) → IsOfText letters text c → 9 + length text + 1 ≤ length c
@@ -99,33 +72,10 @@ nothing_stands plant tags c (inl new) = ByNothing new refl
 nothing_stands plant tags c (inr empty) =
     ByBlocks [] (record { of_plant = empty.of_text; blocks = record { blocks = tt; shut = empty.shut } }) refl
 
--- a layout without blocks is ready
-pub empty_ready : (plant : List ℕ) (tags end : ℕ) (o : Option Trace) → end ≡ blocks_at (length plant)
-    → Shows o (IsEmpty letters plant) → IsSettled o → IfSome o (IsReady plant tags [] end)
-empty_ready plant tags end None is empty settled = tt
-empty_ready plant tags end (Some t) is empty settled = record {
-  settled = settled;
-  stores = record {
-    of_plant = empty.of_text;
-    lists = record { blocks = []; are = record { blocks = tt; shut = empty.shut }; rows_are = refl; end_is = is };
-  };
-}
-
 -- a new device was found
 pub found_new : (plant : List ℕ) (tags : ℕ) (o : Option Trace) (f : Option Stored) → f ≡ None → Shows o (IsFound plant tags f) → Shows o IsNew
 found_new plant tags None f is found = tt
 found_new plant tags (Some t) f is found = subst (λ x. IsFound plant tags x (seen (Some t))) is found
-
--- it stands for no rows
-pub new_stands : (plant : List ℕ) (tags : ℕ) (o : Option Trace) (rows : List LogRow) → Shows o IsNew → rows ≡ []
-    → Shows o (λ c. StandsForRows plant tags c rows)
-new_stands plant tags None rows is none = tt
-new_stands plant tags (Some t) rows is none = ByNothing is none
-
--- so the room alone is too many
-pub new_many : (plant : List ℕ) (tags room n : ℕ) (o : Option Trace) → Shows o IsNew → n ≡ room → Shows o (IsTooMany plant tags room n)
-new_many plant tags room n None is together = tt
-new_many plant tags room n (Some t) is together = record { rows = []; stands = ByNothing is refl; together = omega (arith, together) }
 
 -- what is begun after a sync stands for no rows
 pub begun_stands : (plant : List ℕ) (tags : ℕ) (rows : List LogRow) (o mid new : Option Trace) → rows ≡ []

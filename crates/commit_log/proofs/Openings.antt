@@ -28,18 +28,6 @@ pub ok_rows : {E : Type 0} (r : Result Parts E) (rows : List LogRow) (P : List L
 ok_rows (Err e) rows P is has = tt
 ok_rows (Ok p) rows P is has = subst P (sym is) has
 
--- so with the place of the next block
-pub ok_ends : {E : Type 0} (r : Result Parts E) (rows : List LogRow) (end : ℕ) (P : List LogRow → ℕ → Type 0)
-    → IfOk r (λ p. p.rows.items ≡ rows) → IfOk r (λ p. p.end ≡ end) → P rows end → IfOk r (λ p. P p.rows.items p.end)
-ok_ends (Err e) rows end P is end_is has = tt
-ok_ends (Ok p) rows end P is end_is has = subst (λ l. P l p.end) (sym is) (subst (P rows) (sym end_is) has)
-
--- and with a place that is known of
-pub ok_both : {E : Type 0} (r : Result Parts E) (rows : List LogRow) (P : List LogRow → ℕ → Type 0)
-    → IfOk r (λ p. p.rows.items ≡ rows) → IfOk r (λ p. P rows p.end) → IfOk r (λ p. P p.rows.items p.end)
-ok_both (Err e) rows P is has = tt
-ok_both (Ok p) rows P is has = subst (λ l. P l p.end) (sym is) has
-
 -- what holds in any case
 pub on_ok : {T E : Type 0} (r : Result T E) {P : Type 0} → P → OnOk r P
 on_ok (Ok x) p = p

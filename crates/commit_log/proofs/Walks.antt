@@ -1,13 +1,13 @@
 -- Blocks one after the other, and one more.
-use Rattle.std.proofs.Common.{◌≡◌, ◌≢◌, ℕ, ◌+◌, ◌<◌, List, [], ◌∷◌, ◌++◌, length, get_or, Option, None, Some, IfSome, refl, sym, ap, ◌∙◌, subst, arith, append_assoc, length-append}
+use Rattle.std.proofs.Common.{◌≡◌, ℕ, ◌+◌, ◌<◌, List, [], ◌∷◌, ◌++◌, length, Option, None, Some, IfSome, refl, sym, ap, ◌∙◌, subst, arith, append_assoc, length-append}
 use Rattle.std.proofs.lemmas.List.{append-nil}
 use Rattle.disk_model.specs.Calls.{HasLength, Reaches, Shows}
-use Rattle.disk_model.specs.Gates.{IsOpen, open_byte}
+use Rattle.disk_model.specs.Gates.{IsOpen}
 use Rattle.disk_model.specs.Traces.{Trace, seen}
 use Rattle.commit_log.specs.declared.row.LogRow.{LogRow}
 use Rattle.archive_file.specs.LayoutFields.{BreaksFirst}
 use Rattle.commit_log.specs.Blocks.{HasBlock, HasBlocks, IsBlockDamage, block_fields, log_block_size, log_end_of, rows_of}
-use Rattle.commit_log.specs.Openings.{AddsBlock, ListsRows}
+use Rattle.commit_log.specs.Openings.{AddsBlock}
 
 -- where blocks and one more end
 pub end_of-push : (at : ℕ) (bs : List (List LogRow)) (x : List LogRow) → log_end_of at (bs ++ x ∷ []) ≡ log_end_of at bs + log_block_size x
@@ -39,10 +39,6 @@ pub record IsWalked (c : List ℕ) (tags at next : ℕ) (rows : List LogRow) : T
   pub rows_are : rows ≡ rows_of blocks
   pub end_is : next ≡ log_end_of at blocks
 
--- before the first one
-pub walk_begins : (c : List ℕ) (tags at : ℕ) (rows : List LogRow) → rows ≡ [] → IsWalked c tags at at rows
-walk_begins c tags at rows none = record { blocks = []; has = tt; rows_are = none; end_is = refl }
-
 -- one more after its open gate
 pub walk_on : (c : List ℕ) (tags at gate next : ℕ) (old new : List LogRow) → IsWalked c tags at gate old → IsOpen gate c
     → AddsBlock c tags gate old new next → IsWalked c tags at next new
@@ -68,22 +64,6 @@ walk_breaks c tags at gate rows a byte so_far opened breaks = record {
   opened = subst (λ n. IsOpen n c) so_far.end_is opened;
   breaks = subst (λ n. BreaksFirst c (block_fields c tags (length (rows_of so_far.blocks)) n) a byte) so_far.end_is
       (subst (λ l. BreaksFirst c (block_fields c tags (length l) gate) a byte) so_far.rows_are breaks);
-}
-
--- there is none after a closed gate
-pub walk_ends : (c : List ℕ) (tags at next end : ℕ) (rows : List LogRow) → IsWalked c tags at next rows → end ≡ next
-    → next < length c → get_or c next 0 ≢ open_byte → ListsRows c tags at rows end
-walk_ends c tags at next end rows so_far is there closed = record {
-  blocks = so_far.blocks;
-  are = record {
-    blocks = so_far.has;
-    shut = record {
-      there = subst (λ n. n < length c) so_far.end_is there;
-      closed = λ opened. closed (ap (λ n. get_or c n 0) so_far.end_is ∙ opened);
-    };
-  };
-  rows_are = so_far.rows_are;
-  end_is = is ∙ so_far.end_is;
 }
 
 -- ---- of a device

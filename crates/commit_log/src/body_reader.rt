@@ -1,5 +1,5 @@
 // The body of a block: its rows, and the next gate.
-ghost use Rattle.std.specs.Prelude.{◌≡◌, ℕ, ◌*◌, ◌^◌, ◌<◌, Option, IsErrOf, OnOk, length};
+ghost use Rattle.std.specs.Prelude.{ℕ, ◌*◌, ◌^◌, ◌<◌, Option, IsErrOf, OnOk, length};
 ghost use Rattle.archive_file.specs.declared.failure.ScanNo.TheVariants.{Damaged, DeviceFault};
 ghost use Rattle.archive_file.specs.LayoutFields.{BreaksFirst};
 ghost use Rattle.commit_log.specs.Blocks.{body_fields};

@@ -1,5 +1,5 @@
 // The front of a block: its gate, the number of its first row, and how many rows it has.
-ghost use Rattle.std.specs.Prelude.{◌≡◌, ℕ, ◌<◌, ◌≤◌, ◌&&◌, All, Option, IfOk, IsErrOf, OnOk, length, nat_le};
+ghost use Rattle.std.specs.Prelude.{◌≡◌, ℕ, ◌<◌, ◌≤◌, ◌&&◌, All, Option, IfOk, IsErrOf, OnOk, nat_le};
 ghost use Rattle.archive_file.specs.declared.failure.ScanNo.TheVariants.{Damaged, DeviceFault, WantOfMemory};
 ghost use Rattle.archive_file.specs.Fields.{number_bytes};
 ghost use Rattle.archive_file.specs.LayoutFields.{BreaksFirst, Keeps, Spells, short_at};

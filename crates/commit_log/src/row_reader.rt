@@ -1,5 +1,5 @@
 // Reading the rows of a block.
-ghost use Rattle.std.specs.Prelude.{◌≡◌, ℕ, ◌+◌, ◌*◌, ◌^◌, ◌<◌, ◌≤◌, All, Option, IfOk, IsErrOf, OnOk, length, nat_le, unsigned_abs};
+ghost use Rattle.std.specs.Prelude.{◌≡◌, ℕ, ◌+◌, ◌^◌, ◌<◌, ◌≤◌, All, Option, IfOk, IsErrOf, OnOk, length, nat_le, unsigned_abs};
 ghost use Rattle.trend_num.specs.Ranges.{largest_value};
 ghost use Rattle.archive_file.specs.declared.failure.ScanNo.TheVariants.{Damaged, DeviceFault, WantOfMemory};
 ghost use Rattle.archive_file.specs.LayoutFields.{BreaksFirst, Keeps, Spells};

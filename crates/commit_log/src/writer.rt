@@ -1,6 +1,6 @@
 // The bytes of blocks.
 ghost use Rattle.std.specs.Prelude.{◌≡◌, ◌≤◌, ◌∷◌, ◌++◌, [], IfOk, OnOk, length};
-ghost use Rattle.commit_log.specs.Blocks.{log_block_image, row_image, rows_image};
+ghost use Rattle.commit_log.specs.Blocks.{row_image, rows_image};
 ghost use Rattle.commit_log.specs.Writes.{IsBlockOf, WritesRows};
 ghost use Rattle.commit_log.specs.Tapes.{puts};
 

@@ -36,11 +36,6 @@ count_shown (Some t) slots j at bytes m n is size read m_is n_is =
 pub record IsCountedTo (slots taken n j rest : ℕ) (c : List ℕ) : Type 0 where
   pub counted : n ≡ length (points_before slots c taken j) + rest
 
--- none do in no slot
-pub counted_none : (o : Option Trace) (slots taken n : ℕ) → Shows o (IsCountedTo slots taken n 0 n)
-counted_none None slots taken n = tt
-counted_none (Some t) slots taken n = record { counted = omega arith }
-
 module _ (slots taken used n : ℕ) (c : List ℕ) (holds : HoldsValue slots taken used n c) (j : ℕ)
     (within : used ≤ slots)
     (below : j < used) (m : ℕ) (is : m ≡ min 64 (count_in (slot_at slots c j))) where

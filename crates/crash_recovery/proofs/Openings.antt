@@ -1,6 +1,6 @@
 -- What each image recovers while a tag's device is opened.
-use Rattle.std.proofs.Common.{◌≡◌, ◌≢◌, ◌⊎◌, inl, inr, ⊎_elim, ℕ, ◌+◌, ◌^◌, ◌<◌, ◌≤◌, Bool, true, false, List}
-use Rattle.std.proofs.Common.{[], ◌∷◌, length}
+use Rattle.std.proofs.Common.{◌≡◌, ◌⊎◌, inl, inr, ⊎_elim, ℕ, ◌+◌, ◌^◌, ◌<◌, ◌≤◌, Bool, true, false, List}
+use Rattle.std.proofs.Common.{[], ◌∷◌}
 use Rattle.std.proofs.Common.{Option, None, Some, Result, refl, sym, ◌∙◌, ap, subst, arith}
 use Rattle.trend_num.specs.declared.tuning.Tuning.{Tuning}
 use Rattle.trend_num.specs.declared.tag_def.TagDef.{TagDef}
@@ -9,7 +9,7 @@ use Rattle.trend_model.specs.State.{Stands}
 use Rattle.trend_model.proofs.StateLaw.{stands_after}
 use Rattle.trend_model.specs.State.{State, nothing_taken, after, after_under}
 use Rattle.disk_model.specs.Traces.{Trace, Synced, Idle, seen, noted}
-use Rattle.disk_model.specs.Images.{MayLeave, IsSettled}
+use Rattle.disk_model.specs.Images.{MayLeave}
 use Rattle.disk_model.specs.Moments.{ComesAfter, During}
 use Rattle.disk_model.specs.Calls.{IsNoted}
 use Rattle.disk_model.proofs.Images.{synced_now, settled}
@@ -17,7 +17,7 @@ use Rattle.disk_model.proofs.Moments.{started, goes_on, weaker, in_turn, during_
 use Rattle.crash_recovery.specs.declared.seat.Seat.{Seat}
 use Rattle.disk_model.specs.Gates.{IsNew}
 use Rattle.device_layout.specs.Recovery.{IsRecovered, Recovers, recovered_tuning as in_force_of}
-use Rattle.crash_recovery.specs.Journals.{AllRecover, GoesOnFrom, RecoversEither, IsSeat, SeatedOn}
+use Rattle.crash_recovery.specs.Journals.{AllRecover, GoesOnFrom, RecoversEither, IsSeat}
 use Rattle.disk_model.specs.Calls.{Shows}
 use Rattle.crash_recovery.specs.Opening.{IsOpenedAs, IsCountable, RecoversSame, IsTagLeftOrSame, StaysSame}
 use Rattle.device_layout.specs.Readings.{IsFull, IsOther, IsCause}
@@ -28,7 +28,6 @@ use Rattle.device_layout.specs.declared.failure.OpenNo.TheVariants.{WantOfMemory
 use Rattle.device_layout.specs.Damages.{IsTagDamage}
 use Rattle.crash_recovery.specs.TagImages.{ImageStands, StandsOpened}
 use Rattle.device_layout.proofs.OneState.{one_state}
-use Rattle.trend_num.specs.Limits.{most_records}
 
 -- ---- the sync at the beginning
 
@@ -61,10 +60,6 @@ cause_synced def o mid WantOfMemory is cause = tt
 pub during_same : (o mid new : Option Trace) (P : List ℕ → Type 0) → new ≡ mid → During o mid P → During o new P
 during_same o mid new P same during = subst (λ x. During o x P) (sym same) during
 
--- a device of which a crash leaves what a read gives
-pub settled_mid : (o mid : Option Trace) → mid ≡ noted Synced o → IsSettled mid
-settled_mid o mid is = subst IsSettled (sym is) (settled o)
-
 -- ---- a new device
 
 new_seen : (o mid : Option Trace) → mid ≡ noted Synced o → Shows mid IsNew → IsNew (seen o)
@@ -93,13 +88,6 @@ made_as def (Some t) mid new r is blank made same =
     )
 
 -- ---- a device whose layout was finished
-
-pub seated_mid : (p : Seat) (o mid : Option Trace) → mid ≡ noted Synced o → Shows mid (IsSeat p) → SeatedOn p mid
-seated_mid p None mid is seat = subst (SeatedOn p) (sym is) tt
-seated_mid p (Some t) mid is seat = subst (SeatedOn p) (sym is) (record {
-  settled = settled (Some t);
-  seat = subst (λ m. Shows m (IsSeat p)) is seat;
-})
 
 pub read_as : (def : TagDef) (o mid : Option Trace) (retuned : Bool) (r : State) → mid ≡ noted Synced o
     → Shows mid (λ c. (s : State) × IsRecovered def c s × OpensAs def retuned s r) → IsReadAs def o mid retuned r
@@ -232,20 +220,6 @@ slots_kept o mid wanted p is seat = shown_before o mid (HasSlots wanted p.lane.s
     kept : (m : Option Trace) → Shows m (IsSeat p) → Shows m (HasSlots wanted p.lane.slots)
     kept None shows = tt
     kept (Some t) shows = inr (not_new _ shows, shows.laid.slots)
-
--- ---- a tag that has to be retuned and is full
-
-pub full_shown : (def : TagDef) (o : Option Trace) (n : ℕ) (s : State) → Shows o (λ c. IsRecovered def c s)
-    → s.summary.tuning ≢ Some def.tuning → n ≡ length s.records → most_records < length s.records + 2
-    → Shows o (λ c. (x : State) × IsFull def c n x)
-full_shown def None n s recovered other is full = tt
-full_shown def (Some t) n s recovered other is full =
-    (s, record { recovered = inr recovered; other = other; records_are = is; full = full })
-
--- a tuning is in force after a retuning
-pub tuning_after : (step : Bool) (s : State) (u w : Tuning) → s.summary.tuning ≡ Some u
-    → (after step s (Tune w)).summary.tuning ≡ Some w
-tuning_after step s u w is = ap (λ t. (after_under step s (Tune w) t).summary.tuning) is
 
 -- ---- for which history it stands
 

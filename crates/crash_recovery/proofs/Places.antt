@@ -2,10 +2,10 @@
 use Rattle.disk_model.specs.Calls.{Shows}
 use Rattle.std.proofs.Common.{◌≡◌, ◌≢◌, ◌⊎◌, inl, inr, ℕ, ◌+◌, ◌*◌, ◌<◌, ◌≤◌, Bool, true, false, List, length}
 use Rattle.std.proofs.Common.{get_or, take, drop, Option, None, Some, refl, sym, ◌∙◌, ap, subst, arith}
-use Rattle.disk_model.specs.Traces.{Trace, seen}
-use Rattle.disk_model.specs.Images.{IsOutside, Now, IsSettled}
+use Rattle.disk_model.specs.Traces.{Trace}
+use Rattle.disk_model.specs.Images.{IsOutside, IsSettled}
 use Rattle.disk_model.specs.Calls.{Reaches}
-use Rattle.disk_model.specs.Gates.{open_byte, HasGatesOf}
+use Rattle.disk_model.specs.Gates.{open_byte}
 use Rattle.event_queue.specs.Slots.{lane_end}
 use Rattle.event_queue.specs.Places.{HasRoom}
 use Rattle.crash_recovery.specs.declared.seat.Seat.{Seat}
@@ -96,11 +96,6 @@ slot_within Second = omega arith
 pub gate_within : (j : Slot) → summary_gate j < 400
 gate_within First = omega arith
 gate_within Second = omega arith
-
--- a slot lies before both gates
-pub gate_apart : (j : Slot) → IsOutside (summary_place j) 128 (summary_gate j)
-gate_apart First = inr (omega arith)
-gate_apart Second = inr (omega arith)
 
 -- the slot that counts is not the other one
 pub spare_other : (counts : Option Slot) (i : Slot) → counts ≡ Some i → spare_slot counts ≢ i
@@ -219,24 +214,7 @@ laid_again p (Some t) settled laid = record { settled = settled; laid = laid }
 
 -- ---- what the calls need
 
--- the lane is there
-pub room_on : (p : Seat) (o : Option Trace) → LaidOn p o → Now o (HasRoom p.lane.slots p.lane.used)
-room_on p None laid = record { each = λ c may. absurd may.image }
-room_on p (Some t) laid = record {
-  each = λ c may. subst (HasRoom p.lane.slots p.lane.used)
-      (sym (laid.settled.each c may)) laid.laid.room;
-}
-
 -- so is all that is before the end of the log
 pub reaches_on : (p : Seat) (o : Option Trace) (n : ℕ) → LaidOn p o → n ≤ log_end p → Reaches o n
 reaches_on p None n laid le = tt
 reaches_on p (Some t) n laid le = omega (arith, le, laid.laid.long)
-
--- gates there read the same in each image
-pub gates_on : (p : Seat) (o : Option Trace) (at n : ℕ) → LaidOn p o → at + n ≤ log_end p
-    → Now o (HasGatesOf (seen o) at n)
-gates_on p None at n laid le = record { each = λ c may. absurd may.image }
-gates_on p (Some t) at n laid le = record {
-  each = λ c may. subst (HasGatesOf (seen (Some t)) at n) (sym (laid.settled.each c may))
-      (record { there = omega (arith, le, laid.laid.long); same = λ i low below. refl });
-}

@@ -36,16 +36,6 @@ pub record IsTakenTo (points : List Point) (n : ℕ) (start now : Core) : Type 0
   pub taken : now.state.summary.taken ≡ start.state.summary.taken + n
   pub room : start.spare ≤ now.spare + 2 * n
 
--- none were
-pub taken_to_none : (points : List Point) (c : Core) → IsTakenTo points 0 c c
-taken_to_none points c = record {
-  same_step = refl;
-  fit = tt;
-  state = refl;
-  taken = omega arith;
-  room = omega arith;
-}
-
 -- one more was
 pub taken_to_more : (points : List Point) (n : ℕ) (p : Point) (start now new : Core) → IsTakenTo points n start now
     → n < length points → p ≡ get_or points n p → new.state ≡ after now.step now.state (Raw p) → new.step ≡ now.step

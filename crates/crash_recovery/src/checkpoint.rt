@@ -1,5 +1,5 @@
 // A checkpoint: the new records, then the summary, and then the lane begins anew.
-ghost use Rattle.std.specs.Prelude.{◌≡◌, ◌≢◌, ◌↔◌, ◌+◌, ◌*◌, ◌^◌, ◌<◌, ◌≤◌, true, false, IsTrue, length};
+ghost use Rattle.std.specs.Prelude.{◌≡◌, ◌↔◌, ◌+◌, ◌*◌, ◌^◌, ◌<◌, ◌≤◌, true, false, IsTrue, length};
 ghost use Rattle.std.specs.Prelude.{drop, OnOk, OnErr, IfOk, IsOk, IsErrOf};
 ghost use Rattle.trend_num.specs.declared.tag_def.TagDef.{TagDef};
 ghost use Rattle.trend_model.specs.State.{State};

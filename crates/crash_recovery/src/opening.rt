@@ -1,5 +1,5 @@
 // Opening a tag's device.
-ghost use Rattle.std.specs.Prelude.{◌≡◌, ◌≢◌, ◌⊎◌, ◌+◌, ◌-◌, ◌*◌, ◌^◌, ◌<◌, ◌≤◌, ℕ, Some, Err, true, false};
+ghost use Rattle.std.specs.Prelude.{◌≡◌, ◌≢◌, ◌⊎◌, ◌+◌, ◌-◌, ◌*◌, ◌^◌, ◌<◌, ◌≤◌, Some, Err, true, false};
 ghost use Rattle.std.specs.Prelude.{length, IfOk, IfErr, OnOk, OnErr};
 ghost use Rattle.trend_num.specs.Limits.{most_records};
 ghost use Rattle.trend_num.specs.declared.tag_def.TagDef.{TagDef};
@@ -8,7 +8,7 @@ ghost use Rattle.trend_model.specs.State.{State, nothing_taken};
 ghost use Rattle.disk_model.specs.Traces.{Synced, noted};
 ghost use Rattle.disk_model.specs.Images.{IsSettled};
 ghost use Rattle.disk_model.specs.Moments.{During};
-ghost use Rattle.disk_model.specs.Calls.{CountsFault, HasCause};
+ghost use Rattle.disk_model.specs.Calls.{CountsFault};
 ghost use Rattle.disk_model.specs.Gates.{IsBegun, layout_calls};
 ghost use Rattle.device_layout.specs.declared.failure.OpenNo.TheVariants.{DeviceFault, WantOfMemory, Full as TooFull};
 ghost use Rattle.disk_model.specs.Gates.{IsNew};

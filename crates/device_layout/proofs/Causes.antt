@@ -1,5 +1,5 @@
 -- What was read and why it was refused, of a device that may not record its calls.
-use Rattle.std.proofs.Common.{◌≡◌, ℕ, ◌<◌, ◌≤◌, Bool, List, [], length, get_or, nat_eq, nat_le}
+use Rattle.std.proofs.Common.{◌≡◌, ℕ, ◌<◌, ◌≤◌, Bool, List, length, get_or, nat_eq, nat_le}
 use Rattle.std.proofs.Common.{Option, None, Some, subst, arith}
 use Rattle.std.specs.Int.{w64, from_be_bytes}
 use Rattle.trend_num.specs.declared.archive.Summary.{Summary}
@@ -18,13 +18,12 @@ use Rattle.device_layout.specs.declared.layout_reader.Stored.{Stored}
 use Rattle.device_layout.specs.declared.slot.Slot.{Slot}
 use Rattle.device_layout.specs.Headers.{IsHeaderBroken}
 use Rattle.device_layout.specs.Recovery.{summary_place, slot_bytes, chosen, counting, recovered_tuning}
-use Rattle.device_layout.specs.Recovery.{no_summary}
 use Rattle.device_layout.specs.Damages.{IsTagDamage}
 use Rattle.disk_model.specs.Calls.{Shows}
 use Rattle.device_layout.specs.Readings.{IsOther, HasHeader, HasLayout, CountsSummary, IsFoundOn}
 use Rattle.device_layout.proofs.Reading.{header_broken, counting_read, here_at, records_broken}
 use Rattle.device_layout.proofs.Reading.{parts_broken}
-use Rattle.device_layout.proofs.Reading.{is_other, counts_summary, stored_none, stored_some}
+use Rattle.device_layout.proofs.Reading.{is_other, counts_summary, stored_some}
 
 -- the same bytes were read before some calls that changed nothing
 pub reads_before : (o p : Option Trace) (at : ℕ) (bytes : List ℕ) → p ≡ o → Reads p at bytes → Reads o at bytes
@@ -80,12 +79,6 @@ parts_cause def (Some t) slots log place i s u step rs first same_step is at rec
     (subst (λ n. HasRecords (seen (Some t)) n s.records rs) is records) broken size
     (here_at first place (summary_place i) (seen (Some t)) at read) has
 
--- records at the log's place
-pub records_shown : (o : Option Trace) (slots log : ℕ) (n : ℕ) (rs : List Rec) → log ≡ lane_end slots
-    → Shows o (λ c. HasRecords c log n rs) → Shows o (λ c. HasRecords c (lane_end slots) n rs)
-records_shown None slots log n rs is has = tt
-records_shown (Some t) slots log n rs is has = subst (λ k. HasRecords (seen (Some t)) k n rs) is has
-
 -- a summary that counts
 pub counts_shown : (def : TagDef) (o : Option Trace) (slots : ℕ) (made : Tuning) (i : Slot) (s : Summary) (u : Tuning)
     → Shows o (HasLayout def slots made) → Shows o (λ c. counting c ≡ Some i) → IsSummary s
@@ -104,12 +97,3 @@ pub stored_shown : (def : TagDef) (o : Option Trace) (slots : ℕ) (i : Slot) (s
 stored_shown def None slots i s u x has records slot summary tuning = tt
 stored_shown def (Some t) slots i s u x has records slot summary tuning =
     stored_some def slots i s u x (seen (Some t)) has records slot summary tuning
-
--- nothing is
-pub nothing_shown : (def : TagDef) (o : Option Trace) (slots : ℕ) (made : Tuning) (x : Stored)
-    → Shows o (HasLayout def slots made)
-    → Shows o (λ c. counting c ≡ None) → x.slot ≡ None → x.summary ≡ no_summary → x.recs.items ≡ [] → x.tuning ≡ made
-    → Shows o (IsFoundOn def slots x)
-nothing_shown def None slots made x has none slot summary recs tuning = tt
-nothing_shown def (Some t) slots made x has none slot summary recs tuning =
-    stored_none def slots made x (seen (Some t)) has none slot summary recs tuning

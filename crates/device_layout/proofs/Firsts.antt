@@ -5,11 +5,7 @@ use Rattle.std.proofs.lemmas.Bool.{cases_lt, cond-false, eq-eqb, ne_eqb, cases_e
 use Rattle.std.specs.Option.{MatchOption}
 use Rattle.device_layout.specs.Firsts.{HoldsFrom, FailsFirst}
 
--- it holds at no places
-pub holds_none : (test : ℕ → Bool) (from : ℕ) → HoldsFrom test from from
-holds_none test from = λ i low below. absurd (omega arith)
-
--- and at one more
+-- it holds at one place more
 pub holds_more : (test : ℕ → Bool) (from i : ℕ) → HoldsFrom test from i → test i ≡ true
     → HoldsFrom test from (i + 1)
 holds_more test from i before here = λ k low below.

@@ -1,6 +1,6 @@
 -- What was read of a device is on it: the header, the slot that counts, its summary, and where they are broken.
 use Rattle.std.proofs.Common.{◌≡◌, ℕ, ◌+◌, ◌<◌, ◌≤◌, Bool, List, [], length, take, drop}
-use Rattle.std.proofs.Common.{get_or, Option, None, Some, refl, sym, ◌∙◌, ap, subst, arith, nat_le, nat_eq}
+use Rattle.std.proofs.Common.{get_or, Option, Some, refl, sym, ◌∙◌, ap, subst, arith, nat_le, nat_eq}
 use Rattle.std.proofs.lemmas.List.{take-take, get_or-take, get_or-drop}
 use Rattle.std.specs.Int.{w64, from_be_bytes}
 use Rattle.trend_num.specs.declared.archive.Summary.{Summary}
@@ -8,7 +8,7 @@ use Rattle.trend_num.specs.declared.archive.Rec.{Rec}
 use Rattle.trend_num.specs.declared.tuning.Tuning.{Tuning}
 use Rattle.trend_num.specs.declared.tag_def.TagDef.{TagDef}
 use Rattle.trend_model.specs.Parts.{ArePartsOk}
-use Rattle.disk_model.specs.Gates.{open_byte, IsOpen, IsBegun}
+use Rattle.disk_model.specs.Gates.{open_byte, IsOpen}
 use Rattle.archive_file.specs.Places.{HasRecords, IsDamage}
 use Rattle.archive_file.specs.Summaries.{summary_image, IsSummary}
 use Rattle.event_queue.specs.Slots.{lane_end}
@@ -20,9 +20,9 @@ use Rattle.device_layout.specs.Headers.{def_in, tuning_in, slots_in, IsHeader, I
 use Rattle.device_layout.specs.SlotFields.{IsSlotBroken}
 use Rattle.device_layout.specs.Recovery.{header_of, log_place, summary_place, slot_bytes}
 use Rattle.device_layout.specs.Recovery.{is_open, taken_in, chosen}
-use Rattle.device_layout.specs.Recovery.{counting, HasSummary, recovered_tuning, no_summary, IsOfTag}
+use Rattle.device_layout.specs.Recovery.{counting, HasSummary, recovered_tuning, IsOfTag}
 use Rattle.device_layout.specs.Damages.{IsTagDamage}
-use Rattle.device_layout.specs.Damages.IsTagDamage.{EndsShort, BadHeader, BadLayout, BadSummary, BadLog, BadParts}
+use Rattle.device_layout.specs.Damages.IsTagDamage.{BadHeader, BadSummary, BadLog, BadParts}
 use Rattle.device_layout.specs.Readings.{IsOther, HasHeader, HasLayout, CountsSummary, IsFoundOn}
 use Rattle.device_layout.specs.Readings.{IsCause, refusal_of}
 use Rattle.device_layout.specs.declared.failure.OpenNo.{OpenNo}
@@ -86,11 +86,6 @@ has_header bytes c h size here ok def_is slots_are =
       slots_are = slots_are ∙ ap slots_in same;
     }
 
-pub header_short : (def : TagDef) (c : List ℕ) (len : ℕ) → length c ≡ len → len < 128 → IsBegun c
-    → IsTagDamage def c len None
-header_short def c len size low begun =
-    EndsShort begun (record { short = omega (arith, size, low); place = sym size; none_there = refl })
-
 pub header_broken : (def : TagDef) (bytes c : List ℕ) (at : ℕ) → length bytes ≡ 128
     → bytes ≡ take (length bytes) (drop 0 c) → 128 ≤ length c → at < 128 → IsHeaderBroken bytes at → IsOpen 0 c
     → IsTagDamage def c at (Some (get_or bytes at 0))
@@ -114,27 +109,6 @@ of_tag def c h opened has name step = record {
   same_name = sym (ap (λ d. d.name) has.def_is) ∙ name;
   same_step = sym (ap (λ d. d.step) has.def_is) ∙ step;
 }
-
-pub has_layout : (def : TagDef) (c : List ℕ) (h : Header) (len : ℕ) → length c ≡ len → lane_end h.slots ≤ len
-    → IsOpen 0 c → HasHeader h c → h.def.name ≡ def.name → h.def.step ≡ def.step
-    → HasLayout def h.slots h.def.tuning c
-has_layout def c h len size long opened has name step = record {
-  tag = of_tag def c h opened has name step;
-  long = subst (λ n. n ≤ length c) (ap lane_end has.slots_are) (omega (arith, size, long));
-  slots_are = has.slots_are;
-  made_with = ap (λ d. d.tuning) has.def_is;
-}
-
-pub layout_short : (def : TagDef) (c : List ℕ) (h : Header) (len : ℕ) → length c ≡ len → len < lane_end h.slots
-    → IsOpen 0 c → HasHeader h c → h.def.name ≡ def.name → h.def.step ≡ def.step → IsTagDamage def c len None
-layout_short def c h len size low opened has name step = BadLayout (record {
-  tag = of_tag def c h opened has name step;
-  ends = record {
-    short = subst (λ n. length c < n) (ap lane_end has.slots_are) (omega (arith, size, low));
-    place = sym size;
-    none_there = refl;
-  };
-})
 
 -- ---- the summary that counts
 
@@ -228,20 +202,6 @@ parts_broken def slots i s u step rs first c same_step records broken size here 
 -- no records are at any place
 no_records : (c : List ℕ) (at : ℕ) → HasRecords c at 0 []
 no_records c at = record { counted = refl; records = record { in_range = tt; image = refl } }
-
-pub stored_none : (def : TagDef) (slots : ℕ) (made : Tuning) (x : Stored) (c : List ℕ) → HasLayout def slots made c
-    → counting c ≡ None → x.slot ≡ None → x.summary ≡ no_summary → x.recs.items ≡ [] → x.tuning ≡ made
-    → IsFoundOn def slots x c
-stored_none def slots made x c has none slot summary recs tuning = record {
-  tag = has.tag;
-  long = has.long;
-  summary = subst (λ i. HasSummary c i x.summary) (sym none) summary;
-  records = subst (λ n. HasRecords c (log_place c) n x.recs.items) (sym (ap (λ s. s.records) summary))
-      (subst (λ l. HasRecords c (log_place c) 0 l) (sym recs) (no_records c (log_place c)));
-  slots_are = has.slots_are;
-  slot = none ∙ sym slot;
-  tuning = tuning ∙ has.made_with ∙ sym (ap (λ s. recovered_tuning (tuning_in (header_of c)) s.tuning) summary);
-}
 
 -- a summary that was read counts
 pub counts_summary : (def : TagDef) (slots : ℕ) (made : Tuning) (i : Slot) (s : Summary) (u : Tuning) (c : List ℕ)

@@ -8,12 +8,6 @@ pub shows : (o : Option Trace) (P Q : List ℕ → Type 0) → ((c : List ℕ) �
 shows None P Q follows p = tt
 shows (Some t) P Q follows p = follows (seen (Some t)) p
 
--- from two
-pub shows₂ : (o : Option Trace) (P Q R : List ℕ → Type 0) → ((c : List ℕ) → P c → Q c → R c)
-    → Shows o P → Shows o Q → Shows o R
-shows₂ None P Q R follows p q = tt
-shows₂ (Some t) P Q R follows p q = follows (seen (Some t)) p q
-
 -- from three
 pub shows₃ : (o : Option Trace) (P Q R S : List ℕ → Type 0) → ((c : List ℕ) → P c → Q c → R c → S c)
     → Shows o P → Shows o Q → Shows o R → Shows o S

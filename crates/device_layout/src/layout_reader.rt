@@ -1,10 +1,10 @@
 // Reads a tag's device: its header, the summary that counts, and the records.
-ghost use Rattle.std.specs.Prelude.{◌≡◌, ◌+◌, ◌*◌, ◌^◌, ◌<◌, ◌≤◌, ℕ, length, slice_index};
+ghost use Rattle.std.specs.Prelude.{◌≡◌, ◌+◌, ◌*◌, ◌<◌, ◌≤◌, ℕ};
 ghost use Rattle.std.specs.Prelude.{[], None, Some, Err, IfOk, IfErr, OnOk, OnErr};
 ghost use Rattle.trend_num.specs.declared.tuning.Tuning.{Tuning};
 ghost use Rattle.trend_num.specs.declared.tag_def.TagDef.{TagDef};
 ghost use Rattle.trend_num.specs.Ranges.{TuningInRange};
-ghost use Rattle.disk_model.specs.Calls.{CountsFault, HasCause, HasLength, Reaches, Reads};
+ghost use Rattle.disk_model.specs.Calls.{CountsFault, HasCause, HasLength, Reaches};
 ghost use Rattle.disk_model.specs.Gates.{IsBegun};
 ghost use Rattle.archive_file.specs.Places.{HasRecords};
 ghost use Rattle.event_queue.specs.Slots.{lane_end};

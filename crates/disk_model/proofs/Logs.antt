@@ -1,13 +1,13 @@
 -- What the log of a device in memory says after one call more.
-use Rattle.std.proofs.Common.{◌≡◌, ℕ, zero, suc, Bool, true, false, cond, List, [], ◌∷◌, ◌++◌, length, replicate, refl}
+use Rattle.std.proofs.Common.{◌≡◌, ℕ, zero, suc, List, [], ◌∷◌, ◌++◌, length, replicate, refl}
 use Rattle.std.proofs.lemmas.List.{length-replicate}
 use Rattle.disk_model.specs.declared.memory_disk.Pick.{Pick}
 use Rattle.disk_model.specs.declared.memory_disk.Pick.TheVariants.{Old, New, Fill}
 use Rattle.disk_model.specs.declared.memory_log.Note.{Note}
-use Rattle.disk_model.specs.Traces.{DeviceCall, Wrote, WroteInPart, Resized, ResizedInPart, Synced, Idle, written, resized, content}
+use Rattle.disk_model.specs.Traces.{DeviceCall, Wrote, WroteInPart, Resized, ResizedInPart, Synced, Idle, content}
 use Rattle.disk_model.specs.Images.{IsTorn, IsBetween, IsImage}
 use Rattle.disk_model.specs.Memory.{picked, picked_bytes, picked_length}
-use Rattle.disk_model.specs.Logs.{write_call, resize_call, call_of, idles, calls_after}
+use Rattle.disk_model.specs.Logs.{call_of, idles, calls_after}
 use Rattle.disk_model.proofs.Bytes.{torn_written, torn_self, torn_as, between_resized, between_self}
 
 -- one note more is one call more, after the idle ones before it
@@ -24,18 +24,6 @@ content-idles first (suc n) es = content-idles first n es
 pub picked-idles : (pick : Pick) (first : List ℕ) (n : ℕ) (es : List DeviceCall) → picked pick first (idles n es) ≡ picked pick first es
 picked-idles pick first zero es = refl
 picked-idles pick first (suc n) es = picked-idles pick first n es
-
--- what a read gives after a write that was done whole or not
-pub content-write : (whole : Bool) (first : List ℕ) (es : List DeviceCall) (at : ℕ) (bytes : List ℕ)
-    → content first (write_call whole at bytes ∷ es) ≡ cond whole (written (content first es) at bytes) (content first es)
-content-write true first es at bytes = refl
-content-write false first es at bytes = refl
-
--- what a read gives after a change of the length that was done whole or not
-pub content-resize : (whole : Bool) (first : List ℕ) (es : List DeviceCall) (len : ℕ)
-    → content first (resize_call whole len ∷ es) ≡ cond whole (resized (content first es) len) (content first es)
-content-resize true first es len = refl
-content-resize false first es len = refl
 
 -- what is picked of a write is one that may be torn
 torn_picked : (pick : Pick) (bytes image : List ℕ) (at : ℕ) → IsTorn at (length bytes) image (picked_bytes pick bytes image at)

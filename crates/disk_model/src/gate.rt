@@ -1,5 +1,5 @@
 // Writing while a gate is closed, and closing gates.
-ghost use Rattle.std.specs.Prelude.{◌≡◌, ◌⊎◌, ◌+◌, ◌<◌, ◌≤◌, ◌^◌, [], ◌∷◌, ◌≢◌, length, slice_index, OnOk};
+ghost use Rattle.std.specs.Prelude.{◌≡◌, ◌+◌, ◌<◌, ◌≤◌, ◌^◌, [], ◌∷◌, ◌≢◌, length, slice_index, OnOk};
 ghost use Rattle.disk_model.specs.Traces.{seen, written};
 ghost use Rattle.disk_model.specs.Images.{Now, FromOld, IsSettled, IsOutside};
 ghost use Rattle.disk_model.specs.Moments.{During};

@@ -1,7 +1,7 @@
 // What the disk model implies for every trace of calls.
-ghost use Rattle.std.specs.Prelude.{◌≡◌, ◌<◌, ◌++◌, ◌∷◌, ℕ, List, Some, length, slice_index};
+ghost use Rattle.std.specs.Prelude.{◌++◌, ◌∷◌, ℕ, List, Some};
 ghost use Rattle.disk_model.specs.Traces.{DeviceCall, Synced, Trace, content, seen, noted};
-ghost use Rattle.disk_model.specs.Images.{IsImage, MayLeave, IsSettled, IsUntouched, KeepsUntouched};
+ghost use Rattle.disk_model.specs.Images.{IsImage, MayLeave, IsSettled, KeepsUntouched};
 
 /// What a read returns is one of the images that a crash now may leave.
 pub fn a_read_gives_an_image()

@@ -1,7 +1,7 @@
 // A device in memory. It fails at the calls that a test chooses, and gives the images that a crash may leave.
-ghost use Rattle.std.specs.Prelude.{◌≡◌, ◌⊎◌, ◌↔◌, ◌+◌, ◌-◌, ◌^◌, ◌<◌, ◌≤◌, [], ◌∷◌, length, take, drop, Option, None, Some, IfOk, IsErr, OnOk, OnErr, IsTrue, Contains, MatchResult, IsSomeAnd, IsSome, is_some, IsOk, is_ok, false, true, if◌then◌else◌};
+ghost use Rattle.std.specs.Prelude.{◌≡◌, ◌⊎◌, ◌↔◌, ◌+◌, ◌-◌, ◌^◌, ◌<◌, ◌≤◌, [], ◌∷◌, length, Option, None, Some, IfOk, IsErr, OnOk, OnErr, IsTrue, Contains, IsSomeAnd, IsSome, is_some, IsOk, is_ok, false, true, if◌then◌else◌};
 ghost use Rattle.disk_model.specs.Logs.{log_first, log_calls};
-ghost use Rattle.disk_model.specs.Traces.{Trace, Wrote, WroteInPart, Resized, ResizedInPart, Synced, Idle, seen, noted};
+ghost use Rattle.disk_model.specs.Traces.{Wrote, WroteInPart, Resized, ResizedInPart, Synced, Idle, seen, noted};
 ghost use Rattle.disk_model.specs.Images.{MayLeave};
 ghost use Rattle.disk_model.specs.Calls.{next_count, Rose, HasCause, IsTimed, Reaches, Reads, IsNoted};
 

@@ -1,9 +1,9 @@
 // The calls that a device in memory has had, as data, and the images that they leave.
-ghost use Rattle.std.specs.Prelude.{◌≡◌, ◌+◌, ◌-◌, ◌^◌, ◌<◌, ◌≤◌, [], ◌∷◌, length, vec_len, IfOk, OnOk, OnErr, IsSome, if◌then◌else◌};
+ghost use Rattle.std.specs.Prelude.{◌≡◌, ◌+◌, ◌-◌, ◌^◌, ◌<◌, [], ◌∷◌, length, vec_len, IfOk, OnOk, OnErr, IsSome, if◌then◌else◌};
 ghost use Rattle.std.specs.Vec.{vec_capacity};
 ghost use Rattle.disk_model.specs.Traces.{Synced, Idle, written, resized, content};
 ghost use Rattle.disk_model.specs.Memory.{picked, picked_bytes, picked_length};
-ghost use Rattle.disk_model.specs.Logs.{call_of, write_call, resize_call, first_of, log_first, log_calls};
+ghost use Rattle.disk_model.specs.Logs.{call_of, write_call, resize_call, log_first, log_calls};
 
 use crate::memory_disk::Pick;
 use std::alloc::AllocError;

@@ -2,7 +2,7 @@
 use Rattle.std.proofs.Common.{◌≡◌, ℕ, ◌+◌, ◌<◌, ◌≤◌, ◌⊎◌, inl, inr, Bool, true, false, List, [], ◌∷◌, ◌++◌, length, get_or, map, sym, ap, ◌∙◌, subst, arith}
 use Rattle.std.specs.Prelude.{AllPairs, Contains}
 use Rattle.std.proofs.lemmas.Bool.{cases_Bool, cases_lt, cases_order}
-use Rattle.std.proofs.lemmas.List.{append_assoc, append-nil, get_or_default, map-append, length-append, length-map, length_push}
+use Rattle.std.proofs.lemmas.List.{append_assoc, append-nil, get_or_default, map-append, length_push}
 use Rattle.event_frames.specs.declared.frame.Frame.{Frame}
 use Rattle.event_frames.specs.declared.frame.Change.{Change}
 use Rattle.event_frames.specs.declared.frame.Edit.{Edit}
@@ -146,16 +146,6 @@ edits_are old new least cs n os ns first second is olds news gone came = record 
   are_gone = difference old new least cs n os ns gone.missing (λ f frame. near_or_stays old new cs n least f is frame) olds news gone.are;
   have_come = difference new old least cs n ns os came.missing (λ f frame. near_or_stood old new cs n least f is frame) news olds came.are;
 }
-
--- they are at most twice as many as the frames near the changes
-pub edits_few : (first second : List Edit) (os ns : List Frame) → AddsMissing [] first false os ns (length os)
-    → AddsMissing first second true ns os (length ns) → length second ≤ length os + length ns
-edits_few first second os ns gone came =
-    let one : length first ≡ length gone.missing = ap length gone.edits ∙ length-map gone.missing (edit_of false) in
-    let two : length second ≡ length first + length came.missing =
-    ap length came.edits ∙ (length-append first (map (edit_of true) came.missing)
-    ∙ ap (λ n. length first + n) (length-map came.missing (edit_of true))) in
-    omega (arith, one, two, gone.few, came.few)
 
 -- the frames that were looked at, and the place in the others up to which all begin before the next one
 pub record IsMissingSoFar (before now : List Edit) (came : Bool) (frames others : List Frame) (i place : ℕ) : Type 0 where

@@ -1,5 +1,5 @@
 // The frames of one list that are not in another.
-ghost use Rattle.std.specs.Prelude.{◌≡◌, ℕ, ◌+◌, ◌*◌, ◌^◌, ◌<◌, ◌≤◌, [], ◌∷◌, ◌++◌, true, false, AllPairs, length, slice_index_or, vec_len, vec_capacity};
+ghost use Rattle.std.specs.Prelude.{◌≡◌, ℕ, ◌+◌, ◌*◌, ◌<◌, ◌≤◌, [], ◌∷◌, ◌++◌, true, false, AllPairs, length, slice_index_or, vec_len, vec_capacity};
 ghost use Rattle.event_frames.specs.declared.frame.Frame.{Frame};
 ghost use Rattle.event_frames.specs.Near.{AddsMissing, edit_of};
 

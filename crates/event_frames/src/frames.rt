@@ -1,6 +1,6 @@
 // The frames of a calculation.
-ghost use Rattle.std.specs.Prelude.{◌≡◌, ℕ, ◌+◌, ◌*◌, ◌^◌, ◌<◌, ◌≤◌, List, length, All, AllPairs, IfOk, OnErr, OnOk, take};
-ghost use Rattle.std.specs.Prelude.{slice_index_or, vec_len};
+ghost use Rattle.std.specs.Prelude.{◌≡◌, ◌+◌, ◌*◌, ◌<◌, ◌≤◌, List, length, IfOk, OnErr, OnOk};
+ghost use Rattle.std.specs.Prelude.{vec_len};
 ghost use Rattle.trend_num.specs.declared.value.CalcValue.{CalcValue};
 ghost use Rattle.event_frames.specs.declared.frame.Change.{Change};
 ghost use Rattle.event_frames.specs.Edits.{AreEdits};

@@ -5,7 +5,7 @@ ghost use Rattle.disk_model.specs.Traces.{seen};
 ghost use Rattle.disk_model.specs.Calls.{CountsFault, HasCause, Reaches, Reads};
 ghost use Rattle.archive_file.specs.declared.failure.ScanNo.TheVariants.{DeviceFault, Damaged, WantOfMemory};
 ghost use Rattle.disk_model.specs.Gates.{open_byte};
-ghost use Rattle.event_queue.specs.Slots.{place_of, lane_end};
+ghost use Rattle.event_queue.specs.Slots.{lane_end};
 ghost use Rattle.event_queue.specs.Damages.{IsLaneDamage};
 ghost use Rattle.event_queue.specs.Pieces.{IsOpenSlot, IsPiece};
 ghost use Rattle.event_queue.specs.Scans.{IsWithin, IsRead, FitsSlot};

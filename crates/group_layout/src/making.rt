@@ -1,5 +1,5 @@
 // Beginning a group's device, and adding a block.
-ghost use Rattle.std.specs.Prelude.{◌≡◌, ◌+◌, ◌^◌, ◌<◌, ◌≤◌, ◌∷◌, ◌++◌, [], IfOk, IsErrOf, OnOk, length};
+ghost use Rattle.std.specs.Prelude.{◌≡◌, ◌+◌, ◌<◌, ◌≤◌, ◌∷◌, ◌++◌, [], IfOk, IsErrOf, OnOk, length};
 ghost use Rattle.disk_model.specs.Traces.{seen, written};
 ghost use Rattle.disk_model.specs.Images.{FromOld, IsSettled, Now};
 ghost use Rattle.disk_model.specs.Moments.{During};

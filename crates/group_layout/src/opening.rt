@@ -1,5 +1,5 @@
 // Opening a group's device.
-ghost use Rattle.std.specs.Prelude.{◌≡◌, ℕ, ◌+◌, ◌^◌, ◌<◌, ◌≤◌, [], Option, IfOk, IsErrOf, OnOk, length, replicate};
+ghost use Rattle.std.specs.Prelude.{◌≡◌, ℕ, ◌+◌, ◌^◌, ◌<◌, ◌≤◌, [], Option, IfOk, IsErrOf, OnOk, replicate};
 ghost use Rattle.disk_model.specs.Images.{IsSettled, Now};
 ghost use Rattle.disk_model.specs.Moments.{During};
 ghost use Rattle.disk_model.specs.Calls.{CountsFault, Shows};

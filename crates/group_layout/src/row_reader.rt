@@ -1,5 +1,5 @@
 // Reading the rows of a block.
-ghost use Rattle.std.specs.Prelude.{◌≡◌, ℕ, ◌+◌, ◌*◌, ◌^◌, ◌<◌, ◌≤◌, true, ◌&&◌, All, Option, None, IfOk, IsErrOf, OnOk, length, nat_le, nat_lt, vec_len};
+ghost use Rattle.std.specs.Prelude.{◌≡◌, ℕ, ◌+◌, ◌*◌, ◌^◌, ◌<◌, ◌≤◌, true, ◌&&◌, All, Option, None, IfOk, IsErrOf, OnOk, length, nat_le, nat_lt};
 ghost use Rattle.archive_file.specs.declared.failure.ScanNo.TheVariants.{Damaged, DeviceFault, WantOfMemory};
 ghost use Rattle.group_layout.specs.declared.block.BlockRow.{BlockRow};
 ghost use Rattle.archive_file.specs.LayoutFields.{BreaksFirst, Keeps, Spells};

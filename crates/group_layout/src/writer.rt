@@ -1,6 +1,5 @@
 // The bytes of blocks.
 ghost use Rattle.std.specs.Prelude.{◌≡◌, ◌∷◌, ◌++◌, [], IfOk, OnOk, vec_len};
-ghost use Rattle.archive_file.specs.Fields.{number_bytes};
 ghost use Rattle.group_layout.specs.Blocks.{block_image, parts_of, row_image, rows_image, versions_image};
 
 use crate::block::{Block, BlockRow};

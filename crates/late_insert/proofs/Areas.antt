@@ -1,7 +1,7 @@
 -- Totals of a list of points, and of one point more.
 use Rattle.std.proofs.Common.{◌≡◌, Bool, true, false, ℕ, zero, suc, ◌+◌, ◌-◌, ◌*◌, ◌<◌, ◌≤◌, ℤ, pos, ◌+ℤ◌}
 use Rattle.std.proofs.Common.{◌*ℤ◌}
-use Rattle.std.proofs.Common.{List, [], ◌∷◌, ◌++◌, length, get_or, take, All, refl, ap, ◌∙◌, arith}
+use Rattle.std.proofs.Common.{List, [], ◌∷◌, ◌++◌, length, get_or, take, All, ap, ◌∙◌, arith}
 use Rattle.std.specs.Prelude.{unsigned_abs, FitsSigned}
 use Rattle.std.specs.Int.{int_min, int_max, w128}
 use Rattle.std.proofs.lemmas.Int.{ints, unsigned_abs-mul, fits_signed_from_abs}
@@ -44,12 +44,6 @@ area_more step l i d some within =
     ap (area step) (take_more l i d within)
     ∙ (area_put step (take i l) (i - 1) d (get_or l i d) (omega arith)
     ∙ ap (λ x. area step (take i l) +ℤ piece step x (get_or l i d)) last)
-
--- one point has no area
-pub area_one : (step : Bool) (l : List Point) → length l ≤ 1 → area step l ≡ pos 0
-area_one step [] one = refl
-area_one step (x ∷ []) one = refl
-area_one step (x ∷ y ∷ l) one = absurd (omega arith)
 
 pub least_push : (l : List Point) (y : Point) → 0 < length l → least_of (l ++ y ∷ []) ≡ int_min
     (least_of l) y.v

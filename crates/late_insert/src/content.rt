@@ -1,7 +1,7 @@
 // A content, in pages.
-ghost use Rattle.std.specs.Prelude.{◌≡◌, ◌↔◌, ℕ, ◌+◌, ◌-◌, ◌^◌, ◌<◌, ◌≤◌, List, [], ◌∷◌, ◌++◌, IfNone, IfOk};
+ghost use Rattle.std.specs.Prelude.{◌≡◌, ◌↔◌, ◌+◌, ◌-◌, ◌<◌, ◌≤◌, List, [], ◌∷◌, ◌++◌, IfNone, IfOk};
 ghost use Rattle.std.specs.Prelude.{IfSome, IsTrue, IsSome, length, count_by, nat_lt, sum, take, drop};
-ghost use Rattle.std.specs.Prelude.{slice_index_or, slice_get, slice_range, map, All, fold};
+ghost use Rattle.std.specs.Prelude.{slice_index_or, slice_get, slice_range, All, fold};
 ghost use Rattle.trend_num.specs.declared.archive.Rec.{Rec};
 ghost use Rattle.trend_num.specs.Ranges.{InRange};
 ghost use Rattle.trend_model.specs.Content.{is_late_record, late_at};

@@ -1,5 +1,5 @@
 // Look-ups among the records of pages: the gap for a time, and the record at a place.
-ghost use Rattle.std.specs.Prelude.{◌≡◌, ℕ, ◌^◌, ◌<◌, ◌≤◌, length, take, drop, ◌+◌, IfSome, count_by, nat_lt};
+ghost use Rattle.std.specs.Prelude.{◌≡◌, ◌^◌, ◌<◌, ◌≤◌, length, take, drop, ◌+◌, IfSome, count_by, nat_lt};
 ghost use Rattle.std.specs.Prelude.{slice_get, slice_index_or, All};
 ghost use Rattle.trend_num.specs.declared.archive.Rec.{Rec};
 ghost use Rattle.trend_num.specs.Ranges.{InRange};

@@ -1,5 +1,5 @@
 // The records of a page, in its frame.
-ghost use Rattle.std.specs.Prelude.{◌≡◌, ℕ, ◌+◌, ◌<◌, ◌≤◌, pos, true, slice_index, slice_index_or, length};
+ghost use Rattle.std.specs.Prelude.{◌≡◌, ℕ, ◌+◌, ◌<◌, ◌≤◌, true, slice_index, length};
 ghost use Rattle.std.specs.Prelude.{◌++◌, ◌∷◌, [], insert, slice_set, take, drop, All};
 ghost use Rattle.trend_num.specs.Ranges.{InRange};
 ghost use Rattle.trend_model.specs.Contents.{IsRising, over, placed, points_of};

@@ -1,6 +1,6 @@
 // Pages in the frames of a pool. A full page is split, one record is put in, or a run of records is put after all
 // others.
-ghost use Rattle.std.specs.Prelude.{◌≡◌, ℕ, ◌+◌, ◌-◌, ◌^◌, ◌<◌, ◌≤◌, ◌⊎◌, [], ◌∷◌, ◌++◌, IsTrue, IsFalse, length};
+ghost use Rattle.std.specs.Prelude.{◌≡◌, ◌+◌, ◌-◌, ◌^◌, ◌<◌, ◌≤◌, ◌⊎◌, [], ◌∷◌, ◌++◌, IsTrue, IsFalse, length};
 ghost use Rattle.std.specs.Prelude.{slice_index_or, take, drop, All};
 ghost use Rattle.trend_num.specs.Ranges.{InRange};
 ghost use Rattle.page_pool.specs.Pool.{full_page, spare_of};

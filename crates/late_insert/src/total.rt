@@ -1,5 +1,5 @@
 // Totals over the records of a page.
-ghost use Rattle.std.specs.Prelude.{◌≡◌, ℕ, ◌<◌, ◌≤◌, pos, true, false, slice_index_or, slice_range, length};
+ghost use Rattle.std.specs.Prelude.{◌≡◌, ◌<◌, ◌≤◌, pos, true, false, slice_range, length};
 ghost use Rattle.std.specs.Prelude.{◌*◌, ◌*ℤ◌, unsigned_abs};
 ghost use Rattle.trend_num.specs.Ranges.{InRange, largest_value, last_time};
 ghost use Rattle.trend_model.specs.Contents.{points_of};

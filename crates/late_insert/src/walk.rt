@@ -1,5 +1,5 @@
 // The points of a content in order, in runs of points on one page.
-ghost use Rattle.std.specs.Prelude.{◌≡◌, ◌^◌, ◌<◌, ◌≤◌, [], ◌++◌, IfNone, IfSome, Some, length, slice_get};
+ghost use Rattle.std.specs.Prelude.{◌≡◌, ◌<◌, ◌≤◌, [], ◌++◌, IfNone, IfSome, Some, length, slice_get};
 ghost use Rattle.std.specs.Prelude.{slice_range};
 ghost use Rattle.trend_num.specs.Ranges.{InRange};
 ghost use Rattle.trend_model.specs.Contents.{points_of};

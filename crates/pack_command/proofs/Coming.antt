@@ -1,12 +1,10 @@
 -- Lemmas on what the rows of an input have come to.
-use Rattle.std.proofs.Common.{◌≡◌, ◌≢◌, ℕ, ◌+◌, ◌<◌, ◌≤◌, Bool, true, false, cond, min, ◌-◌, List, [], ◌∷◌, ◌++◌, length, map, drop, nat_eq, Result, Ok, Err, IfOk, arith, refl, sym, ap, ◌∙◌, subst, append-nil, append_assoc, length-append}
+use Rattle.std.proofs.Common.{◌≡◌, ◌≢◌, ℕ, ◌+◌, ◌<◌, ◌≤◌, Bool, true, false, cond, min, ◌-◌, List, [], ◌∷◌, ◌++◌, length, map, drop, nat_eq, Result, Ok, Err, arith, refl, sym, ap, ◌∙◌, append-nil, append_assoc, length-append}
 use Rattle.std.proofs.lemmas.Bool.{eqb-true, eqb-false}
 use Rattle.std.proofs.lemmas.List.{drop_at, drop-drop, map-append}
 use Rattle.trend_num.specs.Limits.{most_records}
-use Rattle.trend_num.specs.Ranges.{InRange}
 use Rattle.trend_num.specs.declared.point.Point.{Point}
 use Rattle.trend_num.specs.declared.refusal.Reason.{Reason}
-use Rattle.trend_num.specs.declared.tuning.Tuning.{Tuning}
 use Rattle.trend_model.specs.History.{Event, Origin, Raw}
 use Rattle.trend_model.specs.State.{Stands}
 use Rattle.tag_core.specs.Core.{Core}
@@ -17,7 +15,7 @@ use Rattle.point_text.specs.declared.failure.RowNo.TheVariants.{BadRow, TooMany}
 use Rattle.point_text.proofs.RowList.{all_read, rows_from, rows_from-all, rows_from-bad, rows_from-more, rows_of-reads}
 use Rattle.point_text.proofs.Split.{lines_begun, lines_fed}
 use Rattle.std.specs.Str.Lines.{lines}
-use Rattle.pack_command.specs.Pack.{history_of, most_rows, origin_of}
+use Rattle.pack_command.specs.Pack.{history_of, most_rows}
 use Rattle.pack_command.specs.Coming.{AreRefused, HasCome, IsNextRow, IsReadUpTo, IsReady, MayCome, numbered, point_of_row}
 use Rattle.pack_command.proofs.History.{taken_more, full_at, full_after}
 use Rattle.pack_command.specs.declared.intake.Standing.{Standing}
@@ -63,10 +61,6 @@ pub come_end : (o : Origin) (bytes rest : List ℕ) (core : Core) (rows : ℕ) (
 come_end o bytes rest core rows Taken come = (come.0, up_end bytes rest come.0 come.1, come.2, come.3)
 come_end o bytes rest core rows (Full number) come = (come.0, up_end bytes rest come.0 come.1, come.2, come.3)
 come_end o bytes rest core rows (Refused why) come = record { refused = λ more end. come.refused more (any more) }
-
--- nothing was read yet
-pub up_none : IsReadUpTo true [] [] []
-up_none = record { reads = λ more come. refl }
 
 -- ---- the next row
 
@@ -165,14 +159,6 @@ all_refused bytes why are = ap (line_points_of most_rows) (sym (append-nil bytes
 
 -- ---- one row more
 
--- before the first row
-pub come_none : (tuning : Tuning) (core : Core) → core.step ≡ false → Stands (origin_of tuning) [] core.state → HasCome true (origin_of tuning) [] [] core 0 Taken
-come_none tuning core kind stands = ([], up_none, refl, record { kind = kind; stands = stands; room = refl })
-
--- a point that is in range
-pub point_in_range : (rows : ℕ) (read : Result Point Reason) (p : Point) → point_of_row rows read ≡ Ok p → IfOk read InRange → InRange p
-point_in_range rows read p is range = subst (λ (r : Result Point Reason). IfOk r InRange) (row_read rows read p is).0 range
-
 -- one row more, which is not the last that there may be
 count_more : (found : List Point) (rows : ℕ) (p : Point) → length found ≡ rows → rows ≤ most_rows → (rows ≡ most_rows → ⊥)
     → length (found ++ p ∷ []) ≡ min (rows + 1) most_rows
@@ -229,14 +215,6 @@ ready_more old new rows added ready other counted grown few fits places = record
   counted = omega (arith, ready.counted, ready.few);
   records = omega (arith, ready.records);
   places = omega (arith, ready.places);
-}
-
-pub ready_same : (core : Core) (rows : ℕ) → IsReady core rows → IsReady core (min (rows + 1) most_rows)
-ready_same core rows ready = record {
-  few = omega arith;
-  counted = omega (arith, ready.counted, ready.few);
-  records = ready.records;
-  places = ready.places;
 }
 
 -- ---- what is left of a text

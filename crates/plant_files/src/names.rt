@@ -1,5 +1,5 @@
 // The names that a base has.
-ghost use Rattle.std.specs.Prelude.{◌≡◌, ◌≤◌, ◌<◌, ◌^◌, All, length, vec_len, IfOk};
+ghost use Rattle.std.specs.Prelude.{◌≡◌, ◌<◌, ◌^◌, All, length, vec_len, IfOk};
 ghost use Rattle.plant_files.specs.Texts.{tag_names};
 ghost use Rattle.plant_files.specs.Asked.{IsNamed, AreNamed};
 

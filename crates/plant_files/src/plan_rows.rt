@@ -1,5 +1,5 @@
 // The files of a session.
-ghost use Rattle.std.specs.Prelude.{◌≡◌, All, IfErr, IfOk, map};
+ghost use Rattle.std.specs.Prelude.{◌≡◌, IfErr, IfOk, map};
 ghost use Rattle.plant_files.specs.Faults.{IsFaultOfPlanned};
 ghost use Rattle.plant_files.specs.Reading.{faults_after};
 ghost use Rattle.plant_files.specs.PlanRows.{AreRefreshersOf, AreRowsOfBase, IsCollected, IsCollectingRefusal, IsGoodBase, IsGoodPlan, IsPlanned, IsPlanningRefusal, ArePlanRowsRead, IsReadRefusal};

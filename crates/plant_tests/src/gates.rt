@@ -1,5 +1,5 @@
 // Passes that hold a reader, and a device whose sync waits for it.
-ghost use Rattle.std.specs.Prelude.{◌≡◌, ◌+◌, length, Some, IfOk, OnOk, IsErr, refl};
+ghost use Rattle.std.specs.Prelude.{length, Some, refl};
 
 use disk_model::{Disk, Failed, MemDisk, MemStore, Store};
 use plant_run::{Pass, Passes};

@@ -1,5 +1,4 @@
 // Sessions of two tags and two groups. One collector's file has rows of both tags in turn.
-ghost use Rattle.std.specs.Prelude.{◌≡◌};
 
 use crate::plants::{ended, files_of, only, text};
 use byte_io::MemFiles;

@@ -1,5 +1,5 @@
 // Runs of `check`, `trend`, `run`, `frames`, `shifts` and `log` over stored archives and over new devices.
-ghost use Rattle.std.specs.Prelude.{◌≡◌, ◌<◌};
+ghost use Rattle.std.specs.Prelude.{◌<◌};
 
 use crate::plants::{NO_FAULT, number, only, text, told};
 use byte_io::MemFiles;

@@ -1,9 +1,9 @@
 // The text of an archive, printed a piece at a time.
-ghost use Rattle.std.specs.Prelude.{◌≡◌, ◌+◌, ◌*◌, ◌≤◌, ◌++◌, List, ℕ, length, drop, OnOk, OnErr};
+ghost use Rattle.std.specs.Prelude.{◌≡◌, ◌+◌, ◌*◌, ◌≤◌, ◌++◌, length, drop, OnOk, OnErr};
 ghost use Rattle.std.specs.Fmt.{signed_decimal};
 ghost use Rattle.std.specs.List.{flat_map};
 ghost use Rattle.byte_io.specs.Outside.{IsWritten, IsCutShort};
-ghost use Rattle.point_text.specs.Text.{archive_text, held_line, kind_word, point_line, record_line};
+ghost use Rattle.point_text.specs.Text.{archive_text, held_line, point_line, record_line};
 
 use byte_io::{Sink, WriteFault, write_all};
 use itoa::write_digits;

@@ -1,5 +1,5 @@
 // The windows of shifts.
-ghost use Rattle.std.specs.Prelude.{◌≡◌, ◌≤◌, ◌<◌, ◌++◌, length, All, List, IfOk, OnOk};
+ghost use Rattle.std.specs.Prelude.{◌≤◌, ◌<◌, ◌++◌, length, All, List, IfOk, OnOk};
 ghost use Rattle.trend_num.specs.Ranges.{last_time};
 ghost use Rattle.shift_calendar.specs.Days.{IsFirstDay, IsWindowDay};
 ghost use Rattle.shift_calendar.specs.Instants.{IsInstant};

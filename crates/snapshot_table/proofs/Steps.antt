@@ -1,5 +1,5 @@
 -- The steps of a cell keep its rule.
-use Rattle.std.proofs.Common.{◌≡◌, ℕ, ◌≤◌, ◌<◌, ◌^◌, ◌≢◌, Bool, true, false, List, [], ◌∷◌, zero, suc, refl, sym, subst, ap, ◌∙◌, ⊎_elim, le_refl, le_trans, zero-le}
+use Rattle.std.proofs.Common.{◌≡◌, ℕ, ◌≤◌, ◌<◌, ◌^◌, ◌≢◌, true, [], ◌∷◌, zero, suc, refl, sym, subst, ap, ◌∙◌, ⊎_elim, le_refl, le_trans, zero-le}
 use mathlib.Core.Option.{some, some-injective, some-ne-none}
 use lib.ListN.{get_elem?}
 use Rattle.crossbeam_utils.specs.Register.{Turns, Forks}

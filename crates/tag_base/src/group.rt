@@ -1,8 +1,8 @@
 // The groups of a base.
-ghost use Rattle.std.specs.Prelude.{◌≡◌, ◌≤◌, ◌<◌, [], map, length, vec_len, IfOk, IfSome, option_map, All};
+ghost use Rattle.std.specs.Prelude.{◌≡◌, ◌≤◌, ◌<◌, [], map, length, vec_len, IfOk, IfSome, All};
 ghost use Rattle.toml.specs.View.{table_view};
 ghost use Rattle.tag_base.specs.Answers.{AnswersDue, AnswersOneDue};
-ghost use Rattle.tag_base.specs.Groups.{group_place, new_group_name, formula_text_of, formula_form_of, group_text, IsSoundText, IsSoundGroup, GroupRead, GroupsRead};
+ghost use Rattle.tag_base.specs.Groups.{group_place, new_group_name, formula_form_of, group_text, IsSoundText, IsSoundGroup, GroupRead, GroupsRead};
 
 use crate::access::{name_at, number_at};
 use crate::calculation::{CalcText, calcs_at, checked};

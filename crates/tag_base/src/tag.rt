@@ -1,6 +1,5 @@
 // The tags of a base.
 ghost use Rattle.std.specs.Prelude.{◌≡◌, ◌<◌, [], map, length, vec_len, All, IfOk, IfSome, option_map};
-ghost use Rattle.toml.specs.Data.{get_member};
 ghost use Rattle.toml.specs.View.{view, table_view};
 ghost use Rattle.trend_num.specs.Ranges.{TuningInRange};
 ghost use Rattle.tag_base.specs.Answers.{AnswersDue};

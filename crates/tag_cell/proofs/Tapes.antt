@@ -56,12 +56,6 @@ IsCall (Ask reader row q a) = Unit {0}
 IsCall (Pull group first upto) = Unit {0}
 IsCall (Commit moment acked) = ⊥
 
-pub acked-call : (w : CellWalk) (e : Entry) → IsCall e → (after_entry w e).acked ≡ w.acked
-acked-call w (Take collector row p h n) call = refl
-acked-call w (Ask reader row q a) call = refl
-acked-call w (Pull group first upto) call = refl
-acked-call w (Commit moment acked) call = absurd call
-
 pub moment-call : (w : CellWalk) (e : Entry) → IsCall e → (after_entry w e).moment ≡ w.moment
 moment-call w (Take collector row p h n) call = refl
 moment-call w (Ask reader row q a) call = refl

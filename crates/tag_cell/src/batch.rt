@@ -1,5 +1,5 @@
 // What a commit writes to the device.
-ghost use Rattle.std.specs.Prelude.{◌≡◌, ◌≢◌, ◌+◌, ◌-◌, ◌^◌, ◌<◌, ◌≤◌, ◌++◌, [], ◌∷◌, All, IfOk, IsErrOf, OnErr, OnOk, false, length, map, min, take, true};
+ghost use Rattle.std.specs.Prelude.{◌≡◌, ◌+◌, ◌-◌, ◌^◌, ◌<◌, ◌≤◌, ◌++◌, [], ◌∷◌, All, IfOk, IsErrOf, OnErr, OnOk, false, length, map, min, take, true};
 ghost use Rattle.trend_num.specs.declared.tag_def.TagDef.{TagDef};
 ghost use Rattle.trend_num.specs.Ranges.{InRange};
 ghost use Rattle.trend_model.specs.History.{Raw};

@@ -1,5 +1,5 @@
 // A cell: a tag with all that lies under its lock.
-ghost use Rattle.std.specs.Prelude.{◌≡◌, ◌↔◌, IsTrue, true, false, length};
+ghost use Rattle.std.specs.Prelude.{◌≡◌, IsTrue, true, false, length};
 ghost use Rattle.tag_cell.specs.Told.{IsCellHistory};
 
 use crate::entry::Entry;

@@ -1,5 +1,5 @@
 // The take of a raw value.
-ghost use Rattle.std.specs.Prelude.{◌≡◌, ◌↔◌, ◌+◌, ◌-◌, ◌^◌, ◌<◌, ◌≤◌, [], ◌∷◌, ◌++◌, All, IfOk, IfErr, IsErr, None, OnErr, OnOk, Some, MatchResult, length, fold};
+ghost use Rattle.std.specs.Prelude.{◌≡◌, ◌↔◌, ◌+◌, ◌-◌, ◌^◌, ◌<◌, ◌≤◌, All, IfOk, IfErr, IsErr, None, OnErr, OnOk, Some, MatchResult, length, fold};
 ghost use Rattle.trend_num.specs.declared.point.Point.{Point};
 ghost use Rattle.trend_num.specs.Limits.{most_records};
 ghost use Rattle.trend_num.specs.Ranges.{InRange};

@@ -1,5 +1,5 @@
 // The core of a tag: a gate, and the compressor after it.
-ghost use Rattle.std.specs.Prelude.{◌≡◌, ◌↔◌, ◌+◌, ◌-◌, ◌*◌, ◌^◌, ◌<◌, ◌≤◌, List, [], ◌∷◌, ◌++◌, IfOk, IfErr, OnOk, OnErr, IsErr, All, None, Some, length, true, vec_capacity};
+ghost use Rattle.std.specs.Prelude.{◌≡◌, ◌↔◌, ◌+◌, ◌-◌, ◌*◌, ◌^◌, ◌<◌, ◌≤◌, List, [], ◌∷◌, IfOk, IfErr, OnOk, OnErr, IsErr, All, None, Some, length, true, vec_capacity};
 ghost use Rattle.trend_num.specs.declared.archive.Rec.{Rec};
 ghost use Rattle.trend_num.specs.declared.point.Point.{Point};
 ghost use Rattle.trend_num.specs.declared.tuning.Tuning.{Tuning};

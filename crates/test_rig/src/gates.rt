@@ -1,5 +1,4 @@
 // Passes that hold workers until the others have come.
-ghost use Rattle.std.specs.Prelude.{◌≡◌};
 
 use plant_status::{Pass, Passes};
 use std::sync::atomic::{AtomicU64, Ordering};

@@ -1,5 +1,4 @@
 // Passes that stop the first worker.
-ghost use Rattle.std.specs.Prelude.{◌≡◌};
 
 use plant_status::{Pass, Passes};
 

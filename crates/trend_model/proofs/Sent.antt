@@ -85,13 +85,7 @@ prior_of u q n (Some x) false h =
 pub prior_there : (o : Origin) (q : Point) (h : List Event) → (x : Point) × (prior o (Raw q ∷ h) ≡ Some x)
 prior_there o q h = prior_of (in_force o h) q (newest h) (prior o h) (is_late q h) (is_late_newest q h)
 
--- where nothing was sent in order, there is no value
-pub newest_none : (o : Origin) (h : List Event) → prior o h ≡ None → newest h ≡ None
-newest_none o [] e = refl
-newest_none o (Tune u ∷ h) e = e
-newest_none o (Raw q ∷ h) e = let s = prior_there o q h in not_both (prior o (Raw q ∷ h)) s.0 s.1 e
-
--- nor is one pending
+-- where nothing was sent in order, none is pending
 pub pending_none : (o : Origin) (h : List Event) → prior o h ≡ None → pending o h ≡ None
 pending_none o [] e = refl
 pending_none o (Tune u ∷ h) e = refl

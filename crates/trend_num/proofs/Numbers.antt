@@ -1,31 +1,13 @@
 -- Lemmas on whole numbers and lists of them.
-use Rattle.std.proofs.Common.{◌≡◌, ℕ, suc, ◌+◌, ◌-◌, ◌*◌, ◌^◌, ◌<◌, ◌≤◌, true, false, List, [], ◌∷◌, ◌++◌, length, take, set, get_or, replicate, arith, refl, sym, ap, ◌∙◌, append_assoc, add-one, lit<}
-use Rattle.std.proofs.lemmas.List.{take_more, length-take-le}
+use Rattle.std.proofs.Common.{◌≡◌, ℕ, ◌+◌, ◌-◌, ◌*◌, ◌^◌, ◌<◌, ◌≤◌, true, false, List, length, take, get_or, arith, refl, sym, ◌∙◌, add-one}
 use Rattle.std.proofs.lemmas.List.Sums.{fold_more}
 use Rattle.std.proofs.lemmas.List.Folds.{list_all_at}
 use Rattle.std.proofs.lemmas.Bool.{false≢true}
 use Rattle.std.proofs.lemmas.Bool.Decides.{nat_tests}
-use Rattle.std.proofs.Math.Seq.{set-append_seam}
-use Rattle.std.proofs.Math.Nat.{pow-suc, pow-le-pow_right}
+use Rattle.std.proofs.Math.Nat.{pow-suc}
 use Rattle.std.specs.Char.{is_ascii_digit}
 use Rattle.std.specs.List.{list_all}
 use Rattle.trend_num.specs.Numerals.{digits_value}
-
-replicate_first : (n m z : ℕ) → n ≡ suc m → replicate n z ≡ z ∷ replicate m z
-replicate_first n m z e = ap (λ k. replicate k z) e
-
--- one more byte of a name, before the zeros
-pub set_padded : (bytes : List ℕ) (i : ℕ) → i < length bytes → length bytes ≤ 64
-    → set (take i bytes ++ replicate (64 - i) 0) i (get_or bytes i 0) ≡ take (i + 1) bytes ++ replicate (64 - (i + 1)) 0
-set_padded bytes i below fits =
-    let front = take i bytes in
-    let zeros : List ℕ = replicate (64 - (i + 1)) 0 in
-    let b = get_or bytes i 0 in
-    let at : length front ≡ i = length-take-le i bytes (omega arith) in
-    let split : front ++ replicate (64 - i) 0 ≡ front ++ 0 ∷ zeros = ap (λ l. front ++ l) (replicate_first (64 - i) (64 - (i + 1)) 0 (omega arith)) in
-    let seam : set (front ++ 0 ∷ zeros) (length front) b ≡ front ++ b ∷ zeros = set-append_seam front 0 zeros b in
-    ap (λ l. set l i b) split ∙ ap (λ k. set (front ++ 0 ∷ zeros) k b) (sym at) ∙ seam
-    ∙ sym (append_assoc front (b ∷ []) zeros) ∙ ap (λ l. l ++ zeros) (sym (take_more bytes i 0 below))
 
 -- n is the value of these k digits
 pub record IsDigitsValue (n k : ℕ) (digits : List ℕ) : Type 0 where
@@ -61,7 +43,3 @@ digits_value_step digits i n all below so_far =
       value = omega arith;
       small = omega arith;
     }
-
--- twenty digits at most
-pub few_digits : (k : ℕ) → k ≤ 20 → 10 ^ k ≤ 10 ^ 20
-few_digits k h = pow-le-pow_right (lit< tt) {i = k} {j = 20} h

@@ -1,5 +1,5 @@
 // The line of a reply.
-ghost use Rattle.std.specs.Prelude.{◌≡◌, ◌++◌, IfOk, OnOk, string_bytes, true};
+ghost use Rattle.std.specs.Prelude.{◌≡◌, ◌++◌, IfOk, OnOk, string_bytes};
 ghost use Rattle.trend_report.specs.declared.reply_line.ReplyText.TheVariants.{Tag};
 ghost use Rattle.trend_report.specs.Lines.{answer_text, asker_text, cause_text, number_text, points_text, reading_text, reply_text, told_text, value_text, whole_of};
 

@@ -1,6 +1,5 @@
 // The rows of a collector.
 ghost use Rattle.std.specs.Prelude.{◌≡◌, ◌<◌, ◌^◌, All, length, Ok, IfOk, IfErr};
-ghost use Rattle.csv.specs.Records.{fields_of};
 ghost use Rattle.trend_num.specs.Numerals.{numeral};
 ghost use Rattle.trend_num.specs.Ranges.{InRange};
 ghost use Rattle.point_text.specs.Row.{point_read};

@@ -1,5 +1,5 @@
 // The rows of a text of records, of any kind.
-ghost use Rattle.std.specs.Prelude.{◌≡◌, ◌≤◌, ◌∷◌, ◌++◌, [], ℕ, All, List, Result, Some, length, map, IfOk, IfErr};
+ghost use Rattle.std.specs.Prelude.{◌≡◌, ◌≤◌, ◌∷◌, ◌++◌, [], ℕ, All, List, Result, length, IfOk, IfErr};
 ghost use Rattle.csv.specs.Records.{fields_of};
 ghost use Rattle.point_text.specs.declared.failure.RowNo.TheVariants.{WantOfMemory};
 ghost use Rattle.trend_num.specs.declared.refusal.Reason.{Reason};

@@ -5,20 +5,16 @@ use Rattle.std.specs.Prelude.{count_by, nat_lt, unsigned_abs}
 use Rattle.std.proofs.lemmas.Int.{ints}
 use Rattle.std.proofs.lemmas.List.{get_or_append_left, length-append}
 use Rattle.std.proofs.lemmas.List.Edits.{length-between}
-use Rattle.std.proofs.lemmas.List.Elements.{All-head}
 use Rattle.trend_num.specs.declared.archive.Rec.{Rec}
-use Rattle.trend_num.specs.declared.measure.Measure.{Measure}
-use Rattle.trend_num.specs.declared.measure.Measure.TheVariants.{Area, Avg, Total, Low, High, Count, First}
-use Rattle.trend_num.specs.declared.measure.Measure.TheVariants.{Last}
 use Rattle.trend_num.specs.declared.point.Point.{Point}
 use Rattle.trend_num.specs.Ranges.{InRange, largest_value, last_time}
 use Rattle.trend_model.specs.Contents.{IsRising, points_of}
-use Rattle.trend_model.specs.Windows.{area, but_last, greatest_from, last_from, least_from, measured}
-use Rattle.trend_model.specs.Windows.{of_first, piece, taken_values, window_value}
+use Rattle.trend_model.specs.Windows.{area, but_last, greatest_from, last_from, least_from}
+use Rattle.trend_model.specs.Windows.{of_first, piece, taken_values}
 use Rattle.trend_model.proofs.ReadLaw.{points_rise}
 use Rattle.interp_read.proofs.RisingPoints.{IsGapAt, gap_at}
 use Rattle.weighted_total.specs.declared.shape.Ends.{Ends}
-use Rattle.weighted_total.specs.Shapes.{AreEnds, IsShape, counted, inner, outline}
+use Rattle.weighted_total.specs.Shapes.{AreEnds, counted, inner, outline}
 use Rattle.weighted_total.proofs.EndsOf.{counted_places, gaps_rise}
 use Rattle.weighted_total.proofs.Sums.{area_joined, area_small, last_in_range, last_joined, piece_bounded}
 use Rattle.weighted_total.proofs.Walking.{rises_front, rises_seam}
@@ -37,10 +33,6 @@ pub outline_small : (step : Bool) (ps : List Point) (e : Ends) → AreEnds ps e
     → unsigned_abs (area step (outline ps e)) ≤ 10 ^ 30
 outline_small step ps e are =
     omega (arith, area_small step e.start (inner ps e ++ e.end ∷ []) are.rises are.range)
-
--- the ends are in range, and the points before the last
-pub start_in_range : (ps : List Point) (e : Ends) → AreEnds ps e → InRange e.start
-start_in_range ps e are = All-head (λ p. InRange p) e.start (inner ps e ++ e.end ∷ []) are.range
 
 pub end_in_range : (ps : List Point) (e : Ends) → AreEnds ps e → InRange e.end
 end_in_range ps e are =
@@ -102,22 +94,3 @@ count_is l from to a b rises order first second =
     let gap_b : IsGapAt ps to b = rw second (gap_at to l rise) in
     let places = counted_places ps from to a b order gap_a gap_b in
     (gaps_rise ps from to a b order gap_a gap_b, sym (ap length places ∙ length-between ps a b gap_b.within))
-
--- the measures of a shape are those of its outline
-same_measure : (step : Bool) (m : Measure) (cs ps shape : List Point) (from to : ℕ)
-    → counted cs from to ≡ counted ps from to
-    → measured step m cs shape from to ≡ measured step m ps shape from to
-same_measure step Area cs ps shape from to count = refl
-same_measure step Avg cs ps shape from to count = refl
-same_measure step Total cs ps shape from to count = refl
-same_measure step Low cs ps shape from to count = refl
-same_measure step High cs ps shape from to count = refl
-same_measure step Count cs ps shape from to count = ap (λ l. Some (pos (length l))) count
-same_measure step First cs ps shape from to count = refl
-same_measure step Last cs ps shape from to count = refl
-
-pub value_of_shape : (step : Bool) (m : Measure) (cs ps : List Point) (from to : ℕ) (e : Ends) (v : ℤ)
-    → IsShape step cs ps from to e
-    → measured step m ps (outline ps e) from to ≡ Some v → Some v ≡ window_value step m cs from to
-value_of_shape step m cs ps from to e v is value =
-    rw (is.covered, is.whole) (sym (same_measure step m cs ps (outline ps e) from to is.count ∙ value))

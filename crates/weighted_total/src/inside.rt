@@ -1,5 +1,5 @@
 // Totals over points of a content that follow one another.
-ghost use Rattle.std.specs.Prelude.{◌≡◌, ◌+◌, ◌*◌, ◌^◌, ◌<◌, ◌≤◌, ◌+ℤ◌, ◌∷◌, false, length, slice_range};
+ghost use Rattle.std.specs.Prelude.{◌≡◌, ◌+◌, ◌*◌, ◌≤◌, ◌+ℤ◌, ◌∷◌, length, slice_range};
 ghost use Rattle.std.specs.Prelude.{unsigned_abs};
 ghost use Rattle.trend_num.specs.Ranges.{InRange, largest_value, last_time};
 ghost use Rattle.trend_model.specs.Contents.{points_of};

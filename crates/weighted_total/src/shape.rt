@@ -1,6 +1,6 @@
 // The shape of a window.
 ghost use Rattle.std.specs.Prelude.{◌≡◌, ◌<◌, ◌≤◌, IfNone, IfSome, false};
-ghost use Rattle.trend_num.specs.Ranges.{InRange, largest_value, last_time};
+ghost use Rattle.trend_num.specs.Ranges.{InRange, last_time};
 ghost use Rattle.trend_model.specs.Contents.{points_of};
 ghost use Rattle.trend_model.specs.Lists.{IfThere};
 ghost use Rattle.trend_model.specs.Reads.{read_at, value_read};

@@ -1,4 +1,4 @@
-use Rattle.std.proofs.Common.{◌≡◌, ℕ, Bool, true, false, ◌-ℤ◌, ◌≤◌, ℤ, pos, neg_ℤ, to_z, of_z, w64, eq-eqb, arith}
+use Rattle.std.proofs.Common.{◌≡◌, ℕ, true, false, ◌-ℤ◌, ◌≤◌, ℤ, pos, neg_ℤ, to_z, of_z, w64, eq-eqb, arith}
 use mir.Val.{bool_byte}
 use Rattle.std.proofs.lemmas.Int.{ints}
 use Rattle.std.proofs.lemmas.Bool.{ne_eqb}
@@ -12,10 +12,6 @@ size_is size v small is = omega (arith, ints)
 
 negated_is : (size : ℕ) (v : ℤ) → size ≤ 1000000000000000 → v ≡ to_z w64 (of_z w64 (pos 0 -ℤ to_z w64 size)) → v ≡ neg_ℤ (pos size)
 negated_is size v small is = omega (arith, ints)
-
-bool_byte-le : (b : Bool) → bool_byte b ≤ 1
-bool_byte-le true = omega arith
-bool_byte-le false = omega arith
 
 pub returns-clause-point : goal.returns-clause-point
 returns-clause-point c =
