@@ -1,6 +1,6 @@
 -- Lists of records, one for each input, that are taken into account one after the other.
 use Rattle.std.proofs.Common.{◌≡◌, ℕ, ◌+◌, ◌<◌, ◌≤◌, List, [], ◌∷◌, ◌++◌, All, length, map, get_or, take, drop, refl, sym, ap, ap₂, subst, ◌∙◌, arith}
-use Rattle.std.proofs.lemmas.List.{get_or-map, get_or-take, length-take, length_push, map-append, take-append-drop, take_all, take_more}
+use Rattle.std.proofs.lemmas.List.{get_or-map, get_or-take, length-take, length-take-le, length_push, map-append, take-append-drop, take_all, take_more}
 use Rattle.std.proofs.lemmas.List.Elements.{All-push}
 use Rattle.trend_num.specs.declared.archive.Rec.{Rec}
 use Rattle.tag_cell.specs.declared.entry.Pulled.{Pulled}
@@ -82,19 +82,34 @@ list_at records tags i within = get_or-map (λ tag. get_or records tag []) tags 
 
 -- ---- refusals
 
--- one list that is too short refuses all
-pub list_ahead : (lists : List (List Rec)) (versions : List ℕ) (i : ℕ) (why : RefreshNo) → i < length lists
-    → IsPullRefusal (get_or lists i []) i (get_or versions i 0) why → IsPullAhead lists versions why
-list_ahead lists versions i (Ahead input version records) within is =
+-- a list from which something was pulled is long enough
+pulled_long : (lists : List (List Rec)) (versions : List ℕ) (i : ℕ) (ps : List Pulled) → i ≤ length lists
+    → ArePullsOf (take i lists) (take i versions) ps → (k : ℕ) → k < i → get_or versions k 0 ≤ length (get_or lists k [])
+pulled_long lists versions i [] le are k below = absurd (omega (arith, are.as_many, length-take-le i lists le, below))
+pulled_long lists versions i (p ∷ ps) le are k below =
+    let many : length (p ∷ ps) ≡ i = are.as_many ∙ length-take-le i lists le in
+    let there : k < length (p ∷ ps) = omega (arith, many, below) in
+    let upto : (get_or (p ∷ ps) k p).upto ≡ length (get_or lists k []) =
+    sym (get_or-map (λ (q : Pulled). q.upto) (p ∷ ps) k p 0 there) ∙ ap (λ l. get_or l k 0) are.ends
+    ∙ get_or-map length (take i lists) k [] 0 (omega (arith, below, length-take-le i lists le))
+    ∙ ap length (get_or-take i lists k [] below) in
+    omega (arith, are.goes_on k p there, get_or-take i versions k 0 below, upto)
+
+-- one list that is too short, where something was pulled from those before it, refuses all
+pub list_ahead : (lists : List (List Rec)) (versions : List ℕ) (i : ℕ) (ps : List Pulled) (why : RefreshNo) → i < length lists
+    → ArePullsOf (take i lists) (take i versions) ps → IsPullRefusal (get_or lists i []) i (get_or versions i 0) why
+    → IsPullAhead lists versions why
+list_ahead lists versions i ps (Ahead input version records) within before is =
     let same : i ≡ input = sym is.0 in (
       omega (arith, within, is.0),
       is.1 ∙ ap (λ n. get_or versions n 0) same,
       is.2 ∙ ap (λ n. length (get_or lists n [])) same,
       omega (arith, is.3, is.1),
+      λ k below. pulled_long lists versions i ps (omega (arith, within)) before k (omega (arith, below, is.0)),
     )
-list_ahead lists versions i (CellLimit cells) within is = absurd is
-list_ahead lists versions i (CopyLimit records) within is = absurd is
-list_ahead lists versions i WantOfMemory within is = tt
+list_ahead lists versions i ps (CellLimit cells) within before is = absurd is
+list_ahead lists versions i ps (CopyLimit records) within before is = absurd is
+list_ahead lists versions i ps WantOfMemory within before is = tt
 
 -- and refuses the book
 pub ahead_refuses : {D : Type 0} (lists : List (List Rec)) (book : ToldBook D) (why : RefreshNo) → IsPullAhead lists (versions_of book) why

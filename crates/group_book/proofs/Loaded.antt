@@ -24,11 +24,10 @@ use Rattle.group_layout.specs.declared.layout_reader.SavedGroup.{SavedGroup}
 use Rattle.group_layout.specs.Images.{ByBlocks, IsGroupDamage, StandsFor}
 use Rattle.group_layout.specs.Readings.{IsReadOf}
 use Rattle.group_book.specs.declared.history.GroupOpening.{GroupOpening}
-use Rattle.group_book.specs.declared.refusal.LoadNo.{LoadNo}
-use Rattle.group_book.specs.declared.refusal.LoadNo.TheVariants.{DeviceFault, Damaged, Ahead, Shape, WantOfMemory}
+use Rattle.group_book.specs.declared.refusal.LoadNo.TheVariants.{DeviceFault, Damaged, WantOfMemory}
 use Rattle.group_book.specs.Crashes.{IsBookSafe}
 use Rattle.group_book.specs.Histories.{IsBookLegal, IsRight}
-use Rattle.group_book.specs.Openings.{IsAhead, IsBookCause, IsRefused, StandsForGroup, scan_refusal}
+use Rattle.group_book.specs.Openings.{IsAhead, IsBookCause, scan_refusal}
 use Rattle.group_book.specs.Tapes.{cut}
 use Rattle.group_book.specs.Told.{HoldsBlocks, IsKept, IsReady, Saved}
 use Rattle.group_book.proofs.Cuts.{cut-all, part_more}
@@ -207,20 +206,6 @@ loaded_ready end None settled ready = tt
 loaded_ready end (Some t) settled ready = record { settled = settled; shut = ready.each (seen (Some t)) (present t) }
 
 -- ---- why a device is not opened
-
--- what was saved makes no sheet
-pub refused_cause : (text : List ℕ) (def : GroupDefParts) (recovered : List (List Rec)) (versions : List ℕ) (rows : List (List CalcValue))
-    (o : Option Trace) (why : LoadNo) → Shows o (StandsForGroup text def versions rows) → IsRefused def recovered versions rows why
-    → IsBookCause text def recovered o why
-refused_cause text def recovered versions rows o DeviceFault stood refused = tt
-refused_cause text def recovered versions rows o (Damaged a byte) stood refused = absurd refused
-refused_cause text def recovered versions rows None (Ahead input version records) stood refused = tt
-refused_cause text def recovered versions rows (Some t) (Ahead input version records) stood refused =
-    record { versions = versions; rows = rows; stands = stood; ahead = refused }
-refused_cause text def recovered versions rows None (Shape windows size) stood refused = tt
-refused_cause text def recovered versions rows (Some t) (Shape windows size) stood refused =
-    record { versions = versions; rows = rows; stands = stood; misshapen = refused }
-refused_cause text def recovered versions rows o WantOfMemory stood refused = tt
 
 -- a device could not be read
 pub scan_cause : (text : List ℕ) (def : GroupDefParts) (recovered : List (List Rec)) (calcs : ℕ) → calcs ≡ length def.calcs.calcs

@@ -1,5 +1,5 @@
 -- Lists of records, one for each input of a group, and what a refresh takes of them.
-use Rattle.std.specs.Prelude.{◌≡◌, ℕ, ◌+◌, ◌<◌, List, [], All, drop, length, map, slice_index, slice_index_or, Some}
+use Rattle.std.specs.Prelude.{◌≡◌, ℕ, ◌+◌, ◌<◌, ◌≤◌, List, [], All, drop, length, map, slice_index, slice_index_or, Some}
 use Rattle.trend_num.specs.declared.archive.Rec.{Rec}
 use Rattle.calc_refresh.specs.declared.refusal.SheetNo.TheVariants as sheet
 use Rattle.calc_refresh.specs.Refreshed.{fault_after}
@@ -38,10 +38,11 @@ IsPullRefusal list input from (CellLimit cells) = ⊥
 IsPullRefusal list input from (CopyLimit records) = ⊥
 IsPullRefusal list input from WantOfMemory = Unit {0}
 
--- the same of one of these lists
+-- the same of the first of these lists of which it is so
 abbrev pub IsPullAhead : List (List Rec) → List ℕ → RefreshNo → Type 0
 IsPullAhead lists versions (Ahead input version records) = (input < length lists) × (version ≡ slice_index versions input)
     × (records ≡ length (slice_index_or lists input [])) × (records < version)
+    × ((k : ℕ) → k < input → slice_index versions k ≤ length (slice_index_or lists k []))
 IsPullAhead lists versions (CellLimit cells) = ⊥
 IsPullAhead lists versions (CopyLimit records) = ⊥
 IsPullAhead lists versions WantOfMemory = Unit {0}

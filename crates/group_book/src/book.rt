@@ -48,7 +48,7 @@ impl<D: Disk> Model for Book<D> {
     ghost use Rattle.calc_refresh.specs.Sheet.{grid_of};
     ghost use Rattle.group_book.specs.Crashes.{IsBookSafe};
     ghost use Rattle.group_book.specs.Histories.{AreRowsEvaluated, IsBookLegal};
-    ghost use Rattle.group_book.specs.Told.{ToldBook, Saved, AreFlagged, IsDefined, IsKept, IsOnDevice, count_of, trace_of};
+    ghost use Rattle.group_book.specs.Told.{ToldBook, AreFlagged, IsDefined, IsKept, IsOnDevice, count_of, trace_of};
 
     ghost Value = { ToldBook D };
 

@@ -1,13 +1,11 @@
 // A book over the device of its group.
-ghost use Rattle.std.specs.Prelude.{◌≡◌, ℕ, ◌^◌, ◌<◌, ◌≤◌, [], All, Option, Some, IfErr, IfOk, IsErrOf, IsSome, OnOk, false, length, map, replicate, take, vec_len};
-ghost use Rattle.disk_model.specs.Calls.{CountsFault, Shows};
-ghost use Rattle.disk_model.specs.Gates.{IsShut};
-ghost use Rattle.disk_model.specs.Images.{IsSettled, Now};
+ghost use Rattle.std.specs.Prelude.{◌≡◌, ◌^◌, ◌<◌, ◌≤◌, [], All, Some, IfErr, IfOk, IsSome, OnOk, false, length, map, replicate, take, vec_len};
+ghost use Rattle.disk_model.specs.Calls.{Shows};
 ghost use Rattle.disk_model.specs.Moments.{During};
 ghost use Rattle.calc_refresh.specs.Lists.{lists_of};
 ghost use Rattle.calc_refresh.specs.Refreshed.{fresh};
 ghost use Rattle.calc_refresh.specs.Sheet.{AreRowsWhole, IsCopy, IsGrid, IsGroup, grid_of};
-ghost use Rattle.group_layout.specs.Readings.{GainsGroupSync, HasShape, IsReadOf};
+ghost use Rattle.group_layout.specs.Readings.{GainsGroupSync, HasShape};
 ghost use Rattle.group_layout.specs.Images.{IsUnsaved};
 ghost use Rattle.archive_file.specs.TextHeads.{TextOpensAt};
 ghost use Rattle.group_book.specs.declared.refusal.LoadNo.TheVariants.{Ahead, Damaged, DeviceFault, Shape};

@@ -1,5 +1,5 @@
 // A book without a device.
-ghost use Rattle.std.specs.Prelude.{◌≡◌, [], IfOk, None, false, length, map, replicate, vec_len};
+ghost use Rattle.std.specs.Prelude.{◌≡◌, [], IfOk, None, false, length, replicate, vec_len};
 ghost use Rattle.calc_refresh.specs.Lists.{lists_of};
 ghost use Rattle.calc_refresh.specs.Refreshed.{fresh};
 ghost use Rattle.calc_refresh.specs.Sheet.{IsGrid, IsGroup, grid_of};

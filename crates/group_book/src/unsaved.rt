@@ -1,5 +1,5 @@
 // Flags of windows: which of them a refresh has evaluated since the last save.
-ghost use Rattle.std.specs.Prelude.{◌≡◌, ◌↔◌, ℕ, ◌-◌, ◌+◌, ◌<◌, ◌≤◌, true, false, All, Contains, IfOk, OnOk, filter, length, replicate, vec_capacity, vec_len};
+ghost use Rattle.std.specs.Prelude.{◌≡◌, ◌↔◌, ℕ, ◌-◌, ◌+◌, ◌<◌, ◌≤◌, true, false, All, Contains, IfOk, OnOk, filter, length, replicate, vec_capacity};
 ghost use Rattle.std.specs.List.{range_with_len};
 ghost use Rattle.group_book.specs.Told.{is_unsaved};
 

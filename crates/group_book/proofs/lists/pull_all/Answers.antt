@@ -20,8 +20,8 @@ returns-in_err-one-clause-ahead c =
     let no = c.in_err-one.field-0.0 in
     let list = c.list_of-list.ensures.list ∙ sym (list_at records tags i c.loop-input-test.true) in
     let p = err_from_is_err_and c.from_residual.result c.from_residual.ensures.1 in
-    rw (p.1, p.2) (list_ahead lists c.args.versions.now i no
-    (omega (arith, c.loop-input-test.true, length-map tags (λ tag. get_or records tag [])))
+    rw (p.1, p.2) (list_ahead lists c.args.versions.now i c.loop-input.pulled.items no
+    (omega (arith, c.loop-input-test.true, length-map tags (λ tag. get_or records tag []))) c.loop-input.invariant
     (subst (λ l. IsPullRefusal l i version no) list c.in_err-one.ensures.refused))
 
 pub loop-input-preserved : goal.loop-input-preserved
