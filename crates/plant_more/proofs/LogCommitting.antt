@@ -9,7 +9,7 @@ use Rattle.commit_log.specs.declared.history.LogTurn.{LogTurn}
 use Rattle.commit_log.specs.declared.history.LogTurn.TheVariants.{Commit}
 use Rattle.commit_log.specs.declared.refusal.LogCommitNo.{LogCommitNo}
 use Rattle.commit_log.specs.declared.refusal.LogCommitNo.TheVariants.{Broken}
-use Rattle.commit_log.specs.Told.{AreRowsAcknowledged, IsLogFaulted, ToldLog, rows_waiting}
+use Rattle.commit_log.specs.Told.{AreRowsAcknowledged, ToldLog, rows_waiting}
 use Rattle.commit_log.specs.Tapes.{puts}
 use Rattle.commit_log.proofs.Tapes.{puts-append}
 use Rattle.plant_more.specs.LogTurns.{IsCommit, IsCommitted, IsSameLog}
@@ -131,19 +131,3 @@ goes_of {D} trace ticks r a first old new before was broken idle busy = by_faile
     by_failed : (b : Bool) → old.failed ≡ b → Goes a first old new
     by_failed true is = absurd (err_is_not r a was (broken is))
     by_failed false is = goes trace ticks a first old new before is (λ none. let same = idle is none in (ap (λ (r : LogAcked). r.waiting) (ok_is r a _ was same.0), same.1)) busy
-
--- a commit that fails changes no turn
-pub faulted_committed : {D : Type 0} (old new : ToldLog D) → IsLogFaulted old new → IsCommitted old new
-faulted_committed old new is = record {
-  more = [];
-  each = All-nil IsCommit;
-  tape = ap (λ (l : ToldLog _). l.tape) is.changed ∙ sym (append-nil old.tape);
-  same = record {
-    plant = ap (λ (l : ToldLog _). l.plant) is.changed;
-    tags = ap (λ (l : ToldLog _). l.tags) is.changed;
-    opening = ap (λ (l : ToldLog _). l.opening) is.changed;
-    moment = ap (λ (l : ToldLog _). l.moment) is.changed;
-    faults = ap (λ (l : ToldLog _). l.faults) is.changed;
-    room = ap (λ (l : ToldLog _). l.room) is.changed;
-  };
-}

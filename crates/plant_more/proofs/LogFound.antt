@@ -111,11 +111,12 @@ put_turn files tape place d row old new few is found followed =
     (sym (take_more tape place d few ∙ ap (λ (e : LogTurn). take place tape ++ e ∷ []) is))
     (one_found files (take place tape) row old new found followed)
 
--- one turn more, which is a commit
-pub commit_turn : (files : List (List RawRow)) (tape : List LogTurn) (place : ℕ) (d : LogTurn) (moment acked : ℕ) (next : List ℕ)
-    → place < length tape → get_or tape place d ≡ Commit moment acked → AreFound files (take place tape) next
-    → AreFound files (take (place + 1) tape) next
-commit_turn files tape place d moment acked next few is found =
-    subst (λ (t : List LogTurn). AreFound files t next)
-    (sym (take_more tape place d few ∙ ap (λ (e : LogTurn). take place tape ++ e ∷ []) is))
-    (commit_found files (take place tape) next moment acked found)
+-- one turn more, which puts no row
+pub other_turn : (files : List (List RawRow)) (tape : List LogTurn) (place : ℕ) (d : LogTurn) (next : List ℕ) → place < length tape
+    → ((row : LogRow) → get_or tape place d ≢ Put row) → AreFound files (take place tape) next → AreFound files (take (place + 1) tape) next
+other_turn files tape place d next few other found =
+    subst (λ (t : List LogTurn). AreFound files t next) (sym (take_more tape place d few)) (by_kind (get_or tape place d) other)
+  where
+    by_kind : (turn : LogTurn) → ((row : LogRow) → turn ≢ Put row) → AreFound files (take place tape ++ turn ∷ []) next
+    by_kind (Put row) other = absurd (other row refl)
+    by_kind (Commit moment acked) other = commit_found files (take place tape) next moment acked found

@@ -2,7 +2,7 @@
 use Rattle.std.proofs.Common.{◌≡◌, ◌∙◌, ℕ, List, length, Option, None, Some, refl, sym, subst, inl, inr}
 use Rattle.disk_model.specs.Calls.{Shows}
 use Rattle.disk_model.specs.Moments.{During}
-use Rattle.disk_model.specs.Traces.{Synced, Trace, noted}
+use Rattle.disk_model.specs.Traces.{Trace}
 use Rattle.disk_model.proofs.Moments.{started}
 use Rattle.commit_log.specs.declared.row.LogRow.{LogRow}
 use Rattle.commit_log.specs.Images.{StandsForRows}
@@ -32,11 +32,6 @@ untouched text tags old new same = record {
 pub gains_none : (o new : Option Trace) → new ≡ o → GainsSyncAtMost o new
 gains_none None new same = tt
 gains_none (Some t) new same = λ begun. inl same
-
--- one
-pub gains_one : (o new : Option Trace) → new ≡ noted Synced o → GainsSyncAtMost o new
-gains_one None new synced = tt
-gains_one (Some t) new synced = λ begun. inr synced
 
 -- that of an opening
 gains_opened : (o mid new : Option Trace) → new ≡ mid → GainsLogSync o mid → GainsSyncAtMost o new

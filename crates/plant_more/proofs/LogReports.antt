@@ -121,11 +121,16 @@ pub put_reached : (log : LogHistory) (turn place : ℕ) (row : LogRow) (d : LogT
     → place + 1 ≡ length log.opening.items + length (puts (take (turn + 1) log.tape.items))
 put_reached log turn place row d few is reached = omega (arith, reached, turn_counts log.tape.items turn (Put row) d few is)
 
-pub commit_reached : (log : LogHistory) (turn place moment acked : ℕ) (d : LogTurn) → turn < length log.tape.items
-    → get_or log.tape.items turn d ≡ Commit moment acked → place ≡ length log.opening.items + length (puts (take turn log.tape.items))
+pub other_reached : (log : LogHistory) (turn place : ℕ) (d : LogTurn) → turn < length log.tape.items
+    → ((row : LogRow) → get_or log.tape.items turn d ≢ Put row)
+    → place ≡ length log.opening.items + length (puts (take turn log.tape.items))
     → place ≡ length log.opening.items + length (puts (take (turn + 1) log.tape.items))
-commit_reached log turn place moment acked d few is reached =
-    omega (arith, reached, turn_counts log.tape.items turn (Commit moment acked) d few is)
+other_reached log turn place d few other reached =
+    omega (arith, reached, turn_counts log.tape.items turn _ d few refl, none_put (get_or log.tape.items turn d) other)
+  where
+    none_put : (e : LogTurn) → ((row : LogRow) → e ≢ Put row) → length (puts (e ∷ [])) ≡ 0
+    none_put (Put row) other = absurd (other row refl)
+    none_put (Commit moment acked) other = refl
 
 -- fewer rows are before a row of a log than can be counted
 pub few_before : (log : LogHistory) (place : ℕ) (row : LogRow) → slice_get (log_rows log) place ≡ Some row → place + 1 < 2 ^ 64

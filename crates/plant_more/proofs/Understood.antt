@@ -1,5 +1,5 @@
 -- What the command returns is no refusal of words.
-use Rattle.std.proofs.Common.{◌≡◌, ◌≢◌, Result, Ok, Err, IfErr, sym, subst}
+use Rattle.std.proofs.Common.{◌≢◌, Result, Ok, Err, IfErr, sym, subst}
 use Rattle.plant_status.specs.declared.status.Status.{Status}
 use Rattle.plant_status.specs.declared.status.Status.TheVariants.{BadWords}
 use Rattle.plant_more.specs.LogHeadline.{IsOfOthers}

@@ -36,10 +36,7 @@ pub(crate) fn calendar_of<F: Files>(
     let Ok(names) = names_of_tags(alloc, &base.tags) else {
         return Err(Status::WantOfMemory);
     };
-    match read_calendar(alloc, &bytes, &names) {
-        Ok(calendar) => Ok(calendar),
-        Err(why) => Err(calendar_status(why)),
-    }
+    read_calendar(alloc, &bytes, &names).map_err(calendar_status)
 }
 
 // Reads all bytes of a calendar's file.
@@ -68,11 +65,7 @@ fn names_of_tags(alloc: Global, tags: &[TagDef]) -> Result<Vec<Name>, WantOfMemo
     ensures names { IfOk result (λ names. names.items ≡ tag_names tags.now) }
     ensures as_many { IfOk result (λ names. vec_len names ≡ length tags.now) }
 {
-    let mut names = Vec::new(alloc);
-    for tag in tags {
-        names.push(tag.name)?;
-    }
-    Ok(names)
+    Ok(tags.iter().map(|tag| tag.name).collect(alloc)?)
 }
 
 // Returns the status for a calendar that is refused for this reason. A calendar's rules are about its whole text, so

@@ -1,5 +1,5 @@
 // Finding the rows of collectors on the tape of a log.
-ghost use Rattle.std.specs.Prelude.{◌≡◌, ◌+◌, ◌^◌, ◌<◌, ◌≤◌, IfErr, IfOk, OnErr, OnOk, OnSome, length, replicate, slice_get};
+ghost use Rattle.std.specs.Prelude.{◌≡◌, ◌+◌, ◌^◌, ◌<◌, IfErr, IfOk, OnErr, OnOk, OnSome, length, replicate, slice_get};
 ghost use Rattle.plant_more.specs.LogNotes.{row_lists_of};
 ghost use Rattle.plant_more.specs.LogFinding.{AreFound, IsFollowed, IsOtherDue, IsPutMismatch, rows_from, seen_of};
 
@@ -29,19 +29,16 @@ pub(crate) fn find_puts(
     ensures differs { IfErr result (IsPutMismatch (row_lists_of files.now) tape.now) }
 {
     for place in 0..tape.len() {
-        match tape[place] {
-            LogTurn::Put(row) => {
-                if let Err(told) = follow(files, next, row) {
-                    return Err(Status::Mismatch {
-                        place: Place::Log {
-                            place: place as u64,
-                        },
-                        kept: seen_of(row),
-                        told,
-                    });
-                }
+        if let LogTurn::Put(row) = tape[place] {
+            if let Err(told) = follow(files, next, row) {
+                return Err(Status::Mismatch {
+                    place: Place::Log {
+                        place: place as u64,
+                    },
+                    kept: seen_of(row),
+                    told,
+                });
             }
-            LogTurn::Commit { .. } => {}
         }
     }
     Ok(())

@@ -1,5 +1,5 @@
 // Comparing the log of a plant with a copy of its opening.
-ghost use Rattle.std.specs.Prelude.{◌≡◌, ◌≤◌, IfErr, IfOk, OnOk, length};
+ghost use Rattle.std.specs.Prelude.{◌≡◌, IfErr, IfOk, OnOk};
 ghost use Rattle.plant_more.specs.LogKnown.{FirstDiffer, IsAsKnown, IsCommon, IsLogMismatch};
 
 use commit_log::{Log, LogRow};

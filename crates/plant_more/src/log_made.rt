@@ -44,8 +44,8 @@ pub(crate) fn row_total(files: &[Vec<RawRow>]) -> u64
     ensures { result ≡ total_rows (row_lists_of files.now) }
 {
     let mut total = 0;
-    for place in 0..files.len() {
-        total += files[place].len() as u64;
+    for file in files {
+        total += file.len() as u64;
     }
     total
 }

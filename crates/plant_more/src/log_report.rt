@@ -1,5 +1,5 @@
 // The report of a log: one line for each tag.
-ghost use Rattle.std.specs.Prelude.{◌≡◌, ◌+◌, ◌^◌, ◌<◌, [], All, IfErr, IfOk, OnOk, Some, length, slice_get, string_bytes, take, vec_len};
+ghost use Rattle.std.specs.Prelude.{◌≡◌, ◌+◌, ◌<◌, [], All, IfErr, IfOk, OnOk, Some, length, slice_get, string_bytes, take, vec_len};
 ghost use Rattle.trend_num.specs.Ranges.{TuningInRange};
 ghost use Rattle.trend_model.specs.State.{Stands};
 ghost use Rattle.commit_log.specs.Blocks.{IsLogRow};
@@ -26,10 +26,7 @@ pub(crate) fn report(alloc: Global, tags: &[TagDef], log: &LogHistory) -> Result
         return Err(Status::WantOfMemory);
     };
     take_all(&mut cores, tags, log)?;
-    match check_text(alloc, tags, &cores) {
-        Ok(text) => Ok(text),
-        Err(_) => Err(Status::WantOfMemory),
-    }
+    check_text(alloc, tags, &cores).map_err(|_| Status::WantOfMemory)
 }
 
 // Returns a core for each tag that has taken nothing yet, with room for the tag's values in the log.
@@ -71,8 +68,8 @@ fn rooms_of(alloc: Global, log: &LogHistory, tags: usize) -> Result<Vec<u32>, Wa
 fn count_opening(rooms: &mut [u32], log: &LogHistory) -> Result<(), WantOfMemory>
     requires { All (IsLogRow (length rooms.old)) (log_rows log.now) }
 {
-    for place in 0..log.opening.len() {
-        count(rooms, log.opening[place].tag)?;
+    for row in &log.opening {
+        count(rooms, row.tag)?;
     }
     Ok(())
 }
@@ -82,9 +79,8 @@ fn count_puts(rooms: &mut [u32], log: &LogHistory) -> Result<(), WantOfMemory>
     requires { All (IsLogRow (length rooms.old)) (log_rows log.now) }
 {
     for turn in 0..log.tape.len() {
-        match log.tape[turn] {
-            LogTurn::Put(row) => count(rooms, row.tag)?,
-            LogTurn::Commit { .. } => {}
+        if let LogTurn::Put(row) = log.tape[turn] {
+            count(rooms, row.tag)?;
         }
     }
     Ok(())
@@ -166,12 +162,9 @@ fn take_puts<L: Ledger>(
 {
     let mut place = log.opening.len();
     for turn in 0..log.tape.len() {
-        match log.tape[turn] {
-            LogTurn::Put(row) => {
-                take_row(cores, tags, log, place, row, steps)?;
-                place += 1;
-            }
-            LogTurn::Commit { .. } => {}
+        if let LogTurn::Put(row) = log.tape[turn] {
+            take_row(cores, tags, log, place, row, steps)?;
+            place += 1;
         }
     }
     Ok(())

@@ -229,8 +229,6 @@ fn reported(
     requires rows { OnOk answer (All (IsLogRow (length base.now.tags.items)) (log_rows log.now)) }
     ensures { IsLogReported base.now log.now answer result }
 {
-    match answer {
-        Ok(()) => report(alloc, &base.tags, log),
-        Err(why) => Err(why),
-    }
+    answer?;
+    report(alloc, &base.tags, log)
 }

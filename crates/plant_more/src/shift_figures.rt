@@ -55,10 +55,7 @@ pub(crate) fn shift_text<F: Files, S: Store>(
     let base = base_of(alloc, files, name)?;
     let calendar = calendar_of(alloc, files, calendar_name, &base)?;
     let cores = open_base(alloc, store, &base)?;
-    match shift_lines(alloc, &base.tags, &cores, &calendar, day, days) {
-        Ok(text) => Ok(text),
-        Err(_) => Err(Status::WantOfMemory),
-    }
+    shift_lines(alloc, &base.tags, &cores, &calendar, day, days).map_err(|_| Status::WantOfMemory)
 }
 
 // Returns the lines of the shifts of so many days from `day` on, over opened tags.

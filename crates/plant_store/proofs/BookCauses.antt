@@ -1,17 +1,17 @@
 -- How the opening of groups ends.
-use Rattle.std.proofs.Common.{◌≡◌, inl, inr, ℕ, ◌^◌, ◌<◌, ◌≤◌, List, [], ◌∷◌, length, map, get_or, Option, None, Some, IsSome, Result, Ok, Err, refl, sym, ◌∙◌, ap, subst, arith}
-use Rattle.std.specs.Prelude.{IsErrOf, String}
+use Rattle.std.proofs.Common.{◌≡◌, inl, inr, ℕ, ◌^◌, ◌<◌, ◌≤◌, List, [], ◌∷◌, length, map, get_or, Option, None, Some, IsSome, Err, refl, sym, ◌∙◌, ap, subst, arith}
+use Rattle.std.specs.Prelude.{String}
 use Rattle.std.specs.declared.alloc.Global.{Global}
 use Rattle.std.proofs.lemmas.Bool.{cases_lt}
 use Rattle.std.proofs.lemmas.List.{get_or_default, get_or-map, length-map}
 use Rattle.trend_num.specs.declared.archive.Rec.{Rec}
-use Rattle.disk_model.specs.Calls.{CountsFault, Rose, sum_of_counts}
+use Rattle.disk_model.specs.Calls.{CountsFault, Rose}
 use Rattle.disk_model.specs.Moments.{During}
 use Rattle.disk_model.specs.Traces.{Trace}
 use Rattle.tag_base.specs.declared.definition.GroupDef.{GroupDef}
 use Rattle.group_book.specs.declared.refusal.LoadNo.{LoadNo}
 use Rattle.group_book.specs.declared.refusal.LoadNo.TheVariants.{DeviceFault, Damaged, Ahead, Shape, WantOfMemory}
-use Rattle.group_book.specs.Openings.{CountsBookRefusal, BookStaysSame}
+use Rattle.group_book.specs.Openings.{BookStaysSame}
 use Rattle.group_book.specs.Told.{ToldBook, trace_of}
 use Rattle.plant_store.specs.Groups.{AllStaySame, AreBooksOpened, AreDistinct, AreNamesOf, AreGroupsOpened, DeviceTraces, IsGroupOpening, group_parts_of, input_records_of, group_definition_text, group_trace_at}
 use Rattle.plant_store.specs.BookRefusals.{CountsStore, IsRefusal, IsRefusedAt, OfDamage, OfFault, OfMemory, OfVersion, OfWindows, status_of}
@@ -78,35 +78,10 @@ told_all trace ticks faults (g ∷ gs) records old books before now why opened b
 
 -- ---- faults
 
--- why a group is not opened
-abbrev why_of : {T : Type 0} → Result T LoadNo → LoadNo
-why_of (Ok x) = WantOfMemory
-why_of (Err why) = why
-
--- a call of its device has failed
+-- a call of the device has failed
 pub fails : {T : Type 0} (why : LoadNo) (before now : ℕ) → CountsFault {T = T} (Err why) DeviceFault before now → why ≡ DeviceFault
     → Rose before now
 fails why before now counts is = counts.failed (ap Err is)
-
--- the faults of a refusal, whatever would have been opened
-pub counts_of : {T : Type 0} (why : LoadNo) (before now : ℕ) → CountsBookRefusal why before now
-    → CountsFault {T = T} (Err why) DeviceFault before now
-counts_of why before now counts = record {
-  later = counts.later;
-  passed = tt;
-  failed = λ is. counts.failed (ap Err (ap why_of is));
-  refused = λ other. counts.refused (λ is. other (ap Err (ap why_of is)));
-}
-
--- those of a device that had none count for the store that it is given back to
-pub given_back : {T : Type 0} (why : LoadNo) (last before mid now : ℕ) → CountsBookRefusal why 0 last → mid ≡ before
-    → now ≡ sum_of_counts mid last → before < 2 ^ 64 → CountsFault {T = T} (Err why) DeviceFault before now
-given_back why last before mid now counts same sum small = record {
-  later = omega (arith, sum, same, small);
-  passed = tt;
-  failed = λ is. let rose = counts.failed (ap Err (ap why_of is)) in omega (arith, sum, same, small, rose);
-  refused = λ other. let kept = counts.refused (λ is. other (ap Err (ap why_of is))) in omega (arith, sum, same, small, kept);
-}
 
 -- the faults that were counted until a group is refused
 pub counted : {T : Type 0} (U : Type 0) (i before now : ℕ) (why : LoadNo) → CountsFault {T = T} (Err why) DeviceFault before now
@@ -116,35 +91,6 @@ counted U i before now (Damaged at byte) counts = inl (counts.refused (λ is. ab
 counted U i before now (Ahead input version found) counts = inl (counts.refused (λ is. absurd (cc (is))))
 counted U i before now (Shape windows rows) counts = inl (counts.refused (λ is. absurd (cc (is))))
 counted U i before now WantOfMemory counts = inl (counts.refused (λ is. absurd (cc (is))))
-
--- an error is the one that the status reports
-error_is : {T : Type 0} (why told : LoadNo) → IsErrOf {T = T} (Err why) told → why ≡ told
-error_is why told is = cc (is)
-
--- the faults of a refusal are counted from the first call on, whatever would have been made
-pub counted_since : {T U : Type 0} (before now after : ℕ) (why : LoadNo) → now ≡ before → before < 2 ^ 64
-    → (now < 2 ^ 64 → CountsFault {T = T} (Err why) DeviceFault now after) → CountsFault {T = U} (Err why) DeviceFault before after
-counted_since before now after why same small counts =
-    let one = counts (subst (λ n. n < 2 ^ 64) (sym same) small) in
-    record {
-      later = subst (λ n. n ≤ after) same one.later;
-      passed = tt;
-      failed = λ is. subst (λ n. Rose n after) same (fails why now after one (error_is why DeviceFault is));
-      refused = λ other. one.refused (λ is. other (ap Err (error_is why DeviceFault is))) ∙ same;
-    }
-
--- and a count stays in its type
-pub stays_small : {T : Type 0} (why : LoadNo) (before now : ℕ) → before < 2 ^ 64
-    → CountsFault {T = T} (Err why) DeviceFault before now → now < 2 ^ 64
-stays_small DeviceFault before now small counts = let rose = counts.failed refl in omega (arith, rose)
-stays_small (Damaged at byte) before now small counts =
-    let kept = counts.refused (λ is. absurd (cc (is))) in omega (arith, kept, small)
-stays_small (Ahead input version found) before now small counts =
-    let kept = counts.refused (λ is. absurd (cc (is))) in omega (arith, kept, small)
-stays_small (Shape windows rows) before now small counts =
-    let kept = counts.refused (λ is. absurd (cc (is))) in omega (arith, kept, small)
-stays_small WantOfMemory before now small counts =
-    let kept = counts.refused (λ is. absurd (cc (is))) in omega (arith, kept, small)
 
 -- ---- all devices are back
 

@@ -7,7 +7,8 @@ use Rattle.group_book.specs.Told.{ToldBook}
 use Rattle.plant_store.specs.Groups.{DeviceTraces}
 use Rattle.plant_store.specs.BookEndings.{count_after, counts_after, trace_after}
 use Rattle.plant_store.specs.BookSteps.{HavePlaces}
-use Rattle.plant_store.proofs.BookReturns.{AreBack, none_back, one_back, taken, taken_is, taken_rest}
+use Rattle.plant_store.proofs.BookReturns.{AreBack, none_back, one_back}
+use Rattle.plant_store.proofs.CellLists.{IsNext, next_of}
 
 -- The devices of the first books are back, as many as `many`. The others are left, as many as `to_come`. The store had
 -- these devices, these places and this number of faults before the first one, and has them now.
@@ -55,20 +56,20 @@ pub one_more : {D : Type 0} {trace : D → Option Trace} {faults : D → ℕ} {n
     → AreGoingBack trace faults names books rest (many + 1) more old new had holds before after
 one_more {D} {trace} {faults} {names} {books} {rest = rest} {many = many} {old = old} {now = now} {new = new} {so_far = so_far} {b = b}
     {s = s} {n = n} going distinct named is one at bytes given others stay added = record {
-      rest = taken_rest books many b rest next;
+      rest = sym next.rest_is;
       count = omega (arith, going.count, one, ap (length {A = ToldBook D}) is);
       taken = omega (arith, going.taken, one);
-      back = one_back trace names books many old now new b s distinct named (taken books many b rest next) going.back
+      back = one_back trace names books many old now new b s distinct named next.there going.back
           (subst (λ m. new m ≡ trace_after trace (get_or books many b).dev (now m)) name
-          (subst (λ x. new n ≡ trace_after trace x.dev (now n)) (sym (taken_is books many b b rest next)) given))
+          (subst (λ x. new n ≡ trace_after trace x.dev (now n)) next.is given))
           (λ m other. others m (λ same. other (same ∙ name)));
       places = λ i t below. stay _ (going.places i t below);
       kept_places = λ m was. stay m (going.kept_places m was);
       counted = going.counted ∙ (ap (λ l. counts_after faults l so_far) is ∙ ap (counts_after faults rest) (sym added));
     }
   where
-    next : drop many books ≡ b ∷ rest
-    next = going.rest ∙ is
+    next : IsNext books many b rest
+    next = next_of books many b rest (going.rest ∙ is)
 
     name : n ≡ string_bytes (get_or names many s)
     name = bytes ∙ ap string_bytes at

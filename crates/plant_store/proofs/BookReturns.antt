@@ -3,8 +3,8 @@ use Rattle.std.proofs.Common.{◌≡◌, ◌≢◌, inl, inr, ℕ, zero, suc, �
 use Rattle.std.specs.Prelude.{◌↔◌, IfSome, String}
 use Rattle.std.specs.declared.alloc.Global.{Global}
 use Rattle.std.proofs.lemmas.Bool.{cases_eq, cases_order}
-use Rattle.std.proofs.lemmas.List.{get_or_append_left, get_or_default, length-drop}
-use Rattle.std.proofs.Math.Seq.{drop-cons, get_or-append_seam}
+use Rattle.std.proofs.lemmas.List.{get_or_append_left, get_or_default}
+use Rattle.std.proofs.Math.Seq.{get_or-append_seam}
 use Rattle.disk_model.specs.Traces.{Trace}
 use Rattle.group_book.specs.declared.history.GroupHistory.{GroupHistory}
 use Rattle.group_book.specs.Told.{ToldBook, count_of, trace_of}
@@ -13,6 +13,7 @@ use Rattle.plant_store.specs.BookEndings.{IsHistoryOfBook, count_after, counts_a
 use Rattle.plant_store.specs.BookSteps.{AreOtherNamesSame}
 use Rattle.plant_store.specs.CellClosings.{HasRisen}
 use Rattle.plant_store.proofs.BookTurns.{one_more_name}
+use Rattle.plant_store.proofs.CellLists.{IsNext, next_of}
 use Rattle.plant_store.proofs.Risen.{higher_or_end, sooner_risen, still_risen}
 
 -- ---- books that are taken out of their list in order
@@ -22,29 +23,6 @@ pub clock_of : {D : Type 0} (trace : D → Option Trace) (ticks : D → ℕ) →
     → (dev : Option D) → IfSome (trace_of trace dev) (λ t. length t.calls ≡ count_of ticks dev)
 clock_of trace ticks told None = tt
 clock_of trace ticks told (Some d) = told d
-
--- the next book is that at the place of how many were taken
-pub taken : {A : Type 0} (xs : List A) (k : ℕ) (y : A) (ys : List A) → drop k xs ≡ y ∷ ys → k < length xs
-taken xs k y ys is = let l = length-drop k xs in let more : length (drop k xs) ≡ suc (length ys) = ap length is in omega (arith, l, more)
-
-pub taken_is : {A : Type 0} (xs : List A) (k : ℕ) (y d : A) (ys : List A) → drop k xs ≡ y ∷ ys → get_or xs k d ≡ y
-taken_is {A} xs k y d ys is =
-    let there = taken xs k y ys is in ap first (sym (drop-cons xs k d there) ∙ is)
-  where
-    first : List A → A
-    first [] = d
-    first (z ∷ zs) = z
-
-pub taken_rest : {A : Type 0} (xs : List A) (k : ℕ) (y : A) (ys : List A) → drop k xs ≡ y ∷ ys → drop (k + 1) xs ≡ ys
-taken_rest {A} xs k y ys is =
-    let there = taken xs k y ys is in
-    let at : drop (suc k) xs ≡ ys = ap behind (sym (drop-cons xs k y there) ∙ is) in
-    let more : k + 1 ≡ suc k = omega arith in
-    subst (λ n. drop n xs ≡ ys) (sym more) at
-  where
-    behind : List A → List A
-    behind [] = []
-    behind (z ∷ zs) = zs
 
 -- ---- the devices of a store
 
@@ -115,7 +93,10 @@ one_told {D} trace ticks faults books rest histories more many b h before long l
   where
     this : (c : ToldBook D) → IsHistoryOfBook trace ticks faults (get_or books (length histories) c) h
     this c = subst (λ x. IsHistoryOfBook trace ticks faults x h)
-        (sym (taken_is books (length histories) b c rest (subst (λ k. drop k books ≡ b ∷ rest) (sym long) left))) is
+        (sym (get_or_default books (length histories) c b next.there ∙ sym next.is)) is
+      where
+        next : IsNext books (length histories) b rest
+        next = next_of books (length histories) b rest (subst (λ k. drop k books ≡ b ∷ rest) (sym long) left)
 
     all : AreTold trace ticks faults books (histories ++ h ∷ [])
     all i c d within = elim (cases_eq i (length histories)) [

@@ -119,13 +119,7 @@ next {D} trace ticks faults groups names records old now new books g s b so_far 
         (subst (λ o. IsBookOpened trace ticks faults (length books) (get_or groups (length books) g)
         (input_records_of records (get_or groups (length books) g)) o b) trace_is opened))
 
--- the devices from a place on stay the same where nothing was done to them
-pub rest_untouched : (groups : List GroupDef) (names : List (String Global)) (many : ℕ) (old now : DeviceTraces)
-    → AreNamesOf groups names → AreDistinct groups → AreOtherNamesSame many names old now → RestStaysSame many groups old now
-rest_untouched groups names many old now are distinct others i g behind below =
-    untouched (get_or groups i g) _ _ (unreached groups names many i g old now are distinct behind below others)
-
--- or where the first of them stays the same, and no other was changed
+-- the devices from a place on stay the same where the first of them does, and no other was changed
 pub rest_same : (groups : List GroupDef) (names : List (String Global)) (many : ℕ) (old now new : DeviceTraces) (g : GroupDef)
     (s : String Global) → AreNamesOf groups names → AreDistinct groups → many < length groups → AreOtherNamesSame many names old now
     → StaysSameOf (string_bytes (get_or names many s)) (get_or groups many g) now new

@@ -1,8 +1,8 @@
 -- Tags that are opened one after the other, whose devices stay out.
-use Rattle.std.proofs.Common.{◌≡◌, ◌≢◌, inl, inr, ℕ, ◌+◌, ◌<◌, ◌≤◌, List, [], ◌∷◌, ◌++◌, length, map, take, drop, get_or, slice_get, Option, Some, sym, ◌∙◌, ap, subst, arith}
+use Rattle.std.proofs.Common.{◌≡◌, ◌≢◌, inl, inr, ℕ, ◌+◌, ◌<◌, ◌≤◌, List, ◌∷◌, length, map, take, drop, get_or, slice_get, Option, Some, sym, ◌∙◌, ap, subst, arith}
 use Rattle.std.specs.Prelude.{All}
 use Rattle.std.proofs.lemmas.Bool.{cases_lt}
-use Rattle.std.proofs.lemmas.List.{get_or_default, get_or-take, length-take-le, take-take, take_more}
+use Rattle.std.proofs.lemmas.List.{get_or_default, get_or-take, length-take-le, take-take}
 use Rattle.std.proofs.lemmas.List.Elements.{All-take}
 use Rattle.trend_num.specs.declared.tag_def.TagDef.{TagDef}
 use Rattle.tag_core.specs.Core.{Core}
@@ -15,10 +15,10 @@ use Rattle.snapshot_table.proofs.Places.{poster_at, posts_at}
 use Rattle.tag_cell.specs.Told.{ToldCell}
 use Rattle.plant_store.specs.Tags.{device_name, tag_trace_of, AreDistinct, IsOpened, AreTagsOpened, AreOtherTagsSame, AllStaySame, tag_records_in}
 use Rattle.plant_store.proofs.TagDevices.{untouched}
-use Rattle.plant_store.proofs.TagTurns.{IsTag, apart}
+use Rattle.plant_store.proofs.TagTurns.{IsTag, not_reached, reached}
 use Rattle.plant_store.specs.CellOpenings.{core_of, IsCellOpened, AreCellsOpened, records_opened}
 use Rattle.plant_store.specs.CellStops.{AreTold}
-use Rattle.plant_store.proofs.CellLists.{all_before, all_last, next_of, sum_by_seen, zip_as, zip_both}
+use Rattle.plant_store.proofs.CellLists.{next_of, sum_by_seen, zip_as, zip_both}
 
 -- ---- tags by their place
 
@@ -26,34 +26,7 @@ use Rattle.plant_store.proofs.CellLists.{all_before, all_last, next_of, sum_by_s
 pub tag_at : (tags : List TagDef) (k : ℕ) (d : TagDef) → k < length tags → IsTag tags k (get_or tags k d)
 tag_at tags k d there = record { there = there; is = get_or_default tags k d (get_or tags k d) there }
 
--- the first tags with this one
-pub one_longer : (tags : List TagDef) (i : ℕ) (def : TagDef) → IsTag tags i def → take (i + 1) tags ≡ take i tags ++ def ∷ []
-one_longer tags i def tag = take_more tags i def tag.there ∙ ap (λ (x : TagDef). take i tags ++ x ∷ []) (sym tag.is)
-
--- a tag has another device than each of those before it
-pub beyond : (tags : List TagDef) (i k : ℕ) (def : TagDef) → AreDistinct tags → IsTag tags k def → i ≤ k
-    → All (λ (d : TagDef). device_name def.name ≢ device_name d.name) (take i tags)
-beyond tags i k def distinct tag from j e below =
-    let long : length (take i tags) ≡ i = length-take-le i tags (omega (arith, from, tag.there)) in
-    let before : j < i = omega (arith, below, long) in
-    λ (same : device_name def.name ≡ device_name (get_or (take i tags) j e).name).
-    apart tags j k def e distinct tag (omega (arith, before, from, tag.there)) (inl (omega (arith, before, from)))
-    (ap (λ (x : TagDef). device_name x.name) (sym (get_or-take i tags j e before)) ∙ sym same)
-
--- so the device of one that was not reached is as it was
-pub not_reached : (tags : List TagDef) (i k : ℕ) (def : TagDef) (old now : List ℕ → Option Trace) → AreOtherTagsSame (take i tags) old now
-    → AreDistinct tags → IsTag tags k def → i ≤ k → tag_trace_of now def ≡ tag_trace_of old def
-not_reached tags i k def old now others distinct tag from = others (device_name def.name) (beyond tags i k def distinct tag from)
-
--- what none of the first tags has, nor the next one, is as it was
-pub reached : (tags : List TagDef) (i : ℕ) (def : TagDef) (old now new : List ℕ → Option Trace) → AreOtherTagsSame (take i tags) old now
-    → IsTag tags i def → ((n : List ℕ) → n ≢ device_name def.name → new n ≡ now n) → AreOtherTagsSame (take (i + 1) tags) old new
-reached tags i def old now new others tag step n none =
-    let both = subst (All (λ (d : TagDef). n ≢ device_name d.name)) (one_longer tags i def tag) none in
-    step n (all_last (λ (d : TagDef). n ≢ device_name d.name) (take i tags) def both)
-    ∙ others n (all_before (λ (d : TagDef). n ≢ device_name d.name) (take i tags) def both)
-
--- and the same holds if the devices of fewer tags change then
+-- what none of the first tags has stays as it was if the devices of fewer of them change then
 pub given_later : (tags : List TagDef) (i j : ℕ) (old now new : List ℕ → Option Trace) → AreOtherTagsSame (take i tags) old now
     → AreOtherTagsSame (take j tags) now new → j ≤ i → AreOtherTagsSame (take i tags) old new
 given_later tags i j old now new others later few n none =

@@ -21,12 +21,12 @@ use Rattle.tag_cell.specs.Told.{ToldCell}
 use Rattle.plant_store.specs.TagRefusals.{status_of, CountsStore, IsRefusedAt, IsRefusal, IsTooMuch}
 use Rattle.plant_store.specs.Tags.{device_name, tag_trace_of, AllStaySame, AreDistinct, AreTagsOpened, AreOtherTagsSame, tag_records_in}
 use Rattle.plant_store.proofs.TagEndings.{counted}
-use Rattle.plant_store.proofs.TagTurns.{IsTag}
+use Rattle.plant_store.proofs.TagTurns.{IsTag, not_reached, one_longer, reached}
 use Rattle.plant_store.specs.CellClosings.{AreGivenBack, CountsCells}
 use Rattle.plant_store.specs.CellNames.{device_names_of, texts}
 use Rattle.plant_store.specs.CellOpenings.{core_of, IsCellOpened, AreCellsOpened, records_opened}
 use Rattle.plant_store.specs.CellStops.{IsStopped}
-use Rattle.plant_store.proofs.CellFronts.{AllStayFrom, all_stay, cores_opened, given_later, not_reached, one_longer, reached, records_are, turned_from}
+use Rattle.plant_store.proofs.CellFronts.{AllStayFrom, all_stay, cores_opened, given_later, records_are, turned_from}
 use Rattle.plant_store.proofs.CellLabels.{given_of}
 use Rattle.plant_store.proofs.CellLists.{zip_each}
 
@@ -199,13 +199,6 @@ pub records_more : {D : Type 0} (cells more : List (ToldCell D)) (c : ToldCell D
     → records_opened more ≡ records_opened cells + length c.opening.recs.items
 records_more {D} cells more c all = ap (records_opened {D = D}) all
     ∙ sum_by_push (λ (e : ToldCell D). length e.opening.recs.items) cells c
-
--- the faults are counted from the beginning on
-pub counted_since : {T : Type 0} (before now after : ℕ) (why : OpenNo) → now ≡ before
-    → (now < 2 ^ 64 → CountsFault {T = T} (Err why) DeviceFault now after) → before < 2 ^ 64
-    → CountsFault {T = T} (Err why) DeviceFault before after
-counted_since {T} before now after why same counts small =
-    subst (λ n. CountsFault {T = T} (Err why) DeviceFault n after) same (counts (subst (λ n. n < 2 ^ 64) (sym same) small))
 
 -- the rooms of the cells
 pub rooms_more : {D : Type 0} (cells more : List (ToldCell D)) (c : ToldCell D) (rooms : List ℕ) (i k : ℕ) → more ≡ cells ++ c ∷ []

@@ -18,10 +18,10 @@ use Rattle.plant_store.specs.Tags as tag
 use Rattle.plant_store.specs.CellClosings.{AreGivenBack, CountsCells}
 use Rattle.plant_store.specs.CellNames.{device_names_of, texts}
 use Rattle.plant_store.specs.CellOpenings.{AreCellsOpened, IsCellOpened, core_of, records_opened}
-use Rattle.plant_store.proofs.CellFronts.{records_are}
+use Rattle.plant_store.proofs.CellFronts.{cores_opened, records_are}
 use Rattle.plant_store.proofs.CellHalts.{all_faultless}
 use Rattle.plant_store.proofs.CellLabels.{none_named}
-use Rattle.plant_store.proofs.CellLists.{zip_as, zip_both, zip_seen}
+use Rattle.plant_store.proofs.CellLists.{zip_both, zip_seen}
 use Rattle.plant_store.specs.Groups as group
 use Rattle.plant_store.specs.Groups.{DeviceTraces}
 use Rattle.plant_store.specs.BookRefusals as groups
@@ -31,15 +31,7 @@ use Rattle.plant_store.proofs.Labels.{groups_same}
 
 -- ---- the tags that were opened
 
--- a cell that was opened stands for an opened tag
-pub cores_opened : {D : Type 0} (trace : D → Option Trace) (ticks faults : D → ℕ) (ts : List TagDef) (old : DeviceTraces)
-    (cells : List (ToldCell D)) → AreCellsOpened trace ticks faults ts old cells → tag.AreTagsOpened ts old (map (λ (c : ToldCell D). core_of c) cells)
-cores_opened {D} trace ticks faults ts old cells opened =
-    zip_as (λ def (c : ToldCell D). IsCellOpened def (tag.tag_trace_of old def) (trace c.journal.dev) (ticks c.journal.dev)
-    (faults c.journal.dev) c) (λ def core. tag.IsOpened def (tag.tag_trace_of old def) core) (λ (c : ToldCell D). core_of c)
-    (λ def c is. is.found) ts cells opened
-
--- with the records that the cell has
+-- the opened tags have the records of their cells
 pub records_same : {D : Type 0} (trace : D → Option Trace) (ticks faults : D → ℕ) (ts : List TagDef) (old : DeviceTraces)
     (cells : List (ToldCell D)) → AreCellsOpened trace ticks faults ts old cells
     → cell_records_in cells ≡ opened_records_of (map (λ (c : ToldCell D). core_of c) cells)

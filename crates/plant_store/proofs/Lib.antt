@@ -2,6 +2,8 @@ pub mod Labels
 pub mod Endings
 pub mod Risen
 pub mod Backs
+pub mod Counts
+pub mod MappedErrors
 pub mod TagDevices
 pub mod TagTurns
 pub mod TagEndings

@@ -6,34 +6,21 @@ use Rattle.trend_num.specs.Limits.{most_stored}
 use Rattle.trend_num.specs.declared.tag_def.TagDef.{TagDef}
 use Rattle.tag_core.specs.Core.{Core}
 use Rattle.disk_model.specs.Traces.{Trace}
+use Rattle.device_layout.specs.declared.failure.OpenNo.{OpenNo}
+use Rattle.device_layout.specs.declared.failure.OpenNo.TheVariants.{DeviceFault}
 use Rattle.plant_status.specs.declared.file.FileId.{FileId}
 use Rattle.plant_status.specs.declared.status.Status.{Status}
-use Rattle.plant_status.specs.declared.status.Status.TheVariants.{Done, BadWords, BadText, BadRow, ReadFault, WriteFault, DeviceFault}
-use Rattle.plant_status.specs.declared.status.Status.TheVariants.{Damaged, OtherTag, Limit, Mismatch, Halted, WantOfMemory, OtherPlant, BadName}
+use Rattle.plant_status.specs.declared.status.Status.TheVariants.{ReadFault}
 use Rattle.plant_status.specs.declared.unit.Unit.TheVariants.{Tag}
 use Rattle.plant_files.specs.Reading.{faults_told}
 use Rattle.plant_store.specs.OpenedBases.{CountsDevices}
 use Rattle.plant_store.specs.Tags.{tag_records_in}
-use Rattle.plant_store.specs.TagRefusals.{CountsStore, IsRefusal}
+use Rattle.plant_store.specs.TagRefusals.{CountsStore, IsRefusal, status_of}
 
 -- the refusal of a tag is no fault of a file
-pub no_file_fault : (tags : List TagDef) (old new : List ℕ → Option Trace) (before now : ℕ) (why : Status)
-    → IsRefusal tags old new before now why → (n : ℕ) → faults_told why n ≡ n
-no_file_fault tags old new before now Done is n = refl
-no_file_fault tags old new before now BadWords is n = refl
-no_file_fault tags old new before now (BadText file rule place at) is n = refl
-no_file_fault tags old new before now (BadRow file row reason) is n = refl
-no_file_fault tags old new before now (ReadFault file) is n = absurd is
-no_file_fault tags old new before now WriteFault is n = refl
-no_file_fault tags old new before now (DeviceFault unit) is n = refl
-no_file_fault tags old new before now (Damaged unit at byte) is n = refl
-no_file_fault tags old new before now (OtherTag tag found wanted) is n = refl
-no_file_fault tags old new before now (Limit what number) is n = refl
-no_file_fault tags old new before now (Mismatch place kept told) is n = refl
-no_file_fault tags old new before now (Halted worker) is n = refl
-no_file_fault tags old new before now WantOfMemory is n = refl
-no_file_fault tags old new before now (OtherPlant at) is n = refl
-no_file_fault tags old new before now (BadName word) is n = refl
+pub no_file_fault : (i : ℕ) (why : OpenNo) (n : ℕ) → faults_told (status_of i why) n ≡ n
+no_file_fault i DeviceFault n = refl
+no_file_fault i other n = refl
 
 -- the refusal of a tag is no read fault
 pub tag_is_no_fault : (tags : List TagDef) (old new : List ℕ → Option Trace) (before now : ℕ) (why : Status)

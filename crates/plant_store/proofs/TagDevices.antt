@@ -1,16 +1,14 @@
 -- What the opening of one device does to a store, and for which histories the opened tag stands.
-use Rattle.std.proofs.Common.{◌≡◌, ℕ, ◌^◌, ◌<◌, inl, Option, None, Some, Result, Ok, Err, ap, subst, sym, arith}
-use Rattle.disk_model.specs.Calls.{CountsFault, sum_of_counts}
+use Rattle.std.proofs.Common.{◌≡◌, ℕ, ◌^◌, ◌<◌, inl, Option, None, Some, Result, Ok, Err, subst, sym, arith}
+use Rattle.disk_model.specs.Calls.{CountsFault, sum_of_counts, Shows}
 use Rattle.device_layout.specs.declared.failure.OpenNo.{OpenNo}
-use Rattle.device_layout.specs.declared.failure.OpenNo.TheVariants.{DeviceFault, WantOfMemory}
-use Rattle.device_layout.specs.Readings.{CountsRefusal}
+use Rattle.device_layout.specs.declared.failure.OpenNo.TheVariants.{DeviceFault}
 use Rattle.trend_num.specs.declared.tag_def.TagDef.{TagDef}
 use Rattle.disk_model.specs.Traces.{Trace}
 use Rattle.disk_model.proofs.Moments.{started}
 use Rattle.trend_model.specs.State.{State}
 use Rattle.tag_core.specs.Core.{Core}
 use Rattle.device_layout.specs.Recovery.{Recovers}
-use Rattle.disk_model.specs.Calls.{Shows}
 use Rattle.crash_recovery.specs.Opening.{IsOpenedAs, StaysSame}
 use Rattle.crash_recovery.proofs.Openings.{opened_stands}
 use Rattle.plant_store.specs.Tags.{IsOpened}
@@ -36,22 +34,7 @@ opened_of def (Some t) core state step = record {
 
 -- ---- faults
 
--- why a device is not opened
-abbrev why_of : {T : Type 0} → Result T OpenNo → OpenNo
-why_of (Ok x) = WantOfMemory
-why_of (Err why) = why
-
--- the faults of a refusal, whatever would have been opened
-pub counts_of : {T : Type 0} (why : OpenNo) (before now : ℕ) → CountsRefusal why before now
-    → CountsFault {T = T} (Err why) DeviceFault before now
-counts_of why before now counts = record {
-  later = counts.later;
-  passed = tt;
-  failed = λ is. counts.failed (ap Err (ap why_of is));
-  refused = λ other. counts.refused (λ is. other (ap Err (ap why_of is)));
-}
-
--- those of a device that had none count for the store that it is given back to
+-- the faults of a device that had none count for the store that it is given back to
 pub given_back : {T : Type 0} (r : Result T OpenNo) (first last before mid now : ℕ) → first ≡ 0
     → CountsFault r DeviceFault first last → mid ≡ before → now ≡ sum_of_counts mid last → before < 2 ^ 64
     → CountsFault r DeviceFault before now

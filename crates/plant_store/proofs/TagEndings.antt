@@ -1,6 +1,5 @@
 -- How the opening of tags ends.
-use Rattle.std.proofs.Common.{◌≡◌, ◌≢◌, inl, inr, ℕ, ◌+◌, ◌^◌, ◌<◌, ◌≤◌, List, length, get_or, take, Option, Err}
-use Rattle.std.proofs.Common.{refl, sym, subst}
+use Rattle.std.proofs.Common.{◌≡◌, ◌≢◌, inl, inr, ℕ, ◌+◌, ◌^◌, ◌<◌, ◌≤◌, List, length, get_or, take, Option, Err, refl, sym, subst, arith}
 use Rattle.std.proofs.lemmas.List.{take_all}
 use Rattle.std.proofs.lemmas.List.Elements.{All-take}
 use Rattle.trend_num.specs.declared.tag_def.TagDef.{TagDef}
@@ -8,14 +7,13 @@ use Rattle.tag_core.specs.Core.{Core}
 use Rattle.disk_model.specs.Traces.{Trace}
 use Rattle.crash_recovery.specs.Opening.{StaysSame}
 use Rattle.device_layout.specs.declared.failure.OpenNo.{OpenNo}
-use Rattle.device_layout.specs.declared.failure.OpenNo.TheVariants.{DeviceFault, Damaged, OtherTag, Full}
-use Rattle.device_layout.specs.declared.failure.OpenNo.TheVariants.{WantOfMemory}
+use Rattle.device_layout.specs.declared.failure.OpenNo.TheVariants.{DeviceFault, Damaged, OtherTag, Full, WantOfMemory}
 use Rattle.device_layout.specs.Readings.{IsCause}
 use Rattle.trend_num.specs.Limits.{most_stored}
 use Rattle.disk_model.specs.Calls.{CountsFault, Rose}
 use Rattle.plant_store.specs.Tags.{device_name, tag_trace_of, AllStaySame, AreDistinct, AreTagsOpened, AreLeft, AreOtherTagsSame, tag_records_in}
 use Rattle.plant_store.specs.TagRefusals.{status_of, IsRefusedAt, IsRefusal, CountsStore}
-use Rattle.plant_store.proofs.TagTurns.{IsSoFar, IsTag, IsTurn, all_same, unreached, touched}
+use Rattle.plant_store.proofs.TagTurns.{IsSoFar, IsTag, IsTurn, all_same, not_reached, reached}
 
 -- what no tag has, none of the first has
 pub of_all : (tags : List TagDef) (i : ℕ) (old new : List ℕ → Option Trace)
@@ -32,7 +30,7 @@ ends_at tags i def old now new cores so_far there is others same =
     let tag : IsTag tags i def = record { there = there; is = is } in
     let turn : IsTurn def now new = record { others = others; same = same } in (
       λ distinct. all_same tags i def old now new cores so_far distinct tag turn,
-      of_all tags (i + 1) old new (touched tags i def old now new so_far.others tag turn),
+      of_all tags (i + 1) old new (reached tags i def old now new so_far.others tag turn.others),
     )
 
 -- all tags are opened
@@ -41,6 +39,13 @@ pub all_opened : (tags : List TagDef) (i : ℕ) (old : List ℕ → Option Trace
     → AreTagsOpened (take i tags) old cores → AreTagsOpened tags old cores
 all_opened tags i old cores end opened =
     subst (λ (l : List TagDef). AreTagsOpened l old cores) (take_all i tags end) opened
+
+-- all devices are left
+pub all_left : (tags : List TagDef) (i : ℕ) (old now : List ℕ → Option Trace) (cores : List Core)
+    → length tags ≤ i
+    → AreLeft (take i tags) old now cores → AreLeft tags old now cores
+all_left tags i old now cores end left =
+    subst (λ (l : List TagDef). AreLeft l old now cores) (take_all i tags end) left
 
 -- the next tag is the first that is refused
 pub refused_at : (tags : List TagDef) (i : ℕ) (def : TagDef) (old now new : List ℕ → Option Trace)
@@ -57,16 +62,9 @@ refused_at tags i def old now new cores P so_far few distinct tag turn cause = r
   front = so_far.opened distinct;
   few = few;
   cause = subst (λ (o : Option Trace). P cores def o)
-      (unreached tags i def old now cores so_far distinct tag) cause;
-  rest = touched tags i def old now new so_far.others tag turn;
+      (not_reached tags i i def old now so_far.others distinct tag (omega arith)) cause;
+  rest = reached tags i def old now new so_far.others tag turn.others;
 }
-
--- all devices are left
-pub all_left : (tags : List TagDef) (i : ℕ) (old now : List ℕ → Option Trace) (cores : List Core)
-    → length tags ≤ i
-    → AreLeft (take i tags) old now cores → AreLeft tags old now cores
-all_left tags i old now cores end left =
-    subst (λ (l : List TagDef). AreLeft l old now cores) (take_all i tags end) left
 
 -- its refusal reports the cause
 pub told : (tags : List TagDef) (i : ℕ) (def : TagDef) (old now new : List ℕ → Option Trace)

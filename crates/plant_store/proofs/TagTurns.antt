@@ -1,8 +1,6 @@
 -- Tags that are opened one after the other.
-use Rattle.std.proofs.Common.{◌≡◌, ◌≢◌, ◌⊎◌, inl, inr, ℕ, suc, ◌+◌, ◌<◌, List, [], ◌∷◌, ◌++◌, length, take}
-use Rattle.std.proofs.Common.{get_or, codes, Option, refl, sym, ◌∙◌, ap, subst, arith}
-use Rattle.std.proofs.lemmas.List.{get_or-take, get_or_default, take_more, append_cancel_right}
-use Rattle.std.proofs.lemmas.List.{length-take-le}
+use Rattle.std.proofs.Common.{◌≡◌, ◌≢◌, ◌⊎◌, inl, inr, ℕ, suc, ◌+◌, ◌<◌, ◌≤◌, List, All, [], ◌∷◌, ◌++◌, length, take, get_or, codes, Option, refl, sym, ◌∙◌, ap, subst, arith}
+use Rattle.std.proofs.lemmas.List.{get_or-take, get_or_default, take_more, append_cancel_right, length-take-le}
 use Rattle.std.specs.List.{AllZip}
 use Rattle.std.proofs.lemmas.Bool.{cases_order}
 use Rattle.std.proofs.lemmas.Slice.Zip.{all_zipped_more}
@@ -10,9 +8,9 @@ use Rattle.trend_num.specs.declared.tag_def.TagDef.{TagDef}
 use Rattle.tag_core.specs.Core.{Core}
 use Rattle.disk_model.specs.Traces.{Trace}
 use Rattle.crash_recovery.specs.Opening.{StaysSame}
-use Rattle.plant_store.specs.Tags.{device_name, tag_trace_of, AreDistinct, IsOpened, AreTagsOpened, AreOtherTagsSame}
-use Rattle.plant_store.specs.Tags.{AllStaySame, IsLeft, AreLeft}
+use Rattle.plant_store.specs.Tags.{device_name, tag_trace_of, AreDistinct, IsOpened, AreTagsOpened, AreOtherTagsSame, AllStaySame, IsLeft, AreLeft}
 use Rattle.plant_store.proofs.TagDevices.{still}
+use Rattle.plant_store.proofs.CellLists.{all_before, all_last}
 
 -- the first i tags are opened
 pub record IsSoFar (tags : List TagDef) (i : ℕ) (old now : List ℕ → Option Trace)
@@ -60,34 +58,32 @@ apart tags k i def d distinct tag in' (inr behind) same =
     distinct i k d behind in'
     (ap (λ x. x.name) (any_default tags i def d tag) ∙ sym (one_name (get_or tags k d) def same))
 
--- the device of a tag that was not reached is as it was
-pub unreached : (tags : List TagDef) (i : ℕ) (def : TagDef) (old now : List ℕ → Option Trace)
-    (cores : List Core)
-    → IsSoFar tags i old now cores → AreDistinct tags → IsTag tags i def → tag_trace_of now def ≡ tag_trace_of old def
-unreached tags i def old now cores so_far distinct tag = so_far.others (device_name def.name) (λ k d in'.
-    let long : length (take i tags) ≡ i = length-take-le i tags (omega (arith, tag.there)) in
-    let before : k < i = omega (arith, in', long) in
-    let same = get_or-take i tags k d before in
-    λ (e : device_name def.name ≡ device_name (get_or (take i tags) k d).name).
-    apart tags k i def d distinct tag (omega (arith, before, tag.there)) (inl before)
-    (ap (λ (x : TagDef). device_name x.name) (sym same) ∙ sym e))
+-- the first tags with this one
+pub one_longer : (tags : List TagDef) (i : ℕ) (def : TagDef) → IsTag tags i def → take (i + 1) tags ≡ take i tags ++ def ∷ []
+one_longer tags i def tag = take_more tags i def tag.there ∙ ap (λ (x : TagDef). take i tags ++ x ∷ []) (sym tag.is)
 
--- what neither the first tags nor the next one have is as it was
-pub touched : (tags : List TagDef) (i : ℕ) (def : TagDef) (old now new : List ℕ → Option Trace)
-    → AreOtherTagsSame (take i tags) old now
-    → IsTag tags i def → IsTurn def now new → AreOtherTagsSame (take (i + 1) tags) old new
-touched tags i def old now new others tag turn n none =
-    let long : length (take i tags) ≡ i = length-take-le i tags (omega (arith, tag.there)) in
-    let longer : length (take (i + 1) tags) ≡ i + 1 =
-    length-take-le (i + 1) tags (omega (arith, tag.there)) in
-    turn.others n (λ (e : n ≡ device_name def.name). none i def (omega (arith, longer))
-    (e ∙ ap (λ (x : TagDef). device_name x.name)
-    (tag.is ∙ sym (get_or-take (i + 1) tags i def (omega arith)))))
-    ∙ others n (λ k d in'.
-    let before : k < i = omega (arith, in', long) in
-    λ (e : n ≡ device_name (get_or (take i tags) k d).name). none k d (omega (arith, longer, before))
-    (e ∙ ap (λ (x : TagDef). device_name x.name)
-    (get_or-take i tags k d before ∙ sym (get_or-take (i + 1) tags k d (omega (arith, before))))))
+-- a tag has another device than each of those before it
+pub beyond : (tags : List TagDef) (i k : ℕ) (def : TagDef) → AreDistinct tags → IsTag tags k def → i ≤ k
+    → All (λ (d : TagDef). device_name def.name ≢ device_name d.name) (take i tags)
+beyond tags i k def distinct tag from j e below =
+    let long : length (take i tags) ≡ i = length-take-le i tags (omega (arith, from, tag.there)) in
+    let before : j < i = omega (arith, below, long) in
+    λ (same : device_name def.name ≡ device_name (get_or (take i tags) j e).name).
+    apart tags j k def e distinct tag (omega (arith, before, from, tag.there)) (inl (omega (arith, before, from)))
+    (ap (λ (x : TagDef). device_name x.name) (sym (get_or-take i tags j e before)) ∙ sym same)
+
+-- so the device of one that was not reached is as it was
+pub not_reached : (tags : List TagDef) (i k : ℕ) (def : TagDef) (old now : List ℕ → Option Trace) → AreOtherTagsSame (take i tags) old now
+    → AreDistinct tags → IsTag tags k def → i ≤ k → tag_trace_of now def ≡ tag_trace_of old def
+not_reached tags i k def old now others distinct tag from = others (device_name def.name) (beyond tags i k def distinct tag from)
+
+-- what none of the first tags has, nor the next one, is as it was
+pub reached : (tags : List TagDef) (i : ℕ) (def : TagDef) (old now new : List ℕ → Option Trace) → AreOtherTagsSame (take i tags) old now
+    → IsTag tags i def → ((n : List ℕ) → n ≢ device_name def.name → new n ≡ now n) → AreOtherTagsSame (take (i + 1) tags) old new
+reached tags i def old now new others tag step n none =
+    let both = subst (All (λ (d : TagDef). n ≢ device_name d.name)) (one_longer tags i def tag) none in
+    step n (all_last (λ (d : TagDef). n ≢ device_name d.name) (take i tags) def both)
+    ∙ others n (all_before (λ (d : TagDef). n ≢ device_name d.name) (take i tags) def both)
 
 -- each device stays the same, as that of the next tag does and no other was changed
 one_same : (tags : List TagDef) (i : ℕ) (def : TagDef) (old now new : List ℕ → Option Trace)
@@ -96,11 +92,11 @@ one_same : (tags : List TagDef) (i : ℕ) (def : TagDef) (old now new : List ℕ
     → k < length tags
     → (k ≡ i) ⊎ ((k < i) ⊎ (i < k))
     → StaysSame (get_or tags k d) (tag_trace_of old (get_or tags k d)) (tag_trace_of new (get_or tags k d))
-one_same tags i def old now new distinct kept tag reached turn k d in' (inl e) =
+one_same tags i def old now new distinct kept tag was turn k d in' (inl e) =
     let this : get_or tags k d ≡ def = ap (λ j. get_or tags j d) e ∙ any_default tags i def d tag in
     subst (λ (x : TagDef). StaysSame x (tag_trace_of old x) (tag_trace_of new x)) (sym this)
-    (subst (λ (o : Option Trace). StaysSame def o (tag_trace_of new def)) reached turn.same)
-one_same tags i def old now new distinct kept tag reached turn k d in' (inr other) =
+    (subst (λ (o : Option Trace). StaysSame def o (tag_trace_of new def)) was turn.same)
+one_same tags i def old now new distinct kept tag was turn k d in' (inr other) =
     let unchanged = turn.others (device_name (get_or tags k d).name)
     (apart tags k i def d distinct tag in' other) in
     subst (λ (o : Option Trace). StaysSame (get_or tags k d) (tag_trace_of old (get_or tags k d)) o)
@@ -112,7 +108,7 @@ pub all_same : (tags : List TagDef) (i : ℕ) (def : TagDef) (old now new : List
     → AllStaySame tags old new
 all_same tags i def old now new cores so_far distinct tag turn = λ k d in'.
     one_same tags i def old now new distinct (so_far.same distinct) tag
-    (unreached tags i def old now cores so_far distinct tag) turn
+    (not_reached tags i i def old now so_far.others distinct tag (omega arith)) turn
     k d in' (cases_order k i)
 
 -- one tag more
@@ -121,9 +117,7 @@ one_more : (tags : List TagDef) (i : ℕ) (def : TagDef) (old : List ℕ → Opt
     → AreTagsOpened (take i tags) old cores → IsTag tags i def → IsOpened def (tag_trace_of old def) core
     → AreTagsOpened (take (i + 1) tags) old (cores ++ core ∷ [])
 one_more tags i def old cores core front tag opened =
-    let longer : take (i + 1) tags ≡ take i tags ++ def ∷ [] =
-    take_more tags i def tag.there ∙ ap (λ (x : TagDef). take i tags ++ x ∷ []) (sym tag.is) in
-    subst (λ (l : List TagDef). AreTagsOpened l old (cores ++ core ∷ [])) (sym longer)
+    subst (λ (l : List TagDef). AreTagsOpened l old (cores ++ core ∷ [])) (sym (one_longer tags i def tag))
     (all_zipped_more (λ (d : TagDef) (c : Core). IsOpened d (tag_trace_of old d) c)
     (take i tags) cores def core front opened)
 
@@ -146,10 +140,8 @@ pub one_left : (tags : List TagDef) (i : ℕ) (def : TagDef) (old now new : List
     → IsLeft def (tag_trace_of old def) (tag_trace_of new def) core
     → AreLeft (take (i + 1) tags) old new (cores ++ core ∷ [])
 one_left tags i def old now new cores core distinct front tag turn left =
-    let longer : take (i + 1) tags ≡ take i tags ++ def ∷ [] =
-    take_more tags i def tag.there ∙ ap (λ (x : TagDef). take i tags ++ x ∷ []) (sym tag.is) in
     let long : length (take i tags) ≡ i = length-take-le i tags (omega (arith, tag.there)) in
-    subst (λ (l : List TagDef). AreLeft l old new (cores ++ core ∷ [])) (sym longer)
+    subst (λ (l : List TagDef). AreLeft l old new (cores ++ core ∷ [])) (sym (one_longer tags i def tag))
     (all_zipped_more (λ (d : TagDef) (c : Core). IsLeft d (tag_trace_of old d) (tag_trace_of new d) c)
     (take i tags) cores def core
     (zip_weaker (λ (d : TagDef) (c : Core). IsLeft d (tag_trace_of old d) (tag_trace_of now d) c)
@@ -172,10 +164,10 @@ pub next : (tags : List TagDef) (i : ℕ) (def : TagDef) (old now new : List ℕ
 next tags i def old now new cores core so_far tag turn opened left = record {
   opened = λ distinct. one_more tags i def old cores core (so_far.opened distinct) tag
       (subst (λ (o : Option Trace). IsOpened def o core)
-      (unreached tags i def old now cores so_far distinct tag) opened);
-  others = touched tags i def old now new so_far.others tag turn;
+      (not_reached tags i i def old now so_far.others distinct tag (omega arith)) opened);
+  others = reached tags i def old now new so_far.others tag turn.others;
   left = λ distinct. one_left tags i def old now new cores core distinct (so_far.left distinct) tag turn
       (subst (λ (o : Option Trace). IsLeft def o (tag_trace_of new def) core)
-      (unreached tags i def old now cores so_far distinct tag) left);
+      (not_reached tags i i def old now so_far.others distinct tag (omega arith)) left);
   same = λ distinct. all_same tags i def old now new cores so_far distinct tag turn;
 }

@@ -5,16 +5,14 @@ use Rattle.trend_num.specs.declared.refusal.What.TheVariants.{Records, StoreReco
 use Rattle.trend_model.specs.State.{State}
 use Rattle.tag_core.specs.Core.{Core}
 use Rattle.disk_model.specs.Traces.{Trace}
-use Rattle.disk_model.specs.Calls.{Rose}
+use Rattle.disk_model.specs.Calls.{Rose, Shows}
 use Rattle.device_layout.specs.declared.failure.OpenNo.{OpenNo}
 use Rattle.device_layout.specs.declared.failure.OpenNo.TheVariants as no
 use Rattle.device_layout.specs.Damages.{IsTagDamage}
-use Rattle.disk_model.specs.Calls.{Shows}
 use Rattle.device_layout.specs.Readings.{IsOther, IsFull}
 use Rattle.plant_status.specs.declared.unit.Unit.TheVariants.{Tag}
 use Rattle.plant_status.specs.declared.status.Status.{Status}
-use Rattle.plant_status.specs.declared.status.Status.TheVariants.{DeviceFault, Damaged, OtherTag, Limit}
-use Rattle.plant_status.specs.declared.status.Status.TheVariants.{WantOfMemory}
+use Rattle.plant_status.specs.declared.status.Status.TheVariants.{DeviceFault, Damaged, OtherTag, Limit, WantOfMemory}
 use Rattle.trend_num.specs.Limits.{most_stored}
 use Rattle.plant_store.specs.Tags.{tag_trace_of, IsOpened, AreTagsOpened, AreOtherTagsSame, tag_records_in}
 

@@ -7,18 +7,21 @@ ghost use Rattle.plant_files.specs.Texts.{tag_names};
 ghost use Rattle.plant_store.specs.Tags.{AllStaySame, AreLeft, AreTagsOpened, AreOtherTagsSame, tag_records_in};
 ghost use Rattle.plant_store.specs.TagRefusals.{CountsStore, IsRefusal};
 
-use crate::tag_opening::open_tags;
+use crate::tag_device::open_device;
+use crate::tag_refusal::{MAX_STORE_RECORDS, status_of, too_many};
 use disk_model::Store;
 use plant_status::Status;
 use std::alloc::Global;
 use tag_base::Base;
 use tag_core::TagCore;
 
-/// Opens the tags of a base that was read, each over the device of its name. A device that does not exist is made. No
-/// two tags have the same name, so each device is opened once.
+/// Opens the tags of a base that was read, in order, each over the device of its name, and gives each device back at
+/// once. A device that does not exist is made, with 64 lane slots. No two tags have the same name, so each device is
+/// opened once.
 ///
 /// It returns the refusal of the first tag that is not opened: a call of its device failed, the device is damaged, the
-/// device is that of another tag, there are too many records, or there was no memory.
+/// device is that of another tag, there are too many records, or there was no memory. It also stops at the tag with
+/// which the tags together have too many records.
 pub fn open_base<S: Store>(
     alloc: Global,
     store: &mut S,
@@ -41,5 +44,21 @@ pub fn open_base<S: Store>(
     ensures counts { S.fault_count store.old < 2 ^ 64
         → CountsStore result (S.fault_count store.old) (S.fault_count store.new) }
 {
-    open_tags(alloc, store, &base.tags)
+    let mut cores = Vec::new(alloc);
+    let mut records = 0;
+    for def in &base.tags {
+        let tag = cores.len() as u32;
+        let core = match open_device(alloc, store, def) {
+            Ok(core) => core,
+            Err(why) => return Err(status_of(tag, why)),
+        };
+        records += core.recs().len() as u64;
+        if records > MAX_STORE_RECORDS {
+            return Err(too_many(records));
+        }
+        let Ok(()) = cores.push(core) else {
+            return Err(Status::WantOfMemory);
+        };
+    }
+    Ok(cores)
 }

@@ -7,8 +7,8 @@ use crate::tag_device::device_name;
 use std::alloc::Global;
 use trend_num::{TagDef, WantOfMemory};
 
-/// Returns the names of the devices of these tags, in order: the name of each, and `.tag`.
-pub fn tag_device_names(alloc: Global, tags: &[TagDef]) -> Result<Vec<String>, WantOfMemory>
+// Returns the names of the devices of these tags, in order: the name of each, and `.tag`.
+pub(crate) fn tag_device_names(alloc: Global, tags: &[TagDef]) -> Result<Vec<String>, WantOfMemory>
     ensures names { IfOk result (λ names. texts names.items ≡ device_names_of tags.now) }
     ensures apart { AreDistinct tags.now → IfOk result (λ names. AreApart (texts names.items)) }
 {

@@ -1,5 +1,5 @@
 // Opening tags one after the other.
-ghost use Rattle.std.specs.Prelude.{◌≡◌, ◌≢◌, ◌^◌, ◌<◌, ◌≤◌, ℕ, List, [], All, IfErr, IfOk, IsTrue, OnErr, OnOk, length, map, take, vec_len, vec_capacity};
+ghost use Rattle.std.specs.Prelude.{◌≡◌, ◌≢◌, ◌^◌, ◌<◌, ◌≤◌, ℕ, List, [], All, IfErr, IfOk, IsTrue, OnErr, OnOk, length, map, take, vec_capacity};
 ghost use Rattle.std.specs.Arc.{arc_value};
 ghost use Rattle.trend_num.specs.Limits.{most_stored};
 ghost use Rattle.trend_num.specs.Ranges.{TuningInRange};
@@ -16,7 +16,7 @@ ghost use Rattle.plant_store.specs.CellStops.{IsStopped};
 
 use crate::cell_closing::close_cell;
 use crate::tag_device::LANE_SLOTS;
-use crate::tag_opening::{MAX_STORE_RECORDS, status_of, too_many};
+use crate::tag_refusal::{MAX_STORE_RECORDS, status_of, too_many};
 use crash_recovery::{OpenFail, OpenNo};
 use disk_model::{Disk, Store};
 use plant_status::Status;

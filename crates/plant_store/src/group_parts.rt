@@ -31,8 +31,8 @@ fn device_name(alloc: Global, name: &Name) -> Result<String, WantOfMemory>
     Ok(format!(in alloc; "{name}.grp")?)
 }
 
-/// Returns the definition of a group that its book is made with.
-pub fn parts_of(group: &GroupDef) -> Result<GroupDefParts, WantOfMemory>
+// Returns the definition of a group that its book is made with.
+fn parts_of(group: &GroupDef) -> Result<GroupDefParts, WantOfMemory>
     requires few { vec_len group.now.inputs < 2 ^ 32 }
     ensures parts { IfOk result (λ parts. parts ≡ group_parts_of group.now) }
 {

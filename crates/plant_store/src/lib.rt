@@ -3,9 +3,8 @@
 //! **Layer.** This crate uses the devices of tags and of groups (`crash_recovery`, `group_layout`), and cells and books
 //! (`tag_cell`, `group_book`). The commands use this crate. Its caller passes in a base; the crate reads no file.
 //!
-//! **One after the other.** [`open_tags`] opens the tags in the order of the base. It takes the device of a tag by the
+//! **One after the other.** [`open_base`] opens the tags in the order of the base. It takes the device of a tag by the
 //! tag's name, and recovers what the device holds. It gives the device back at once, even if the tag is refused.
-//! [`open_base`] does the same for a base that was read.
 //!
 //! **All at once.** A session holds the devices of all tags and groups together. [`shelf_for`] makes what giving them
 //! back needs: the names of the devices, and room for the histories. [`open_plant`] opens the tags as cells
@@ -46,19 +45,16 @@ mod opening;
 mod shelf;
 mod single_book;
 mod tag_device;
-mod tag_opening;
+mod tag_refusal;
 
 pub use base_opening::open_base;
 pub use book_closing::close_books;
 pub use book_opening::open_books;
 pub use book_refusal::book_status;
 pub use cell_closing::close_cells;
-pub use cell_naming::tag_device_names;
 pub use cell_opening::open_cells;
 pub use closing::close_plant;
-pub use group_parts::{group_device_names, parts_of};
+pub use group_parts::group_device_names;
 pub use opening::{OpenPlant, open_plant};
 pub use shelf::{Shelf, shelf_for};
 pub use single_book::{close_book, open_book};
-pub use tag_device::{LANE_SLOTS, device_name};
-pub use tag_opening::{MAX_STORE_RECORDS, open_tags, status_of, too_many};

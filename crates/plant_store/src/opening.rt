@@ -135,9 +135,7 @@ fn records_of<'c, D: Disk>(
 {
     let mut records = Vec::new(alloc);
     for cell in cells {
-        let Ok(()) = records.push(cell.recs()) else {
-            return Err(WantOfMemory);
-        };
+        records.push(cell.recs())?;
     }
     Ok(records)
 }

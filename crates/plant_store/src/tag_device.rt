@@ -13,8 +13,8 @@ use std::alloc::{AllocError, Global};
 use tag_core::TagCore;
 use trend_num::{Name, TagDef};
 
-/// How many lane slots a new device gets.
-pub const LANE_SLOTS: u32 = 64;
+// How many lane slots a new device gets.
+pub(crate) const LANE_SLOTS: u32 = 64;
 
 // Opens the device of a tag, and gives it back even if the tag is refused. A device that does not exist is made.
 pub(crate) fn open_device<S: Store>(
@@ -45,8 +45,8 @@ pub(crate) fn open_device<S: Store>(
     opened
 }
 
-/// Returns the name of a tag's device: the tag's name, and `.tag`.
-pub fn device_name(alloc: Global, name: &Name) -> Result<String, AllocError>
+// Returns the name of a tag's device: the tag's name, and `.tag`.
+pub(crate) fn device_name(alloc: Global, name: &Name) -> Result<String, AllocError>
     ensures { IfOk result (λ text. string_bytes text ≡ device_name name.now) }
 {
     let name = name.text();

@@ -136,11 +136,6 @@ module _ {E : Type 0} (asker : E → Option Asker) (readers : List (List Query))
       nothing_more None = refl
       nothing_more (Some n) = refl
 
--- before the first entry nothing is kept
-pub filled_nothing : {E : Type 0} (asker : E → Option Asker) (readers : List (List Query)) (its : UnitOf) (table : Table)
-    → ArePlacesFilled asker readers its [] table table
-filled_nothing asker readers its table reader k = kept_nothing its (query_in readers reader k) (place_in table reader k)
-
 -- ---- tapes
 
 -- the tape of a unit, of these

@@ -3,7 +3,7 @@ use Rattle.std.proofs.Common.{◌≡◌, ℕ, ◌-◌, ◌<◌, ◌≤◌, List,
 use Rattle.std.proofs.Common.{false, ◌&&◌, None, Some}
 use Rattle.std.specs.List.{slice_get}
 use Rattle.std.specs.Option.{option_map, option_map_or}
-use Rattle.std.proofs.lemmas.Bool.{le-leb, lt-leb}
+use Rattle.std.proofs.lemmas.Bool.{le-leb}
 use Rattle.std.proofs.lemmas.Option.{slice_get-get_or, slice_get-map, slice_get_past}
 use Rattle.trend_num.specs.declared.point.Point.{Point}
 use Rattle.trend_num.specs.declared.archive.Snap.{Snap}
@@ -11,23 +11,13 @@ use Rattle.tag_cell.specs.declared.history.TagHistory.{TagHistory}
 use Rattle.session_report.specs.Snaps.{closing, had, held_points, same_held}
 
 module _ (h : TagHistory) (s : Snap) where
-  -- fewer than at the opening
-  pub had_before : s.taken < h.opening.summary.taken → had h s ≡ false
-  had_before fewer = ap (λ b. b && option_map_or (same_held s.held) (slice_get (closing h) (s.taken - h.opening.summary.taken)) false)
-      (lt-leb h.opening.summary.taken s.taken fewer)
-
-  -- otherwise the point that closed the line then decides
+  -- if it is not before the opening, the point that closed the line then decides
   had_since : (since : ℕ) → h.opening.summary.taken ≤ s.taken → since ≡ s.taken - h.opening.summary.taken
       → had h s ≡ option_map_or (same_held s.held) (slice_get (closing h) since) false
   had_since since more is =
       ap (λ b. b && option_map_or (same_held s.held) (slice_get (closing h) (s.taken - h.opening.summary.taken)) false)
       (le-leb h.opening.summary.taken s.taken more)
       ∙ ap (λ n. option_map_or (same_held s.held) (slice_get (closing h) n) false) (sym is)
-
-  -- as it was opened
-  pub had_at_opening : (since : ℕ) → h.opening.summary.taken ≤ s.taken → since ≡ s.taken - h.opening.summary.taken → since ≡ 0
-      → had h s ≡ same_held s.held h.opening.summary.held
-  had_at_opening since more is none = had_since 0 more (sym none ∙ is)
 
   -- after a take
   pub had_after : (since : ℕ) (held : List Point) (p : Point) → h.opening.summary.taken ≤ s.taken

@@ -1,48 +1,13 @@
 -- Tags that are marked as queries are looked at.
-use Rattle.std.proofs.Common.{◌≡◌, inl, inr, ℕ, ◌+◌, ◌<◌, ◌≤◌, Bool, true, false, ◌||◌, List, [], ◌∷◌, ◌++◌, length, get_or, take, set, refl, sym, ap, ◌∙◌, arith, nat_eq, Vec}
+use Rattle.std.proofs.Common.{◌≡◌, ℕ, ◌+◌, ◌<◌, Bool, false, ◌||◌, List, [], ◌∷◌, ◌++◌, length, get_or, take, refl, sym, ap, ◌∙◌, arith, Vec}
 use Rattle.std.specs.declared.alloc.Global.{Global}
 use Rattle.std.specs.List.{list_any}
-use Rattle.std.proofs.Math.Bool.{or-false, or-true, or_assoc}
-use Rattle.std.proofs.lemmas.Bool.Decides.{eqb_tells}
-use Rattle.std.proofs.lemmas.Grind.{get_or-set_at}
-use Rattle.std.proofs.lemmas.Bool.{eqb-true, false_from_ne_true}
-use Rattle.std.proofs.lemmas.List.{get_or-set_other, length-set, map_push, take_more}
+use Rattle.std.proofs.Math.Bool.{or-false, or_assoc}
+use Rattle.std.proofs.lemmas.List.{map_push, take_more}
 use Rattle.std.proofs.lemmas.List.Folds.{list_any-append}
 use Rattle.value_rows.specs.declared.asked.Query.{Query}
-use Rattle.value_rows.specs.declared.asked.Query.TheVariants.{Snap}
 use Rattle.calc_refresh.specs.Lists.{lists_of}
 use Rattle.session_report.specs.Places.{AreMarked, is_snap, is_snapped}
-
--- ---- one query
-
--- the other places stay
-set_at : (marks : List Bool) (tag t : ℕ) → tag < length marks
-    → get_or (set marks tag true) t false ≡ (get_or marks t false || nat_eq tag t)
-set_at marks tag t there = elim (eqb_tells tag t) [
-  | inl (equal, same) ↦ get_or-set_at marks tag t true false (sym same) there
-      ∙ sym (ap (λ b. get_or marks t false || b) equal ∙ or-true (get_or marks t false))
-  | inr (unequal, other) ↦ get_or-set_other marks tag t true false (λ same. other (sym same))
-      ∙ sym (ap (λ b. get_or marks t false || b) unequal ∙ or-false (get_or marks t false))
-]
-
--- the tag whose snapshot a query asks is marked, where it is one of them
-pub snap_marked : (marks : List Bool) (tag : ℕ) → tag < length marks
-    → AreMarked (λ t. is_snap t (Snap tag)) marks (set marks tag true)
-snap_marked marks tag there = record {
-  as_many = length-set marks tag true;
-  each = λ t within. set_at marks tag t there;
-}
-
-pub snap_beyond : (marks : List Bool) (tag : ℕ) → length marks ≤ tag → AreMarked (λ t. is_snap t (Snap tag)) marks marks
-snap_beyond marks tag past = record {
-  as_many = refl;
-  each = λ t within. sym (ap (λ b. get_or marks t false || b) (other t within) ∙ or-false (get_or marks t false));
-}
-  where
-    other : (t : ℕ) → t < length marks → nat_eq tag t ≡ false
-    other t within = false_from_ne_true (nat_eq tag t) (λ same. omega (arith, past, within, eqb-true tag t same))
-
--- ---- one after the other
 
 pub none_marked : (marks : List Bool) → AreMarked (λ tag. false) marks marks
 none_marked marks = record { as_many = refl; each = λ t within. sym (or-false (get_or marks t false)) }

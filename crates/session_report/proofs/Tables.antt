@@ -1,52 +1,10 @@
 -- Tables of places.
-use Rattle.std.proofs.Common.{◌≡◌, ℕ, ◌<◌, List, [], ◌∷◌, ◌++◌, length, get_or, set, replicate, refl, suc, zero, ap, ◌∙◌, arith}
+use Rattle.std.proofs.Common.{◌≡◌, ℕ, ◌<◌, List, [], ◌∷◌, length, get_or, set, refl, suc, zero, ap, ◌∙◌}
 use Rattle.std.proofs.Common.{Option, None}
 use Rattle.std.specs.Prelude.{◌≢◌}
 use Rattle.std.proofs.lemmas.List.{get_or-set_same, get_or-set_other, length-set}
 use Rattle.value_rows.specs.declared.asked.Query.{Query}
 use Rattle.session_report.specs.Places.{HasPlaceOfEach, Table, place_in}
-
--- no place
-abbrev no_place : Option ℕ
-no_place = None
-
--- a list of nothing has no place
-nothing_in : (n k : ℕ) → get_or (replicate n no_place) k None ≡ None
-nothing_in zero k = refl
-nothing_in (suc n) zero = refl
-nothing_in (suc n) (suc k) = nothing_in n k
-
--- a reader more, for whom there is no place
-pub place_in_push : (table : Table) (n : ℕ) → ((reader k : ℕ) → place_in table reader k ≡ None) → (reader k : ℕ)
-    → place_in (table ++ replicate n None ∷ []) reader k ≡ None
-place_in_push [] n none zero k = nothing_in n k
-place_in_push [] n none (suc reader) k = refl
-place_in_push (p ∷ table) n none zero k = none 0 k
-place_in_push (p ∷ table) n none (suc reader) k = place_in_push table n (λ r. none (suc r)) reader k
-
--- a reader more, with a place for each query
-pub HasShape_push : (readers : List (List Query)) (table : Table) (queries : List Query) (places : List (Option ℕ)) → HasPlaceOfEach readers table
-    → length places ≡ length queries → HasPlaceOfEach (readers ++ queries ∷ []) (table ++ places ∷ [])
-HasShape_push readers table queries places shape same = record {
-  as_many = by_length readers table shape.as_many;
-  rows = by_rows readers table shape.as_many shape.rows;
-}
-  where
-    by_length : (rs : List (List Query)) (t : Table) → length t ≡ length rs → length (t ++ places ∷ []) ≡ length (rs ++ queries ∷ [])
-    by_length [] [] is = refl
-    by_length [] (p ∷ t) is = absurd (omega (arith, is))
-    by_length (r ∷ rs) [] is = absurd (omega (arith, is))
-    by_length (r ∷ rs) (p ∷ t) is = ap suc (by_length rs t (omega (arith, is)))
-
-    by_rows : (rs : List (List Query)) (t : Table) → length t ≡ length rs
-        → ((reader : ℕ) → length (get_or t reader []) ≡ length (get_or rs reader []))
-        → (reader : ℕ) → length (get_or (t ++ places ∷ []) reader []) ≡ length (get_or (rs ++ queries ∷ []) reader [])
-    by_rows [] [] is all zero = same
-    by_rows [] [] is all (suc reader) = refl
-    by_rows [] (p ∷ t) is all reader = absurd (omega (arith, is))
-    by_rows (r ∷ rs) [] is all reader = absurd (omega (arith, is))
-    by_rows (r ∷ rs) (p ∷ t) is all zero = all 0
-    by_rows (r ∷ rs) (p ∷ t) is all (suc reader) = by_rows rs t (omega (arith, is)) (λ n. all (suc n)) reader
 
 module _ (table : Table) (reader k : ℕ) (place : Option ℕ) where
   -- the table with another place for a query

@@ -16,11 +16,9 @@ use trend_report::{ReplyText, answer_line, reply_text};
 pub(crate) fn tag_tape(tags: &[TagHistory], tag: u32) -> &[Entry]
     ensures { result.now ≡ tag_tape tags.now tag }
 {
-    let place = tag as usize;
-    if place < tags.len() {
-        tags[place].tape.as_slice()
-    } else {
-        &[]
+    match tags.get(tag as usize) {
+        Some(tag) => tag.tape.as_slice(),
+        None => &[],
     }
 }
 
@@ -28,11 +26,9 @@ pub(crate) fn tag_tape(tags: &[TagHistory], tag: u32) -> &[Entry]
 pub(crate) fn group_tape(groups: &[GroupHistory], group: u32) -> &[Turn]
     ensures { result.now ≡ group_tape groups.now group }
 {
-    let place = group as usize;
-    if place < groups.len() {
-        groups[place].tape.as_slice()
-    } else {
-        &[]
+    match groups.get(group as usize) {
+        Some(group) => group.tape.as_slice(),
+        None => &[],
     }
 }
 

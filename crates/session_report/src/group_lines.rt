@@ -85,20 +85,12 @@ fn last_rows(
 fn last_in(rows: &[Vec<CalcValue>], place: usize) -> Option<CalcValue>
     ensures { result ≡ last_value (slice_index_or (lists_of rows.now) place []) }
 {
-    if place < rows.len() {
-        last_value(rows[place].as_slice())
-    } else {
-        None
-    }
+    last_value(rows.get(place)?.as_slice())
 }
 
 // Returns the last of some values, if there is one.
 fn last_value(values: &[CalcValue]) -> Option<CalcValue>
     ensures { result ≡ last_value values.now }
 {
-    if values.is_empty() {
-        None
-    } else {
-        Some(values[values.len() - 1])
-    }
+    values.last().copied()
 }

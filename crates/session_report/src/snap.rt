@@ -4,7 +4,7 @@ ghost use Rattle.std.specs.List.{list_any};
 ghost use Rattle.calc_refresh.specs.Lists.{lists_of};
 ghost use Rattle.session_report.specs.Places.{AreMarked, AreSnapped, held_lists, is_snap, is_snapped};
 ghost use Rattle.session_report.specs.Report.{tag_tape};
-ghost use Rattle.session_report.specs.Snaps.{checked, had, held_after, held_points, same_held, snap_at_end, snap_of, told_at};
+ghost use Rattle.session_report.specs.Snaps.{checked, had, held_after, held_points, same_held, snap_of, told_at};
 
 use collector_pool::WorkerNote;
 use std::alloc::Global;
@@ -53,9 +53,8 @@ fn mark_all(marks: &mut [bool], readers: &[Vec<Query>])
 fn mark_snaps(marks: &mut [bool], queries: &[Query])
     ensures { AreMarked (λ tag. list_any (is_snap tag) queries.now) marks.old marks.new }
 {
-    for place in 0..queries.len() {
-        let query = queries[place];
-        mark_snap(marks, query);
+    for query in queries {
+        mark_snap(marks, *query);
     }
 }
 
@@ -110,14 +109,7 @@ fn held_after(entry: &Entry) -> Option<Point>
 pub(crate) fn told_at(notes: &[WorkerNote], worker: usize, place: usize) -> Option<Snap>
     ensures { result ≡ told_at notes.now worker place }
 {
-    if worker >= notes.len() {
-        return None;
-    }
-    let snaps = notes[worker].snaps.as_slice();
-    if place >= snaps.len() {
-        return None;
-    }
-    snaps[place]
+    *notes.get(worker)?.snaps.get(place)?
 }
 
 // Returns the snapshot in the reply about a tag: the one in the reader's note, if the tag had it, and otherwise that of

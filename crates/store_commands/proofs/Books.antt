@@ -1,10 +1,9 @@
 -- Books that are opened, refreshed once, and closed.
-use Rattle.std.proofs.Common.{◌≡◌, inl, inr, ℕ, ◌+◌, ◌<◌, ◌≤◌, List, [], ◌∷◌, All, length, map, get_or, set, string_bytes, Option, Result, Ok, Err, refl, sym, ap, ap₂, subst, ◌∙◌, arith}
+use Rattle.std.proofs.Common.{◌≡◌, inl, ℕ, ◌<◌, ◌≤◌, List, [], ◌∷◌, All, length, map, get_or, string_bytes, Option, Result, Ok, Err, refl, sym, ap, ap₂, subst, ◌∙◌, arith}
 use Rattle.std.specs.Prelude.{IfErr, IfOk, OnOk, Some, String, true}
 use Rattle.std.specs.Result.{result_and}
 use Rattle.std.specs.declared.alloc.Global.{Global}
-use Rattle.std.proofs.lemmas.Bool.{cases_eq}
-use Rattle.std.proofs.lemmas.List.{get_or-map, get_or-set_other, get_or-set_same, get_or_default, length-map, length-set}
+use Rattle.std.proofs.lemmas.List.{get_or-map, get_or_default, length-map}
 use Rattle.trend_num.specs.declared.archive.Rec.{Rec}
 use Rattle.trend_num.specs.declared.value.CalcValue.{CalcValue}
 use Rattle.disk_model.specs.Moments.{During}
@@ -46,51 +45,11 @@ cut_books trace ticks faults (g ∷ gs) records old books many opened i b below 
 
 -- ---- one refresh after the other
 
-pub devices_refl : {D : Type 0} (books : List (ToldBook D)) → HaveDevicesOf books books
-devices_refl books = record { as_many = refl; each = λ i b. refl }
-
--- a book that has the device that it had
-pub devices_set : {D : Type 0} (first now : List (ToldBook D)) (at : ℕ) (b d : ToldBook D) → at < length now → b.dev ≡ (get_or now at d).dev
-    → HaveDevicesOf first now → HaveDevicesOf first (set now at b)
-devices_set first now at b d within same before = record {
-  as_many = length-set now at b ∙ before.as_many;
-  each = λ i e. elim (cases_eq i at) [
-    | inl is ↦ subst (λ n. (get_or (set now at b) n e).dev ≡ (get_or first n e).dev) (sym is)
-        (ap (λ x. x.dev) (get_or-set_same now at b e within) ∙ same
-        ∙ ap (λ x. x.dev) (get_or_default now at d e within) ∙ before.each at e)
-    | inr differ ↦ ap (λ x. x.dev) (get_or-set_other now at i b e differ) ∙ before.each i e
-  ];
-}
-
 -- the first books are refreshed, and the others are as they were
 pub record AreRefreshedTo {D : Type 0} (records : List (List Rec)) (upto : ℕ) (old now : List (ToldBook D)) : Type 0 where
   pub devices : HaveDevicesOf old now
   pub done : (i : ℕ) (b : ToldBook D) → i < upto → IsRefreshedOnce records (get_or old i b) (get_or now i b)
   pub to_come : (i : ℕ) (b : ToldBook D) → upto ≤ i → get_or now i b ≡ get_or old i b
-
-pub none_refreshed : {D : Type 0} (records : List (List Rec)) (books : List (ToldBook D)) → AreRefreshedTo records 0 books books
-none_refreshed records books = record {
-  devices = devices_refl books;
-  done = λ i b below. absurd (omega (arith, below));
-  to_come = λ i b from. refl;
-}
-
--- one more
-pub one_refreshed : {D : Type 0} (records : List (List Rec)) (at : ℕ) (old now : List (ToldBook D)) (b d : ToldBook D) → at < length now
-    → d ≡ get_or now at d → IsRefreshedOnce records d b → AreRefreshedTo records at old now
-    → AreRefreshedTo records (at + 1) old (set now at b)
-one_refreshed records at old now b d within is_book one before = record {
-  devices = devices_set old now at b d within (ap (λ b. b.dev) one.changed ∙ ap (λ x. x.dev) is_book) before.devices;
-  done = λ i f below. elim (cases_eq i at) [
-    | inl same ↦ subst (λ n. IsRefreshedOnce records (get_or old n f) (get_or (set now at b) n f)) (sym same)
-        (subst (λ x. IsRefreshedOnce records (get_or old at f) x) (sym (get_or-set_same now at b f within))
-        (subst (λ x. IsRefreshedOnce records x b)
-        (is_book ∙ get_or_default now at d f within ∙ before.to_come at f (omega arith)) one))
-    | inr differ ↦ subst (λ x. IsRefreshedOnce records (get_or old i f) x)
-        (sym (get_or-set_other now at i b f differ)) (before.done i f (omega (arith, below, differ)))
-  ];
-  to_come = λ i f from. get_or-set_other now at i b f (λ same. omega (arith, from, same)) ∙ before.to_come i f (omega (arith, from));
-}
 
 -- ---- what they come to
 

@@ -2,7 +2,7 @@
 use Rattle.std.proofs.Common.{◌≡◌, inl, inr, ℕ, ◌+◌, ◌-◌, ◌<◌, ◌≤◌, All, List, [], ◌∷◌, ◌++◌, length, get_or, set, take, drop, max, Some, refl, sym, ap, subst, ◌∙◌, arith, append_assoc, length-append, length-drop}
 use Rattle.std.specs.Prelude.{slice_get}
 use Rattle.std.proofs.lemmas.Bool.{cases_eq, cases_lt}
-use Rattle.std.proofs.lemmas.List.{append-nil, drop_all, drop_more, get_or_append_left, get_or_push, length-take-le, length_push, set_at, take_all, take_more}
+use Rattle.std.proofs.lemmas.List.{append-nil, drop_all, drop_more, get_or_append_left, get_or_push, length-take-le, length_push, set_at, take_more}
 use Rattle.std.proofs.lemmas.List.Sums.{fold-append}
 use Rattle.std.proofs.lemmas.Option.{get_or_from_slice_get, slice_get_within}
 use Rattle.trend_num.specs.declared.value.CalcValue.{CalcValue}
@@ -144,10 +144,3 @@ changes_same old new k cs v below was is so =
       some = λ past. absurd (omega (arith, past, inside));
       last = λ past. absurd (omega (arith, past, inside));
     }
-
--- all windows
-pub changes_all : (old new : List CalcValue) (k : ℕ) (cs : List Change) → length old ≤ length new → length new ≤ k
-    → AreChangesTo old new k cs → row_with old cs ≡ new
-changes_all old new k cs long end so =
-    so.row ∙ ap (λ l. l ++ drop k old) (take_all k new end) ∙ ap (λ l. new ++ l) (drop_all k old (omega (arith, long, end)))
-    ∙ append-nil new

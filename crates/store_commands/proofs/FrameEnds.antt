@@ -1,5 +1,5 @@
 -- How `frames` ends: what its steps leave of the devices, and which faults were counted.
-use Rattle.std.proofs.Common.{◌≡◌, ◌≢◌, inl, inr, ℕ, ◌^◌, ◌<◌, List, Option, Result, Ok, Err, get_or, sym, ap, subst, ◌∙◌}
+use Rattle.std.proofs.Common.{◌≡◌, ◌≢◌, inl, inr, ℕ, ◌^◌, ◌<◌, List, Option, Result, Ok, Err, get_or, sym, subst, ◌∙◌}
 use Rattle.trend_num.specs.declared.archive.Rec.{Rec}
 use Rattle.trend_num.specs.declared.value.CalcValue.{CalcValue}
 use Rattle.disk_model.specs.Calls.{Rose}
@@ -12,7 +12,6 @@ use Rattle.plant_status.specs.declared.status.Status.{Status}
 use Rattle.plant_status.specs.declared.status.Status.TheVariants.{ReadFault}
 use Rattle.plant_status.specs.declared.unit.Unit.TheVariants.{Group}
 use Rattle.plant_files.specs.Asked.{ToldFiles}
-use Rattle.plant_files.specs.Reading.{faults_told}
 use Rattle.plant_files.specs.Texts.{IsBaseFile}
 use Rattle.plant_store.specs.Tags.{AllStaySame, AreOtherTagsSame}
 use Rattle.plant_store.specs.Tags as tag
@@ -23,7 +22,7 @@ use Rattle.plant_store.specs.BookRefusals as groups
 use Rattle.plant_store.specs.OpenedBases.{CountsDevices}
 use Rattle.store_commands.proofs.Stores.{groups_same, kept_after, names_apart}
 use Rattle.store_commands.specs.FrameCommands.{HaveStayed}
-use Rattle.store_commands.specs.FrameNames.{IsNamed, IsNameRefusal, IsPlaced, NoCalculation, NoGroup}
+use Rattle.store_commands.specs.FrameNames.{IsNamed, IsPlaced}
 use Rattle.store_commands.specs.FrameRows.{AreFrameRows, IsFrameRowsRefusal, OfCells, OfCopies, OfDamage, OfFault, OfMemory, OfVersion, OfWindows}
 use Rattle.store_commands.proofs.FramePlaces.{named_group}
 
@@ -82,18 +81,7 @@ refusal_before i g recovered o p q before mid now why same first is = subst (λ 
 
 -- ---- faults
 
--- names that stand for nothing are no fault of a file
-pub names_no_fault : (groups : List GroupDef) (group_name calc_name : List ℕ) (why : Status)
-    → IsNameRefusal groups group_name calc_name why → (n : ℕ) → faults_told why n ≡ n
-names_no_fault groups group_name calc_name why (NoGroup told none) n = ap (λ s. faults_told s n) told
-names_no_fault groups group_name calc_name why (NoCalculation g told there named none) n = ap (λ s. faults_told s n) told
-
-pub names_no_read : (groups : List GroupDef) (group_name calc_name : List ℕ) (why : Status)
-    → IsNameRefusal groups group_name calc_name why → (which : FileId) → why ≢ ReadFault which
-names_no_read groups group_name calc_name why (NoGroup told none) which same = cc
-names_no_read groups group_name calc_name why (NoCalculation g told there named none) which same = cc
-
--- nor is the refusal of a group
+-- the refusal of a group is no fault of a file
 pub rows_no_read : (i : ℕ) (g : GroupDef) (recovered : List (List Rec)) (o p : Option Trace) (before now : ℕ) (why : Status)
     → IsFrameRowsRefusal i g recovered o p before now why → (which : FileId) → why ≢ ReadFault which
 rows_no_read i g recovered o p before now why (OfFault told rose) which same = cc

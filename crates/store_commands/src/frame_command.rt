@@ -1,5 +1,5 @@
 // The command `frames`.
-ghost use Rattle.std.specs.Prelude.{◌≡◌, ◌^◌, ◌<◌, ◌≤◌, IfErr, IfOk, OnOk, length, string_bytes};
+ghost use Rattle.std.specs.Prelude.{◌≡◌, ◌^◌, ◌<◌, ◌≤◌, IfErr, IfOk, OnOk, string_bytes};
 ghost use Rattle.byte_io.specs.Files.{IsFaultOf};
 ghost use Rattle.plant_status.specs.declared.file.FileId.{FileId};
 ghost use Rattle.plant_status.specs.declared.status.Status.TheVariants.{ReadFault};
@@ -57,8 +57,5 @@ pub fn frames<F: Files, S: Store>(
     let cores = open_base(alloc, store, &base)?;
     let (group, device) = (&base.groups[place.group], names[place.group].as_str());
     let rows = rows_of(alloc, store, place, group, device, &cores)?;
-    match tell_frames(alloc, group, least, &rows.saved, &rows.refreshed) {
-        Ok(text) => Ok(text),
-        Err(_) => Err(Status::WantOfMemory),
-    }
+    tell_frames(alloc, group, least, &rows.saved, &rows.refreshed).map_err(|_| Status::WantOfMemory)
 }

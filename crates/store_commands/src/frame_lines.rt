@@ -1,7 +1,6 @@
 // The lines of `frames`.
-ghost use Rattle.std.specs.Prelude.{◌≡◌, ◌++◌, ◌≤◌, All, IfOk, OnOk, codes, length, string_bytes};
+ghost use Rattle.std.specs.Prelude.{◌≡◌, ◌++◌, All, IfOk, OnOk, codes, string_bytes};
 ghost use Rattle.std.specs.List.{flat_map};
-ghost use Rattle.sheet_law.specs.Windows.{complete_windows};
 ghost use Rattle.store_commands.specs.FrameLines.{IsFrameTimed, edit_text, frame_of, frame_text, frames_text};
 
 use event_frames::{Edit, Frame};

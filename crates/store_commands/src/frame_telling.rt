@@ -1,5 +1,5 @@
 // The text about the frames of a calculation.
-ghost use Rattle.std.specs.Prelude.{◌≡◌, ◌≤◌, IfOk, length, string_bytes};
+ghost use Rattle.std.specs.Prelude.{◌≤◌, IfOk, length, string_bytes};
 ghost use Rattle.store_commands.specs.FrameLines.{AreTimes, TellsFrames};
 
 use crate::frame_lines::frames_text;

@@ -1,5 +1,5 @@
 // The groups of a base, each refreshed once from the records of its tags.
-ghost use Rattle.std.specs.Prelude.{◌≡◌, ℕ, ◌^◌, ◌<◌, ◌≤◌, All, IfErr, IfOk, OnErr, OnOk, length, map};
+ghost use Rattle.std.specs.Prelude.{◌≡◌, ℕ, ◌^◌, ◌<◌, All, IfErr, IfOk, OnErr, OnOk, length, map};
 ghost use Rattle.calc_refresh.specs.Sheet.{IsCopy, grid_of};
 ghost use Rattle.plant_files.specs.Reading.{faults_told};
 ghost use Rattle.tag_base.specs.Groups.{IsSoundGroup};

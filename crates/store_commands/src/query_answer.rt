@@ -48,12 +48,7 @@ pub(crate) fn reply_to(
 fn value_at(group: &GroupHistory, calc: u32, k: u64) -> Option<CalcValue>
     ensures { result ≡ cell_of (lists_of group.now.rows.items) calc k }
 {
-    let (calc, k) = (calc as usize, k as usize);
-    if calc < group.rows.len() && k < group.rows[calc].len() {
-        Some(group.rows[calc][k])
-    } else {
-        None
-    }
+    group.rows.get(calc as usize)?.get(k as usize).copied()
 }
 
 // The snapshot of a tag.

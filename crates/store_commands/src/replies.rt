@@ -46,8 +46,5 @@ pub fn trend<F: Files, S: Store>(
     let readers = queries_of(alloc, files, &plan, &base)?;
     let cores = open_base(alloc, store, &base)?;
     let groups = histories_of(alloc, store, &base.groups, &cores)?;
-    match trend_text(alloc, &cores, &groups, &readers) {
-        Ok(text) => Ok(text),
-        Err(_) => Err(Status::WantOfMemory),
-    }
+    trend_text(alloc, &cores, &groups, &readers).map_err(|_| Status::WantOfMemory)
 }

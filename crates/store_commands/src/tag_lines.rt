@@ -1,5 +1,5 @@
 // The command `check`.
-ghost use Rattle.std.specs.Prelude.{◌^◌, ◌<◌, ◌≤◌, ◌≡◌, string_bytes, IfOk, IfErr, OnOk};
+ghost use Rattle.std.specs.Prelude.{◌^◌, ◌<◌, ◌≡◌, string_bytes, IfOk, IfErr, OnOk};
 ghost use Rattle.byte_io.specs.Files.{IsFaultOf};
 ghost use Rattle.plant_status.specs.declared.file.FileId.{FileId};
 ghost use Rattle.plant_status.specs.declared.status.Status.TheVariants.{ReadFault};
@@ -38,8 +38,5 @@ pub fn check<F: Files, S: Store>(
 {
     let base = base_of(alloc, files, name)?;
     let cores = open_base(alloc, store, &base)?;
-    match check_text(alloc, &base.tags, &cores) {
-        Ok(text) => Ok(text),
-        Err(_) => Err(Status::WantOfMemory),
-    }
+    check_text(alloc, &base.tags, &cores).map_err(|_| Status::WantOfMemory)
 }

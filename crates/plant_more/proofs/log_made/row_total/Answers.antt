@@ -6,15 +6,15 @@ use Rattle.plant_more.proofs.log_made.row_total.Goals as goal
 
 pub overflow_add-total : goal.overflow_add-total
 overflow_add-total c =
-    let v = c.index-files-place.result in
-    let here : length v.items ≡ length (get_or c.args.files.now c.loop-place.place v).items =
-    ap (λ (w : Vec RawRow Global). length w.items) c.index-files-place.is in
+    let v = c.file-item.result in
+    let here : length v.items ≡ length (get_or c.args.files.now c.loop-file.file-index v).items =
+    ap (λ (w : Vec RawRow Global). length w.items) c.file-item.is in
     omega (
       arith,
       here,
-      c.loop-place.invariant,
+      c.loop-file.invariant,
       c.requires.small,
       c.len.ensures,
       v.ok,
-      total_front c.args.files.now c.loop-place.place v c.loop-place-test.true,
+      total_front c.args.files.now c.loop-file.file-index v c.loop-file-test.true,
     )

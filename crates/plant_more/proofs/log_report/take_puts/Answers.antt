@@ -2,9 +2,9 @@ use Rattle.std.proofs.Common.{◌≡◌, ◌<◌, Some, length, slice_get, ◌�
 use Rattle.commit_log.specs.declared.history.LogTurn.TheVariants.{Put}
 use Rattle.commit_log.specs.declared.row.LogRow.{LogRow}
 use Rattle.plant_more.specs.LogReports.{log_rows}
-use Rattle.plant_more.proofs.LogReports.{commit_reached, few_before, log_there, put_reached}
+use Rattle.plant_more.proofs.LogReports.{few_before, log_there, other_reached, put_reached}
 use Rattle.plant_more.proofs.log_report.take_puts.Goals as goal
-use Rattle.plant_more.proofs.log_report.take_puts.Goals.{After-index, in-Put+in_ok-take_row-in-Put, in-Commit}
+use Rattle.plant_more.proofs.log_report.take_puts.Goals.{After-index, in-Put+in_ok-take_row, in_default}
 
 -- the turn is one of the tape
 within : (g : _) (c : After-index g) → c.loop-turn.turn < length c.args.log.now.tape.items
@@ -33,15 +33,15 @@ loop-turn-preserved g c =
     let log = c.args.log.now in
     let was = c.loop-turn.invariant in
     elim c.match-index.branch [
-      | in-Put+in_ok-take_row-in-Put w ↦ rw (w.place-is, w.cores-is) (record {
+      | in-Put+in_ok-take_row w ↦ rw (w.place-is, w.cores-is) (record {
         reached = put_reached log c.loop-turn.turn c.loop-turn.place w.in-Put.row c.index.result.now (within g at)
             (sym c.index.ensures ∙ w.in-Put.is) was.reached;
-        standing = w.in_ok-take_row-in-Put.ensures.standing;
-        room = w.in_ok-take_row-in-Put.ensures.room;
+        standing = w.in_ok-take_row.ensures.standing;
+        room = w.in_ok-take_row.ensures.room;
       })
-      | in-Commit w ↦ rw (w.place-is, w.cores-is) (record {
-        reached = commit_reached log c.loop-turn.turn c.loop-turn.place _ _ c.index.result.now (within g at)
-            (sym c.index.ensures ∙ w.in-Commit.is) was.reached;
+      | in_default w ↦ rw (w.place-is, w.cores-is) (record {
+        reached = other_reached log c.loop-turn.turn c.loop-turn.place c.index.result.now (within g at)
+            (λ row is. w.in_default.not-Put row (c.index.ensures ∙ is)) was.reached;
         standing = was.standing;
         room = was.room;
       })

@@ -1,10 +1,11 @@
-use Rattle.std.proofs.Common.{Err, inr, refl, ap, string_bytes, subst, w32}
+use Rattle.std.proofs.Common.{Err, inr, rules, refl, ap, string_bytes, subst, w32}
 use Rattle.std.proofs.lemmas.Int.{to_z-of_z}
 use Rattle.std.proofs.lemmas.Result.{err_from_is_err_and}
 use Rattle.tag_core.specs.Core.{Core}
 use Rattle.shift_calendar.specs.Windows.{AreWindows, shifts_over}
 use Rattle.plant_more.specs.ShiftLines.{AreShiftLines}
-use Rattle.plant_more.specs.Shifts.{OfCalendar, OfTag}
+use Rattle.plant_more.specs.Shifts.{OfCalendar, OfMemory, OfTag}
+use Rattle.plant_store.proofs.MappedErrors.{new_error, still_ok}
 use Rattle.plant_store.proofs.OpenedBases.{tag_is_no_fault, of_tags}
 use Rattle.plant_more.proofs.ShiftRefusals.{of_base, of_calendar, of_none, own_base, own_calendar, own_tag}
 use Rattle.plant_more.proofs.shift_figures.shift_text.Goals as goal
@@ -71,14 +72,12 @@ returns-in_err-cores-clause-counts g c =
 
 -- ---- what is printed
 
-pub returns-in-Ok-clause-text : goal.returns-in-Ok-clause-text
-returns-in-Ok-clause-text g c =
+pub returns-clause-text : goal.returns-clause-text
+returns-clause-text g c =
     let base = c.in_ok-base.base in
     let cal = c.in_ok-calendar.calendar in
     let cores = c.in_ok-cores.cores.items in
-    let told = c.in-Ok.ensures in
-    let text = string_bytes c.in-Ok.text in
-    record {
+    still_ok _ _ _ c.shift_lines.result c.map_err.result c.map_err.ensures.cases (λ text told. record {
       base = base;
       cal = cal;
       cores = cores;
@@ -91,16 +90,18 @@ returns-in-Ok-clause-text g c =
       calendar = rw (← c.in_ok-base.ensures.stays) c.in_ok-calendar.ensures.calendar;
       shifts = subst (λ day. AreWindows cal.zone (shifts_over cal.starts day c.args.days) told.0)
           (to_z-of_z w32 c.args.day c.ranges.day) told.1;
-      lines = subst (λ l. AreShiftLines base.tags.items l cal told.0 text) c.deref-2.ensures.value
-          (subst (λ l. AreShiftLines l c.deref-2.result.now cal told.0 text) c.deref.ensures.value told.2);
-    }
+      lines = subst (λ l. AreShiftLines base.tags.items l cal told.0 (string_bytes text)) c.deref-2.ensures.value
+          (subst (λ l. AreShiftLines l c.deref-2.result.now cal told.0 (string_bytes text)) c.deref.ensures.value told.2);
+    }) c.shift_lines.ensures
 
-pub returns-in-Ok-clause-kept : goal.returns-in-Ok-clause-kept
-returns-in-Ok-clause-kept g c =
-    inr (c.in_ok-base.base, c.in_ok-base.ensures.base, c.open_base.ensures.same, c.open_base.ensures.others)
+pub returns-clause-refused : goal.returns-clause-refused
+returns-clause-refused g c = new_error _ _ c.shift_lines.result c.map_err.result c.map_err.ensures.cases (λ e why is. OfMemory (search rules))
 
-pub returns-in-Ok-clause-durable : goal.returns-in-Ok-clause-durable
-returns-in-Ok-clause-durable g c = record {
+pub returns-clause-kept : goal.returns-clause-kept
+returns-clause-kept g c = inr (c.in_ok-base.base, c.in_ok-base.ensures.base, c.open_base.ensures.same, c.open_base.ensures.others)
+
+pub returns-clause-durable : goal.returns-clause-durable
+returns-clause-durable g c = still_ok _ _ _ c.shift_lines.result c.map_err.result c.map_err.ensures.cases (λ text told. record {
   base = c.in_ok-base.base;
   cores = c.in_ok-cores.cores.items;
   opened = record {
@@ -109,15 +110,4 @@ returns-in-Ok-clause-durable g c = record {
     few = c.in_ok-cores.ensures.few_records;
   };
   left = c.in_ok-cores.ensures.left;
-}
-
--- ---- no memory for it
-
-pub returns-clause-its_own : goal.returns-clause-its_own
-returns-clause-its_own g c = record { no_end = λ is. cc; no_words = λ is. cc; no_write = λ is. cc }
-
-pub returns-clause-kept : goal.returns-clause-kept
-returns-clause-kept g c = inr (c.in_ok-base.base, c.in_ok-base.ensures.base, c.open_base.ensures.same, c.open_base.ensures.others)
-
-pub returns-clause-whose : goal.returns-clause-whose
-returns-clause-whose g c = of_none _ _ _ _ (λ which same. cc)
+}) c.shift_lines.ensures

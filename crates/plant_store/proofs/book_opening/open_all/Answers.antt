@@ -1,7 +1,8 @@
 use Rattle.std.proofs.Common.{◌∙◌, ◌^◌, ◌<◌, ◌∷◌, [], ap, arith, length, length-append, map, subst, sym}
 use Rattle.std.proofs.lemmas.Result.{err_from_is_err_and}
+use Rattle.group_book.specs.declared.refusal.LoadNo.TheVariants.{DeviceFault}
 use Rattle.group_book.specs.Told.{ToldBook}
-use Rattle.plant_store.proofs.BookCauses.{counted_since}
+use Rattle.plant_store.proofs.Counts.{counted_since}
 use Rattle.plant_store.proofs.BookNames.{as_many, one_place}
 use Rattle.plant_store.proofs.BookTurns.{IsSoFar, at_place, cause_at, next_at, others_at, others_same, rest_at}
 use Rattle.plant_store.proofs.book_opening.open_all.Goals as goal
@@ -77,8 +78,8 @@ pub returns-in_err-book-clause-counts : goal.returns-in_err-book-clause-counts
 returns-in_err-book-clause-counts g c = λ small.
     let out = err_from_is_err_and c.from_residual.result c.from_residual.ensures.1 in
     rw (out.1, out.2)
-    (counted_since (g.S.Store.fault_count c.args.store.now) (g.S.Store.fault_count c.loop-place.store)
-    (g.S.Store.fault_count c.open_book.new.store) c.in_err-book.field-0.0 (c.loop-place.invariant.faults small) small
+    (counted_since c.in_err-book.field-0.0 DeviceFault (g.S.Store.fault_count c.args.store.now)
+    (g.S.Store.fault_count c.loop-place.store) (g.S.Store.fault_count c.open_book.new.store) (c.loop-place.invariant.faults small) small
     c.in_err-book.ensures.counts)
 
 pub returns-clause-others : goal.returns-clause-others

@@ -3,8 +3,9 @@ use Rattle.disk_model.specs.Calls.{CountsFault, Rose}
 use Rattle.group_book.specs.declared.refusal.LoadNo.TheVariants.{DeviceFault}
 use Rattle.plant_store.specs.BookRefusals.{CountsStore, IsRefusal, status_of}
 use Rattle.plant_store.specs.BookSteps.{AreOtherNamesSame}
-use Rattle.plant_store.proofs.BookCauses.{all_faultless, all_same, counted, fails, stays_small, told_all}
+use Rattle.plant_store.proofs.BookCauses.{all_faultless, all_same, counted, fails, told_all}
 use Rattle.plant_store.proofs.BookNames.{as_many, names_differ}
+use Rattle.plant_store.proofs.Counts.{stays_small}
 use Rattle.plant_store.proofs.BookTurns.{others_same, still}
 use Rattle.plant_store.proofs.book_opening.open_books.Goals as goal
 
@@ -36,7 +37,7 @@ returns-in-Err-clause-refused g c =
     let counts = c.in-Err.ensures.counts small in
     let same = c.give_back_all.ensures.counted
     ∙ all_faultless D.trace D.ticks D.fault_count c.args.groups.now records old books _ (omega (arith, some)) c.open_all.ensures.opened
-    (stays_small why before _ small counts) in
+    (stays_small why DeviceFault before _ small counts) in
     subst (Rose before) (sym same) (fails why before _ counts is)))
 
 pub returns-in-Err-clause-any_moment : goal.returns-in-Err-clause-any_moment
@@ -68,7 +69,7 @@ returns-in-Err-clause-counts g c = λ small.
     let counts = c.in-Err.ensures.counts small in
     let same = c.give_back_all.ensures.counted
     ∙ all_faultless D.trace D.ticks D.fault_count c.args.groups.now records old books _ (omega (arith, c.in-Err.ensures.some))
-    c.open_all.ensures.opened (stays_small why before _ small counts) in
+    c.open_all.ensures.opened (stays_small why DeviceFault before _ small counts) in
     let status : c.book_status.result ≡ status_of (length books) why = c.book_status.ensures
     ∙ ap (λ n. status_of n why) (c.len-group.ensures ∙ c.open_all.new.books.ok.0) in
     subst (λ s. CountsStore {T = Unit {0}} (Err s) before (g.S.Store.fault_count c.give_back_all.new.store)) (sym status)

@@ -8,14 +8,17 @@ use Rattle.trend_model.specs.State.{State}
 use Rattle.snapshot_table.specs.Boards.{new_posters}
 use Rattle.snapshot_table.proofs.Places.{length-new_posters}
 use Rattle.crash_recovery.specs.Opening.{StaysSame}
+use Rattle.device_layout.specs.declared.failure.OpenNo.TheVariants.{DeviceFault}
 use Rattle.device_layout.specs.Readings.{IsCause}
 use Rattle.tag_cell.specs.Told.{ToldCell}
 use Rattle.plant_store.specs.TagRefusals.{status_of}
+use Rattle.plant_store.proofs.Counts.{counted_since}
 use Rattle.plant_store.proofs.TagEndings.{of_all}
 use Rattle.plant_store.specs.CellOpenings.{records_opened}
 use Rattle.plant_store.specs.CellStops.{IsStopped}
-use Rattle.plant_store.proofs.CellFronts.{posts_to, reached}
-use Rattle.plant_store.proofs.CellHalts.{counted_since, opened_more, opened_since, records_more, rooms_more, stopped_full, stopped_there}
+use Rattle.plant_store.proofs.TagTurns.{reached}
+use Rattle.plant_store.proofs.CellFronts.{posts_to}
+use Rattle.plant_store.proofs.CellHalts.{opened_more, opened_since, records_more, rooms_more, stopped_full, stopped_there}
 use Rattle.plant_store.proofs.CellLabels.{as_many_names, named_at, places_more}
 use Rattle.plant_store.proofs.CellLists.{next_of, no_some}
 use Rattle.plant_store.proofs.cell_turns.open_all.Goals as goal
@@ -77,8 +80,8 @@ returns-in-Err-clause-stopped g c =
     (λ n apart. c.open_one.ensures.others n (λ e. apart (e ∙ at.named)))
     (subst (λ (n : List ℕ). StaysSame def (now n) (new n)) at.named c.in-Err.ensures.same)
     (subst (λ (n : List ℕ). IsCause def (now n) c.in-Err.why) at.named c.in-Err.ensures.cause)
-    (counted_since {T = ToldCell g.row.S-Dev.Denot} (g.S.Store.fault_count c.args.store.now) (g.S.Store.fault_count c.loop-def.store)
-    (g.S.Store.fault_count c.open_one.new.store) c.in-Err.why inv.passed c.in-Err.ensures.counts))
+    (λ small. counted_since {U = ToldCell g.row.S-Dev.Denot} c.in-Err.why DeviceFault (g.S.Store.fault_count c.args.store.now)
+    (g.S.Store.fault_count c.loop-def.store) (g.S.Store.fault_count c.open_one.new.store) inv.passed small c.in-Err.ensures.counts))
 
 pub returns-then-records-gt-MAX_STORE_RECORDS-clause-others :
     goal.returns-then-records-gt-MAX_STORE_RECORDS-clause-others

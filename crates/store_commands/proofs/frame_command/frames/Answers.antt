@@ -1,4 +1,4 @@
-use Rattle.std.proofs.Common.{◌<◌, ◌^◌, ◌∙◌, List, ap, arith, inl, inr, length, refl, string_bytes, subst, sym}
+use Rattle.std.proofs.Common.{◌<◌, ◌^◌, ◌∙◌, List, ap, arith, inl, inr, length, refl, rules, string_bytes, subst, sym}
 use Rattle.std.proofs.lemmas.List.{length-map}
 use Rattle.std.proofs.lemmas.Option.{slice_get_within}
 use Rattle.std.proofs.lemmas.Result.{err_from_is_err_and}
@@ -14,9 +14,10 @@ use Rattle.plant_store.specs.Groups.{AreNamesOf, device_name, group_definition_t
 use Rattle.plant_store.proofs.BookNames.{as_many, named_at}
 use Rattle.plant_store.proofs.BookTurns.{still}
 use Rattle.store_commands.specs.GroupRows.{tag_records}
+use Rattle.plant_store.proofs.MappedErrors.{new_error, still_ok}
 use Rattle.plant_store.proofs.OpenedBases.{tag_is_no_fault}
 use Rattle.store_commands.proofs.Stores.{groups_same, left_after}
-use Rattle.store_commands.specs.FrameCommands.{OfGroup, OfName, OfTag}
+use Rattle.store_commands.specs.FrameCommands.{OfGroup, OfMemory, OfName, OfTag}
 use Rattle.store_commands.specs.FrameLines.{TellsFrames}
 use Rattle.store_commands.specs.FrameRows.{AreFrameRows, IsFrameRowsRefusal}
 use Rattle.store_commands.proofs.FrameEnds.{have_stayed, refusal_before, rows_before, rows_no_read, stayed_at, tags_same}
@@ -180,8 +181,8 @@ tell_frames-requires-clause-period g c =
     (c.in_ok-base.ensures.sound place.group group (slice_get_within base.groups.items place.group placed.0 placed.1.there)) in
     sound.some_period
 
-pub returns-in-Ok-tell_frames-clause-text : goal.returns-in-Ok-tell_frames-clause-text
-returns-in-Ok-tell_frames-clause-text g c =
+pub returns-clause-text : goal.returns-clause-text
+returns-clause-text g c =
     let base = c.in_ok-base.base in
     let place = c.in_ok-place.place in
     let group = c.index.result.now in
@@ -189,7 +190,7 @@ returns-in-Ok-tell_frames-clause-text g c =
     let mid = g.S.Store.device_at c.open_base.new.store in
     let cores = c.in_ok-cores.cores.items in
     let rows = c.in_ok-rows.rows in
-    record {
+    still_ok _ _ _ c.tell_frames.result c.map_err.result c.map_err.ensures.cases (λ text told. record {
       base = base;
       g = group;
       i = place.group;
@@ -203,41 +204,37 @@ returns-in-Ok-tell_frames-clause-text g c =
           rows.refreshed.items (groups_same base.tags.items old mid c.open_base.ensures.others group)
           (subst (λ (l : List Core). AreFrameRows group place.calc (input_records_of (tag_records l) group) (group_trace_at mid group) rows.saved.items
           rows.refreshed.items) c.deref-2.ensures.value c.in_ok-rows.ensures.rows);
-      tells = subst (λ (l : List CalcValue). TellsFrames group c.args.least rows.saved.items l (string_bytes c.in-Ok-tell_frames.text))
+      tells = subst (λ (l : List CalcValue). TellsFrames group c.args.least rows.saved.items l (string_bytes text))
           c.deref-4.ensures.value
-          (subst (λ (l : List CalcValue). TellsFrames group c.args.least l c.deref-4.result.now (string_bytes c.in-Ok-tell_frames.text))
-          c.deref-3.ensures.value c.in-Ok-tell_frames.ensures);
-    }
+          (subst (λ (l : List CalcValue). TellsFrames group c.args.least l c.deref-4.result.now (string_bytes text))
+          c.deref-3.ensures.value told);
+    }) c.tell_frames.ensures
 
-pub returns-in-Ok-tell_frames-clause-kept : goal.returns-in-Ok-tell_frames-clause-kept
-returns-in-Ok-tell_frames-clause-kept g c =
-    inr (stayed_at c.args.name.now c.args.group.now c.args.calc.now (g.F.Files.told c.args.files.now) c.in_ok-base.base c.index.result.now
-    c.in_ok-place.place.group c.in_ok-place.place.calc (g.S.Store.device_at c.args.store.now) (g.S.Store.device_at c.open_base.new.store)
-    (g.S.Store.device_at c.rows_of.new.store) c.in_ok-base.ensures.base c.in_ok-place.ensures.placed c.index.ensures
-    c.open_base.ensures.same c.open_base.ensures.others c.rows_of.ensures.same c.rows_of.ensures.others)
+pub returns-clause-refused : goal.returns-clause-refused
+returns-clause-refused g c = new_error _ _ c.tell_frames.result c.map_err.result c.map_err.ensures.cases (λ e why is. OfMemory (search rules))
 
-pub returns-in-Ok-tell_frames-clause-durable : goal.returns-in-Ok-tell_frames-clause-durable
-returns-in-Ok-tell_frames-clause-durable g c =
+pub returns-clause-durable : goal.returns-clause-durable
+returns-clause-durable g c =
     let base = c.in_ok-base.base in
     let cores = c.in_ok-cores.cores.items in
     let mid = g.S.Store.device_at c.open_base.new.store in
     let new = g.S.Store.device_at c.rows_of.new.store in
-    record {
+    still_ok _ _ _ c.tell_frames.result c.map_err.result c.map_err.ensures.cases (λ text told. record {
       base = base;
       cores = cores;
       opened = record { read = c.in_ok-base.ensures.base; opened = c.in_ok-cores.ensures.opened; few = c.in_ok-cores.ensures.few_records };
       left = left_after base.tags.items cores (g.S.Store.device_at c.args.store.now) mid new
           (tags_same c.index.result.now mid new c.rows_of.ensures.others) c.in_ok-cores.ensures.left;
-    }
+    }) c.tell_frames.ensures
 
-pub returns-in-Ok-tell_frames-clause-synced : goal.returns-in-Ok-tell_frames-clause-synced
-returns-in-Ok-tell_frames-clause-synced g c =
+pub returns-clause-synced : goal.returns-clause-synced
+returns-clause-synced g c =
     let base = c.in_ok-base.base in
     let place = c.in_ok-place.place in
     let group = c.index.result.now in
     let mid = g.S.Store.device_at c.open_base.new.store in
     let new = g.S.Store.device_at c.rows_of.new.store in
-    record {
+    still_ok _ _ _ c.tell_frames.result c.map_err.result c.map_err.ensures.cases (λ text told. record {
       base = base;
       g = group;
       i = place.group;
@@ -247,7 +244,7 @@ returns-in-Ok-tell_frames-clause-synced g c =
       synced = subst (λ o. GainsGroupSync (group_definition_text group) o (group_trace_at new group))
           (groups_same base.tags.items (g.S.Store.device_at c.args.store.now) mid c.open_base.ensures.others group)
           c.in_ok-rows.ensures.synced;
-    }
+    }) c.tell_frames.ensures
 
 pub returns-clause-kept : goal.returns-clause-kept
 returns-clause-kept g c =

@@ -2,11 +2,11 @@ use Rattle.std.proofs.Common.{◌≡◌, ◌^◌, ◌<◌, ◌≤◌, length}
 use Rattle.trend_num.specs.Limits.{most_stored}
 use Rattle.plant_store.specs.Tags.{tag_records_in}
 use Rattle.plant_store.proofs.TagTurns.{IsSoFar}
-use Rattle.plant_store.proofs.tag_opening.open_tags.Given as goal
+use Rattle.plant_store.proofs.base_opening.open_base.Given as goal
 
 abbrev pub invariant-loop-def : goal.invariant-loop-def
 invariant-loop-def g l = record {
-  so_far : IsSoFar l.tags l.def-index (g.S.Store.device_at l.fn.store)
+  so_far : IsSoFar l.base.tags.items l.def-index (g.S.Store.device_at l.fn.store)
       (g.S.Store.device_at l.store) l.cores.items;
   count : length l.cores.items ≡ l.def-index;
   records : l.records ≡ tag_records_in l.cores.items;
