@@ -1,21 +1,18 @@
 -- Rows of a worker that are found one after another in the order of its file.
-use Rattle.std.proofs.Common.{◌≡◌, ◌≢◌, ℕ, ◌+◌, ◌<◌, ◌≤◌, inl, inr, true, false, nat_eq, nat_le, List, length, get_or, Option, None, Some, is_some, refl, sym, ap, ◌∙◌, arith}
+use Rattle.std.proofs.Common.{◌≡◌, ◌≢◌, ℕ, ◌<◌, ◌≤◌, inl, inr, true, false, nat_eq, nat_le, List, length, get_or, Option, None, Some, is_some, refl, sym, ap, ◌∙◌, arith}
 use Rattle.std.proofs.lemmas.Bool.{cases_eq, cases_lt, false≢true}
 use Rattle.std.proofs.lemmas.Bool.Decides.{nat_tests}
-use Rattle.std.proofs.lemmas.List.{get_or-set_same, get_or-set_other, take_all}
+use Rattle.std.proofs.lemmas.List.{take_all}
 use Rattle.plant_status.specs.declared.mismatch.Seen.{Seen}
 use Rattle.session_audit.specs.declared.agenda.Item.{Item}
 use Rattle.session_audit.specs.Agendas.{IsNext, due, due_at, seen_at}
-use Rattle.session_audit.specs.Found.{IsAdvanced, IsCaughtUp, Reached, found, lacks, next_due, place_at}
+use Rattle.session_audit.specs.Found.{IsCaughtUp, Reached, found, lacks, next_due, place_at}
 use Rattle.session_audit.proofs.Walking.{due_passed}
 
 -- whether a row lacks, by what it is
 lacks_some : (p : Reached) (i : ℕ) (item : Item) → get_or p.items i None ≡ Some item
     → lacks p i ≡ nat_le (place_at p item.unit) i
 lacks_some p i item is = rw is refl
-
-pub lacks_none : (p : Reached) (i : ℕ) → get_or p.items i None ≡ None → lacks p i ≡ false
-lacks_none p i none = rw none refl
 
 -- a row that is due somewhere is an item of that unit
 item_due : (unit i : ℕ) (items : List (Option Item)) (o : Option Item) → get_or items i None ≡ o
@@ -60,49 +57,6 @@ caught_due p i item is at =
   where
     same : (n : ℕ) → nat_eq n n ≡ true
     same n = grind (arith, nat_tests)
-
--- ---- one row further
-
--- a row that does not lack
-pub caught_past : (p : Reached) (i : ℕ) → lacks p i ≡ false → IsCaughtUp i p → IsCaughtUp (i + 1) p
-caught_past p i there caught = λ j below. elim (cases_eq j i) [
-  | inl same ↦ ap (lacks p) same ∙ there
-  | inr differ ↦ caught j (omega (arith, below, differ))
-]
-
--- a row that lacked and was found
-pub caught_more : (old new : Reached) (i : ℕ) (item : Item) → IsCaughtUp i old → get_or old.items i None ≡ Some item
-    → place_at old item.unit ≡ i → item.unit < length old.at → IsAdvanced item.unit old new → IsCaughtUp (i + 1) new
-caught_more old new i item caught is at known step = λ j below. each j below (get_or old.items j None) refl
-  where
-    same_items : new.items ≡ old.items
-    same_items = ap (λ p. p.items) step.changed
-
-    moved : place_at new item.unit ≡ step.place
-    moved = ap (λ p. place_at p item.unit) step.changed ∙ get_or-set_same old.at item.unit step.place 0 known
-
-    others : (u : ℕ) → u ≢ item.unit → place_at new u ≡ place_at old u
-    others u differ = ap (λ p. place_at p u) step.changed ∙ get_or-set_other old.at item.unit u step.place 0 differ
-
-    later : (n j : ℕ) → j < n → nat_le n j ≡ false
-    later n j h = grind (arith, nat_tests, h)
-
-    each : (j : ℕ) → j < i + 1 → (o : Option Item) → get_or old.items j None ≡ o → lacks new j ≡ false
-    each j below None none = lacks_none new j (ap (λ l. get_or l j None) same_items ∙ none)
-    each j below (Some other) there =
-        let now = ap (λ l. get_or l j None) same_items ∙ there in
-        elim (cases_eq other.unit item.unit) [
-          | inl same ↦ lacks_some new j other now ∙ (ap (λ u. nat_le (place_at new u) j) same
-              ∙ later (place_at new item.unit) j (omega (arith, below, moved, at, step.is_next.order)))
-          | inr differ ↦
-              let before : j ≢ i = λ is_i. differ (ap (λ (x : Item). x.unit) (held other item
-              (sym there ∙ (ap (λ n. get_or old.items n None) is_i ∙ is)))) in
-              lacks_some new j other now ∙ (ap (λ n. nat_le n j) (others other.unit differ)
-              ∙ (sym (lacks_some old j other there) ∙ caught j (omega (arith, below, before))))
-        ]
-      where
-        held : {A : Type 0} (x y : A) → Some x ≡ Some y → x ≡ y
-        held x y e = cc
 
 -- ---- at the end
 

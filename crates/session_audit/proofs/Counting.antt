@@ -89,10 +89,6 @@ total_files tag (rows ∷ rest) w f each =
 
 -- ---- one tape
 
--- an entry that is no take shows nothing of a collector
-shown_past : (e : Entry) (tape : List Entry) (w : ℕ) → take_of e ≡ None → tape_shows take_of w (e ∷ tape) ≡ tape_shows take_of w tape
-shown_past e tape w none = rw none refl
-
 -- a take shows one thing more of its collector
 shown_here : (c row : ℕ) (e : Entry) (seen : Seen) (tape : List Entry) → take_of e ≡ Some (record { worker = c; seen = seen })
     → tape_shows take_of c (e ∷ tape) ≡ seen ∷ tape_shows take_of c tape

@@ -1,15 +1,12 @@
 -- The numbers that entries of a tape have, gone over from the front.
-use Rattle.std.proofs.Common.{◌≡◌, ◌≢◌, ℕ, ◌+◌, ◌<◌, List, length, take, drop, get_or, Option, None, Some, refl, sym, subst, ◌∙◌}
+use Rattle.std.proofs.Common.{◌≡◌, ◌≢◌, ℕ, ◌+◌, List, take, drop, Option, None, Some, refl, sym, subst, ◌∙◌}
 use Rattle.std.specs.Prelude.{slice_get}
 use Rattle.std.specs.Option.{option_map}
-use Rattle.std.proofs.lemmas.List.{length-map}
 use Rattle.plant_status.specs.declared.mismatch.Seen.{Seen}
-use Rattle.group_book.specs.declared.turn.Turn.{Turn}
 use Rattle.session_audit.specs.declared.group_pulls.Found.{Found}
 use Rattle.session_audit.specs.OpeningNumbers.{AreApart, seen_of}
 use Rattle.session_audit.specs.Pulls.{IsNextOf}
-use Rattle.session_audit.specs.GroupTapes.{reached, refreshes}
-use Rattle.session_audit.proofs.PullNumbers.{apart_at, first_none, first_some, rest_more, rest_none, rest_within, take_same_more}
+use Rattle.session_audit.proofs.PullNumbers.{apart_at, first_none, first_some, rest_more, rest_none, take_same_more}
 
 -- the number of one, if there is one
 abbrev pub number_of : Option Found → Option ℕ
@@ -59,16 +56,7 @@ pub drop_next : {E : Type 0} (numbers : List E → List ℕ) (tape : List E) (fr
     → drop n all ≡ numbers (drop from tape) → IsNextOf numbers tape from (Some f) → drop (n + 1) all ≡ numbers (drop f.past tape)
 drop_next numbers tape from n all f same next = rest_more all n f.number (numbers (drop f.past tape)) (same ∙ next.0)
 
--- so there are more than were gone over
-pub next_within : {E : Type 0} (numbers : List E → List ℕ) (tape : List E) (from n : ℕ) (all : List ℕ) (f : Found)
-    → drop n all ≡ numbers (drop from tape) → IsNextOf numbers tape from (Some f) → n < length all
-next_within numbers tape from n all f same next = rest_within all n f.number (numbers (drop f.past tape)) (same ∙ next.0)
-
--- a version of an input is reached once for each refresh
-pub length-reached : (input : ℕ) (tape : List Turn) → length (reached input tape) ≡ length (refreshes tape)
-length-reached input tape = length-map (refreshes tape) (λ versions. get_or versions input 0)
-
--- there is none where it is not one
+-- there is none if nothing is one
 pub none_of : (o : Option Found) → ((f : Found) → o ≡ Some f → ⊥) → o ≡ None
 none_of None not_so = refl
 none_of (Some f) not_so = absurd (not_so f refl)

@@ -14,7 +14,7 @@ use Rattle.session_audit.specs.Agendas.{IsNext}
 use Rattle.session_audit.specs.Found.{AreFound, AreFurther, IsDifference, IsFirstPart, IsUnfound, Reached, due_of, found_of, place_at, tape_shows}
 use Rattle.session_audit.proofs.Walking.{found_beside}
 use Rattle.session_audit.proofs.Begun.{due_same, found_of_first}
-use Rattle.session_audit.specs.Workers.{AreOver, AreTapesFound}
+use Rattle.session_audit.specs.Workers.{AreOver}
 use Rattle.session_audit.specs.Starting.{AreUnfound}
 use Rattle.session_audit.specs.Finding.{AreSameRows, IsMismatchAt}
 
@@ -83,11 +83,6 @@ found_next_tag tape_of work tag cells c first old new within is so step here = r
       let at : place_at (get_or old w p) other ≡ place_at (get_or new w p) other = sym ((step.each w p).others other differ) in
       subst (λ n. IsNext other (get_or new w p).items 0 n) at (subst (λ l. IsNext other l 0 (place_at (get_or old w p) other)) items before));
 }
-
--- all tags were gone over
-pub found_all : {C E : Type 0} (tape_of : C → List E) (work : E → Option Shown) (upto : ℕ) (cells : List C) (first now : List Reached)
-    → length cells ≤ upto → AreFoundTo tape_of work upto cells first now → AreTapesFound tape_of work cells now
-found_all tape_of work upto cells first now end so = record { each = λ tag d below. so.found tag d (omega (arith, below, end)) }
 
 -- an entry that is not its worker's next row, by the rows as they were at first
 pub mismatch_here : {C E : Type 0} (tape_of : C → List E) (work : E → Option Shown) (tag place : ℕ) (kept told : Seen) (cells : List C)

@@ -7,16 +7,9 @@ use Rattle.tag_cell.specs.declared.entry.CommitNo.{CommitNo}
 use Rattle.tag_cell.specs.declared.entry.CommitNo.TheVariants as commit
 use Rattle.tag_cell.specs.Told.{ToldCell}
 use Rattle.session_audit.specs.Cells.{AreLonger, IsLonger}
-use Rattle.session_audit.specs.Gains.{longer_refl, longer_trans}
-use Rattle.session_audit.proofs.Each.{each_refl, each_set, each_trans}
+use Rattle.session_audit.specs.Gains.{longer_trans}
+use Rattle.session_audit.proofs.Each.{each_set}
 use Rattle.session_audit.specs.CellRefusals.{IsCellRefusal, IsCommittedCell, IsSo, OfFault, OfMemory, commit_status}
-
-pub all_longer : {D : Type 0} (IsOf : Entry → Type 0) (cells : List (ToldCell D)) → AreLonger IsOf cells cells
-all_longer IsOf cells = each_refl (IsLonger IsOf) (longer_refl IsOf) cells
-
-pub all_longer_trans : {D : Type 0} (IsOf : Entry → Type 0) (a b c : List (ToldCell D)) → AreLonger IsOf a b → AreLonger IsOf b c
-    → AreLonger IsOf a c
-all_longer_trans IsOf a b c first second = each_trans (IsLonger IsOf) (longer_trans IsOf) a b c first second
 
 -- one of the cells gained entries
 pub longer_set : {D : Type 0} (IsOf : Entry → Type 0) (first now : List (ToldCell D)) (tag : ℕ) (c d : ToldCell D)

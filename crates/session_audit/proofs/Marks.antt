@@ -47,14 +47,6 @@ parts_all group def text k marks parts full = record {
 
 -- ---- lists that are compared place by place
 
-pub agree_none : {A : Type 0} (found known : List A) → AgreeIn 0 found known 0
-agree_none found known = record {
-  marks = [];
-  as_many = refl;
-  each = λ i below. absurd (omega (arith, below));
-  count = refl;
-}
-
 pub agree_more : {A : Type 0} (place n : ℕ) (found known : List A) (same : Bool)
     → (same ≡ true) ↔ (slice_get found place ≡ slice_get known place) → AgreeIn place found known n
     → AgreeIn (place + 1) found known (n + cond same 1 0)

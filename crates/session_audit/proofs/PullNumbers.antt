@@ -84,10 +84,3 @@ rest_more (y ∷ l) (suc n) x rest is =
 pub rest_none : {A : Type 0} (l : List A) (n : ℕ) → drop n l ≡ [] → take n l ≡ l
 rest_none l n is =
     sym (append-nil (take n l)) ∙ (ap (λ r. take n l ++ r) (sym is) ∙ take-append-drop n l)
-
--- there is more than what was gone over
-pub rest_within : {A : Type 0} (l : List A) (n : ℕ) (x : A) (rest : List A) → drop n l ≡ x ∷ rest → n < length l
-rest_within [] zero x rest is = absurd (cc)
-rest_within [] (suc n) x rest is = absurd (cc)
-rest_within (y ∷ l) zero x rest is = omega arith
-rest_within (y ∷ l) (suc n) x rest is = (let more = rest_within l n x rest is in omega (arith, more))

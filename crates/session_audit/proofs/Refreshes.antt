@@ -1,7 +1,8 @@
 -- Which turns are refreshes, and how many there are.
-use Rattle.std.proofs.Common.{◌≡◌, ℕ, ◌+◌, ◌<◌, ◌≤◌, List, [], ◌∷◌, ◌++◌, All, length, length-append, get_or, take, refl, sym, ap, subst, ◌∙◌, arith, append-nil}
+use Rattle.std.proofs.Common.{◌≡◌, ℕ, ◌+◌, ◌≤◌, Bool, true, false, cond, List, [], ◌∷◌, ◌++◌, All, length, get_or, refl, sym, ap, subst, ◌∙◌, arith, append-nil}
+use Rattle.std.specs.List.{count_by}
 use Rattle.std.specs.Prelude.{slice_index}
-use Rattle.std.proofs.lemmas.List.{take_more}
+use Rattle.std.proofs.lemmas.List.Recursion.{is_count_by}
 use Rattle.std.proofs.lemmas.List.Elements.{All-head, All-tail, filter_map-append}
 use Rattle.group_book.specs.declared.turn.Turn.{Turn}
 use Rattle.group_book.specs.declared.turn.Turn.TheVariants.{Refresh, Ask, Save}
@@ -11,30 +12,20 @@ use Rattle.session_audit.specs.Books.{IsAsk, IsAskedMore}
 use Rattle.session_audit.specs.GroupTapes.{refreshes, reached_by}
 use Rattle.session_audit.specs.GroupTurns.{IsWithinTurns}
 
--- ---- one turn more
+-- ---- how many refreshes there are
 
-one_more : (tape : List Turn) (i : ℕ) (e : Turn) → i < length tape → e ≡ get_or tape i e
-    → refreshes (take (i + 1) tape) ≡ refreshes (take i tape) ++ refreshes (e ∷ [])
-one_more tape i e within is =
-    ap refreshes (take_more tape i e within ∙ ap (λ x. take i tape ++ x ∷ []) (sym is))
-    ∙ filter_map-append reached_by (take i tape) (e ∷ [])
+abbrev pub is_refresh : Turn → Bool
+is_refresh (Refresh versions) = true
+is_refresh (Ask reader row calc k reply) = false
+is_refresh (Save number moment) = false
 
-pub count_yes : (tape : List Turn) (i : ℕ) (e : Turn) (versions : _) → i < length tape → e ≡ get_or tape i e
-    → e ≡ Refresh versions → length (refreshes (take (i + 1) tape)) ≡ length (refreshes (take i tape)) + 1
-count_yes tape i e versions within is so =
-    ap length (one_more tape i e within is ∙ ap (λ x. refreshes (take i tape) ++ refreshes (x ∷ [])) so)
-    ∙ length-append (refreshes (take i tape)) (versions.items ∷ [])
-
-pub count_no : (tape : List Turn) (i : ℕ) (e : Turn) → i < length tape → e ≡ get_or tape i e
-    → ((versions : _) → e ≡ Refresh versions → ⊥) → length (refreshes (take (i + 1) tape)) ≡ length (refreshes (take i tape))
-count_no tape i e within is other =
-    ap length (one_more tape i e within is ∙ (ap (λ l. refreshes (take i tape) ++ l) (nothing e other)
-    ∙ append-nil (refreshes (take i tape))))
+pub refreshes_counted : (tape : List Turn) → length (refreshes tape) ≡ count_by is_refresh tape
+refreshes_counted tape = is_count_by (λ l. length (refreshes l)) is_refresh refl one tape
   where
-    nothing : (t : Turn) → ((versions : _) → t ≡ Refresh versions → ⊥) → refreshes (t ∷ []) ≡ []
-    nothing (Refresh versions) not_so = absurd (not_so versions refl)
-    nothing (Ask reader row calc k reply) not_so = refl
-    nothing (Save number moment) not_so = refl
+    one : (t : Turn) (l : List Turn) → length (refreshes (t ∷ l)) ≡ cond (is_refresh t) (1 + length (refreshes l)) (length (refreshes l))
+    one (Refresh versions) l = omega arith
+    one (Ask reader row calc k reply) l = refl
+    one (Save number moment) l = refl
 
 -- ---- books that were asked
 

@@ -1,8 +1,8 @@
 -- A row that a tape lacks, once its call has left the entry.
-use Rattle.std.proofs.Common.{◌≡◌, ◌≢◌, ℕ, ◌+◌, ◌<◌, inl, inr, true, false, List, [], ◌∷◌, ◌++◌, All, length, get_or, set, Option, None, Some, refl, sym, ap, subst, ◌∙◌, arith}
+use Rattle.std.proofs.Common.{◌≡◌, ◌≢◌, ℕ, ◌<◌, inl, inr, true, List, [], ◌∷◌, ◌++◌, All, length, get_or, set, Option, None, Some, refl, sym, ap, subst, ◌∙◌, arith}
 use Rattle.std.specs.Prelude.{slice_get}
 use Rattle.std.proofs.lemmas.Bool.{cases_eq}
-use Rattle.std.proofs.lemmas.List.{get_or-set_same, get_or-set_other, get_or_default, length-set}
+use Rattle.std.proofs.lemmas.List.{get_or-set_same, get_or-set_other, length-set}
 use Rattle.std.proofs.lemmas.List.Elements.{All-from_get_or}
 use Rattle.std.proofs.lemmas.Option.{get_or_from_slice_get, slice_get_within}
 use Rattle.plant_status.specs.declared.mismatch.Seen.{Seen}
@@ -10,10 +10,10 @@ use Rattle.session_audit.specs.declared.agenda.Item.{Item}
 use Rattle.session_audit.specs.declared.kind.Shown.{Shown}
 use Rattle.session_audit.specs.Agendas.{IsNext}
 use Rattle.session_audit.specs.Found.{AreFound, IsAdvanced, IsCaughtUp, IsFollowed, Reached, lacks, next_due, place_at}
-use Rattle.session_audit.proofs.Catching.{caught_due, caught_here, caught_more, caught_past}
+use Rattle.session_audit.proofs.Catching.{caught_due, caught_here}
 use Rattle.session_audit.proofs.Numbers.{length-numbered}
 use Rattle.session_audit.proofs.Walking.{all_further, all_further_step, followed_here, found_beside, found_step}
-use Rattle.session_audit.specs.Workers.{AreOthersSame, AreTapesFound, IsCaughtTo, IsOver}
+use Rattle.session_audit.specs.Workers.{AreOthersSame, AreTapesFound, IsOver}
 
 -- a unit has one entry more on its tape; `tape_of` has the tape
 pub record HasEntry {C E : Type 0} (tape_of : C → List E) (tag : ℕ) (e : E) (old new : List C) : Type 0 where
@@ -45,13 +45,6 @@ pub due_next : (worker place tag : ℕ) (seen : Seen) (works : List Reached) (p 
     → IsMissing worker place tag seen works p → next_due p tag ≡ Some seen
 due_next worker place tag seen works p m =
     caught_due p place (record { unit = tag; seen = seen }) m.item (stands worker place tag seen works p m)
-
--- and once it is found, none of the rows up to it lacks
-caught_turn : (worker place tag : ℕ) (seen : Seen) (works : List Reached) (p q : Reached)
-    → IsMissing worker place tag seen works p → IsAdvanced tag p q → IsCaughtUp (place + 1) q
-caught_turn worker place tag seen works p q m step =
-    caught_more p q place (record { unit = tag; seen = seen }) m.caught m.item (stands worker place tag seen works p m)
-    m.known step
 
 -- the worker's row was found at the tag
 followed : (worker place tag : ℕ) (seen : Seen) (works : List Reached) (p q : Reached)
@@ -107,22 +100,6 @@ others_trans worker a b c first second = record {
   same = λ w p differ. second.same w p differ ∙ first.same w p differ;
 }
 
--- the rows and the units of the workers
-pub over_turn : {A : Type 0} (item_of : ℕ → ℕ → A → Option Item) (tags worker tag : ℕ) (rows : List A) (works : List Reached)
-    (d q : Reached) → IsAdvanced tag (get_or works worker d) q → IsOver item_of tags worker rows works
-    → IsOver item_of tags worker rows (set works worker q)
-over_turn item_of tags worker tag rows works d q step over = record {
-  there = omega (arith, over.there, length-set works worker q);
-  items = λ r. ap (λ x. x.items) (get_or-set_same works worker q r over.there) ∙ (ap (λ x. x.items) step.changed ∙ over.items d);
-  units = λ w r below. elim (cases_eq w worker) [
-    | inl same ↦ subst (λ n. length (get_or (set works worker q) n r).at ≡ tags) (sym same)
-        (ap (λ x. length x.at) (get_or-set_same works worker q r over.there) ∙ (ap (λ x. length x.at) step.changed
-        ∙ (length-set (get_or works worker d).at tag step.place ∙ over.units worker d over.there)))
-    | inr differ ↦ ap (λ x. length x.at) (get_or-set_other works worker w q r differ)
-        ∙ over.units w r (omega (arith, below, length-set works worker q))
-  ];
-}
-
 -- each worker has so many units
 pub all_known : {A : Type 0} (item_of : ℕ → ℕ → A → Option Item) (tags worker tag : ℕ) (rows : List A) (works : List Reached)
     → IsOver item_of tags worker rows works → tag < tags → All (λ r. tag < length r.at) works
@@ -136,16 +113,3 @@ pub row_within : {A : Type 0} (item_of : ℕ → ℕ → A → Option Item) (tag
     → place < length (get_or works worker d).items
 row_within item_of tags worker place rows works d over within =
     omega (arith, within, ap length (over.items d) ∙ length-numbered (item_of worker) 1 rows)
-
--- where the row at a place does not lack, none up to it does
-pub caught_past_row : (worker place : ℕ) (works : List Reached) (d : Reached) → worker < length works
-    → lacks (get_or works worker d) place ≡ false → IsCaughtTo place worker works → IsCaughtTo (place + 1) worker works
-caught_past_row worker place works d there full caught = λ r.
-    subst (IsCaughtUp (place + 1)) (get_or_default works worker d r there) (caught_past (get_or works worker d) place full (caught d))
-
--- and where it was found, none up to it does
-pub caught_row : (worker place tag : ℕ) (seen : Seen) (works : List Reached) (p q : Reached)
-    → IsMissing worker place tag seen works p → IsAdvanced tag p q → IsCaughtTo (place + 1) worker (set works worker q)
-caught_row worker place tag seen works p q m step = λ r.
-    subst (IsCaughtUp (place + 1)) (sym (get_or-set_same works worker q r m.there))
-    (caught_turn worker place tag seen works p q m step)

@@ -1,8 +1,8 @@
 -- Workers whose rows are gone over for the first time, one more.
-use Rattle.std.proofs.Common.{◌≡◌, ℕ, ◌+◌, ◌^◌, ◌<◌, inl, inr, List, [], ◌∷◌, ◌++◌, All, length, get_or, Option, None, IfSome, Vec, sym, ap, subst, ◌∙◌, arith}
+use Rattle.std.proofs.Common.{◌≡◌, ℕ, ◌+◌, ◌<◌, inl, inr, List, [], ◌∷◌, ◌++◌, All, length, get_or, Option, None, IfSome, Vec, sym, ap, subst, ◌∙◌, arith}
 use Rattle.std.proofs.lemmas.Bool.{cases_eq, cases_lt}
 use Rattle.std.proofs.lemmas.List.{get_or_append_left, get_or_default, get_or_past, get_or_push, length_push}
-use Rattle.std.proofs.lemmas.List.Elements.{All-from_get_or, All-get_or}
+use Rattle.std.proofs.lemmas.List.Elements.{All-get_or}
 use Rattle.std.specs.declared.alloc.Global.{Global}
 use Rattle.value_rows.specs.declared.asked.Query.{Query}
 use Rattle.value_rows.specs.declared.asked.Query.TheVariants as query
@@ -11,11 +11,10 @@ use Rattle.session_audit.specs.declared.agenda.Item.{Item}
 use Rattle.session_audit.specs.Agendas.{ask_item, numbered, phase_item, row_item}
 use Rattle.session_audit.specs.Found.{IsUnfound, Reached}
 use Rattle.session_audit.proofs.Numbers.{length-numbered, numbered_at}
-use Rattle.collector_pool.specs.Work.{IsQueryOf, IsRowOf}
+use Rattle.collector_pool.specs.Work.{IsRowOf}
 use Rattle.session_audit.specs.Books.{IsKnownRowAsk}
 use Rattle.session_audit.specs.Cells.{IsKnownAsk}
-use Rattle.session_audit.specs.Workers.{AreOver}
-use Rattle.session_audit.specs.Starting.{AreUnfound, IsDueWithin}
+use Rattle.session_audit.specs.Starting.{IsDueWithin}
 
 -- the first workers are started over the rows of their files
 pub record AreStarted {A : Type 0} (item_of : ℕ → ℕ → A → Option Item) (tags upto : ℕ) (files : List (List A))
@@ -57,27 +56,6 @@ started_more item_of tags upto files works q rows within is items units unfound 
     there : (w : ℕ) (p : Reached) → w < upto → get_or (works ++ q ∷ []) w p ≡ get_or works w p
     there w p below = get_or_append_left works (q ∷ []) p w (omega (arith, below, before.as_many))
 
--- all of them
-pub started_all : {A : Type 0} (item_of : ℕ → ℕ → A → Option Item) (tags upto : ℕ) (files : List (List A))
-    (works : List Reached) → upto ≡ length files → length files < 2 ^ 32 → AreStarted item_of tags upto files works
-    → AreOver item_of tags files works
-started_all item_of tags upto files works end few so = record {
-  few = few;
-  as_many = so.as_many ∙ end;
-  items = λ w rows p below. so.items w rows p (omega (arith, below, end));
-  units = λ w p below. so.units w p (omega (arith, below, so.as_many));
-}
-
-pub started_unfound : {A : Type 0} (item_of : ℕ → ℕ → A → Option Item) (tags upto : ℕ) (files : List (List A))
-    (works : List Reached) → AreStarted item_of tags upto files works → AreUnfound tags works
-started_unfound item_of tags upto files works so =
-    let none : Reached = record { items = []; at = [] } in
-    record {
-      units = All-from_get_or (λ p. length p.at ≡ tags) works none (λ i below. so.units i none (omega (arith, below, so.as_many)));
-      each = All-from_get_or (λ p. (tag : ℕ) → tag < tags → IsUnfound tag p) works none (λ i below.
-          so.unfound i none (omega (arith, below, so.as_many)));
-    }
-
 -- each row of a file is due at a unit that there is
 pub known_rows : {A : Type 0} (item_of : ℕ → ℕ → A → Option Item) (many worker : ℕ) (rows : List A)
     → All (IsDueWithin item_of many) rows
@@ -114,14 +92,3 @@ row_asks_due groups files each = λ k d below. λ i e within. one (get_or (get_o
     one (query.Tag tag asked) known = λ worker number. tt
     one (query.Snap tag) known = λ worker number. tt
     one (query.Row group calc k) known = λ worker number. known
-
--- questions of readers that are of a plant's tags and groups are of its groups
-pub known_row_asks_of : (tags groups : ℕ) (files : List (Vec Query Global))
-    → All (λ queries. All (IsQueryOf tags groups) queries.items) files
-    → All (λ queries. All (IsKnownRowAsk groups) queries.items) files
-known_row_asks_of tags groups files each = λ k d below. λ i e within. one (get_or (get_or files k d).items i e) (each k d below i e within)
-  where
-    one : (q : Query) → IsQueryOf tags groups q → IsKnownRowAsk groups q
-    one (query.Tag tag asked) known = tt
-    one (query.Snap tag) known = tt
-    one (query.Row group calc k) known = known

@@ -1,5 +1,5 @@
 // Adds to tapes the entries of the rows that they lack.
-ghost use Rattle.std.specs.Prelude.{◌≡◌, ℕ, ◌+◌, ◌^◌, ◌<◌, List, All, IfErr, IsSome, OnErr, OnOk, length};
+ghost use Rattle.std.specs.Prelude.{◌≡◌, ℕ, ◌+◌, ◌^◌, ◌<◌, All, IfErr, IsSome, OnErr, OnOk, length};
 ghost use Rattle.calc_refresh.specs.Lists.{lists_of};
 ghost use Rattle.session_audit.specs.Adding.{IsAdded, IsStopped};
 ghost use Rattle.session_audit.specs.Each.{AreEach};

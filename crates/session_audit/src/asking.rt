@@ -1,5 +1,5 @@
 // Asks the questions of readers that tapes lack.
-ghost use Rattle.std.specs.Prelude.{ℕ, ◌≡◌, List, All, OnOk, length};
+ghost use Rattle.std.specs.Prelude.{ℕ, List, All, OnOk, length};
 ghost use Rattle.value_rows.specs.declared.raw.RawRow.{RawRow};
 ghost use Rattle.calc_refresh.specs.Lists.{lists_of};
 ghost use Rattle.session_audit.specs.Agendas.{ask_item, phase_item, row_item};

@@ -40,9 +40,7 @@ impl<D: Disk> Opened for Book<D> {
 
     fn copy(&self, alloc: Global) -> Result<KeptGroup, WantOfMemory> {
         let def = self.def();
-        let Ok(text) = Vec::from_slice(alloc, self.text()) else {
-            return Err(WantOfMemory);
-        };
+        let text = Vec::from_slice(alloc, self.text())?;
         Ok(KeptGroup {
             group: self.group(),
             def: GroupDefParts {
@@ -72,9 +70,7 @@ fn opening_copy(alloc: Global, opening: &GroupOpening) -> Result<GroupOpening, W
     ensures moment { IfOk result (λ o. o.moment ≡ opening.now.moment) }
     ensures faults { IfOk result (λ o. o.faults ≡ opening.now.faults) }
 {
-    let Ok(versions) = Vec::from_slice(alloc, opening.versions.as_slice()) else {
-        return Err(WantOfMemory);
-    };
+    let versions = Vec::from_slice(alloc, opening.versions.as_slice())?;
     Ok(GroupOpening {
         versions,
         rows: rows_copy(alloc, &opening.rows)?,
@@ -257,11 +253,5 @@ fn same_value(a: CalcValue, b: CalcValue) -> bool
 fn count_true(marks: &[bool]) -> usize
     ensures { result ≡ count_by (λ m. m) marks.now }
 {
-    let mut count = 0;
-    for mark in marks {
-        if *mark {
-            count += 1;
-        }
-    }
-    count
+    marks.iter().filter(|mark| **mark).count()
 }

@@ -32,9 +32,7 @@ impl<D: Disk> Opened for Cell<D> {
 
     fn copy(&self, alloc: Global) -> Result<Kept, WantOfMemory> {
         let opening = self.opening();
-        let Ok(recs) = Vec::from_slice(alloc, opening.recs.as_slice()) else {
-            return Err(WantOfMemory);
-        };
+        let recs = Vec::from_slice(alloc, opening.recs.as_slice())?;
         Ok(Kept {
             def: *self.def(),
             opening: TagOpening {

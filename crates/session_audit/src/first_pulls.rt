@@ -7,9 +7,9 @@ use disk_model::Disk;
 use plant_status::Status;
 use tag_cell::{Cell, Entry};
 
-/// Compares, for each tag, how many takes it had acknowledged when a group first pulled from it with a number in `rows`.
-/// A drill gives the rows of its first phase, so what a group first pulled is that phase. Stops at the first tag of which
-/// they differ.
+/// Compares two numbers for each tag: how many takes it had acknowledged when a group first pulled from it, and its number
+/// in `rows`. A drill gives the rows of its first phase, so what a group first pulled is that phase. Stops at the first
+/// tag of which they differ.
 pub fn compare_first_pulls<D: Disk>(cells: &[Cell<D>], rows: &[u32]) -> Result<(), Status>
     requires rows { length rows.now ≡ length cells.now }
     requires few { length cells.now < 2 ^ 32 }

@@ -135,13 +135,9 @@ fn refresh_once<C: Disk, D: Disk, L: Ledger>(
     ensures unchanged { OnErr result (book.new ≡ book.old) }
     ensures refused { IfErr result (IsListsRefusal (lists_at (durable_lists cells.old) tags.now) book.old) }
 {
-    match pull_all(alloc, cells, book, tags, group) {
-        Ok(pulled) => match book.publish(pulled, steps) {
-            Ok(_) => Ok(()),
-            Err(no) => Err(no),
-        },
-        Err(no) => Err(no),
-    }
+    let pulled = pull_all(alloc, cells, book, tags, group)?;
+    book.publish(pulled, steps)?;
+    Ok(())
 }
 
 // Pulls from the cells of a group's inputs, in their order, the records after those that the group has of each.

@@ -1,6 +1,5 @@
 // How often groups were refreshed, compared with the plan.
 ghost use Rattle.std.specs.Prelude.{◌≡◌, ℕ, ◌^◌, ◌<◌, ◌≤◌, All, IfErr, IfOk, OnOk, length, slice_index};
-ghost use Rattle.group_book.specs.Told.{ToldBook};
 ghost use Rattle.session_audit.specs.GroupTapes.{refreshes};
 ghost use Rattle.session_audit.specs.GroupTurns.{IsTurnsMismatch, IsWithinTurns, turns_for};
 
@@ -58,11 +57,7 @@ pub(crate) fn count_refreshes(tape: &[Turn]) -> usize
     ensures count { result ≡ length (refreshes tape.now) }
     ensures within { result ≤ length tape.now }
 {
-    let mut count = 0;
-    for turn in tape {
-        if let Turn::Refresh { .. } = turn {
-            count += 1;
-        }
-    }
-    count
+    tape.iter()
+        .filter(|turn| matches!(turn, Turn::Refresh { .. }))
+        .count()
 }

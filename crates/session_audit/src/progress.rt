@@ -10,7 +10,7 @@ use std::alloc::Global;
 use std::marker::Model;
 use trend_num::WantOfMemory;
 
-/// How many rows of a worker were found at each of its units, its tags or its groups.
+/// Which rows of a worker were found at each of its units, its tags or its groups: the row that is due next there.
 #[derive(Drop)]
 pub struct Progress<'a> {
     agenda: Agenda<'a>,

@@ -121,13 +121,9 @@ fn count_takes(tape: &[Entry]) -> usize
     ensures count { result ≡ length (taken tape.now) }
     ensures within { result ≤ length tape.now }
 {
-    let mut count = 0;
-    for entry in tape {
-        if let Entry::Take { .. } = entry {
-            count += 1;
-        }
-    }
-    count
+    tape.iter()
+        .filter(|entry| matches!(entry, Entry::Take { .. }))
+        .count()
 }
 
 // Returns the status of a tag that has so many takes, of so many rows.

@@ -31,9 +31,7 @@ pub fn find<K: Kind>(
     ensures differs { IfErr result (λ d. IsDifference K.shows (due_of works.old unit) tape.now d.place d.kept d.told) }
 {
     for (place, entry) in tape.iter().enumerate() {
-        if let Err(differs) = follow(works, unit, place, K::shown(entry)) {
-            return Err(differs);
-        }
+        follow(works, unit, place, K::shown(entry))?;
     }
     Ok(())
 }

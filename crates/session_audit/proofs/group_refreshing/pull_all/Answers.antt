@@ -60,8 +60,8 @@ returns-in_err-one-clause-ahead g c =
     ∙ sym (input_list durables tags at c.loop-input-test.true) in
     let version = ap (λ l. get_or l at 0) c.versions-versions.ensures.versions in
     let p = err_from_is_err_and c.from_residual.result c.from_residual.ensures.1 in
-    rw (p.1, p.2) (list_ahead lists (versions_of c.args.book.now) at no
-    (omega (arith, c.loop-input-test.true, length-map tags (λ tag. get_or durables tag [])))
+    rw (p.1, p.2) (list_ahead lists (versions_of c.args.book.now) at c.loop-input.pulled.items no
+    (omega (arith, c.loop-input-test.true, length-map tags (λ tag. get_or durables tag []))) c.loop-input.invariant.pulls
     (subst (λ n. IsPullRefusal (get_or lists at []) at n no) version
     (subst (λ l. IsPullRefusal l at (get_or c.versions-versions.result.now at 0) no) list c.in_err-one.ensures.refused)))
 

@@ -13,7 +13,6 @@ use Rattle.session_audit.proofs.EntryKinds.{longer_found, taken_asks}
 use Rattle.session_audit.proofs.FullTapes.{rows_lacking}
 use Rattle.session_audit.proofs.Refused.{take_refused}
 use Rattle.session_audit.proofs.taking.take_missing.Goals as goal
-use Rattle.session_audit.proofs.taking.take_missing.Goals.{In-Err}
 
 pub returns-in-Ok-clause-begun : goal.returns-in-Ok-clause-begun
 returns-in-Ok-clause-begun g c =
