@@ -75,13 +75,13 @@ use Rattle.session_audit.specs.Workers.{AreOver, LacksRow, file_due}
 use Rattle.session_report.specs.declared.session.Session.{Session}
 use Rattle.run_command.specs.declared.work.Given.{Given}
 use Rattle.run_command.specs.Steps.{AreCellAsksBegun, AreStepsMade, AreCellTakesBegun}
-use Rattle.run_command.specs.Causes.{AreKept, AreTurnsWithin, IsTagKept, IsUnitChanged, IsCommitCause, IsGroupCause, IsSessionCause, IsOpeningCause, IsPullCause, IsRefreshCause, HasPulled, IsTakeCause, IsTapeCause, IsTapeDifference, OfDevice, OfLimit, OfRoom, cells_with_all, copies_with_all}
+use Rattle.run_command.specs.Causes.{AreKept, AreTurnsWithin, IsTagKept, IsUnitChanged, IsCommitCause, IsGroupCause, IsRefusalCause, IsOpeningCause, IsPullCause, IsRefreshCause, HasPulled, IsTakeCause, IsTapeCause, IsTapeDifference, OfDevice, OfLimit, OfRoom, cells_with_all, copies_with_all}
 use Rattle.run_command.specs.Causes as cause
 use Rattle.run_command.specs.Refusals.{IsFindingRefusal, IsOpening, IsRefused, OfCommit, OfFinding, OfGroup, OfMaking, OfMemory, OfPull, OfRefresh, OfRest, OfStop, OfTag, OfTaking, OfWant}
 use Rattle.run_command.specs.Runs.{AreUnitsOpen, IsContinued, IsContinuedGroup, IsOver, IsUndone, IsWorkIn, OfNone, OfSettling}
 use Rattle.run_command.specs.Units.{AreAsksBegun, AreTakesBegun, AreUnitsOpened, IsGroupOpened, IsGroupRefreshed, IsTagOpened, group_tape, tag_records_of, tag_tape, turns_in}
 use Rattle.run_command.proofs.Foreign.{AtAsk, AtRowAsk, AtTake, AtTurns, Finding, found_at, opening_is}
-use Rattle.run_command.proofs.Headline.{IsClocked, acknowledged, begun, begun_asks, begun_takes, group_opened, on_tapes, recorded, records_of_tags, refreshed, tag_opened, tags_of, turns_of_group}
+use Rattle.run_command.proofs.Headline.{acknowledged, begun, begun_asks, begun_takes, group_opened, on_tapes, recorded, records_of_tags, refreshed, tag_opened, tags_of, turns_of_group}
 use Rattle.run_command.proofs.Mismatches.{differing}
 use Rattle.run_command.proofs.Zipped.{zip_at, zip_each, zip_left, zip_length, zip_on, zip_right}
 
@@ -107,6 +107,30 @@ differs_so work item_of many files works unit place tape kept told over d =
       told_is = d.told_is ∙ ap (λ l. unwrap_or (slice_get l (length (tape_shows work d.worker (take place tape)))) Nothing) same;
       differ = d.differ;
     }
+
+-- so does that of a tape on which histories agree with what was compared
+tape_difference : {C U E A : Type 0} (tape_of : C → List E) (tape : U → List E) (cs : List C) (us : List U)
+    → AllZip (λ c u. tape u ≡ tape_of c) cs us → (work : E → Option Shown) (item_of : ℕ → ℕ → A → Option Item) (files : List (List A))
+    (works : List Reached) (unit at : ℕ) (kept told : Seen) → AreOver item_of (length cs) files works
+    → IsMismatchAt tape_of work cs works unit at kept told → IsTapeDifference tape work item_of files us unit at kept told
+tape_difference {C} {U} tape_of tape cs us same work item_of files works unit at kept told over m =
+    let u = zip_right IsSame cs us unit m.one same m.there in
+    record {
+      its = u.0;
+      there = u.1;
+      differs = subst (λ l. IsDifference work (λ w. file_due item_of files w unit) l at kept told) (sym u.2)
+          (differs_so work item_of (length cs) files works unit at (tape_of m.one) kept told over m.differs);
+      front = λ k worker x below.
+          let there : k < length cs = omega (arith, below, slice_get_within cs unit m.one m.there) in
+          let c = element cs k there in
+          subst (λ l. IsFirstPart (tape_shows work worker l) (file_due item_of files worker k))
+          (sym (zip_at IsSame cs us k c x same (omega (arith, there, zip_length IsSame cs us same))))
+          (subst (IsFirstPart (tape_shows work worker (tape_of (get_or cs k c)))) (due_of_file item_of (length cs) files works over worker k)
+          (m.front k worker c below));
+    }
+  where
+    IsSame : C → U → Type 0
+    IsSame c u = tape u ≡ tape_of c
 
 -- ---- limits
 
@@ -136,7 +160,7 @@ limit_copies cells records n told = by (nat_lt most_cells cells) (nat_lt most_co
         (sym number, subst (λ m. most_copies < m) number (ltb-true most_copies records too), ltb-false most_cells cells is)
     by false false is too same = absurd (cc same)
 
-module _ {D : Type 0} (trace : D → Option Trace) (ticks faults : D → ℕ) (clocked : IsClocked trace ticks) (base : Base)
+module _ {D : Type 0} (trace : D → Option Trace) (ticks faults : D → ℕ) (base : Base)
     (old new : DeviceTraces) where
   -- ---- openings
 
@@ -158,7 +182,7 @@ module _ {D : Type 0} (trace : D → Option Trace) (ticks faults : D → ℕ) (c
   known_tags = zip_on
       (λ def (c : Cell D). IsCellOpened def (tag_trace_of old def) (trace c.journal.dev) (ticks c.journal.dev) (faults c.journal.dev) c)
       IsCellCopied (λ def (k : Kept). IsTagOpened def (tag_trace_of old def) k.def k.opening)
-      (λ def c k is copy. tag_opened trace ticks faults clocked def (tag_trace_of old def) c k.def k.opening is copy.def copy.records
+      (λ def c k is copy. tag_opened trace ticks faults def (tag_trace_of old def) c k.def k.opening is copy.def copy.records
       copy.summary copy.moment copy.faults)
 
   -- the records of the copies
@@ -186,7 +210,7 @@ module _ {D : Type 0} (trace : D → Option Trace) (ticks faults : D → ℕ) (c
       let old_sum = sum_by-cons (λ (x : Cell D). length x.opening.recs.items) c cs in
       omega (arith, here, rest, new, old_sum)
 
-  -- so is what was kept of a book
+  -- what was kept of a book is what its device stood for
   known_group : (opened_cells : List (Cell D)) (opened_books first : List (Book D)) (known : List KeptGroup) (group : ℕ) (k : KeptGroup)
       (records : List (List Rec)) → cell_records_in opened_cells ≡ records → AreUnitsOpen trace ticks faults base old opened_cells opened_books → AllZip IsContinuedGroup opened_books first
       → AllZip IsBookCopied first known → slice_get known group ≡ Some k
@@ -209,7 +233,7 @@ module _ {D : Type 0} (trace : D → Option Trace) (ticks faults : D → ℕ) (c
       copy.rows ∙ cont.rows ∙ ap (λ (x : Book D). lists_of x.opening.rows.items) (sym here) in (
         def,
         slice_get-get_or base.groups.items group d of_base,
-        group_opened trace ticks faults clocked group def (group_trace_at old def) (input_records_of (cell_records_in opened_cells) def)
+        group_opened trace ticks faults group def (group_trace_at old def) (input_records_of (cell_records_in opened_cells) def)
             (input_records_of records def) (get_or opened_books group a.0) k.group k.def k.text.items k.opening (ap (λ l. input_records_of l def) same) book
             (copy.group ∙ cont.group ∙ ap (λ (x : Book D). x.group) (sym here)) (copy.def ∙ cont.def ∙ ap (λ (x : Book D). x.def) (sym here))
             (copy.text ∙ cont.text ∙ ap (λ (x : Book D). x.text) (sym here)) first_versions first_rows
@@ -341,43 +365,17 @@ module _ {D : Type 0} (trace : D → Option Trace) (ticks faults : D → ℕ) (c
 
     -- ---- an entry of no file
 
-    -- on the tape of a tag
     tag_difference : {A : Type 0} (work : Entry → Option Shown) (item_of : ℕ → ℕ → A → Option Item) (files : List (List A)) (works : List Reached)
         (tag at : ℕ) (kept told : Seen) → AreOver item_of (length cells) files works → IsMismatchAt cell_tape work cells works tag at kept told
         → IsTapeDifference tag_tape work item_of files s.tags.items tag at kept told
-    tag_difference work item_of files works tag at kept told over m =
-        let t = tag_at tag m.one m.there in
-        record {
-          its = t.0;
-          there = t.1;
-          differs = subst (λ l. IsDifference work (λ w. file_due item_of files w tag) l at kept told) (sym t.2.tape_is)
-              (differs_so work item_of (length cells) files works tag at m.one.tape kept told over m.differs);
-          front = λ k worker u below.
-              let there : k < length cells = omega (arith, below, slice_get_within cells tag m.one m.there) in
-              let c = element cells k there in
-              subst (λ l. IsFirstPart (tape_shows work worker l) (file_due item_of files worker k)) (sym (cell_of k c u there).tape_is)
-              (subst (IsFirstPart (tape_shows work worker (get_or cells k c).tape)) (due_of_file item_of (length cells) files works over worker k)
-              (m.front k worker c below));
-        }
+    tag_difference = tape_difference cell_tape tag_tape cells s.tags.items (zip_each (λ c t. tag_tape t ≡ cell_tape c) cells s.tags.items
+        (zip_length IsOfCell cells s.tags.items is.tags) (λ i c t below. (cell_of i c t below).tape_is))
 
-    -- and on that of a group
     group_difference : {A : Type 0} (work : Turn → Option Shown) (item_of : ℕ → ℕ → A → Option Item) (files : List (List A)) (works : List Reached)
         (group at : ℕ) (kept told : Seen) → AreOver item_of (length books) files works → IsMismatchAt book_tape work books works group at kept told
         → IsTapeDifference group_tape work item_of files s.groups.items group at kept told
-    group_difference work item_of files works group at kept told over m =
-        let h = group_at group m.one m.there in
-        record {
-          its = h.0;
-          there = h.1;
-          differs = subst (λ l. IsDifference work (λ w. file_due item_of files w group) l at kept told) (sym h.2.tape)
-              (differs_so work item_of (length books) files works group at m.one.tape kept told over m.differs);
-          front = λ k worker u below.
-              let there : k < length books = omega (arith, below, slice_get_within books group m.one m.there) in
-              let b = element books k there in
-              subst (λ l. IsFirstPart (tape_shows work worker l) (file_due item_of files worker k)) (sym (is.groups.each k b u there).tape)
-              (subst (IsFirstPart (tape_shows work worker (get_or books k b).tape)) (due_of_file item_of (length books) files works over worker k)
-              (m.front k worker b below));
-        }
+    group_difference = tape_difference book_tape group_tape books s.groups.items (zip_each (λ b h. group_tape h ≡ book_tape b) books
+        s.groups.items is.groups.as_many (λ i b h below. (is.groups.each i b h below).tape))
 
     module _ (turns_of : ℕ → ℕ) (same_turns : (i : ℕ) → turns_of i ≡ phases + turns_in i refreshers) where
       -- the turns that a group is given
@@ -532,6 +530,12 @@ module _ {D : Type 0} (trace : D → Option Trace) (ticks faults : D → ℕ) (c
                   kept_is = ap Number records_are;
                   told_is = ap Number version_is;
                   above = omega (arith, to.3, version_is, records_are);
+                  front = λ k below. omega (
+                    arith,
+                    to.4 k below,
+                    ap (λ l. get_or l k 0) (sym of.versions),
+                    ap length (get_or-map (tag_records_of s) def.inputs.items k 0 [] (omega (arith, below, within))),
+                  );
                 },
               ))
           refresh_cause why (OfLists (refresh.CellLimit n) limit same) =
@@ -675,7 +679,7 @@ module _ {D : Type 0} (trace : D → Option Trace) (ticks faults : D → ℕ) (c
           subst (IsInputApart group input tape records turns copies) (opening_is why of).3 apart
 
       rest_cause : (notes : List WorkerNote) (quiet : Type 0) (why : Status) → ((IsOpening why → ⊥) → AreUnitsOpened base old s)
-          → ((IsOpening why → ⊥) → AreStepsMade g cells books → quiet) → IsRefused g notes cells books why → IsSessionCause (phase_item earlier) turns_of base old rows queries quiet notes s why
+          → ((IsOpening why → ⊥) → AreStepsMade g cells books → quiet) → IsRefused g notes cells books why → IsRefusalCause (phase_item earlier) turns_of base old rows queries quiet notes s why
       rest_cause notes quiet why was calm (OfFinding finding) = cause.OfTape (tape_cause why finding)
       rest_cause notes quiet why was calm (OfStop within stop) = cause.OfStop (turns_within within) stop
       rest_cause notes quiet why was calm (OfMaking ended (OfTaking taking)) = cause.OfStep ended (cause.OfTake (take_cause why taking))
@@ -705,18 +709,18 @@ module _ {D : Type 0} (trace : D → Option Trace) (ticks faults : D → ℕ) (c
           (calm apart made) (pull_cause made.committed opened why m))
       rest_cause notes quiet why was calm (OfWant same) = cause.OfMemory same
 
-      pub session_cause : (opened_cells first : List (Cell D)) (opened_books first_books : List (Book D)) (notes : List WorkerNote) (quiet : Type 0) (why : Status)
+      pub refusal_cause : (opened_cells first : List (Cell D)) (opened_books first_books : List (Book D)) (notes : List WorkerNote) (quiet : Type 0) (why : Status)
           → AreUnitsOpen trace ticks faults base old opened_cells opened_books → AllZip IsContinued opened_cells first
           → AllZip IsContinuedGroup opened_books first_books → ((IsOpening why → ⊥) → AreUnitsOpened base old s)
           → ((IsOpening why → ⊥) → AreStepsMade g cells books → quiet)
           → IsUndone g first first_books cells books notes why
-          → IsSessionCause (phase_item earlier) turns_of base old rows queries quiet notes s why
-      session_cause opened_cells first opened_books first_books notes quiet why opening on on_books was calm (OfSettling known known_groups copied groups_copied (OfTag differs)) =
+          → IsRefusalCause (phase_item earlier) turns_of base old rows queries quiet notes s why
+      refusal_cause opened_cells first opened_books first_books notes quiet why opening on on_books was calm (OfSettling known known_groups copied groups_copied (OfTag differs)) =
           cause.OfOpening (tag_changed known known_groups why
           (as_kept opened_cells first opened_books first_books known known_groups opening on on_books copied groups_copied) differs)
-      session_cause opened_cells first opened_books first_books notes quiet why opening on on_books was calm (OfSettling known known_groups copied groups_copied (OfGroup kept differs)) =
+      refusal_cause opened_cells first opened_books first_books notes quiet why opening on on_books was calm (OfSettling known known_groups copied groups_copied (OfGroup kept differs)) =
           cause.OfOpening (group_changed known known_groups why kept
           (as_kept opened_cells first opened_books first_books known known_groups opening on on_books copied groups_copied) differs)
-      session_cause opened_cells first opened_books first_books notes quiet why opening on on_books was calm (OfSettling known known_groups copied groups_copied (OfRest refused)) =
+      refusal_cause opened_cells first opened_books first_books notes quiet why opening on on_books was calm (OfSettling known known_groups copied groups_copied (OfRest refused)) =
           rest_cause notes quiet why was calm refused
-      session_cause opened_cells first opened_books first_books notes quiet why opening on on_books was calm (OfNone same) = cause.OfMemory same
+      refusal_cause opened_cells first opened_books first_books notes quiet why opening on on_books was calm (OfNone same) = cause.OfMemory same

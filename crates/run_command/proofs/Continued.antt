@@ -10,13 +10,11 @@ use Rattle.group_book.specs.Told.{ToldBook as Book}
 use Rattle.session_audit.specs.declared.cell_opening.Kept.{Kept}
 use Rattle.session_audit.specs.declared.book_opening.KeptGroup.{KeptGroup}
 use Rattle.session_audit.specs.Openings.{AreAsKept}
-use Rattle.session_audit.specs.BookOpenings.{IsBookAsKept}
+use Rattle.session_audit.specs.BookOpenings.{IsBookAsKept, IsBookCopied}
 use Rattle.session_audit.specs.Inputs.{AreInputs, IsInputsOf}
-use Rattle.session_audit.specs.CellOpenings.{IsCellCopied}
-use Rattle.session_audit.specs.BookOpenings.{IsBookCopied}
+use Rattle.session_audit.specs.CellOpenings.{IsCellCopied, IsCellAsKept}
 use Rattle.run_command.specs.Runs.{AreDefined, IsContinued, IsContinuedGroup}
 use Rattle.run_command.specs.Steps.{AreInputsFor}
-use Rattle.session_audit.specs.CellOpenings.{IsCellAsKept}
 use Rattle.plant_status.proofs.Elements.{element}
 use Rattle.run_command.proofs.Zipped.{zip_at, zip_each, zip_length, zip_on, zip_same}
 

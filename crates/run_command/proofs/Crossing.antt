@@ -79,17 +79,11 @@ def_send = search (hole_send, name_send, crosses, sendable) depth 60 fits 10000
 checked_send : IsSend Checked.the_row
 checked_send = search (def_send, crosses, sendable) depth 60 fits 10000
 
-parts_send : IsSend GroupDefParts.the_row
-parts_send = search (checked_send, crosses, sendable) depth 60 fits 10000
-
 content_send : IsSend Content.the_row
 content_send = search (crosses, sendable) depth 60 fits 10000
 
 sheet_send : IsSend Sheet.the_row
 sheet_send = search (checked_send, content_send, crosses, sendable) depth 60 fits 10000
-
-opening_send : IsSend GroupOpening.the_row
-opening_send = search (crosses, sendable) depth 60 fits 10000
 
 turn_send : IsSend Turn.the_row
 turn_send = search (crosses, sendable) depth 60 fits 10000

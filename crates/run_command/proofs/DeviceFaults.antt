@@ -15,7 +15,7 @@ use Rattle.group_book.specs.declared.refusal.SaveNo.TheVariants as save
 use Rattle.trend_num.specs.declared.archive.Rec.{Rec}
 use Rattle.session_audit.specs.Refreshing.{durable_lists}
 use Rattle.session_audit.specs.BookRefusals.{IsBookRefusal, IsSaveCause, OfRefresh, OfSave, save_status}
-use Rattle.plant_store.specs.CellClosings.{HasRisen}
+use Rattle.plant_store.specs.CellClosings.{HasRisen, AreHistoriesOf}
 use Rattle.plant_store.specs.Groups.{DeviceTraces}
 use Rattle.plant_store.specs.Closings.{CountsClosed}
 use Rattle.session_report.specs.declared.session.Session.{Session}
@@ -29,7 +29,6 @@ use Rattle.std.specs.List.{AllZip}
 use Rattle.std.proofs.lemmas.List.Elements.{All-cons, All-head, All-tail}
 use Rattle.trend_num.specs.declared.tag_def.TagDef.{TagDef}
 use Rattle.tag_cell.specs.declared.history.TagHistory.{TagHistory}
-use Rattle.plant_store.specs.CellClosings.{AreHistoriesOf}
 use Rattle.plant_store.specs.CellOpenings.{AreCellsOpened}
 use Rattle.run_command.specs.Headline.{IsFaultCounted}
 use Rattle.plant_status.proofs.Elements.{element}

@@ -4,7 +4,7 @@ use Rattle.std.specs.Result.{is_err}
 use Rattle.disk_model.specs.Traces.{Trace}
 use Rattle.plant_status.specs.declared.status.Status.{Status}
 use Rattle.plant_status.specs.declared.unit.Unit.{Unit as Device}
-use Rattle.plant_status.specs.declared.status.Status.TheVariants.{Done, BadWords, BadText, BadRow, ReadFault, WriteFault, DeviceFault, Damaged, OtherTag, Limit, Mismatch, Halted, WantOfMemory, OtherPlant, BadName}
+use Rattle.plant_status.specs.declared.status.Status.TheVariants.{DeviceFault}
 use Rattle.tag_base.specs.declared.definition.Base.{Base}
 use Rattle.tag_cell.specs.Told.{ToldCell as Cell}
 use Rattle.group_book.specs.Told.{ToldBook as Book}
@@ -15,12 +15,14 @@ use Rattle.collector_pool.specs.Work.{worker_count}
 use Rattle.session_audit.specs.FirstPulls.{HaveFirstPulls}
 use Rattle.session_report.specs.declared.session.Session.{Session}
 use Rattle.run_command.specs.declared.work.Given.{Given}
+use Rattle.run_command.specs.Copies.{IsChecked}
 use Rattle.run_command.specs.Refusals.{AdmitsForeign, IsOpening, MayBeForeign}
 use Rattle.run_command.specs.Steps.{AreBegun}
 use Rattle.run_command.specs.Runs.{IsSessionHeld, IsReported}
 use Rattle.run_command.specs.Sessions.{AreNotes, OfAll, OfNone}
 use Rattle.run_command.specs.Drills.{IsRunInPhases, drill_answer, drill_status}
 use Rattle.run_command.specs.DrillPhases.{AreAllOrNone, AreNotesOfAllBoth, AreNotesOfBoth, IsUndoneOfBoth, OfReport}
+use Rattle.run_command.proofs.Checks.{memory_checked}
 
 -- what is so where a call succeeds
 pub where_ok : {T E P : Type 0} (r : Result T E) → is_err r ≡ false → OnOk r P → P
@@ -40,21 +42,8 @@ all_or_none w before now notes (OfNone none stops) = inr none
 
 -- a drill reports each cause but that of a fault as it is
 pub kept_or_fault : (why : Status) → (drill_status why ≡ why) ⊎ ((unit : Device) × (why ≡ DeviceFault unit))
-kept_or_fault Done = inl refl
-kept_or_fault BadWords = inl refl
-kept_or_fault (BadText file rule place at) = inl refl
-kept_or_fault (BadRow file row reason) = inl refl
-kept_or_fault (ReadFault file) = inl refl
-kept_or_fault WriteFault = inl refl
 kept_or_fault (DeviceFault unit) = inr (unit, refl)
-kept_or_fault (Damaged unit at byte) = inl refl
-kept_or_fault (OtherTag tag found wanted) = inl refl
-kept_or_fault (Limit what number) = inl refl
-kept_or_fault (Mismatch place kept told) = inl refl
-kept_or_fault (Halted worker) = inl refl
-kept_or_fault WantOfMemory = inl refl
-kept_or_fault (OtherPlant at) = inl refl
-kept_or_fault (BadName word) = inl refl
+kept_or_fault other = inl refl
 
 -- a refused opening is reported as one
 opening_kept : (why : Status) → IsOpening why → IsOpening (drill_status why)
@@ -70,25 +59,31 @@ opening_back why is = elim (kept_or_fault why) [
   | inr fault ↦ absurd (subst (λ w. IsOpening (drill_status w)) fault.1 is)
 ]
 
--- so is a refusal after which a tape may have a take of no file
+-- a refusal after which a tape may have a take of no file is reported as one
 foreign_kept : (why : Status) → MayBeForeign why → MayBeForeign (drill_status why)
 foreign_kept why is = elim (kept_or_fault why) [
   | inl same ↦ subst MayBeForeign (sym same) is
   | inr fault ↦ absurd (subst MayBeForeign fault.1 is)
 ]
 
--- the answer has a cause: the phases are not done, or no memory was found for the report
+-- why the phases are not done, or that no memory was found for the report; and what is reported of it
+pub record IsRefusedInPhases {D : Type 0} (base : Base) (first second : Given) (s : Session) (opened : List (Cell D))
+    (opened_books : List (Book D)) (cells : List (Cell D)) (books : List (Book D)) (why : Status) : Type 0 where
+  pub came : Status
+  pub undone : IsUndoneOfBoth first second opened opened_books cells books s.workers.items came
+  pub checked : IsChecked base s came why
+
 pub both_told : {D : Type 0} (base : Base) (first second : Given) (s : Session) (opened : List (Cell D)) (opened_books : List (Book D))
-    (cells : List (Cell D)) (books : List (Book D)) (notes : List WorkerNote) (came : Result (Unit {0}) Status)
+    (cells : List (Cell D)) (books : List (Book D)) (came : Result (Unit {0}) Status)
     (told : Result (String Global) Status) → IsReported base second s came told
-    → IfErr came (IsUndoneOfBoth first second opened opened_books cells books notes)
-    → IfErr told (IsUndoneOfBoth first second opened opened_books cells books notes)
-both_told base first second s opened opened_books cells books notes (Ok x) (Ok text) is undone = tt
-both_told base first second s opened opened_books cells books notes (Ok x) (Err why) is undone = OfReport is.want
-both_told base first second s opened opened_books cells books notes (Err why) (Ok text) is undone = tt
-both_told base first second s opened opened_books cells books notes (Err why) (Err e) is undone =
-    let same : e ≡ why = cc (is.refused) in
-    subst (IsUndoneOfBoth first second opened opened_books cells books notes) (sym same) undone
+    → IfErr came (IsUndoneOfBoth first second opened opened_books cells books s.workers.items)
+    → IfErr told (IsRefusedInPhases base first second s opened opened_books cells books)
+both_told base first second s opened opened_books cells books (Ok x) (Ok text) is undone = tt
+both_told base first second s opened opened_books cells books (Ok x) (Err why) is undone =
+    record { came = why; undone = OfReport is.want; checked = memory_checked base s why is.want }
+both_told base first second s opened opened_books cells books (Err why) (Ok text) is undone = tt
+both_told base first second s opened opened_books cells books (Err why) (Err now) is undone =
+    record { came = why; undone = undone; checked = is.refused }
 
 -- what a drill comes to that was held so
 pub phases_told : {D : Type 0} (trace : D → Option Trace) (ticks faults : D → ℕ) (base : Base) (first second : Given) (old new : DeviceTraces)
@@ -97,7 +92,7 @@ pub phases_told : {D : Type 0} (trace : D → Option Trace) (ticks faults : D �
     → AreNotesOfBoth first.work second.work stops_before stops_now s.workers.items
     → OnOk told (AreNotesOfAllBoth first.work second.work s.workers.items) → OnOk told (HaveFirstPulls first.rooms.items held.cells)
     → ((AdmitsForeign told → ⊥) → AreBegun first held.cells held.books ⊎ AreBegun second held.cells held.books)
-    → IfErr told (IsUndoneOfBoth first second held.opened held.opened_books held.cells held.books s.workers.items)
+    → IfErr told (IsRefusedInPhases base first second s held.opened held.opened_books held.cells held.books)
     → IsRunInPhases trace ticks faults base first second old new before now stops_before stops_now (drill_answer told) s
 phases_told trace ticks faults base first second old new before now stops_before stops_now (Ok text) s held notes ran apart begun undone =
     record { held = held; notes = notes; ran = ran; apart = apart; begun = begun; undone = tt }
@@ -118,5 +113,5 @@ phases_told trace ticks faults base first second old new before now stops_before
   ran = tt;
   apart = tt;
   begun = λ none. begun (λ of. none (foreign_kept why of));
-  undone = record { cause = why; told = refl; undone = undone };
+  undone = record { came = undone.came; undone = undone.undone; cause = why; checked = undone.checked; told = refl };
 }

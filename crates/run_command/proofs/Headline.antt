@@ -34,7 +34,7 @@ use Rattle.group_book.specs.declared.history.GroupHistory.{GroupHistory}
 use Rattle.group_book.specs.declared.history.GroupOpening.{GroupOpening}
 use Rattle.group_book.specs.Openings.{StandsForGroup}
 use Rattle.group_book.specs.Tapes.{cut}
-use Rattle.group_book.specs.Told.{ToldBook as Book, trace_of, versions_of}
+use Rattle.group_book.specs.Told.{ToldBook as Book, versions_of}
 use Rattle.value_rows.specs.declared.asked.Query.{Query}
 use Rattle.value_rows.specs.declared.raw.RawRow.{RawRow}
 use Rattle.plant_status.specs.declared.status.Status.{Status}
@@ -59,7 +59,7 @@ use Rattle.tag_base.specs.declared.schedule.Refresher.{Refresher}
 use Rattle.archive_file.specs.TextHeads.{TextOpensAt}
 use Rattle.crash_recovery.specs.Opening.{OpensAt}
 use Rattle.group_layout.specs.Images.{IsUnsaved}
-use Rattle.plant_store.specs.Tags.{IsLeft, IsOpened, tag_trace_of}
+use Rattle.plant_store.specs.Tags.{IsOpened, tag_trace_of}
 use Rattle.plant_store.specs.CellClosings.{AreHistoriesAt, AreHistoriesOf, IsHistoryAt, IsHistoryOfCell}
 use Rattle.plant_store.specs.CellNames.{device_names_of}
 use Rattle.plant_store.specs.CellOpenings.{AreCellsOpened, IsCellOpened, records_opened}
@@ -69,25 +69,25 @@ use Rattle.plant_files.specs.PlanRows.{IsGoodBase}
 use Rattle.session_report.specs.declared.session.Session.{Session}
 use Rattle.session_report.specs.Report.{report}
 use Rattle.run_command.specs.declared.work.Given.{Given}
-use Rattle.run_command.specs.Headline.{CountsFaults, IsDoneSo, IsMixed, IsUpToDate}
+use Rattle.run_command.specs.Copies.{AsItCame, AsUncopied, IsChecked}
+use Rattle.run_command.specs.Headline.{CountsFaults, IsDoneSo, IsFaultCounted, IsMixed, IsUpToDate}
 use Rattle.run_command.specs.Units.{AreAsksBegun, AreGroupsSound, AreTakesBegun, AreUnitsOpened, IsBegun, HasMade, core_of, IsGroupOpened, IsAcknowledged, IsGroupRefreshed, IsOnTapes, IsRecorded, IsTagOpened, IsTagSound, tag_tape, grid, opening_records_of, tag_records_of, group_tape, turns_in}
 use Rattle.run_command.specs.Refusals.{IsOfOpening}
-use Rattle.run_command.specs.Runs.{IsContinued, IsContinuedGroup, IsDone, IsSessionHeld, IsUndone, IsOver, IsWorkIn}
+use Rattle.run_command.specs.Runs.{IsContinued, IsContinuedGroup, IsDone, IsRefusedSo, IsSessionHeld, IsUndone, IsOver, IsWorkIn}
 use Rattle.run_command.specs.Sessions.{planned_turn, turn_of}
 use Rattle.run_command.specs.Steps.{AreCellAsksBegun, AreBegun, AreStepsMade, AreCellTakesBegun, AreTapesMade}
 use Rattle.run_command.proofs.Zipped.{zip_at, zip_length}
 use Rattle.run_command.proofs.DeviceFaults.{faults_counted, none_counted}
-use Rattle.plant_store.proofs.BookReturns.{clock_of}
 use Rattle.plant_status.proofs.Elements.{element}
 
 -- ---- tags
 
--- the history of a cell is sound
 -- what is not above a device's clock is not above the number of its calls
 made_by : (o : Option Trace) (many ticks : ℕ) → many ≤ ticks → IfSome o (λ t. length t.calls ≡ ticks) → HasMade many o
 made_by None many ticks low clock = tt
 made_by (Some t) many ticks low clock = omega (arith, low, clock)
 
+-- the history of a cell is sound
 sound_tag : (trace : Option Trace) (t : TagHistory) → IsHistoryAt trace t → IsTagSound t trace
 sound_tag trace t at =
     let is = at.is in
@@ -111,17 +111,13 @@ sound_tags new [] (t ∷ ts) is = absurd is
 sound_tags new (d ∷ ds) [] is = absurd is
 sound_tags new (d ∷ ds) (t ∷ ts) is = (sound_tag (tag_trace_of new d) t is.0, sound_tags new ds ts is.1)
 
--- the clock of each device is the number of its calls, if these are known
-abbrev pub IsClocked : {D : Type 0} → (D → Option Trace) → (D → ℕ) → Type 0
-IsClocked {D} trace ticks = (d : D) → IfSome (trace d) (λ t. length t.calls ≡ ticks d)
-
 -- what has the definition and the opening of a cell was opened as the cell was
-pub tag_opened : {D : Type 0} (trace : D → Option Trace) (ticks faults : D → ℕ) → IsClocked trace ticks → (def : TagDef) (before : Option Trace)
+pub tag_opened : {D : Type 0} (trace : D → Option Trace) (ticks faults : D → ℕ) → (def : TagDef) (before : Option Trace)
     (c : Cell D) (its : TagDef) (o : TagOpening)
     → IsCellOpened def before (trace c.journal.dev) (ticks c.journal.dev) (faults c.journal.dev) c → its ≡ c.def
     → o.recs.items ≡ c.opening.recs.items → o.summary ≡ c.opening.summary → o.moment ≡ c.opening.moment → o.faults ≡ c.opening.faults
     → IsTagOpened def before its o
-tag_opened trace ticks faults clocked def before c its o was same records summary moment faults_same =
+tag_opened trace ticks faults def before c its o was same records summary moment faults_same =
     let core : core_of c.def c.opening ≡ core_of its o = λ i. record {
       state = record { records = (sym records) i; summary = (sym summary) i };
       step = (sym (ap (λ (x : TagDef). x.step) same)) i;
@@ -130,33 +126,29 @@ tag_opened trace ticks faults clocked def before c its o was same records summar
     record {
       def_is = same ∙ was.def_is;
       found = subst (IsOpened def before) core was.found;
-      after = trace c.journal.dev;
-      left = subst (IsLeft def before (trace c.journal.dev)) core was.left;
-      same = was.same;
-      clock = subst (λ n. IfSome (trace c.journal.dev) (λ t. length t.calls ≡ n)) (sym (moment ∙ was.moment_is)) (clocked c.journal.dev);
       opened_at = subst (OpensAt def before) (sym moment) was.opened_at;
       faultless = faults_same ∙ was.opened_faultless;
     }
 
 module _ {D : Type 0} (trace : D → Option Trace) (ticks faults : D → ℕ) (old : DeviceTraces) where
   -- each was opened as its device stood
-  pub opened_tags : IsClocked trace ticks → (defs : List TagDef) (first last : List (Cell D)) (ts : List TagHistory)
+  pub opened_tags : (defs : List TagDef) (first last : List (Cell D)) (ts : List TagHistory)
       → AreCellsOpened trace ticks faults defs old first → AllZip IsContinued first last → AreHistoriesOf trace ticks faults last ts
       → AllZip (λ def (t : TagHistory). IsTagOpened def (tag_trace_of old def) t.def t.opening) defs ts
-  opened_tags clocked [] [] [] [] was same is = tt
-  opened_tags clocked [] [] [] (t ∷ ts) was same is = absurd is
-  opened_tags clocked [] [] (c ∷ cs) ts was same is = absurd same
-  opened_tags clocked [] (c ∷ cs) last ts was same is = absurd was
-  opened_tags clocked (d ∷ ds) [] last ts was same is = absurd was
-  opened_tags clocked (d ∷ ds) (c ∷ cs) [] ts was same is = absurd same
-  opened_tags clocked (d ∷ ds) (c ∷ cs) (e ∷ es) [] was same is = absurd is
-  opened_tags clocked (d ∷ ds) (c ∷ cs) (e ∷ es) (t ∷ ts) was same is = (
-    tag_opened trace ticks faults clocked d (tag_trace_of old d) c t.def t.opening was.0 (is.0.def_is ∙ same.0.def)
+  opened_tags [] [] [] [] was same is = tt
+  opened_tags [] [] [] (t ∷ ts) was same is = absurd is
+  opened_tags [] [] (c ∷ cs) ts was same is = absurd same
+  opened_tags [] (c ∷ cs) last ts was same is = absurd was
+  opened_tags (d ∷ ds) [] last ts was same is = absurd was
+  opened_tags (d ∷ ds) (c ∷ cs) [] ts was same is = absurd same
+  opened_tags (d ∷ ds) (c ∷ cs) (e ∷ es) [] was same is = absurd is
+  opened_tags (d ∷ ds) (c ∷ cs) (e ∷ es) (t ∷ ts) was same is = (
+    tag_opened trace ticks faults d (tag_trace_of old d) c t.def t.opening was.0 (is.0.def_is ∙ same.0.def)
         (ap (λ (o : TagOpening). o.recs.items) is.0.opening_is ∙ same.0.records)
         (ap (λ (o : TagOpening). o.summary) is.0.opening_is ∙ same.0.summary)
         (ap (λ (o : TagOpening). o.moment) is.0.opening_is ∙ same.0.moment)
         (ap (λ (o : TagOpening). o.faults) is.0.opening_is ∙ same.0.faults),
-    opened_tags clocked ds cs es ts was.1 same.1 is.1,
+    opened_tags ds cs es ts was.1 same.1 is.1,
   )
 
   -- the records with which they were opened
@@ -281,12 +273,12 @@ some_text [] byte back none = absurd (cc none)
 some_text (x ∷ front) byte back none = absurd (cc none)
 
 -- what has the definition and the opening of a book was opened as the book was
-pub group_opened : {D : Type 0} (trace : D → Option Trace) (ticks faults : D → ℕ) → IsClocked trace ticks → (i : ℕ) (d : GroupDef)
+pub group_opened : {D : Type 0} (trace : D → Option Trace) (ticks faults : D → ℕ) → (i : ℕ) (d : GroupDef)
     (before : Option Trace) (recovered records : List (List Rec)) (b : Book D) (group : ℕ) (def : GroupDefParts) (text : List ℕ)
     (o : GroupOpening) → recovered ≡ records → IsBookOpened trace ticks faults i d recovered before b → group ≡ b.group → def ≡ b.def
     → text ≡ b.text → o.versions.items ≡ b.opening.versions.items → lists_of o.rows.items ≡ lists_of b.opening.rows.items
     → o.moment ≡ b.opening.moment → o.faults ≡ b.opening.faults → IsGroupOpened i d before records group def text o
-group_opened trace ticks faults clocked i d before recovered records b group def text o same was group_is def_is text_is versions rows moment
+group_opened trace ticks faults i d before recovered records b group def text o same was group_is def_is text_is versions rows moment
     faults_same = record {
       number = group_is ∙ was.group;
       def_is = def_is ∙ was.def;
@@ -300,10 +292,6 @@ group_opened trace ticks faults clocked i d before recovered records b group def
         faults = faults_same ∙ was.opening.faults;
         moment = subst (TextOpensAt (IsUnsaved (group_definition_text d)) before) (sym moment) was.opening.moment;
       };
-      after = trace_of trace b.dev;
-      synced = was.synced;
-      same = was.same;
-      clock = subst (λ n. IfSome (trace_of trace b.dev) (λ t. length t.calls ≡ n)) (sym (moment ∙ was.moment)) (clock_of trace ticks clocked b.dev);
     }
 
 module _ {D : Type 0} (trace : D → Option Trace) (ticks faults : D → ℕ) (base : Base) (old new : DeviceTraces) where
@@ -332,14 +320,14 @@ module _ {D : Type 0} (trace : D → Option Trace) (ticks faults : D → ℕ) (b
       }
 
   -- each was opened as what its device stood for
-  opened_groups : IsClocked trace ticks → (first last_cells : List (Cell D)) (opened last : List (Book D)) (s : Session)
+  opened_groups : (first last_cells : List (Cell D)) (opened last : List (Book D)) (s : Session)
       → AreBooksOpened trace ticks faults base.groups.items (cell_records_in first) old opened → AllZip IsContinuedGroup opened last
       → IsOver trace ticks faults base old new last_cells last s → cell_records_in first ≡ opening_records_of s
       → (i : ℕ) (d : GroupDef) (g : GroupHistory) → i < length s.groups.items
       → IsGroupOpened i (get_or base.groups.items i d) (group_trace_at old (get_or base.groups.items i d))
       (input_records_of (opening_records_of s) (get_or base.groups.items i d)) (get_or s.groups.items i g).group
       (get_or s.groups.items i g).def (get_or s.groups.items i g).text.items (get_or s.groups.items i g).opening
-  opened_groups clocked first last_cells opened last s was same is lists i d g below =
+  opened_groups first last_cells opened last s was same is lists i d g below =
       let def = get_or base.groups.items i d in
       let there : i < length last = omega (arith, is.groups.as_many, below) in
       let there_first : i < length opened = omega (arith, there, zip_length IsContinuedGroup opened last same) in
@@ -352,7 +340,7 @@ module _ {D : Type 0} (trace : D → Option Trace) (ticks faults : D → ℕ) (b
       ap (λ (o : GroupOpening). o.versions.items) history.opening ∙ continued.versions in
       let rows : lists_of (get_or s.groups.items i g).opening.rows.items ≡ lists_of (get_or opened i a).opening.rows.items =
       ap (λ (o : GroupOpening). lists_of o.rows.items) history.opening ∙ continued.rows in
-      group_opened trace ticks faults clocked i def (group_trace_at old def) (input_records_of (cell_records_in first) def)
+      group_opened trace ticks faults i def (group_trace_at old def) (input_records_of (cell_records_in first) def)
       (input_records_of (opening_records_of s) def) (get_or opened i a) (get_or s.groups.items i g).group (get_or s.groups.items i g).def
       (get_or s.groups.items i g).text.items (get_or s.groups.items i g).opening (ap (λ l. input_records_of l def) lists) book
       (history.group ∙ continued.group) (history.def ∙ continued.def) (history.text ∙ continued.text) versions rows
@@ -628,13 +616,13 @@ if_done (Ok text) opened follows x = follows (opened (λ none. none)) text x
 if_done (Err why) opened follows x = tt
 
 -- unless the answer reports a changed opening, each tag and group of a session was opened as what its device stood for
-pub held_opened : {D : Type 0} (trace : D → Option Trace) (ticks faults : D → ℕ) → IsClocked trace ticks → (base : Base) (g : Given) (old new : DeviceTraces)
+pub held_opened : {D : Type 0} (trace : D → Option Trace) (ticks faults : D → ℕ) → (base : Base) (g : Given) (old new : DeviceTraces)
     (before now : ℕ) (answer : Result (String Global) Status) (s : Session) → IsSessionHeld trace ticks faults base g old new before now answer s
     → (IsOfOpening answer → ⊥) → AreUnitsOpened base old s
-held_opened trace ticks faults clocked base g old new before now answer s is none = record {
-  tags = opened_tags trace ticks faults old clocked base.tags.items is.opened is.cells s.tags.items is.opening.tags (is.same_tags none)
+held_opened trace ticks faults base g old new before now answer s is none = record {
+  tags = opened_tags trace ticks faults old base.tags.items is.opened is.cells s.tags.items is.opening.tags (is.same_tags none)
       is.over.tags;
-  groups = opened_groups trace ticks faults base old new clocked is.opened is.cells is.opened_books is.books s is.opening.groups
+  groups = opened_groups trace ticks faults base old new is.opened is.cells is.opened_books is.books s is.opening.groups
       (is.same_groups none) is.over
       (opened_lists trace ticks faults old base.tags.items is.opened is.cells s.tags.items is.opening.tags (is.same_tags none) is.over.tags);
   few = subst (λ n. n ≤ most_stored) (sym (opened_records trace ticks faults old is.opened is.cells s.tags.items (is.same_tags none) is.over.tags))
@@ -645,14 +633,16 @@ held_opened trace ticks faults clocked base g old new before now answer s is non
 pub session_counts : {D : Type 0} (trace : D → Option Trace) (ticks faults : D → ℕ) (base : Base) (g : Given) (old new : DeviceTraces)
     (before now : ℕ) (answer : Result (String Global) Status) (s : Session)
     → (run : IsSessionHeld trace ticks faults base g old new before now answer s)
-    → IfErr answer (IsUndone g run.opened run.opened_books run.cells run.books s.workers.items) → before < 2 ^ 64
+    → IfErr answer (IsRefusedSo base g run.opened run.opened_books run.cells run.books s) → before < 2 ^ 64
     → CountsFaults before now answer
 session_counts trace ticks faults base g old new before now (Ok text) s run undone few =
     none_counted trace ticks faults base old new run.cells run.books s run.over run.opened run.opened_books run.opening
     (run.same_tags (λ none. none)) (run.same_groups (λ none. none)) g run.done.made before now (run.counts few)
 session_counts trace ticks faults base g old new before now (Err why) s run undone few =
-    let counts = run.counts few in (
-      counts.later,
-      faults_counted trace ticks faults base old new before now run.cells run.books s run.over counts g run.opened run.opened_books
-          s.workers.items (Err why) undone,
-    )
+    ((run.counts few).later, by undone.checked)
+  where
+    by : IsChecked base s undone.came why → IsFaultCounted before now why
+    by (AsItCame same copied) = faults_counted trace ticks faults base old new before now run.cells run.books s run.over (run.counts few) g
+        run.opened run.opened_books s.workers.items (Err why)
+        (subst (IsUndone g run.opened run.opened_books run.cells run.books s.workers.items) (sym same) undone.undone)
+    by (AsUncopied none apart) = λ unit same. absurd (cc (same, apart.differs.why_is))

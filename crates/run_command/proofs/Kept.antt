@@ -13,9 +13,8 @@ use Rattle.session_audit.specs.declared.cell_opening.Kept.{Kept}
 use Rattle.tag_cell.specs.declared.history.TagOpening.{TagOpening}
 use Rattle.group_book.specs.declared.history.GroupOpening.{GroupOpening}
 use Rattle.session_audit.specs.declared.book_opening.KeptGroup.{KeptGroup}
-use Rattle.session_audit.specs.BookOpenings.{IsSameOpening}
+use Rattle.session_audit.specs.BookOpenings.{IsSameOpening, IsBookAsKept}
 use Rattle.session_audit.specs.Openings.{AreAsKept}
-use Rattle.session_audit.specs.BookOpenings.{IsBookAsKept}
 use Rattle.run_command.specs.Steps.{IsBookKept, IsCellKept}
 use Rattle.session_audit.specs.CellOpenings.{IsCellAsKept}
 

@@ -7,6 +7,7 @@ pub mod Zipped
 pub mod Continued
 pub mod Roomy
 pub mod Crossing
+pub mod Checks
 pub mod Told
 pub mod Unheld
 pub mod GroupDevices

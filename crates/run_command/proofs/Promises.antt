@@ -16,14 +16,16 @@ use Rattle.session_audit.specs.Agendas.{phase_item}
 use Rattle.session_report.specs.declared.session.Session.{Session}
 use Rattle.run_command.specs.declared.work.Given.{Given}
 use Rattle.run_command.specs.Causes.{IsSessionCause}
+use Rattle.run_command.specs.Copies.{AreCopied, MayBeUncopied}
 use Rattle.run_command.specs.Headline.{IsPromised}
-use Rattle.run_command.specs.Refusals.{IsOfOpening}
-use Rattle.run_command.specs.Runs.{IsRun, IsSessionHeld, IsUndone, IsWorkIn}
-use Rattle.run_command.specs.Units.{AreUnitsOpened, turns_in}
+use Rattle.run_command.specs.Refusals.{IsOfOpening, IsOpening}
+use Rattle.run_command.specs.Runs.{IsRefusedSo, IsRun, IsSessionHeld, IsWorkIn}
+use Rattle.run_command.specs.Units.{AreUnitsOpened, AtEachGroup, turns_in}
+use Rattle.run_command.proofs.Checks.{copied_so, opening_reported, reported}
 use Rattle.run_command.proofs.DeviceFaults.{none_counted}
-use Rattle.run_command.proofs.Causes.{session_cause}
+use Rattle.run_command.proofs.Causes.{refusal_cause}
 use Rattle.run_command.proofs.Continued.{groups_still, still}
-use Rattle.run_command.proofs.Headline.{IsClocked, begun, done, held_opened, if_done, only_phase, session_counts, sound_groups, sound_tags}
+use Rattle.run_command.proofs.Headline.{begun, done, held_opened, if_done, only_phase, session_counts, sound_groups, sound_tags}
 
 -- a session of the plan in a file over the base in another, and what came of it
 pub record IsSession {D : Type 0} (trace : D → Option Trace) (ticks faults : D → ℕ) (name plan_name : List ℕ) (told : ToldFiles)
@@ -40,31 +42,36 @@ pub record IsSession {D : Type 0} (trace : D → Option Trace) (ticks faults : D
   pub run : IsRun trace ticks faults base given old new before now stops_before stops_now answer s
 
 -- a session that is not done has a cause
-cause_of : {D : Type 0} (trace : D → Option Trace) (ticks faults : D → ℕ) → IsClocked trace ticks → (base : Base) (g : Given) (old new : DeviceTraces)
+cause_of : {D : Type 0} (trace : D → Option Trace) (ticks faults : D → ℕ) → (base : Base) (g : Given) (old new : DeviceTraces)
     (before now : ℕ) (rows : List (List RawRow)) (queries : List (List Query)) (refreshers : List Refresher)
     (answer : Result (String Global) Status) (s : Session)
     → IsGoodBase base → IsWorkIn base 0 0 rows queries refreshers g
     → (run : IsSessionHeld trace ticks faults base g old new before now answer s)
     → ((IsOfOpening answer → ⊥) → AreUnitsOpened base old s)
-    → IfErr answer (IsUndone g run.opened run.opened_books run.cells run.books s.workers.items)
+    → IfErr answer (IsRefusedSo base g run.opened run.opened_books run.cells run.books s)
     → IfErr answer (IsSessionCause (phase_item 0) (λ i. turns_in i refreshers) base old rows queries (before < 2 ^ 64 → now ≡ before)
     s.workers.items s)
-cause_of trace ticks faults clocked base g old new before now rows queries refreshers (Ok text) s good given run was undone = tt
-cause_of trace ticks faults clocked base g old new before now rows queries refreshers (Err why) s good given run was undone =
-    session_cause trace ticks faults clocked base old new g run.cells run.books s run.over 0 0 rows queries refreshers good given
+cause_of trace ticks faults base g old new before now rows queries refreshers (Ok text) s good given run was undone = tt
+cause_of trace ticks faults base g old new before now rows queries refreshers (Err why) s good given run was undone =
+    reported base s (phase_item 0) (λ i. turns_in i refreshers) old rows queries (before < 2 ^ 64 → now ≡ before) s.workers.items
+    undone.came why (refusal_cause trace ticks faults base old new g run.cells run.books s run.over 0 0 rows queries refreshers good given
     (λ i. turns_in i refreshers) (λ i. omega arith) run.opened run.opened run.opened_books run.opened_books s.workers.items
-    (before < 2 ^ 64 → now ≡ before) why run.opening (still run.opened) (groups_still run.opened_books) was
-    (λ none made few. none_counted trace ticks faults base old new run.cells run.books s run.over run.opened run.opened_books run.opening
-    (run.same_tags none) (run.same_groups none) g made before now (run.counts few))
-    undone
+    (before < 2 ^ 64 → now ≡ before) undone.came run.opening (still run.opened) (groups_still run.opened_books)
+    (λ none. was (opens none))
+    (λ none made few. none_counted trace ticks faults base old new run.cells run.books s run.over run.opened run.opened_books
+    run.opening (run.same_tags (opens none)) (run.same_groups (opens none)) g made before now (run.counts few))
+    undone.undone) undone.checked
+  where
+    opens : (IsOpening undone.came → ⊥) → IsOpening why → ⊥
+    opens none of = none (opening_reported base s undone.came why undone.checked of)
 
-pub promised : {D : Type 0} (trace : D → Option Trace) (ticks faults : D → ℕ) → IsClocked trace ticks → (name plan_name : List ℕ) (told : ToldFiles)
+pub promised : {D : Type 0} (trace : D → Option Trace) (ticks faults : D → ℕ) → (name plan_name : List ℕ) (told : ToldFiles)
     (old new : DeviceTraces) (before now stops_before stops_now : ℕ) (answer : Result (String Global) Status) (s : Session)
     → IsSession trace ticks faults name plan_name told old new before now stops_before stops_now answer s
     → IsPromised name plan_name told old new before now stops_before stops_now answer s
-promised trace ticks faults clocked name plan_name told old new before now stops_before stops_now answer s is =
+promised trace ticks faults name plan_name told old new before now stops_before stops_now answer s is =
     let run = is.run.held in
-    let opened_as = held_opened trace ticks faults clocked is.base is.given old new before now answer s run in
+    let opened_as = held_opened trace ticks faults is.base is.given old new before now answer s run in
     record {
       base = is.base;
       plan = is.plan;
@@ -81,8 +88,9 @@ promised trace ticks faults clocked name plan_name told old new before now stops
           (done trace ticks faults is.base old new is.given run.cells run.books s run.over 0 0 is.rows is.queries
           is.plan.refreshers.items (string_bytes text) is.good is.work was it)) run.done;
       counted = λ few. session_counts trace ticks faults is.base is.given old new before now answer s run is.run.undone few;
-      cause = cause_of trace ticks faults clocked is.base is.given old new before now is.rows is.queries is.plan.refreshers.items answer s
+      cause = cause_of trace ticks faults is.base is.given old new before now is.rows is.queries is.plan.refreshers.items answer s
           is.good is.work run opened_as is.run.undone;
+      copied = copied answer is.run.undone;
       work = is.given.work;
       work_is = is.work.its;
       notes = is.run.notes;
@@ -90,3 +98,8 @@ promised trace ticks faults clocked name plan_name told old new before now stops
       others = run.over.others;
       no_log = run.over.no_log;
     }
+  where
+    copied : (answer : Result (String Global) Status) → IfErr answer (IsRefusedSo is.base is.given is.run.held.opened is.run.held.opened_books is.run.held.cells is.run.held.books s)
+        → IfErr answer (λ why. (MayBeUncopied why → ⊥) → AtEachGroup is.base s (λ i d g. AreCopied s d g))
+    copied (Ok text) undone = tt
+    copied (Err why) undone = copied_so is.base s undone.came why undone.checked

@@ -7,11 +7,6 @@ module _ {X E : Type 0} where
   at_ok (Ok x) p = p
   at_ok (Err e) p = tt
 
-  -- what follows at Ok
-  pub ok_weaker : {P Q : Type 0} (r : Result X E) → (P → Q) → OnOk r P → OnOk r Q
-  ok_weaker (Ok x) follows p = follows p
-  ok_weaker (Err e) follows p = tt
-
   -- what follows of an error
   pub err_weaker : {P Q : E → Type 0} (r : Result X E) → ((e : E) → P e → Q e) → IfErr r P → IfErr r Q
   err_weaker (Ok x) follows p = tt

@@ -9,7 +9,6 @@ use Rattle.tag_base.specs.declared.definition.Base.{Base}
 use Rattle.calc_refresh.specs.Lists.{lists_of}
 use Rattle.tag_cell.specs.Told.{ToldCell as Cell}
 use Rattle.group_book.specs.Told.{ToldBook as Book}
-use Rattle.collector_pool.specs.declared.note.WorkerNote.{WorkerNote}
 use Rattle.session_audit.specs.Pulls.{ArePulled}
 use Rattle.plant_store.specs.Groups.{DeviceTraces}
 use Rattle.plant_store.specs.Closings.{CountsClosed}
@@ -18,8 +17,9 @@ use Rattle.run_command.specs.declared.work.Given.{Given}
 use Rattle.run_command.specs.declared.phase.EndedPhase.{EndedPhase}
 use Rattle.run_command.specs.Endings.{HaveAllEnded}
 use Rattle.run_command.specs.Refusals.{AdmitsForeign, IsOfOpening}
-use Rattle.run_command.specs.Runs.{IsContinued, IsContinuedGroup, IsDone, IsSessionHeld, AreUnitsOpen, IsOver, IsReported, IsUndone, OfNone}
+use Rattle.run_command.specs.Runs.{IsContinued, IsContinuedGroup, IsDone, IsSessionHeld, AreUnitsOpen, IsOver, IsRefusedSo, IsReported, IsUndone, OfNone}
 use Rattle.run_command.specs.Steps.{AreStepsMade}
+use Rattle.run_command.proofs.Checks.{foreign_checked, memory_checked, opening_checked}
 
 -- what follows of what is there
 pub some_weaker : {X : Type 0} {P Q : X → Type 0} (o : Option X) → ((x : X) → P x → Q x) → IfSome o P → IfSome o Q
@@ -31,13 +31,15 @@ module _ (base : Base) (g : Given) (s : Session) where
   pub opening_told : (came : Result (Unit {0}) Status) (told : Result (String Global) Status) → IsReported base g s came told
       → IsOfOpening came → IsOfOpening told
   opening_told (Ok x) told is of = absurd of
-  opening_told (Err why) told is of = subst (λ (r : Result (String Global) Status). IsOfOpening r) (sym is.refused) of
+  opening_told (Err why) (Ok text) is of = absurd (is.refused)
+  opening_told (Err why) (Err now) is of = opening_checked base s why now is.refused of
 
   -- so is a refusal after which a tape may have an entry of no file
   pub foreign_told : (came : Result (Unit {0}) Status) (told : Result (String Global) Status) → IsReported base g s came told
       → AdmitsForeign came → AdmitsForeign told
   foreign_told (Ok x) told is of = absurd of
-  foreign_told (Err why) told is of = subst (λ (r : Result (String Global) Status). AdmitsForeign r) (sym is.refused) of
+  foreign_told (Err why) (Ok text) is of = absurd (is.refused)
+  foreign_told (Err why) (Err now) is of = foreign_checked base s why now is.refused of
 
   module _ {D : Type 0} (cells : List (Cell D)) (books : List (Book D)) where
     -- a session that answers a text is done
@@ -46,27 +48,26 @@ module _ (base : Base) (g : Given) (s : Session) where
         → OnOk came (ArePulled (lists_of g.inputs.items) cells books) → IfOk told (λ text. IsDone base g cells books s (string_bytes text))
     done_told (Ok x) (Ok text) is ended made pulled = record { ended = ended; made = made; pulled = pulled; same = is.text }
     done_told (Ok x) (Err why) is ended made pulled = tt
-    done_told (Err why) (Ok text) is ended made pulled = absurd (cc (is.refused))
+    done_told (Err why) (Ok text) is ended made pulled = absurd (is.refused)
     done_told (Err why) (Err e) is ended made pulled = tt
 
-    module _ (opened : List (Cell D)) (opened_books : List (Book D)) (notes : List WorkerNote) where
+    module _ (opened : List (Cell D)) (opened_books : List (Book D)) where
       -- and a cause of one that is not
       pub undone_told : (came : Result (Unit {0}) Status) (told : Result (String Global) Status) → IsReported base g s came told
-          → IfErr came (IsUndone g opened opened_books cells books notes)
-          → IfErr told (IsUndone g opened opened_books cells books notes)
+          → IfErr came (IsUndone g opened opened_books cells books s.workers.items)
+          → IfErr told (IsRefusedSo base g opened opened_books cells books s)
       undone_told (Ok x) (Ok text) is undone = tt
-      undone_told (Ok x) (Err why) is undone = OfNone is.want
+      undone_told (Ok x) (Err why) is undone =
+          record { came = why; undone = OfNone is.want; checked = memory_checked base s why is.want }
       undone_told (Err why) (Ok text) is undone = tt
-      undone_told (Err why) (Err e) is undone =
-          let same : e ≡ why = cc (is.refused) in
-          subst (IsUndone g opened opened_books cells books notes) (sym same) undone
+      undone_told (Err why) (Err now) is undone = record { came = why; undone = undone; checked = is.refused }
 
 -- what holds of a phase that is done holds of a session that answers a text
 pub ran_told : (P : Type 0) (base : Base) (g : Given) (s : Session) (came : Result (Unit {0}) Status) (told : Result (String Global) Status)
     → IsReported base g s came told → OnOk came P → OnOk told P
 ran_told P base g s (Ok x) (Ok text) is p = p
 ran_told P base g s (Ok x) (Err why) is p = tt
-ran_told P base g s (Err why) (Ok text) is p = absurd (cc (is.refused))
+ran_told P base g s (Err why) (Ok text) is p = absurd (is.refused)
 ran_told P base g s (Err why) (Err e) is p = tt
 
 -- where an opening counted no fault, those counted since are all that were counted since before it

@@ -1,4 +1,4 @@
--- No refusal of a session or of a drill is a status that only the printing, or the words of a command line, give.
+-- No refusal of a session or of a drill is a status that only the printing, or the words of a command line, gives.
 use Rattle.std.proofs.Common.{◌≡◌, ◌∙◌, inl, inr, ℕ, List, Option, None, Some, Result, Ok, Err, IfErr, String, Global, ap, refl, subst, sym}
 use Rattle.std.specs.Prelude.{◌≢◌, IfSome, IsSomeAnd, length, slice_get}
 use Rattle.plant_status.specs.declared.status.Status.{Status}
@@ -20,7 +20,7 @@ use Rattle.session_audit.specs.Workers.{LacksRow}
 use Rattle.tag_cell.specs.declared.history.TagHistory.{TagHistory}
 use Rattle.tag_cell.specs.Tapes.{taken}
 use Rattle.session_report.specs.declared.session.Session.{Session}
-use Rattle.run_command.specs.Causes.{IsSessionCause, OfDevice, OfLimit, OfMemory, OfCommit, OfOpening, OfPull, OfRefresh, OfRoom, OfStep, OfStop, OfTake, OfTape}
+use Rattle.run_command.specs.Causes.{IsRefusalCause, IsSessionCause, OfRefusal, OfCopies, OfDevice, OfLimit, OfMemory, OfCommit, OfOpening, OfPull, OfRefresh, OfRoom, OfStep, OfStop, OfTake, OfTape}
 use Rattle.run_command.specs.Drills.{InFirst, InPull, InReport, InSecond, IsDrillCause, IsDrilled, IsPhaseCause, drill_status}
 use Rattle.run_command.specs.Headline.{IsPromised}
 use Rattle.run_command.specs.Runs as runs
@@ -37,41 +37,53 @@ module _ (item_of : ℕ → ℕ → RawRow → Option Item) (turns_of : ℕ → 
   no_room x other tag (Some t) at = absurd (other tag _ _ at.0)
   no_room x other tag None at = absurd at
 
+  refusal_no_done : IsRefusalCause item_of turns_of base before rows queries quiet notes s Done → ⊥
+  refusal_no_done (OfOpening is) = is.changed
+  refusal_no_done (OfTape is) = is
+  refusal_no_done (OfStop within is) = is
+  refusal_no_done (OfStep ended (OfTake (OfDevice tag same is))) = cc same
+  refusal_no_done (OfStep ended (OfTake (OfRoom tag at))) = no_room Done (λ i n m same. cc same) tag (slice_get s.tags.items tag) at
+  refusal_no_done (OfStep ended (OfTake (OfLimit tag number same is))) = cc same
+  refusal_no_done (OfStep ended (OfCommit on_tapes is)) = cc (is.told)
+  refusal_no_done (OfStep ended (OfRefresh recorded is)) = is.cause
+  refusal_no_done (OfStep ended (OfPull recorded refreshed none is)) = is.cause
+  refusal_no_done (OfMemory same) = cc same
+
   pub held_no_done : IsSessionCause item_of turns_of base before rows queries quiet notes s Done → ⊥
-  held_no_done (OfOpening is) = is.changed
-  held_no_done (OfTape is) = is
-  held_no_done (OfStop within is) = is
-  held_no_done (OfStep ended (OfTake (OfDevice tag same is))) = cc same
-  held_no_done (OfStep ended (OfTake (OfRoom tag at))) = no_room Done (λ i n m same. cc same) tag (slice_get s.tags.items tag) at
-  held_no_done (OfStep ended (OfTake (OfLimit tag number same is))) = cc same
-  held_no_done (OfStep ended (OfCommit on_tapes is)) = cc (is.told)
-  held_no_done (OfStep ended (OfRefresh recorded is)) = is.cause
-  held_no_done (OfStep ended (OfPull recorded refreshed none is)) = is.cause
-  held_no_done (OfMemory same) = cc same
+  held_no_done (OfRefusal is) = refusal_no_done is
+  held_no_done (OfCopies came is none apart) = cc (apart.differs.why_is)
+
+  refusal_no_fault : IsRefusalCause item_of turns_of base before rows queries quiet notes s WriteFault → ⊥
+  refusal_no_fault (OfOpening is) = is.changed
+  refusal_no_fault (OfTape is) = is
+  refusal_no_fault (OfStop within is) = is
+  refusal_no_fault (OfStep ended (OfTake (OfDevice tag same is))) = cc same
+  refusal_no_fault (OfStep ended (OfTake (OfRoom tag at))) = no_room WriteFault (λ i n m same. cc same) tag (slice_get s.tags.items tag) at
+  refusal_no_fault (OfStep ended (OfTake (OfLimit tag number same is))) = cc same
+  refusal_no_fault (OfStep ended (OfCommit on_tapes is)) = cc (is.told)
+  refusal_no_fault (OfStep ended (OfRefresh recorded is)) = is.cause
+  refusal_no_fault (OfStep ended (OfPull recorded refreshed none is)) = is.cause
+  refusal_no_fault (OfMemory same) = cc same
 
   pub held_no_fault : IsSessionCause item_of turns_of base before rows queries quiet notes s WriteFault → ⊥
-  held_no_fault (OfOpening is) = is.changed
-  held_no_fault (OfTape is) = is
-  held_no_fault (OfStop within is) = is
-  held_no_fault (OfStep ended (OfTake (OfDevice tag same is))) = cc same
-  held_no_fault (OfStep ended (OfTake (OfRoom tag at))) = no_room WriteFault (λ i n m same. cc same) tag (slice_get s.tags.items tag) at
-  held_no_fault (OfStep ended (OfTake (OfLimit tag number same is))) = cc same
-  held_no_fault (OfStep ended (OfCommit on_tapes is)) = cc (is.told)
-  held_no_fault (OfStep ended (OfRefresh recorded is)) = is.cause
-  held_no_fault (OfStep ended (OfPull recorded refreshed none is)) = is.cause
-  held_no_fault (OfMemory same) = cc same
+  held_no_fault (OfRefusal is) = refusal_no_fault is
+  held_no_fault (OfCopies came is none apart) = cc (apart.differs.why_is)
+
+  refusal_no_words : IsRefusalCause item_of turns_of base before rows queries quiet notes s BadWords → ⊥
+  refusal_no_words (OfOpening is) = is.changed
+  refusal_no_words (OfTape is) = is
+  refusal_no_words (OfStop within is) = is
+  refusal_no_words (OfStep ended (OfTake (OfDevice tag same is))) = cc same
+  refusal_no_words (OfStep ended (OfTake (OfRoom tag at))) = no_room BadWords (λ i n m same. cc same) tag (slice_get s.tags.items tag) at
+  refusal_no_words (OfStep ended (OfTake (OfLimit tag number same is))) = cc same
+  refusal_no_words (OfStep ended (OfCommit on_tapes is)) = cc (is.told)
+  refusal_no_words (OfStep ended (OfRefresh recorded is)) = is.cause
+  refusal_no_words (OfStep ended (OfPull recorded refreshed none is)) = is.cause
+  refusal_no_words (OfMemory same) = cc same
 
   pub held_no_words : IsSessionCause item_of turns_of base before rows queries quiet notes s BadWords → ⊥
-  held_no_words (OfOpening is) = is.changed
-  held_no_words (OfTape is) = is
-  held_no_words (OfStop within is) = is
-  held_no_words (OfStep ended (OfTake (OfDevice tag same is))) = cc same
-  held_no_words (OfStep ended (OfTake (OfRoom tag at))) = no_room BadWords (λ i n m same. cc same) tag (slice_get s.tags.items tag) at
-  held_no_words (OfStep ended (OfTake (OfLimit tag number same is))) = cc same
-  held_no_words (OfStep ended (OfCommit on_tapes is)) = cc (is.told)
-  held_no_words (OfStep ended (OfRefresh recorded is)) = is.cause
-  held_no_words (OfStep ended (OfPull recorded refreshed none is)) = is.cause
-  held_no_words (OfMemory same) = cc same
+  held_no_words (OfRefusal is) = refusal_no_words is
+  held_no_words (OfCopies came is none apart) = cc (apart.differs.why_is)
 
 -- ---- no session
 
@@ -93,7 +105,6 @@ module _ (name plan_name : List ℕ) (told : ToldFiles) (old new : DeviceTraces)
   unheld_no_done (runs.OfFiles (plan.OfMemory same) untouched) = cc same
   unheld_no_done (runs.OfOpening base plan rows queries planned (runs.OfPlant is kept)) = plant_no_done base is
   unheld_no_done (runs.OfOpening base plan rows queries planned (runs.OfWant same untouched)) = cc same
-  unheld_no_done (runs.OfMemory same untouched) = cc same
 
   plant_no_fault : (base : Base) → IsPlantRefusal base old new before now WriteFault → ⊥
   plant_no_fault base (OfTags is) = is
@@ -112,7 +123,6 @@ module _ (name plan_name : List ℕ) (told : ToldFiles) (old new : DeviceTraces)
   unheld_no_fault (runs.OfFiles (plan.OfMemory same) untouched) = cc same
   unheld_no_fault (runs.OfOpening base plan rows queries planned (runs.OfPlant is kept)) = plant_no_fault base is
   unheld_no_fault (runs.OfOpening base plan rows queries planned (runs.OfWant same untouched)) = cc same
-  unheld_no_fault (runs.OfMemory same untouched) = cc same
 
   plant_no_words : (base : Base) → IsPlantRefusal base old new before now BadWords → ⊥
   plant_no_words base (OfTags is) = is
@@ -131,7 +141,6 @@ module _ (name plan_name : List ℕ) (told : ToldFiles) (old new : DeviceTraces)
   unheld_no_words (runs.OfFiles (plan.OfMemory same) untouched) = cc same
   unheld_no_words (runs.OfOpening base plan rows queries planned (runs.OfPlant is kept)) = plant_no_words base is
   unheld_no_words (runs.OfOpening base plan rows queries planned (runs.OfWant same untouched)) = cc same
-  unheld_no_words (runs.OfMemory same untouched) = cc same
 
 -- so the words of a command line are never the answer of a run
 pub understood : (name plan_name : List ℕ) (told : ToldFiles) (old new : DeviceTraces) (before now stops_before stops_now : ℕ)

@@ -1,10 +1,9 @@
 -- A session that is not held for its devices has no fault of a file.
-use Rattle.std.proofs.Common.{◌≡◌, ℕ, Result, Ok, Err, refl, subst}
+use Rattle.std.proofs.Common.{◌≡◌, ℕ, Result, Ok, Err, refl, subst, String}
 use Rattle.std.specs.Prelude.{IfErr}
 use Rattle.std.specs.declared.alloc.Global.{Global}
-use Rattle.std.proofs.Common.{String}
 use Rattle.plant_status.specs.declared.status.Status.{Status}
-use Rattle.plant_status.specs.declared.status.Status.TheVariants.{Done, BadWords, BadText, BadRow, ReadFault, WriteFault, DeviceFault, Damaged, OtherTag, Limit, Mismatch, Halted, WantOfMemory, OtherPlant, BadName}
+use Rattle.plant_status.specs.declared.status.Status.TheVariants.{ReadFault}
 use Rattle.plant_files.specs.Reading.{faults_after, faults_told}
 use Rattle.tag_base.specs.declared.definition.Base.{Base}
 use Rattle.plant_store.specs.TagRefusals as tags
@@ -27,21 +26,8 @@ unopened_is_no_fault base old new before now why (OfWant is untouched) which sam
 
 -- what is no read fault counts none
 told_none : (why : Status) (n : ℕ) → IsNoReadFault why → faults_told why n ≡ n
-told_none Done n other = refl
-told_none BadWords n other = refl
-told_none (BadText file rule place at) n other = refl
-told_none (BadRow file row reason) n other = refl
-told_none (ReadFault which) n other = absurd (other which refl)
-told_none WriteFault n other = refl
-told_none (DeviceFault unit) n other = refl
-told_none (Damaged unit at byte) n other = refl
-told_none (OtherTag tag found wanted) n other = refl
-told_none (Limit what number) n other = refl
-told_none (Mismatch place kept told) n other = refl
-told_none (Halted worker) n other = refl
-told_none WantOfMemory n other = refl
-told_none (OtherPlant at) n other = refl
-told_none (BadName word) n other = refl
+told_none (ReadFault which) n none = absurd (none which refl)
+told_none other n none = refl
 
 pub after_none : (answer : Result (String Global) Status) (n : ℕ) → IfErr answer IsNoReadFault → faults_after answer n ≡ n
 after_none (Ok text) n other = refl

@@ -40,6 +40,7 @@ use Rattle.session_audit.specs.Pulls.{IsInputApart, IsInputPulled}
 use Rattle.session_audit.specs.Tapes.{ask_of, take_of}
 use Rattle.session_audit.specs.Workers.{LacksRow, file_due}
 use Rattle.session_report.specs.declared.session.Session.{Session}
+use Rattle.run_command.specs.Copies.{IsGroupUncopied, MayBeUncopied}
 use Rattle.run_command.specs.Endings.{HaveAllEnded, IsStop}
 use Rattle.run_command.specs.Units.{AreAsksBegun, AreTakesBegun, AtEachGroup, IsAcknowledged, IsBegun, IsGroupOpened, IsGroupRefreshed, IsOnTapes, IsRecorded, IsTagOpened, grid, group_tape, tag_records_of, tag_tape}
 
@@ -167,12 +168,13 @@ copies_with_all s d g = longer (lists_of g.copies.items) (uncut g.versions.items
 abbrev pub cells_with_all : Session → GroupDef → GroupHistory → ℕ
 cells_with_all s d g = complete_windows (grid g) (copies_with_all s d g) * length g.def.calcs.calcs
 
--- the version of an input is above the number of its tag's records
+-- the version of an input is above the number of its tag's records; no version before it is
 pub record IsAboveTag (s : Session) (d : GroupDef) (g : GroupHistory) (input : ℕ) (kept told : Seen) : Type 0 where
   pub within : input < length d.inputs.items
   pub kept_is : kept ≡ Number (length (tag_records_of s (slice_index d.inputs.items input)))
   pub told_is : told ≡ Number (slice_index g.versions.items input)
   pub above : length (tag_records_of s (slice_index d.inputs.items input)) < slice_index g.versions.items input
+  pub front : (k : ℕ) → k < input → slice_index g.versions.items k ≤ length (tag_records_of s (slice_index d.inputs.items k))
 
 -- Why a group is not refreshed or saved. A version is too high. With all records it would have too many cells or copied
 -- records. Or the answer names its device.
@@ -234,14 +236,23 @@ pub data IsStepCause (item_of : ℕ → ℕ → RawRow → Option Item) (turns_o
 
 -- ---- the cause
 
--- Why a session has no report, with these notes of its workers. An opening has changed. A tape shows what no file has. A
+-- Why a session was refused, with these notes of its workers. An opening has changed. A tape shows what no file has. A
 -- worker was stopped or found no memory, and no group was refreshed too often. All workers ended by themselves, and a step
 -- cannot be made. Memory was wanting; this may come at any time.
+pub data IsRefusalCause (item_of : ℕ → ℕ → RawRow → Option Item) (turns_of : ℕ → ℕ) (base : Base) (before : DeviceTraces)
+    (rows : List (List RawRow)) (queries : List (List Query)) (quiet : Type 0) (notes : List WorkerNote) (s : Session) (why : Status) : Type 0 where
+  OfOpening : IsOpeningCause base before s why → IsRefusalCause item_of turns_of base before rows queries quiet notes s why
+  OfTape : IsTapeCause item_of turns_of rows queries s why → IsRefusalCause item_of turns_of base before rows queries quiet notes s why
+  OfStop : AreTurnsWithin turns_of s → IsStop notes why → IsRefusalCause item_of turns_of base before rows queries quiet notes s why
+  OfStep : HaveAllEnded notes → IsStepCause item_of turns_of base rows queries quiet s why
+      → IsRefusalCause item_of turns_of base before rows queries quiet notes s why
+  OfMemory : why ≡ WantOfMemory → IsRefusalCause item_of turns_of base before rows queries quiet notes s why
+
+-- Why a session has no report: it was refused, and reports that. Or a refusal, neither a mismatch nor want of memory, was
+-- checked before it was reported: a group has other records than its inputs' tags, and the session reports this.
 pub data IsSessionCause (item_of : ℕ → ℕ → RawRow → Option Item) (turns_of : ℕ → ℕ) (base : Base) (before : DeviceTraces)
     (rows : List (List RawRow)) (queries : List (List Query)) (quiet : Type 0) (notes : List WorkerNote) (s : Session) (why : Status) : Type 0 where
-  OfOpening : IsOpeningCause base before s why → IsSessionCause item_of turns_of base before rows queries quiet notes s why
-  OfTape : IsTapeCause item_of turns_of rows queries s why → IsSessionCause item_of turns_of base before rows queries quiet notes s why
-  OfStop : AreTurnsWithin turns_of s → IsStop notes why → IsSessionCause item_of turns_of base before rows queries quiet notes s why
-  OfStep : HaveAllEnded notes → IsStepCause item_of turns_of base rows queries quiet s why
+  OfRefusal : IsRefusalCause item_of turns_of base before rows queries quiet notes s why
       → IsSessionCause item_of turns_of base before rows queries quiet notes s why
-  OfMemory : why ≡ WantOfMemory → IsSessionCause item_of turns_of base before rows queries quiet notes s why
+  OfCopies : (came : Status) → IsRefusalCause item_of turns_of base before rows queries quiet notes s came → (MayBeUncopied came → ⊥)
+      → IsGroupUncopied base s why → IsSessionCause item_of turns_of base before rows queries quiet notes s why

@@ -28,6 +28,7 @@ use Rattle.run_command.specs.declared.work.Given.{Given}
 use Rattle.collector_pool.specs.declared.note.WorkerNote.{WorkerNote}
 use Rattle.collector_pool.specs.declared.work.Work.{Work}
 use Rattle.run_command.specs.Causes.{IsSessionCause}
+use Rattle.run_command.specs.Copies.{AreCopied, IsChecked, MayBeUncopied}
 use Rattle.run_command.specs.Endings.{HaveAllEnded}
 use Rattle.run_command.specs.Headline.{IsDoneSo, IsMixed, IsUpToDate}
 use Rattle.run_command.specs.Sessions.{AreNotesOfAll, IsPlannedWork}
@@ -62,12 +63,14 @@ drill_answer (Err why) = Err (drill_status why)
 
 -- ---- the session
 
--- why it has no report: the refusal of one of the phases, or of what was pulled between them
-pub record IsDrillUndone {D : Type 0} (first second : Given) (opened : List (Cell D)) (opened_books : List (Book D))
+-- why it has no report: the refusal of one of the phases, or of what was pulled between them, and what is reported of it
+pub record IsDrillUndone {D : Type 0} (base : Base) (first second : Given) (opened : List (Cell D)) (opened_books : List (Book D))
     (cells : List (Cell D)) (books : List (Book D)) (s : Session) (why : Status) : Type 0 where
+  pub came : Status
+  pub undone : IsUndoneOfBoth first second opened opened_books cells books s.workers.items came
   pub cause : Status
+  pub checked : IsChecked base s came cause
   pub told : why ≡ drill_status cause
-  pub undone : IsUndoneOfBoth first second opened opened_books cells books s.workers.items cause
 
 -- A session of two phases over a base, and what came of it. The passes counted as many stops as workers were stopped. If
 -- there is a text, there is a note of each worker, and each tag had as many takes acknowledged as it has rows in the first
@@ -81,7 +84,7 @@ pub record IsRunInPhases {D : Type 0} (trace : D → Option Trace) (ticks faults
   pub ran : OnOk answer (AreNotesOfAllBoth first.work second.work s.workers.items)
   pub apart : OnOk answer (HaveFirstPulls first.rooms.items held.cells)
   pub begun : (AdmitsForeign answer → ⊥) → AreBegun first held.cells held.books ⊎ AreBegun second held.cells held.books
-  pub undone : IfErr answer (IsDrillUndone first second held.opened held.opened_books held.cells held.books s)
+  pub undone : IfErr answer (IsDrillUndone base first second held.opened held.opened_books held.cells held.books s)
 
 -- what a device in memory records: its calls, their number, and how many of them have failed
 abbrev pub memory_trace : DiskState → Option Trace
@@ -156,7 +159,8 @@ pub record IsDrillCause (number tags events : ℕ) (base : Base) (first second :
 -- rows of one of the phases. If there is a text, the session is done and the text is its report: each tag has taken all
 -- events of its collector, numbered from 1 in each phase, and all are acknowledged; the group is up to date, was
 -- refreshed twice, and was saved after that; it first pulled just the first phase; there is a note of each worker. Otherwise
--- there is a cause. The passes counted each stopped worker, up to 2^64 - 1.
+-- there is a cause; unless the answer is a mismatch or want of memory, the group has first records of its inputs' tags. The
+-- passes counted each stopped worker, up to 2^64 - 1.
 pub record IsDrilled (number tags events stops_before stops_now : ℕ) (answer : Result (String Global) Status) (s : Session)
     : Type 0 where
   pub base : Base
@@ -176,6 +180,7 @@ pub record IsDrilled (number tags events stops_before stops_now : ℕ) (answer :
   pub first_is : IsPlannedWork 0 (drill_rows_of number tags 0 (events / 2)) [] [] first
   pub second_is : IsPlannedWork (events / 2) (drill_rows_of number tags 0 events) [] [] second
   pub cause : IfErr answer (IsDrillCause number tags events base first second s)
+  pub copied : IfErr answer (λ why. (MayBeUncopied why → ⊥) → AtEachGroup base s (λ i d g. AreCopied s d g))
   pub notes : AreNotesOfBoth first second stops_before stops_now s.workers.items
   pub ran : OnOk answer (AreNotesOfAllBoth first second s.workers.items)
   pub no_log : s.log ≡ None

@@ -24,6 +24,7 @@ use Rattle.session_audit.specs.GroupTapes.{pulled, reached}
 use Rattle.plant_files.specs.PlanRows.{IsPlanned}
 use Rattle.session_report.specs.declared.session.Session.{Session}
 use Rattle.session_report.specs.Report.{report}
+use Rattle.run_command.specs.Copies.{AreCopied, MayBeUncopied}
 use Rattle.run_command.specs.Endings.{HaveAllEnded}
 use Rattle.run_command.specs.Refusals.{AdmitsForeign, IsOfOpening}
 use Rattle.run_command.specs.Units.{AreGroupsSound, AreUnitsOpened, AtEachGroup, IsBegun, IsGroupRefreshed, IsRecorded, IsTagSound, tag_records_of, turns_in}
@@ -73,8 +74,9 @@ CountsFaults before now (Err why) = (before ≤ now) × IsFaultCounted before no
 -- and record such calls now; the store counted so many faults before, and so many now. Whatever the answer is, each tag
 -- and each group is sound. Each was opened as what its device stood for, unless the answer reports that an opening has
 -- changed. Unless the answer admits a take or a question of no file, no tag and no group has any. If there is a text, the
--- session is done; otherwise there is a cause. The passes counted each stopped worker, up to 2^64 - 1. No device but
--- those of the base's tags and groups has changed.
+-- session is done; otherwise there is a cause. Unless the answer is a mismatch or want of memory, each group has first
+-- records of its inputs' tags. The passes counted each stopped worker, up to 2^64 - 1. No device but those of the base's
+-- tags and groups has changed.
 pub record IsPromised (name plan_name : List ℕ) (told : ToldFiles) (before now : DeviceTraces) (faults_before faults_now : ℕ)
     (stops_before stops_now : ℕ) (answer : Result (String Global) Status) (s : Session) : Type 0 where
   pub base : Base
@@ -90,6 +92,7 @@ pub record IsPromised (name plan_name : List ℕ) (told : ToldFiles) (before now
       (string_bytes text))
   pub cause : IfErr answer (IsSessionCause take_item (λ i. turns_in i plan.refreshers.items) base before rows queries
       (faults_before < 2 ^ 64 → faults_now ≡ faults_before) s.workers.items s)
+  pub copied : IfErr answer (λ why. (MayBeUncopied why → ⊥) → AtEachGroup base s (λ i d g. AreCopied s d g))
   pub counted : faults_before < 2 ^ 64 → CountsFaults faults_before faults_now answer
   pub work : Work
   pub work_is : IsPlannedWork 0 rows queries plan.refreshers.items work

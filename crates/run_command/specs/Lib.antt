@@ -3,6 +3,7 @@ pub mod Refusals
 pub mod Rooms
 pub mod Units
 pub mod Causes
+pub mod Copies
 pub mod Headline
 pub mod Runs
 pub mod Sessions

@@ -51,8 +51,8 @@ pub data IsMakingRefusal {D : Type 0} (g : Given) (cells : List (Cell D)) (books
   OfMemory : s ≡ WantOfMemory → IsMakingRefusal g cells books s
 
 -- the refusals, in order: one that comes of the tapes; a worker was stopped or found no memory, and no group was refreshed
--- too often; what the tapes lack
--- cannot be done; what a group has is not what it pulled of its inputs' tags. A lack of memory may come at any time.
+-- too often; what the tapes lack cannot be done; what a group has is not what it pulled of its inputs' tags. A lack of
+-- memory may come at any time.
 pub data IsRefused {D : Type 0} (g : Given) (notes : List WorkerNote) (cells : List (Cell D)) (books : List (Book D)) (s : Status)
     : Type 0 where
   OfFinding : IsFindingRefusal g cells books s → IsRefused g notes cells books s

@@ -1,5 +1,5 @@
 -- What a run of a plan comes to: its session, or why there is none.
-use Rattle.std.specs.Prelude.{◌≡◌, ◌≢◌, ℕ, ◌^◌, ◌<◌, ◌≤◌, List, [], length, map, Option, None, Result, Err, OnOk, IfErr, IfOk, IfSome, String, string_bytes, slice_index_or}
+use Rattle.std.specs.Prelude.{◌≡◌, ◌≢◌, ℕ, ◌^◌, ◌<◌, ◌≤◌, List, [], length, map, Option, None, Result, OnOk, IfErr, IfOk, IfSome, IsErrAnd, String, string_bytes, slice_index_or}
 use Rattle.std.specs.List.{AllZip}
 use Rattle.std.specs.declared.alloc.Global.{Global}
 use Rattle.trend_num.specs.Limits.{most_stored}
@@ -36,6 +36,7 @@ use Rattle.session_report.specs.Report.{report}
 use Rattle.run_command.specs.declared.work.Given.{Given}
 use Rattle.session_audit.specs.CellOpenings.{IsCellCopied}
 use Rattle.session_audit.specs.BookOpenings.{IsBookCopied}
+use Rattle.run_command.specs.Copies.{IsChecked}
 use Rattle.run_command.specs.Endings.{HaveAllEnded}
 use Rattle.run_command.specs.Refusals.{AdmitsForeign, IsOfOpening, IsSettlingRefusal}
 use Rattle.run_command.specs.Sessions.{AreNotes, AreNotesOfAll, IsPlannedWork}
@@ -64,14 +65,13 @@ pub data IsUnopened (base : Base) (old new : DeviceTraces) (before now : ℕ) (w
 abbrev pub IsNoReadFault : Status → Type 0
 IsNoReadFault why = (which : FileId) → why ≢ ReadFault which
 
--- why there is no session: a file is refused, the devices are not opened, or memory was wanting before
+-- why there is no session: a file is refused or memory was wanting for it, or the devices are not opened
 pub data IsUnheld (name plan_name : List ℕ) (told : ToldFiles) (old new : DeviceTraces) (before now : ℕ) (why : Status) : Type 0 where
   OfFiles : IsPlanningRefusal name plan_name told why → AreDevicesUntouched old new
       → IsUnheld name plan_name told old new before now why
   OfOpening : (base : Base) (plan : Plan) (rows : List (List RawRow)) (queries : List (List Query))
       → IsPlanned name plan_name told base plan rows queries → IsUnopened base old new before now why
       → IsUnheld name plan_name told old new before now why
-  OfMemory : why ≡ WantOfMemory → AreDevicesUntouched old new → IsUnheld name plan_name told old new before now why
 
 -- ---- a session
 
@@ -160,13 +160,13 @@ pub data IsUndone {D : Type 0} (g : Given) (opened : List (Cell D)) (opened_book
       → IsUndone g opened opened_books cells books notes why
   OfNone : why ≡ WantOfMemory → IsUndone g opened opened_books cells books notes why
 
--- the answer of a session that came to this: its report, if it is done and there is memory for it; otherwise, why there
--- is none
+-- The answer of a session that came to this: its report, if it is done and there is memory for it; otherwise, why there
+-- is none. A refusal is checked before it is reported.
 pub record IsReported (base : Base) (g : Given) (s : Session) (came : Result Unit Status) (told : Result (String Global) Status) : Type 0 where
   pub text : OnOk came (IfOk told (λ text. string_bytes text
       ≡ report base (length g.work.collectors.items) (lists_of g.work.readers.items) s))
   pub want : OnOk came (IfErr told (λ why. why ≡ WantOfMemory))
-  pub refused : IfErr came (λ why. told ≡ Err why)
+  pub refused : IfErr came (λ why. IsErrAnd told (IsChecked base s why))
 
 -- A session over a base, and what came of it. The devices were opened, and are given back. Each cell and book is the
 -- one that was opened, unless the answer reports that an opening has changed. If there is a text, the session is done.
@@ -184,6 +184,13 @@ pub record IsSessionHeld {D : Type 0} (trace : D → Option Trace) (ticks faults
   pub same_groups : (IsOfOpening answer → ⊥) → AllZip IsContinuedGroup opened_books books
   pub done : IfOk answer (λ text. IsDone base g cells books s (string_bytes text))
 
+-- why a session has no report: why it is not done, and what it reports of that
+pub record IsRefusedSo {D : Type 0} (base : Base) (g : Given) (opened : List (Cell D)) (opened_books : List (Book D)) (cells : List (Cell D))
+    (books : List (Book D)) (s : Session) (why : Status) : Type 0 where
+  pub came : Status
+  pub undone : IsUndone g opened opened_books cells books s.workers.items came
+  pub checked : IsChecked base s came why
+
 -- A session of this work over a base, and what came of it. The passes counted as many stops as workers were stopped.
 -- Unless the answer admits a take or a question of no file, there is a note of each worker, and each tape shows only
 -- first rows of the files. The session is done, or the answer has a cause.
@@ -193,4 +200,4 @@ pub record IsRun {D : Type 0} (trace : D → Option Trace) (ticks faults : D →
   pub notes : AreNotes g.work stops_before stops_now s.workers.items
   pub ran : (AdmitsForeign answer → ⊥) → AreNotesOfAll g.work s.workers.items
   pub begun : (AdmitsForeign answer → ⊥) → AreBegun g held.cells held.books
-  pub undone : IfErr answer (IsUndone g held.opened held.opened_books held.cells held.books s.workers.items)
+  pub undone : IfErr answer (IsRefusedSo base g held.opened held.opened_books held.cells held.books s)

@@ -7,7 +7,7 @@ use Rattle.trend_num.specs.declared.tag_def.TagDef.{TagDef}
 use Rattle.trend_model.specs.Bound.{IsBounded}
 use Rattle.trend_model.specs.History.{Event, Origin, Raw}
 use Rattle.trend_model.specs.State.{Stands, followed}
-use Rattle.disk_model.specs.Moments.{During, LeftSince}
+use Rattle.disk_model.specs.Moments.{LeftSince}
 use Rattle.disk_model.specs.Traces.{Trace}
 use Rattle.tag_cell.specs.declared.entry.Entry.{Entry}
 use Rattle.tag_cell.specs.declared.history.TagHistory.{TagHistory}
@@ -28,11 +28,9 @@ use Rattle.plant_store.specs.Groups.{DeviceTraces, IsGroupOpening, group_parts_o
 use Rattle.tag_base.specs.declared.definition.Base.{Base}
 use Rattle.tag_base.specs.declared.definition.GroupDef.{GroupDef}
 use Rattle.tag_base.specs.declared.schedule.Refresher.{Refresher}
-use Rattle.plant_store.specs.Tags.{IsLeft, IsOpened, tag_trace_of}
-use Rattle.crash_recovery.specs.Opening.{OpensAt, StaysSame}
+use Rattle.plant_store.specs.Tags.{IsOpened, tag_trace_of}
+use Rattle.crash_recovery.specs.Opening.{OpensAt}
 use Rattle.tag_core.specs.Core.{Core}
-use Rattle.group_layout.specs.Readings.{GainsGroupSync}
-use Rattle.group_book.specs.Openings.{BookStaysSame}
 use Rattle.value_rows.specs.declared.asked.Query.{Query}
 use Rattle.value_rows.specs.declared.raw.RawRow.{RawRow}
 use Rattle.session_audit.specs.declared.agenda.Item.{Item}
@@ -75,17 +73,11 @@ pub record IsTagSound (t : TagHistory) (trace : Option Trace) : Type 0 where
 abbrev pub core_of : TagDef → TagOpening → Core
 core_of def o = record { state = opened o; step = def.step; spare = 0 }
 
--- A tag is that of a base, and was opened as what its device, with these calls, recovered. `after` are the device's calls
--- at the end of the opening: none had failed, and as many were made as the opening's moment says. How many the opening makes
--- follows from the device's bytes (`OpensAt`). A crash at any moment until then leaves what one could leave before, or what
--- recovers the same, perhaps retuned (`StaysSame`).
+-- A tag is that of a base, and was opened as what its device, with these calls, recovered. No call of the device had failed
+-- then. How many calls the opening makes follows from the device's bytes (`OpensAt`).
 pub record IsTagOpened (def : TagDef) (before : Option Trace) (its : TagDef) (o : TagOpening) : Type 0 where
   pub def_is : its ≡ def
   pub found : IsOpened def before (core_of its o)
-  pub after : Option Trace
-  pub left : IsLeft def before after (core_of its o)
-  pub same : StaysSame def before after
-  pub clock : IfSome after (λ t. length t.calls ≡ o.moment)
   pub opened_at : OpensAt def before o.moment
   pub faultless : o.faults ≡ 0
 
@@ -121,18 +113,13 @@ pub record AreGroupsSound (base : Base) (devices : DeviceTraces) (s : Session) :
   pub each : AtEachGroup base s (λ i d g. IsGroupSound g (group_trace_at devices d))
 
 -- The base has this group at this place. It was opened as what its device, with these calls, stood for, after these records
--- of the tags of its inputs were recovered. `after` are the device's calls at the end of the opening. A device that had a
--- finished layout of the group has gained one sync and nothing else.
+-- of the tags of its inputs were recovered.
 pub record IsGroupOpened (i : ℕ) (d : GroupDef) (before : Option Trace) (recovered : List (List Rec)) (group : ℕ) (def : GroupDefParts)
     (text : List ℕ) (o : GroupOpening) : Type 0 where
   pub number : group ≡ i
   pub def_is : def ≡ group_parts_of d
   pub text_is : text ≡ group_definition_text d
   pub opening : IsGroupOpening d recovered before o
-  pub after : Option Trace
-  pub synced : GainsGroupSync (group_definition_text d) before after
-  pub same : During before after (BookStaysSame (group_definition_text d) (group_parts_of d) before)
-  pub clock : IfSome after (λ t. length t.calls ≡ o.moment)
 
 -- ---- what was opened
 

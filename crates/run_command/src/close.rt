@@ -1,4 +1,5 @@
 // The end of a session: its devices are given back, and its report is made.
+ghost use Rattle.plant_files.specs.PlanRows.{IsGoodBase};
 ghost use Rattle.plant_store.specs.Closings.{CountsClosed};
 ghost use Rattle.plant_store.specs.Groups.{DeviceTraces};
 ghost use Rattle.plant_store.specs.Openings.{AreRestSame};
@@ -6,8 +7,10 @@ ghost use Rattle.plant_store.specs.Shelves.{HasPlacesOf, IsShelfFor};
 ghost use Rattle.run_command.specs.Runs.{IsOver, IsReported};
 ghost use Rattle.std.specs.Prelude.{length, vec_len, ◌+◌, ◌<◌, ◌^◌, ◌≡◌};
 
+use crate::copies::checked;
 use crate::phase::EndedPhase;
 use crate::work::Given;
+use collector_pool::Work;
 use disk_model::Store;
 use plant_status::Status;
 use plant_store::{OpenPlant, Shelf, close_plant};
@@ -25,6 +28,7 @@ pub(crate) fn close<S: Store>(
     ended: EndedPhase<S::Dev>,
 ) -> (Result<String, Status>, Session)
     requires workers { length given.now.work.collectors.items + length given.now.work.readers.items < 2 ^ 32 }
+    requires good { IsGoodBase base.now }
     requires shelf { IsShelfFor base.now shelf }
     requires places { HasPlacesOf shelf (S.has_place store.old) }
     requires cells { vec_len ended.cells ≡ length base.now.tags.items }
@@ -62,14 +66,18 @@ fn report_of(
     session: &Session,
 ) -> Result<String, Status>
     requires workers { length given.now.work.collectors.items + length given.now.work.readers.items < 2 ^ 32 }
-    requires few_tags { length session.now.tags.items < 2 ^ 32 }
-    requires few_groups { length session.now.groups.items < 2 ^ 32 }
+    requires good { IsGoodBase base.now }
+    requires tags { length session.now.tags.items ≡ length base.now.tags.items }
+    requires groups { length session.now.groups.items ≡ length base.now.groups.items }
     ensures { IsReported base.now given.now session.now answer result }
 {
-    let collectors = given.work.collectors.len();
-    answer?;
-    match report(alloc, base, collectors, &given.work.readers, session) {
-        Ok(text) => Ok(text),
-        Err(_) => Err(Status::WantOfMemory),
+    if let Err(why) = answer {
+        return Err(checked(why, base, session));
     }
+    let Work {
+        collectors,
+        readers,
+        ..
+    } = &given.work;
+    report(alloc, base, collectors.len(), readers, session).map_err(|_| Status::WantOfMemory)
 }

@@ -25,8 +25,8 @@ use std::thread::Threads;
 use tag_cell::Cell;
 
 // Runs the first phase of a session over cells and books that are open. If it is done, runs the second one. Neither has
-// readers. The notes are those of the workers of the first phase, then those of the second. Once both are done, each tag has
-// to have had as many takes acknowledged as it has rows in the first phase, when a group first pulled from it.
+// readers. The notes are those of the workers of the first phase, then those of the second. Once both are done, each tag is
+// compared: when a group first pulled from it, as many takes had to be acknowledged as it has rows in the first phase.
 pub(crate) fn hold_both<D: Disk + Send, P: Passes, R: Threads + Wait + Sync>(
     rt: &R,
     alloc: Global,
@@ -178,8 +178,8 @@ fn go_on<D: Disk + Send, P: Passes, R: Threads + Wait + Sync>(
     }
 }
 
-// Returns the answer of two phases. If they are done, it compares what each tag had acknowledged when a group first pulled
-// from it with its rows in the first phase.
+// Returns the answer of two phases. If they are done, it compares two numbers for each tag: the takes that were acknowledged
+// when a group first pulled from it, and its rows in the first phase.
 fn compare_phases<D: Disk>(
     answer: Result<(), Status>,
     cells: &[Cell<D>],
@@ -191,10 +191,8 @@ fn compare_phases<D: Disk>(
     ensures apart { OnOk result (HaveFirstPulls rows.now cells.now) }
     ensures differs { OnOk answer (IfErr result (IsFirstPullMismatch rows.now cells.now)) }
 {
-    match answer {
-        Ok(()) => compare_first_pulls(cells, rows),
-        Err(why) => Err(why),
-    }
+    answer?;
+    compare_first_pulls(cells, rows)
 }
 
 // Appends notes to others, for which there is room.

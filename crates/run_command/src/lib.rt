@@ -10,7 +10,8 @@
 //! 3. In a phase (`phase`) collectors, readers and refreshers work at the same time.
 //! 4. Once they have ended, the session settles (`settle`). It compares the cells and books with their openings,
 //!    compares their tapes with the rows of the files, and does what the tapes lack.
-//! 5. The session gives the devices back, and makes the report from the histories (`close`).
+//! 5. The session gives the devices back, and makes the report from the histories (`close`). Before it reports a refusal that
+//!    is no mismatch and not want of memory, it compares what each group has with the records of its tags (`copies`).
 //!
 //! Of a worker's notes only three facts count: that its pass stopped it, that it found no memory, and which snapshot it
 //! was shown.
@@ -27,6 +28,7 @@
 #![tactic(auto)]
 
 mod close;
+mod copies;
 mod drill_command;
 mod drill_phases;
 mod drill_plant;

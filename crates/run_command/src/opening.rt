@@ -5,7 +5,7 @@ ghost use Rattle.plant_store.specs.Shelves.{HasPlacesOf, IsShelfFor};
 ghost use Rattle.run_command.specs.Runs.{AreDefined, AreUnitsOpen, IsUnopened};
 ghost use Rattle.snapshot_table.specs.Boards.{LooksAt, new_posters};
 ghost use Rattle.std.specs.Arc.{arc_value};
-ghost use Rattle.std.specs.Prelude.{All, IfErr, IfOk, OnOk, length, map, vec_len, ◌<◌, ◌^◌, ◌≡◌, ◌≤◌};
+ghost use Rattle.std.specs.Prelude.{All, IfErr, IfOk, length, map, vec_len, ◌<◌, ◌^◌, ◌≡◌, ◌≤◌};
 
 use disk_model::{Disk, Store};
 use plant_status::Status;

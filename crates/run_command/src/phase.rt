@@ -15,7 +15,7 @@ ghost use Rattle.session_audit.specs.Openings.{AreAsKept};
 ghost use Rattle.session_audit.specs.Pulls.{ArePulled};
 ghost use Rattle.snapshot_table.specs.Boards.{LooksAt};
 ghost use Rattle.std.specs.List.{AllZip};
-ghost use Rattle.std.specs.Prelude.{All, Err, IfErr, IfOk, OnErr, OnOk, [], is_ok, length, true, vec_capacity, vec_len, ⊤, ◌<◌, ◌^◌, ◌≡◌, ◌≤◌};
+ghost use Rattle.std.specs.Prelude.{All, Err, IfErr, IfOk, OnErr, OnOk, [], length, vec_capacity, vec_len, ⊤, ◌<◌, ◌^◌, ◌≡◌, ◌≤◌};
 
 use crate::groups::Groups;
 use crate::settle::settle;

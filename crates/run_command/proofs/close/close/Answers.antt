@@ -8,16 +8,9 @@ use Rattle.run_command.proofs.Zipped.{zip_length}
 use Rattle.run_command.proofs.GroupDevices.{groups_back}
 use Rattle.run_command.proofs.close.close.Goals as goal
 
-pub report_of-requires-clause-few_tags : goal.report_of-requires-clause-few_tags
-report_of-requires-clause-few_tags g c =
-    omega (
-      arith,
-      zip_length _ _ _ c.close_plant-tags.ensures.tags,
-      c.requires.cells,
-      c.args.ended.cells.ok,
-      c.args.base.now.few_tags,
-      c.args.base.now.tags.ok,
-    )
+pub report_of-requires-clause-tags : goal.report_of-requires-clause-tags
+report_of-requires-clause-tags g c =
+    omega (arith, zip_length _ _ _ c.close_plant-tags.ensures.tags, c.requires.cells, c.args.ended.cells.ok)
 
 pub returns-clause-over : goal.returns-clause-over
 returns-clause-over g c old rest =

@@ -35,6 +35,6 @@ returns g c old before was rest same =
     (subst (λ (v : Vec WorkerNote Global). OnOk ended.answer (AreNotesOfAllBoth first.work second.work v.items)) (sym closed.notes) end.ran))
     (ran_told (HaveFirstPulls first.rooms.items ended.cells.items) base second s ended.answer _ closed.told end.apart)
     (λ none. end.begun (λ of. none (foreign_told base second s ended.answer _ closed.told of)))
-    (both_told base first second s _ _ ended.cells.items ended.books.items s.workers.items ended.answer _ closed.told
+    (both_told base first second s _ _ ended.cells.items ended.books.items ended.answer _ closed.told
     (subst (λ (v : Vec WorkerNote Global). IfErr ended.answer (IsUndoneOfBoth first second c.args.plant.cells.items c.args.plant.books.items
     ended.cells.items ended.books.items v.items)) (sym closed.notes) end.undone)))

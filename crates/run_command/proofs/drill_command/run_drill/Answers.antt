@@ -1,6 +1,5 @@
-use Rattle.std.proofs.Common.{◌≡◌, ◌∙◌, ℕ, [], ap, subst}
+use Rattle.std.proofs.Common.{◌≡◌, ◌∙◌, ℕ, [], ap, subst, List, Option, Some}
 use Rattle.disk_model.specs.Stores.{Devices, named, trace_at}
-use Rattle.std.proofs.Common.{List, Option, Some}
 use Rattle.disk_model.specs.Traces.{Trace}
 use Rattle.run_command.proofs.Results.{err_weaker}
 use Rattle.run_command.proofs.Told.{some_weaker}

@@ -2,12 +2,12 @@ use Rattle.std.proofs.Common.{◌∙◌, ◌++◌, [], List, ap, arith, length, 
 use Rattle.std.proofs.lemmas.List.{append-nil}
 use Rattle.collector_pool.specs.declared.note.WorkerNote.{WorkerNote}
 use Rattle.run_command.specs.Runs as runs
-use Rattle.run_command.specs.Sessions.{OfNone}
+use Rattle.run_command.specs.Sessions.{OfNone, AreNotesOfAll}
 use Rattle.run_command.proofs.Continued.{groups_still, still}
 use Rattle.run_command.specs.Endings.{HaveAllEnded}
-use Rattle.run_command.specs.Sessions.{AreNotesOfAll}
 use Rattle.run_command.proofs.Notes.{at_text, ended_both}
-use Rattle.run_command.proofs.Results.{err_weaker, ok_weaker}
+use Rattle.std.proofs.lemmas.Result.{on_ok_weaker}
+use Rattle.run_command.proofs.Results.{err_weaker}
 use Rattle.run_command.proofs.DrillUndone.{few_notes, where_ok}
 use Rattle.run_command.proofs.drill_phases.go_on.Goals as goal
 
@@ -57,14 +57,14 @@ returns-clause-undone g c = err_weaker c.hold_phase-cells.result.answer
     c.hold_phase-cells.ensures.undone
 
 pub returns-clause-ended : goal.returns-clause-ended
-returns-clause-ended g c = ok_weaker c.hold_phase-cells.result.answer
+returns-clause-ended g c = on_ok_weaker c.hold_phase-cells.result.answer
     (λ ended. subst HaveAllEnded
     (sym (c.join.ensures ∙ ap (λ (l : List WorkerNote). l ++ c.hold_phase-cells.result.notes.items) c.reserve.ensures.items))
     (ended_both c.args.notes.items c.hold_phase-cells.result.notes.items c.requires.ended ended))
     c.hold_phase-cells.ensures.ended
 
 pub returns-clause-ran : goal.returns-clause-ran
-returns-clause-ran g c = ok_weaker c.hold_phase-cells.result.answer
+returns-clause-ran g c = on_ok_weaker c.hold_phase-cells.result.answer
     (λ are. record {
       more = c.hold_phase-cells.result.notes.items;
       behind = c.join.ensures ∙ ap (λ (l : List WorkerNote). l ++ c.hold_phase-cells.result.notes.items) c.reserve.ensures.items;

@@ -10,13 +10,15 @@ use Rattle.run_command.specs.Steps.{AreStepsMade}
 use Rattle.run_command.proofs.Continued.{books_on, cells_on, inputs_continued}
 use Rattle.run_command.proofs.DrillPulls.{held_before, refused_by, still_refused}
 use Rattle.run_command.proofs.DrillUndone.{all_or_none}
-use Rattle.run_command.proofs.Results.{ok_weaker}
+use Rattle.std.proofs.lemmas.Result.{on_ok_weaker}
 use Rattle.calc_refresh.specs.Lists.{lists_of}
 use Rattle.tag_cell.specs.Told.{ToldCell as Cell}
 use Rattle.session_audit.specs.FirstPulls.{IsFirstPullMismatch}
 use Rattle.session_audit.specs.Pulls.{ArePulled}
 use Rattle.run_command.specs.DrillPhases.{AreNotesOfAllBoth, OfFirst, OfFirstPull, OfSecond}
+use Rattle.run_command.proofs.drill_phases.hold_both.Given as given
 use Rattle.run_command.proofs.drill_phases.hold_both.Goals as goal
+use Rattle.run_command.proofs.drill_phases.hold_both.Goals.{After-go_on-cells}
 
 pub go_on-cells-requires-clause-inputs : goal.go_on-cells-requires-clause-inputs
 go_on-cells-requires-clause-inputs g c κs within =
@@ -30,6 +32,19 @@ not_opening was now same none of = none (still_refused IsOfOpening was now same 
 
 not_foreign : (was now : Result (Unit {0}) Status) → IfErr was (λ why. now ≡ Err why) → (AdmitsForeign now → ⊥) → AdmitsForeign was → ⊥
 not_foreign was now same none of = none (still_refused AdmitsForeign was now same (λ x no. absurd no) of)
+
+-- the notes of both phases, if the second is done
+both_ran : (g : given.Over) (c : After-go_on-cells g) → OnOk c.go_on-cells.result.answer
+    (AreNotesOfAllBoth c.args.first.now.work c.args.second.now.work c.go_on-cells.result.notes.items)
+both_ran g c = on_ok_weaker c.go_on-cells.result.answer
+    (λ ran. record {
+      front = c.hold_phase-cells.result.notes.items;
+      more = ran.more;
+      behind = ran.behind;
+      of_first = c.hold_phase-cells.ensures.ran (λ of. subst (λ (r : Result (Unit {0}) Status). AdmitsForeign r) c.in-Ok.is of);
+      of_second = ran.are;
+    })
+    c.go_on-cells.ensures.ran
 
 pub returns-in-Ok-clause-ended : goal.returns-in-Ok-clause-ended
 returns-in-Ok-clause-ended g c = held_before _ _ _ c.compare_phases-answer.ensures.undone c.go_on-cells.ensures.ended
@@ -66,15 +81,7 @@ returns-in-Ok-clause-undone g c = refused_by c.go_on-cells.result.answer _ c.com
     is)
     (λ x is why elsewhere. OfFirstPull
     (subst (λ (r : Result (Unit {0}) Status). OnOk r (AreNotesOfAllBoth c.args.first.now.work c.args.second.now.work c.go_on-cells.result.notes.items))
-    is (ok_weaker c.go_on-cells.result.answer
-    (λ ran. record {
-      front = c.hold_phase-cells.result.notes.items;
-      more = ran.more;
-      behind = ran.behind;
-      of_first = c.hold_phase-cells.ensures.ran (λ of. subst (λ (r : Result (Unit {0}) Status). AdmitsForeign r) c.in-Ok.is of);
-      of_second = ran.are;
-    })
-    c.go_on-cells.ensures.ran))
+    is (both_ran g (goal.at.returns-in-Ok-clause-undone g c).After-go_on-cells))
     (subst (λ (r : Result (Unit {0}) Status). OnOk r (HaveAllEnded c.go_on-cells.result.notes.items)) is c.go_on-cells.ensures.ended)
     (subst (λ (r : Result (Unit {0}) Status). OnOk r (AreStepsMade c.args.second.now
     c.go_on-cells.result.cells.items c.go_on-cells.result.books.items)) is c.go_on-cells.ensures.made)
@@ -85,15 +92,7 @@ returns-in-Ok-clause-undone g c = refused_by c.go_on-cells.result.answer _ c.com
 
 pub returns-in-Ok-clause-ran : goal.returns-in-Ok-clause-ran
 returns-in-Ok-clause-ran g c = held_before _ c.go_on-cells.result.answer _ c.compare_phases-answer.ensures.undone
-    (ok_weaker c.go_on-cells.result.answer
-    (λ ran. record {
-      front = c.hold_phase-cells.result.notes.items;
-      more = ran.more;
-      behind = ran.behind;
-      of_first = c.hold_phase-cells.ensures.ran (λ of. subst (λ (r : Result (Unit {0}) Status). AdmitsForeign r) c.in-Ok.is of);
-      of_second = ran.are;
-    })
-    c.go_on-cells.ensures.ran)
+    (both_ran g (goal.at.returns-in-Ok-clause-ran g c).After-go_on-cells)
 
 pub returns-in-Ok-clause-begun : goal.returns-in-Ok-clause-begun
 returns-in-Ok-clause-begun g c = λ none. inr (c.go_on-cells.ensures.begun (not_foreign _ _ c.compare_phases-answer.ensures.undone none))

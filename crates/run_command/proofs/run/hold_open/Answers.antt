@@ -34,7 +34,7 @@ returns g c old before was rest same =
       ran = λ none. subst (λ (v : Vec WorkerNote Global). AreNotesOfAll given.work v.items) (sym closed.notes)
           (end.ran (λ of. none (foreign_told c.args.base.now given s ended.answer _ closed.told of)));
       begun = λ none. end.begun (λ of. none (foreign_told c.args.base.now given s ended.answer _ closed.told of));
-      undone = undone_told c.args.base.now given s ended.cells.items ended.books.items _ _ s.workers.items ended.answer _ closed.told
+      undone = undone_told c.args.base.now given s ended.cells.items ended.books.items _ _ ended.answer _ closed.told
           (subst (λ (v : Vec WorkerNote Global). IfErr ended.answer (IsUndone given c.args.opened.plant.cells.items c.args.opened.plant.books.items
           ended.cells.items ended.books.items v.items)) (sym closed.notes) end.undone);
     }

@@ -5,7 +5,6 @@ use Rattle.value_rows.specs.declared.raw.RawRow.{RawRow}
 use Rattle.calc_refresh.specs.Lists.{lists_of}
 use Rattle.run_command.specs.Runs.{OfOpening}
 use Rattle.run_command.specs.Sessions.{planned_turn}
-use Rattle.run_command.proofs.Headline.{IsClocked}
 use Rattle.run_command.proofs.Promises.{promised}
 use Rattle.run_command.proofs.Results.{err_weaker}
 use Rattle.run_command.proofs.Told.{some_weaker}
@@ -15,8 +14,7 @@ pub returns-in-Ok-clause-promised : goal.returns-in-Ok-clause-promised
 returns-in-Ok-clause-promised g c = λ name plan_name told planned.
     let D = g.S.Dev.Disk in
     let made = c.in-Ok.ensures in
-    let clocked : IsClocked D.trace D.ticks = (g.met.S.Dev.Disk g.world.𝓛 g.world.𝓜 g.world.𝓡 ((λ s x. x), (λ x. x), (λ x. x), λ x. x)).told in
-    some_weaker c.run_given.result.session (λ s is. promised D.trace D.ticks D.fault_count clocked name plan_name told _ _ _ _ _ _
+    some_weaker c.run_given.result.session (λ s is. promised D.trace D.ticks D.fault_count name plan_name told _ _ _ _ _ _
     c.run_given.result.answer s (record {
       base = c.args.read.base;
       plan = c.args.read.plan;

@@ -1,12 +1,12 @@
 use Rattle.std.proofs.Common.{ℕ, List, Vec, ap, subst, length}
-use Rattle.std.proofs.lemmas.Result.{err_from_is_err_and}
+use Rattle.std.proofs.lemmas.Result.{err_from_is_err_and, on_ok_weaker}
 use Rattle.std.specs.declared.alloc.Global.{Global}
 use Rattle.calc_refresh.specs.Lists.{lists_of}
 use Rattle.session_audit.specs.Pulls.{ArePulled, IsPullMismatch}
 use Rattle.run_command.specs.Refusals.{OfFinding, OfMaking, OfPull, OfStop}
 use Rattle.run_command.proofs.Making.{few_refreshes, inputs_kept}
 use Rattle.run_command.proofs.Foreign.{finding_begun}
-use Rattle.run_command.proofs.Results.{at_ok, err_weaker, ok_weaker}
+use Rattle.run_command.proofs.Results.{at_ok, err_weaker}
 use Rattle.run_command.proofs.settle.complete.Goals as goal
 
 pub returns-in_err-find_all-clause-refused : goal.returns-in_err-find_all-clause-refused
@@ -35,7 +35,7 @@ returns-clause-refused g c = err_weaker c.compare_pulls.result
     c.deref.ensures.value is)) c.compare_pulls.ensures.differs
 
 pub returns-clause-pulled : goal.returns-clause-pulled
-returns-clause-pulled g c = ok_weaker c.compare_pulls.result
+returns-clause-pulled g c = on_ok_weaker c.compare_pulls.result
     (λ pulled. subst (λ (l : List (Vec ℕ Global)). ArePulled (lists_of l) c.make_up.new.cells c.make_up.new.books) c.deref.ensures.value pulled)
     c.compare_pulls.ensures.pulled
 

@@ -1,9 +1,9 @@
 use Rattle.std.proofs.Common.{List, ℕ, subst}
-use Rattle.std.proofs.lemmas.Result.{err_from_is_err_and}
+use Rattle.std.proofs.lemmas.Result.{err_from_is_err_and, on_ok_weaker}
 use Rattle.session_audit.specs.GroupTurns.{IsTurnsMismatch, IsWithinTurns}
 use Rattle.run_command.specs.Refusals.{OfAsk, OfRowAsk, OfTake, OfTurns}
 use Rattle.run_command.proofs.Making.{all_begun, asks_begun, takes_begun}
-use Rattle.run_command.proofs.Results.{at_ok, err_weaker, ok_weaker}
+use Rattle.run_command.proofs.Results.{at_ok, err_weaker}
 use Rattle.run_command.proofs.settle.find_all.Goals as goal
 
 pub returns-in_err-find_all_takes-clause-differs : goal.returns-in_err-find_all_takes-clause-differs
@@ -35,7 +35,7 @@ returns-clause-over g c = at_ok c.compare_turns.result (record {
 })
 
 pub returns-clause-found : goal.returns-clause-found
-returns-clause-found g c = ok_weaker c.compare_turns.result (λ within. record {
+returns-clause-found g c = on_ok_weaker c.compare_turns.result (λ within. record {
   collectors = c.in_ok-find_all_takes.ensures.found;
   readers = c.in_ok-find_all_asks.ensures.found;
   row_readers = c.in_ok-find_all_row_asks.ensures.found;

@@ -22,8 +22,8 @@ use Rattle.run_command.specs.Refusals.{OfCommit, OfRefresh, OfTaking}
 use Rattle.run_command.specs.Steps.{AreTapesMade}
 use Rattle.run_command.proofs.Kept.{books_asked, books_joined, books_refreshed, cells_joined, cells_longer, cells_pulled, committed}
 use Rattle.run_command.proofs.Making.{inputs_kept, known_asks, known_row_asks}
-use Rattle.std.proofs.lemmas.Result.{err_from_is_err_and}
-use Rattle.run_command.proofs.Results.{err_weaker, ok_weaker}
+use Rattle.std.proofs.lemmas.Result.{err_from_is_err_and, on_ok_weaker}
+use Rattle.run_command.proofs.Results.{err_weaker}
 use Rattle.run_command.proofs.settle.make_up.Given as given
 use Rattle.run_command.proofs.settle.make_up.Goals as goal
 use Rattle.run_command.proofs.settle.make_up.Goals.{After-commit_cells, After-refresh_missing}
@@ -122,7 +122,7 @@ returns-in_err-commit_cells-clause-refused g c =
 pub returns-clause-made : goal.returns-clause-made
 returns-clause-made g c =
     let at = (goal.at.returns-clause-made g c).After-refresh_missing in
-    ok_weaker c.refresh_missing.result (λ refreshed. record {
+    on_ok_weaker c.refresh_missing.result (λ refreshed. record {
       tapes = made_at_end g at;
       committed = committed _ _ c.refresh_missing.ensures.pulled c.in_ok-commit_cells.ensures.committed;
       refreshed = subst (λ (l : List (Vec ℕ Global)). AreBooksRefreshed (durable_lists c.refresh_missing.new.cells) (lists_of l)

@@ -1,5 +1,5 @@
 use Rattle.std.proofs.Common.{◌≡◌, ◌∙◌, List, ap, arith, is_ok, refl, rules, sym, subst, length, vec_len}
-use Rattle.std.proofs.lemmas.Result.{err_from_is_err_and}
+use Rattle.std.proofs.lemmas.Result.{err_from_is_err_and, on_ok_weaker}
 use Rattle.collector_pool.specs.declared.note.WorkerNote.{WorkerNote}
 use Rattle.run_command.specs.Endings.{HaveAllEnded}
 use Rattle.run_command.specs.Refusals.{IsRefused, OfGroup, OfRest, OfTag, OfWant, notes_of}
@@ -16,7 +16,7 @@ use Rattle.plant_status.proofs.Gathering.{whole_again}
 use Rattle.run_command.specs.Steps.{AreGivenFor, AreInputsFor}
 use Rattle.run_command.proofs.Mismatches.{mismatch_is_opening}
 use Rattle.run_command.proofs.Foreign.{opening_foreign}
-use Rattle.run_command.proofs.Results.{err_weaker, ok_weaker}
+use Rattle.run_command.proofs.Results.{err_weaker}
 use Rattle.run_command.proofs.settle.settle.Goals as goal
 
 pub returns-in_err-compare_all-clause-known : goal.returns-in_err-compare_all-clause-known
@@ -105,7 +105,7 @@ returns-in_err-compare_all-2-clause-begun g c =
     rw (p.1, p.2) (λ none. absurd (none (opening_foreign _ (mismatch_is_opening Group IsBookAsKept IsBookDifference _ _ c.in_err-compare_all-2.field-0.0 c.in_err-compare_all-2.ensures.differs))))
 
 pub returns-in-Ok-clause-ended : goal.returns-in-Ok-clause-ended
-returns-in-Ok-clause-ended g c = ok_weaker c.complete_all.result
+returns-in-Ok-clause-ended g c = on_ok_weaker c.complete_all.result
     (λ ended. subst HaveAllEnded (c.deref.ensures.value ∙ sym (ap notes_of c.in-Ok.is)) ended) c.complete_all.ensures.ended
 
 pub returns-in-Ok-clause-ran : goal.returns-in-Ok-clause-ran

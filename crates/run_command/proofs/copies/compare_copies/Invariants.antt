@@ -1,0 +1,10 @@
+use Rattle.std.proofs.Common.{◌<◌, ℕ, get_or}
+use Rattle.tag_base.specs.declared.definition.GroupDef.{GroupDef}
+use Rattle.group_book.specs.declared.history.GroupHistory.{GroupHistory}
+use Rattle.run_command.specs.Copies.{AreCopied}
+use Rattle.run_command.proofs.copies.compare_copies.Given as goal
+
+abbrev pub invariant-loop-group : goal.invariant-loop-group
+invariant-loop-group l =
+    (k : ℕ) (d : GroupDef) (g : GroupHistory) → k < l.group
+    → AreCopied l.session (get_or l.base.groups.items k d) (get_or l.session.groups.items k g)
