@@ -19,13 +19,13 @@ WIDTH = 140
 def read_layers(path):
     """The layers, lowest first: the comment above, and the crates with all that they name."""
     layers = []
-    for line in open(path):
-        line = line.strip()
-        if line.startswith("#"):
-            layers.append((line.lstrip("# ").rstrip("."), {}))
-        elif line:
-            name, _, deps = line.partition(":")
-            layers[-1][1][name.split()[0]] = deps.split()
+    with open(path) as lines:
+        for line in map(str.strip, lines):
+            if line.startswith("#"):
+                layers.append((line.lstrip("# ").rstrip("."), {}))
+            elif line:
+                name, _, deps = line.partition(":")
+                layers[-1][1][name.split()[0]] = deps.split()
     return [(title, crates) for title, crates in layers if crates]
 
 
@@ -80,13 +80,15 @@ def derived(layers):
 
 
 def main():
-    page = open(PAGE).read()
+    with open(PAGE) as text:
+        page = text.read()
     front, rest = page.split(BEGIN)
     _, back = rest.split(END)
     new = f"{front}{BEGIN}\n{derived(read_layers(CRATES))}\n{END}{back}"
     if "--check" in sys.argv[1:]:
         sys.exit("docs/LAYERS.md: the graph is not that of crates.txt" if new != page else 0)
-    open(PAGE, "w").write(new)
+    with open(PAGE, "w") as out:
+        out.write(new)
 
 
 main()

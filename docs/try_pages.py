@@ -15,13 +15,16 @@ import argparse
 import difflib
 import os
 import re
-import shlex
 import shutil
 import subprocess
 import sys
 import tempfile
 
+sys.dont_write_bytecode = True
 TOP = os.path.dirname(os.path.dirname(os.path.abspath(__file__)))
+sys.path.insert(0, os.path.join(TOP, "tools"))
+from plant import program_of  # noqa: E402
+
 PAGES = ["README.md", "docs/TOUR.md", "docs/RUNNING.md", "docs/FORMATS.md"]
 FOLDER = re.compile(r"<!-- in: (\S+) -->")
 INDENT = "    "
@@ -104,13 +107,6 @@ def result_of(page, program):
             text += lines
     text.append("%-16s %2d commands, %s" % (page, len(shown), "%d wrong" % wrong if wrong else "each prints what the page shows"))
     return wrong == 0, "\n".join(text)
-
-
-def program_of(text):
-    """The program's command with its first word as a path, or None if there is no such program."""
-    words = shlex.split(text)
-    found = shutil.which(words[0]) if words else None
-    return shlex.join([os.path.abspath(found)] + words[1:]) if found else None
 
 
 def main():

@@ -17,6 +17,7 @@ import sys
 import tempfile
 
 import seals
+from devices import TUNING
 from plant import UNREADABLE, Plant, Refusal, ended
 from rows import BadField, decimal_text, iso_text, milliseconds
 from turns import require_scales
@@ -83,7 +84,7 @@ def tags_alone(tags):
     lines = []
     for name, tag in tags.items():
         lines += ["[[tag]]", 'name = "%s"' % name, "step = %s" % ("true" if tag.get("step") else "false")]
-        lines += ["%s = %d" % (key, tag[key]) for key in ("exc_dev", "exc_max", "comp_dev", "comp_min", "comp_max")]
+        lines += ["%s = %d" % (key, tag[key]) for key in TUNING]
     return "\n".join(lines) + "\n"
 
 

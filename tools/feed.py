@@ -18,26 +18,30 @@ import seals
 import turns
 from devices import retuned
 from inbox import note_fed, put_file, read_inbox, whole_files
-from plant import BUSY, CHANGED, UNREADABLE, Plant, Refusal, ended, step_of, sync_folder, write_whole
+from plant import BUSY, CHANGED, UNREADABLE, Plant, Refusal, bytes_of, ended, step_of, sync_folder, write_whole
 from rows import decimal_text, iso_text
 from telling import say, tell
 from turns import Turn, end, note_scales, put_refused, require_scales, unfinished, write_down, write_plan, write_refused
 
 RECORDS, ALL_RECORDS = 1_048_560, 8_380_000  # of a tag, of all tags: a little below the limits, so that a retuning still has room
 BASE, NEW_BASE = "feed.d/base.toml", "feed.d/base.new.toml"
+LONGEST = 1e9  # seconds of --every; Python cannot wait for much longer
 NO_ROOM = "no-room.csv"  # the file of the rows for which there is no room, if no file of the turn has that name
 
 
 # A turn begins
 
-def begin(plant, names):
-    """A turn of these files of the inbox, written down, and the tag lines of `check` from just before."""
+def begin(plant, names, edited):
+    """A turn of these files of the inbox, written down, and the tag lines of `check` from just before. None if the files are gone by now
+    and no edited base has to be taken over."""
     os.makedirs(plant.path("feed.d"), exist_ok=True)
     sync_folder(plant.path())
     state = open_devices(plant)
     tags = plant.base(BASE)[0]
     require_scales(plant, tags)
     number, values, files, refused = read_inbox(plant, names, tags)
+    if not files and not edited:
+        return None
     wanted = {name: {"taken": state[name].taken, "late": state[name].late, "held": state[name].held, "rows": len(values.of(name)[0]),
                      "scale": plant.scale(name, tags[name]) or 1} for name in tags if name in values.tags}
     turn = Turn(number, files, wanted, values)
@@ -68,11 +72,6 @@ def is_base_new(plant):
     if os.path.exists(plant.path(NEW_BASE)) or not os.path.exists(plant.path(BASE)):
         return True
     return bytes_of(plant.path(BASE)) != bytes_of(plant.path("base.toml"))
-
-
-def bytes_of(path):
-    with open(path, "rb") as data:
-        return data.read()
 
 
 # A turn that a stop left
@@ -167,6 +166,7 @@ def refuse_rest(plant, turn, state):
         times, values = turn.values.of(name)
         for place in range(turn.stored(name, state), len(times)):
             value = decimal_text(values[place], turn.tags[name].get("scale", plant.scale(name, tags[name]) or 1))
+            value = value.replace(".", plant.settings.decimal)
             rows.append((name, iso_text(times[place], None), value, "", "the archive has no room for more records of this tag"))
     name = NO_ROOM
     while name in [file["name"] for file in turn.files]:
@@ -194,9 +194,10 @@ def one_turn(plant, said, wait):
             seals.require_known(plant)
         names, waiting = whole_files(plant, said)
         edited = os.path.exists(plant.path(BASE)) and is_base_new(plant)  # then a turn without files takes it over
-        if names or edited:
-            finish(plant, *begin(plant, names))
-        return bool(names or edited), waiting
+        begun = begin(plant, names, edited) if names or edited else None
+        if begun:
+            finish(plant, *begun)
+        return begun is not None, waiting
 
 
 def feed(plant, every, wait):
@@ -262,6 +263,8 @@ def main():
     one.add_argument("--seal", action="store_true", help="feed nothing: accept the devices as they stand, after a change that you know")
     one.add_argument("--anew", action="append", metavar="TAG", help="feed nothing: begin a tag anew, empty, whose device is missing")
     given = parser.parse_args()
+    if given.every is not None and not 0 < given.every < LONGEST:
+        parser.error("--every takes more than 0 seconds, and less than 10^9")
     plant = Plant(given.plant, given.program)
     for asked, do in ((given.verify, seals.verified), (given.backup, seals.back_up), (given.seal, accept.sealed_anew),
                       (given.anew, lambda plant: accept.begun_anew(plant, given.anew))):

@@ -8,7 +8,7 @@ import hashlib
 import os
 import time
 
-from plant import UNREADABLE, Refusal, copied, sha256_of, sync_folder
+from plant import UNREADABLE, Refusal, bytes_of, copied, sha256_of, sync_folder
 from rows import Values, read_values
 
 AGAIN = 3_600  # seconds after which a file that stays in the inbox is told of again
@@ -28,13 +28,17 @@ def whole_files(plant, said):
         path = os.path.join(folder, name)
         if name.startswith(".") or not name.lower().endswith((".csv", ".part")) or not os.path.isfile(path):
             continue
-        age, is_part = time.time() - os.path.getmtime(path), name.lower().endswith(".part")
-        if abs(age) < plant.settings.settle_seconds:
-            waiting = waiting or not is_part
+        is_part = name.lower().endswith(".part")
+        try:
+            age = time.time() - os.path.getmtime(path)
+            if abs(age) < plant.settings.settle_seconds:
+                waiting = waiting or not is_part
+                continue
+            if is_part and age < AGAIN:
+                continue
+            why = PART if is_part else why_not_whole(path)
+        except FileNotFoundError:  # somebody renamed or removed it just now
             continue
-        if is_part and age < AGAIN:
-            continue
-        why = PART if is_part else why_not_whole(path)
         if why is None:
             names.append(name)
         elif name not in said or time.monotonic() > said[name] + AGAIN:
@@ -44,7 +48,7 @@ def whole_files(plant, said):
 
 
 def why_not_whole(path):
-    """Why a file is not taken yet, or None."""
+    """Why a file is not taken yet, or None. Fails if the file is gone."""
     try:
         with open(path, "rb") as data:
             if data.read(2) in (codecs.BOM_UTF16_LE, codecs.BOM_UTF16_BE):
@@ -57,6 +61,8 @@ def why_not_whole(path):
             if data.read(1) != b"\n":
                 return ("its last line has no end, so it is still being written, or was cut off. If nothing writes to it any more, complete"
                         " or remove that line, and end the file with a line end")
+    except FileNotFoundError:
+        raise
     except OSError as why:
         return "it cannot be read (%s)" % why.strerror
     return None
@@ -95,7 +101,8 @@ def note_fed(plant, turn):
 def read_inbox(plant, names, tags):
     """The values of these files, what is to be known of each file, and its refused rows; the number that the turn gets.
 
-    It stops behind the file with which there are as many values as one run may have. The files stay where they are."""
+    It stops behind the file with which there are as many values as one run may have. The files stay where they are. One that somebody
+    renamed or removed meanwhile is passed over."""
     latest = int(time.time() * 1000) + plant.settings.future_ms
     scales = {name: plant.scale(name, definition) for name, definition in tags.items()}
     values, files, refused = Values(), [], {}
@@ -103,8 +110,10 @@ def read_inbox(plant, names, tags):
     for name in names:
         if values.count >= plant.settings.rows_a_run:
             break
-        with open(plant.path(plant.settings.inbox, name), "rb") as file:
-            data = file.read()
+        try:
+            data = bytes_of(plant.path(plant.settings.inbox, name))
+        except FileNotFoundError:
+            continue
         sha, count, rounded = hashlib.sha256(data).hexdigest(), values.count, values.rounded
         twice = sha in before
         if not twice:

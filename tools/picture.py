@@ -89,7 +89,7 @@ def value_ticks(low, high):
 
 
 def time_ticks(first, last, zone):
-    """Round times of the local clock, at most fourteen."""
+    """Round times of the local clock, and the step between them. In up to 6,500 days there are at most fourteen."""
     step = next((step for step in TIME_STEPS if (last - first) / step <= 13), TIME_STEPS[-1])
     between = min(step, 15 * MINUTE)
     times = range(-(-first // between) * between, last + 1, between)

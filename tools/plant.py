@@ -75,9 +75,11 @@ class Settings:
             raise Refusal(UNREADABLE, "%s has no setting %r; there are %s" % (path, unknown[0], ", ".join(SETTINGS)))
         for key, usual in SETTINGS.items():
             setattr(self, key, given.get(key, usual))
-        for key in ("future_ms", "rows_a_run", "settle_seconds"):
-            if type(getattr(self, key)) is not int or getattr(self, key) < (key == "rows_a_run"):
-                raise Refusal(UNREADABLE, "%s: %s must be a whole number" % (path, key))
+        for key, least in (("future_ms", 0), ("rows_a_run", 1), ("settle_seconds", 0)):
+            if type(getattr(self, key)) is not int or getattr(self, key) < least:
+                raise Refusal(UNREADABLE, "%s: %s must be a whole number from %d" % (path, key, least))
+        if type(self.tag) is not dict or any(type(table) is not dict for table in self.tag.values()):
+            raise Refusal(UNREADABLE, '%s: a tag is written as [tag."NAME"], with its scale' % path)
         for name, table in self.tag.items():
             if set(table) != {"scale"} or type(table["scale"]) is not int or table["scale"] < 1:
                 raise Refusal(UNREADABLE, "%s: [tag.%r] must have the one key scale, a whole number from 1" % (path, name))
@@ -234,6 +236,19 @@ def read_toml(path):
         raise Refusal(UNREADABLE, "%s cannot be read: %s" % (path, why.strerror)) from None
     except (tomllib.TOMLDecodeError, UnicodeDecodeError) as why:
         raise Refusal(UNREADABLE, "%s is no TOML: %s" % (path, why)) from None
+
+
+def program_of(text):
+    """The program's command with its first word as a path, or None if there is no such program."""
+    words = shlex.split(text)
+    found = shutil.which(words[0]) if words else None
+    return shlex.join([os.path.abspath(found)] + words[1:]) if found else None
+
+
+def bytes_of(path):
+    """The bytes of a file."""
+    with open(path, "rb") as data:
+        return data.read()
 
 
 def sha256_of(path):

@@ -55,10 +55,10 @@ def within_time(t, text):
 
 def whole_value(text, scale, decimal="."):
     """A decimal times the scale, rounded half away from zero."""
-    return value_and_rest(text, scale, decimal)[0]
+    return value_and_rounding(text, scale, decimal)[0]
 
 
-def value_and_rest(text, scale, decimal="."):
+def value_and_rounding(text, scale, decimal="."):
     """A decimal times the scale, rounded half away from zero, and whether it was rounded: 7.00 is 7 exactly. Without a scale (None) what
     would have to be rounded is refused: a scale cannot be given any more once there are values."""
     plain = text if decimal == "." else text.replace(".", "?").replace(decimal, ".")
@@ -78,12 +78,12 @@ def value_and_rest(text, scale, decimal="."):
 
 
 def decimal_text(value, scale):
-    """A stored value as a person reads it: divided by the tag's scale."""
+    """A stored value as a person reads it: divided by the tag's scale. `whole_value` finds the same value again in this text."""
     digits = len(str(scale)) - 1
     if scale == 10**digits:
         whole, part = divmod(abs(value), scale)
         return "%s%d%s" % ("-" if value < 0 else "", whole, ".%0*d" % (digits, part) if digits else "")
-    return "%.12g" % (value / scale)
+    return repr(value / scale).removesuffix(".0")
 
 
 def iso_text(t, zone):
@@ -186,7 +186,7 @@ def read_values(data, scales, settings, latest, values):
                 raise BadField("later than the clock by more than %d ms: %r" % (settings.future_ms, time))
             if t < settings.not_before:
                 raise BadField("earlier than not_before in feed.toml: %r (a whole number is milliseconds)" % time)
-            whole, rounded = value_and_rest(value, scales[tag], settings.decimal)
+            whole, rounded = value_and_rounding(value, scales[tag], settings.decimal)
             values.add(tag, t, whole)
             values.rounded += rounded
         except BadField as why:

@@ -20,7 +20,8 @@ from plant import CHANGED, Refusal, copied, sha256_of, sync_folder, write_whole
 LINE = re.compile(r"([0-9a-f]{64}|# \d+ events|# [0-9a-f]{64} of the first \d+ bytes)  (historian\.d/.+)\n")
 LOG = "historian.d/plant.log"
 SHOWN = 20  # devices that a line tells of
-UNFINISHED = re.compile(r"\d{4}-\d\d-\d\dT\d{6}Z\.part")
+BACKUP = re.compile(r"\d{4}-\d\d-\d\dT\d{6}Z")  # the name of a copy
+UNFINISHED = re.compile(BACKUP.pattern + r"\.part")
 
 
 def devices(plant):
@@ -148,7 +149,7 @@ def require_good(plant):
         try:
             with open(plant.path("feed.d", "turn.json")) as text:
                 tags = list(json.load(text)["tags"])
-        except (ValueError, KeyError):
+        except (ValueError, KeyError, TypeError):
             raise Refusal(CHANGED, "feed.d/turn.json is damaged, so nobody can say what is stored, and nothing was done: run"
                           " feed.py") from None
     groups = [name for name in devices(plant) if name.endswith(".grp")] if tags else []
@@ -185,9 +186,9 @@ def require_begun(plant, names):
 
 
 def backups(plant):
-    """The names of the whole copies, the newest first."""
+    """The names of the whole copies that this tool made, the newest first."""
     folder = plant.path("backup")
-    return sorted((n for n in os.listdir(folder) if not n.endswith(".part")), reverse=True) if os.path.isdir(folder) else []
+    return sorted(filter(BACKUP.fullmatch, os.listdir(folder)), reverse=True) if os.path.isdir(folder) else []
 
 
 def remove_unfinished(plant):

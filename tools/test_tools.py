@@ -12,8 +12,6 @@ The exit status is 1 if a case fails."""
 import argparse
 import concurrent.futures
 import os
-import shlex
-import shutil
 import sys
 import tempfile
 import time
@@ -30,13 +28,7 @@ import kills  # noqa: E402
 import lost  # noqa: E402
 import stops  # noqa: E402
 import told  # noqa: E402
-
-
-def program_of(text):
-    """The program's command with its first word as a path, or None if there is no such program."""
-    words = shlex.split(text)
-    found = shutil.which(words[0]) if words else None
-    return " ".join([os.path.abspath(found)] + words[1:]) if found else None
+from plant import program_of  # noqa: E402
 
 
 def result_of(case, program, settings):

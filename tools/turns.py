@@ -12,6 +12,7 @@ from plant import CHANGED, UNREADABLE, Refusal, copied, sync_folder, write_whole
 from rows import REFUSED_HEADER, Values
 
 WORK = "feed.d/turn"
+KNOWN = {"taken", "held", "rows"}  # what every feeder wrote down of a tag; later ones add "late" and "scale"
 COLLECTORS = 16  # of a plan, at most
 TAG_BYTES = 33_000_000  # of a tag's rows in a run: so each collector's file is shorter than the 67,108,864 bytes that the program takes
 
@@ -70,13 +71,19 @@ def unfinished(plant):
         with open(plant.path("feed.d", "turn.json")) as text:
             kept = json.load(text)
         turn = Turn(kept["turn"], kept["files"], kept["tags"], read_rows(plant.path(WORK, "rows.csv")))
-        whole = all(len(turn.values.of(name)[0]) == wanted["rows"] for name, wanted in turn.tags.items())
-    except (ValueError, KeyError, FileNotFoundError):
+        whole = is_whole(turn)
+    except (ValueError, KeyError, TypeError, AttributeError, FileNotFoundError):
         whole = False
     if not whole:
         raise Refusal(CHANGED, "what stands in feed.d of an unfinished turn is damaged, so nobody can say which rows are stored, and"
                       " nothing was done. Put the plant back from a backup (docs/RUNNING.md, Backup).")
     return turn
+
+
+def is_whole(turn):
+    """Whether a turn that was written down has a list of files, and of each tag what is known of it and all of its rows."""
+    return (type(turn.files) is list and set(turn.tags) == set(turn.values.tags)
+            and all(KNOWN <= set(known) and len(turn.values.of(name)[0]) == known["rows"] for name, known in turn.tags.items()))
 
 
 def read_rows(path):

@@ -17,49 +17,22 @@ import sys
 import tempfile
 
 HERE = os.path.dirname(os.path.abspath(__file__))
-ROOT = os.path.dirname(os.path.dirname(HERE))
+sys.dont_write_bytecode = True
+sys.path.insert(0, os.path.dirname(HERE))
+from building import built, copied, needed  # noqa: E402
+
+LINE = "cell_bench may_wait=9: anyhow trend_num disk_model told_store tag_cell test_rig"  # of its crate, in crates.txt
 RUNS = 7
 TAKES = 1_000_000
 COMMITTED = 32_768
 
 
-def below(name):
-    """A crate, and the crates of this repository that it depends on."""
-    with open(os.path.join(ROOT, "crates.txt")) as listed:
-        lines = [line.split("#")[0].strip() for line in listed]
-    uses = {line.split(":")[0].split()[0]: line.split(":")[1].split() for line in lines if ":" in line}
-    names = [name]
-    for each in names:
-        names += [used for used in uses[each] if used in uses and used not in names]
-    return names
-
-
-def is_left(folder, names):
-    """Of the files in a folder, those that are not copied: edits, and what was made, but not the libraries that were proved."""
-    if os.path.basename(folder) == "out":
-        return [name for name in names if name != "rlib"]
-    return [name for name in names if name == "must-fail"]
-
-
 def build(folder):
     """Builds both programs in a folder: the paths of the proved one and of the plain one."""
-    names = sorted({*below("tag_cell"), *below("told_store"), *below("test_rig")})
-    crates = os.path.join(folder, "crates")
-    for name in names:
-        shutil.copytree(os.path.join(ROOT, "crates", name), os.path.join(crates, name), dirs_exist_ok=True, ignore=is_left)
-    source = os.path.join(crates, "cell_bench", "src")
-    os.makedirs(source, exist_ok=True)
-    shutil.copyfile(os.path.join(HERE, "main.rattle"), os.path.join(source, "main.rt"))
-    with open(os.path.join(ROOT, "crates.txt")) as listed:
-        lines = [line for line in listed if line.split(":")[0].split()[:1] and line.split(":")[0].split()[0] in names]
-    with open(os.path.join(folder, "crates.txt"), "w") as out:
-        out.write("".join(lines) + "cell_bench may_wait=9: anyhow trend_num disk_model told_store tag_cell test_rig\n")
-    shutil.copyfile(os.path.join(ROOT, "HANDLES"), os.path.join(folder, "HANDLES"))
-    subprocess.run(["rt", "run", "--jobs", "2"], cwd=os.path.dirname(source), stdin=subprocess.DEVNULL,
-                   stdout=subprocess.DEVNULL, stderr=subprocess.DEVNULL, check=True)
+    crate = copied(folder, needed(["tag_cell", "told_store", "test_rig"]), LINE)
     plain = os.path.join(folder, "plain")
     subprocess.run(["rustc", "--edition", "2021", "-O", "-o", plain, os.path.join(HERE, "plain.rs")], check=True)
-    return os.path.join(crates, "cell_bench", "out", "cell_bench"), plain
+    return built(crate), plain
 
 
 def run(folder, words):
@@ -94,4 +67,5 @@ def main():
         print("load", os.getloadavg())
 
 
-main()
+if __name__ == "__main__":
+    main()

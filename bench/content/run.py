@@ -8,15 +8,17 @@ Each work runs in both ways in turn, three times. It prints the load of the mach
 put or window in both ways, the ratio of the rates, what was aimed at, and milliseconds of taking memory beforehand. Last it prints the
 bytes of memory that a point needs, from the highest peaks of three runs."""
 import os
-import shutil
 import statistics
 import subprocess
 import sys
 import tempfile
 
 HERE = os.path.dirname(os.path.abspath(__file__))
-ROOT = os.path.dirname(os.path.dirname(HERE))
-BELOW = ["trend_num", "trend_model", "page_pool", "late_insert", "interp_read", "weighted_total"]
+sys.dont_write_bytecode = True
+sys.path.insert(0, os.path.dirname(HERE))
+from building import built, copied, needed  # noqa: E402
+
+LINE = "content_bench: anyhow trend_num late_insert weighted_total"  # of its crate, in crates.txt
 RUNS = 3
 # Each work, and what is aimed at: the rate of pages is at least so many times the plain rate.
 WORKS = [("in_order", 1 / 1.7), ("late", 50), ("whole_area", 5), ("whole_stair", 5), ("whole_low", 5),
@@ -25,20 +27,7 @@ WORKS = [("in_order", 1 / 1.7), ("late", 50), ("whole_area", 5), ("whole_stair",
 
 def build(folder):
     """Builds the program in a folder: its path."""
-    crates = os.path.join(folder, "crates")
-    for name in BELOW:
-        shutil.copytree(os.path.join(ROOT, "crates", name), os.path.join(crates, name), dirs_exist_ok=True,
-                        ignore=shutil.ignore_patterns("out", "must-fail"))
-    source = os.path.join(crates, "content_bench", "src")
-    os.makedirs(source, exist_ok=True)
-    shutil.copyfile(os.path.join(HERE, "main.rattle"), os.path.join(source, "main.rt"))
-    with open(os.path.join(ROOT, "crates.txt")) as listed:
-        lines = [line for line in listed if line.split(":")[0] in BELOW]
-    with open(os.path.join(folder, "crates.txt"), "w") as out:
-        out.write("".join(lines) + "content_bench: anyhow trend_num late_insert weighted_total\n")
-    subprocess.run(["rt", "run", "--jobs", "2"], cwd=os.path.dirname(source), stdin=subprocess.DEVNULL,
-                   stdout=subprocess.DEVNULL, stderr=subprocess.DEVNULL, check=True)
-    return os.path.join(crates, "content_bench", "out", "content_bench")
+    return built(copied(folder, needed(["weighted_total"]), LINE))
 
 
 def run(program, work, how):
@@ -80,4 +69,5 @@ def main():
         print("load", os.getloadavg())
 
 
-main()
+if __name__ == "__main__":
+    main()

@@ -28,7 +28,7 @@ def timed(program, processors):
     _, status, used = os.wait4(child.pid, 0)
     took = time.perf_counter() - start
     if status != 0:
-        sys.exit("it ended in %d: %s" % (status, text.decode()[:400]))
+        sys.exit("it ended in %d: %s" % (os.waitstatus_to_exitcode(status), text.decode()[:400]))
     return took, text, used.ru_maxrss / 1024
 
 

@@ -95,12 +95,12 @@ def fresh(program, folder):
     shutil.copy(os.path.join(folder, "logger.csv"), os.path.join(folder, "inbox"))
 
 
-def syncs(words, folder):
-    """How many syncs a command and all that it starts make. None without strace."""
+def syncs(folder, start):
+    """How many syncs a command and all that it starts make. `start` runs it under the words that it is given. None without strace."""
     if not shutil.which("strace"):
         return None
     trace = os.path.join(folder, "trace")
-    timed(["strace", "-f", "-c", "-e", "trace=fsync,fdatasync,sync_file_range,msync", "-o", trace] + words, folder)
+    start(["strace", "-f", "-c", "-e", "trace=fsync,fdatasync,sync_file_range,msync", "-o", trace])
     with open(trace) as text:
         return sum(int(n) for n in SYNCS.findall(text.read()))
 
@@ -161,14 +161,10 @@ def measure(program, folder, count, runs):
         if words[1] == "log":
             total, records = os.path.getsize(os.path.join(folder, "historian.d", "plant.log")), None
         fresh(program, folder)
-        show(name, count, statistics.median(took), syncs(words, folder), total, records)
+        show(name, count, statistics.median(took), syncs(folder, lambda under: timed(under + words, folder)), total, records)
     took = statistics.median(in_database(folder) for _ in range(runs))
     size = sum(os.path.getsize(os.path.join(folder, name)) for name in os.listdir(folder) if name == "plain.db")
-    trace, calls = os.path.join(folder, "trace"), None
-    if shutil.which("strace"):
-        in_database(folder, ["strace", "-f", "-c", "-e", "trace=fsync,fdatasync,sync_file_range,msync", "-o", trace])
-        with open(trace) as text:
-            calls = sum(int(n) for n in SYNCS.findall(text.read()))
+    calls = syncs(folder, lambda under: in_database(folder, under))
     show("SQLite, commits of 64", count, took, calls, size, None)
 
 
@@ -190,4 +186,5 @@ def main():
         measure(os.path.abspath(given.program), plant, seconds * given.tags, given.runs)
 
 
-main()
+if __name__ == "__main__":
+    main()

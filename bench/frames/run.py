@@ -9,15 +9,17 @@ Both ways run in turn, five times. It prints the load of the machine and medians
 going over the row, and milliseconds of making the frames. 20 microseconds a change are aimed at, and with ten times the windows at most
 1.5 times the time."""
 import os
-import shutil
 import statistics
 import subprocess
 import sys
 import tempfile
 
 HERE = os.path.dirname(os.path.abspath(__file__))
-ROOT = os.path.dirname(os.path.dirname(HERE))
-BELOW = ["trend_num", "event_frames"]
+sys.dont_write_bytecode = True
+sys.path.insert(0, os.path.dirname(HERE))
+from building import built, copied, needed  # noqa: E402
+
+LINE = "frames_bench: anyhow trend_num event_frames"  # of its crate, in crates.txt
 RUNS = 5
 # One window in so many is not true: frames of a few windows, of thousands, and one frame.
 GAPS = [4, 5_000, 1_000_000_000]
@@ -27,20 +29,7 @@ MOST_RATIO = 1.5
 
 def build(folder):
     """Builds the program in a folder: its path."""
-    crates = os.path.join(folder, "crates")
-    for name in BELOW:
-        shutil.copytree(os.path.join(ROOT, "crates", name), os.path.join(crates, name), dirs_exist_ok=True,
-                        ignore=shutil.ignore_patterns("out", "must-fail"))
-    source = os.path.join(crates, "frames_bench", "src")
-    os.makedirs(source, exist_ok=True)
-    shutil.copyfile(os.path.join(HERE, "main.rattle"), os.path.join(source, "main.rt"))
-    with open(os.path.join(ROOT, "crates.txt")) as listed:
-        lines = [line for line in listed if line.split(":")[0] in BELOW]
-    with open(os.path.join(folder, "crates.txt"), "w") as out:
-        out.write("".join(lines) + "frames_bench: anyhow trend_num event_frames\n")
-    subprocess.run(["rt", "run", "--jobs", "2"], cwd=os.path.dirname(source), stdin=subprocess.DEVNULL,
-                   stdout=subprocess.DEVNULL, stderr=subprocess.DEVNULL, check=True)
-    return os.path.join(crates, "frames_bench", "out", "frames_bench")
+    return built(copied(folder, needed(["event_frames"]), LINE))
 
 
 def run(program, windows, gap, how):
@@ -78,4 +67,5 @@ def main():
         print("load", os.getloadavg())
 
 
-main()
+if __name__ == "__main__":
+    main()

@@ -2,14 +2,15 @@
 """run.py [PROGRAM [COMMAND..]]: refuses each growth of memory in turn, and prints what the program did.
 
 PROGRAM is a built historian (crates/historian/out/historian, after `rt run` there). Each command runs over a small plant again and
-again: refuse.c refuses its first growth, then its second, and so on until the refusals come after its last growth. COMMAND names some of
-the commands; `run` is tried too, because the others read its devices.
+again, each time over the same devices: refuse.c refuses its first growth, then its second, and so on until the refusals come after its
+last growth. COMMAND names some of the commands; `run` is tried too, because the others read its devices.
 
 A refused run has to print `fault: memory` and end with that exit code. Where the growth was not needed, it may end as it does without a
 refusal. After each `run` that ends with `fault: memory`, `check` has to open the devices of the tags.
 
 It prints a line for each command: how many growths were reported as refused, how many runs ended otherwise, and the exit code without a
-refusal. Up to five of those other runs follow. The exit code is 1 if there are any. It runs by hand, never as a test."""
+refusal. Up to five of those other runs follow. If 3,000 refusals do not reach behind the last growth, that counts as one of them. The
+exit code is 1 if there are any. It runs by hand, never as a test."""
 import os
 import shutil
 import subprocess
@@ -90,12 +91,16 @@ def try_all(program, words, folder, library):
         if os.path.isdir(kept):
             shutil.copytree(kept, devices)
 
-    whole = call(program, words, folder, library, 0)
+    def again(refused):
+        """How a run over those devices ends in which this growth is refused."""
+        renew()
+        return call(program, words, folder, library, refused)
+
+    whole = again(0)
     told = unneeded = 0
     others = []
-    for refused in range(1, MOST):
-        renew()
-        said = call(program, words, folder, library, refused)
+    for refused in range(1, MOST + 1):
+        said = again(refused)
         if said == MEMORY:
             told += 1
             if words[0] == "run" and not opens(program, folder):
@@ -104,11 +109,11 @@ def try_all(program, words, folder, library):
             unneeded += 1
         else:
             others.append((refused, said))
-        if said == whole and unneeded > 8 and all(
-                call(program, words, folder, library, refused + more) == whole for more in (1, 7, 50, 400)):
+        if said == whole and unneeded > 8 and all(again(refused + more) == whole for more in (1, 7, 50, 400)):
             break
-    renew()
-    call(program, words, folder, library, 0)
+    else:
+        others.append((MOST, "still not as without a refusal"))
+    again(0)
     return told, others, whole
 
 
@@ -135,4 +140,5 @@ def main():
     sys.exit(1 if failed else 0)
 
 
-main()
+if __name__ == "__main__":
+    main()

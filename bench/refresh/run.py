@@ -9,16 +9,17 @@ four runs three times. It prints the load of the machine and medians: millisecon
 record, and which part of the former that is. Then it divides the time of one more record in the larger sheet by that in the smaller one;
 at most 2 is aimed at."""
 import os
-import shutil
 import statistics
 import subprocess
 import sys
 import tempfile
 
 HERE = os.path.dirname(os.path.abspath(__file__))
-ROOT = os.path.dirname(os.path.dirname(HERE))
-BELOW = ["trend_num", "trend_model", "page_pool", "late_insert", "interp_read", "weighted_total", "calc_parser", "calc_check",
-         "calc_eval", "sheet_law", "calc_refresh"]
+sys.dont_write_bytecode = True
+sys.path.insert(0, os.path.dirname(HERE))
+from building import built, copied, needed, put  # noqa: E402
+
+LINE = "refresh_bench: anyhow trend_num calc_parser calc_check calc_eval calc_refresh"  # of its crate, in crates.txt
 RUNS = 3
 SINGLES = 1000
 SMALL, LARGE = 100_000, 1_000_000
@@ -58,27 +59,11 @@ ghosts-times _ a = record { name = a.blank.name; parts = a.blank.parts }
 
 def build(folder):
     """Builds the program in a folder: its path."""
-    crates = os.path.join(folder, "crates")
-    for name in BELOW:
-        shutil.copytree(os.path.join(ROOT, "crates", name), os.path.join(crates, name), dirs_exist_ok=True,
-                        ignore=shutil.ignore_patterns("out", "must-fail"))
-    crate = os.path.join(crates, "refresh_bench")
-    os.makedirs(os.path.join(crate, "src"), exist_ok=True)
-    shutil.copyfile(os.path.join(HERE, "main.rattle"), os.path.join(crate, "src", "main.rt"))
+    crate = copied(folder, needed(["calc_refresh"]), LINE)
     for name, text in INVARIANTS.items():
-        os.makedirs(os.path.join(crate, "proofs", name), exist_ok=True)
-        with open(os.path.join(crate, "proofs", name, "Invariants.antt"), "w") as out:
-            out.write(text)
-    with open(os.path.join(crate, "proofs", "times", "Answers.antt"), "w") as out:
-        out.write(ANSWERS)
-    with open(os.path.join(ROOT, "crates.txt")) as listed:
-        lines = [line for line in listed if line.split(":")[0] in BELOW]
-    with open(os.path.join(folder, "crates.txt"), "w") as out:
-        out.write("".join(lines) + "refresh_bench: anyhow trend_num calc_parser calc_check calc_eval calc_refresh\n")
-    with open(os.path.join(folder, "build.log"), "w") as log:
-        subprocess.run(["rt", "run", "--jobs", "2", "--", "10", "1", "late"], cwd=crate, stdin=subprocess.DEVNULL, stdout=log,
-                       stderr=log, check=True)
-    return os.path.join(crate, "out", "refresh_bench")
+        put(crate, "proofs/%s/Invariants.antt" % name, text)
+    put(crate, "proofs/times/Answers.antt", ANSWERS)
+    return built(crate, "10", "1", "late")
 
 
 def run(program, first, kind):
@@ -106,4 +91,5 @@ def main():
         print("load", os.getloadavg())
 
 
-main()
+if __name__ == "__main__":
+    main()

@@ -10,40 +10,28 @@ together, of which at most 0.80 is aimed at, and for the rows alone. Last it pri
 bytes a row, without the input; at most 32 are aimed at."""
 import os
 import random
-import shutil
 import statistics
 import subprocess
 import sys
 import tempfile
 
 HERE = os.path.dirname(os.path.abspath(__file__))
-ROOT = os.path.dirname(os.path.dirname(HERE))
-BELOW = ["trend_num", "byte_io", "trend_model", "page_pool", "late_insert", "interp_read", "point_text", "value_rows"]
+sys.dont_write_bytecode = True
+sys.path.insert(0, os.path.dirname(HERE))
+from building import built, copied, needed  # noqa: E402
+
+LINE = "rows_bench: anyhow trend_num byte_io value_rows"  # of its crate, in crates.txt
 RUNS = 7
 SIZE = 60_000_000
 
 
 def build(folder):
     """Builds both programs in a folder: the paths of the proved one and of the plain one."""
-    crates = os.path.join(folder, "crates")
-    for name in BELOW:
-        for part in ("src", "specs", "proofs"):
-            shutil.rmtree(os.path.join(crates, name, part), ignore_errors=True)
-        shutil.copytree(os.path.join(ROOT, "crates", name), os.path.join(crates, name), dirs_exist_ok=True,
-                        ignore=shutil.ignore_patterns("out", "must-fail"))
-    source = os.path.join(crates, "rows_bench", "src")
-    os.makedirs(source, exist_ok=True)
-    shutil.copyfile(os.path.join(HERE, "main.rattle"), os.path.join(source, "main.rt"))
-    with open(os.path.join(ROOT, "crates.txt")) as listed:
-        lines = [line for line in listed if line.split(":")[0] in BELOW]
-    with open(os.path.join(folder, "crates.txt"), "w") as out:
-        out.write("".join(lines) + "rows_bench: anyhow trend_num byte_io value_rows\n")
-    subprocess.run(["rt", "run", "--jobs", "2"], cwd=os.path.dirname(source), stdin=subprocess.DEVNULL,
-                   stdout=subprocess.DEVNULL, stderr=subprocess.DEVNULL, check=True)
+    crate = copied(folder, needed(["value_rows"]), LINE)
     plain = os.path.join(folder, "plain")
     subprocess.run(["rustc", "-C", "opt-level=3", "-C", "target-cpu=native", "-o", plain, os.path.join(HERE, "plain.rs")],
                    check=True)
-    return os.path.join(crates, "rows_bench", "out", "rows_bench"), plain
+    return built(crate), plain
 
 
 def write_rows(path):
@@ -87,4 +75,5 @@ def main():
         print("load", os.getloadavg())
 
 
-main()
+if __name__ == "__main__":
+    main()

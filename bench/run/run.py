@@ -178,4 +178,5 @@ def main():
             print("%4d windows: trend %.3f s from the process's start, SQLite %.3f s on an open connection" % (many, ours, other))
 
 
-main()
+if __name__ == "__main__":
+    main()

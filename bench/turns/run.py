@@ -13,15 +13,17 @@ medians: milliseconds of the first turn, microseconds of a later one, and which 
 the larger group; and milliseconds of the opening. Then it divides a later turn of the larger group by that of the smaller one; at
 most 1.5 is aimed at."""
 import os
-import shutil
 import statistics
 import subprocess
 import sys
 import tempfile
 
 HERE = os.path.dirname(os.path.abspath(__file__))
-ROOT = os.path.dirname(os.path.dirname(HERE))
-TOP = "group_book"
+sys.dont_write_bytecode = True
+sys.path.insert(0, os.path.dirname(HERE))
+from building import built, copied, needed, put  # noqa: E402
+
+LINE = "turns_bench: anyhow trend_num disk_model calc_parser calc_check calc_eval calc_refresh group_book"  # of its crate, in crates.txt
 SMALL, LARGE = (156, 100, 10), (15_384, 1000, 3)
 FIRST_AIM, SIZE_AIM = 50, 1.5
 
@@ -36,54 +38,12 @@ invariant-loop-i g l = All (λ r. InRange r.point) l.recs.items
 }
 
 
-def listed():
-    """The crates of this repository, each with its line of crates.txt and what it stands on."""
-    crates = {}
-    with open(os.path.join(ROOT, "crates.txt")) as lines:
-        for line in lines:
-            head, _, below = line.split("#")[0].partition(":")
-            if head.strip():
-                crates[head.split()[0]] = (line, below.split())
-    return crates
-
-
-def needed(crates, name):
-    """The names of a crate and of the crates of this repository that it stands on."""
-    names = {name}
-    for below in crates[name][1]:
-        if below in crates:
-            names |= needed(crates, below)
-    return names
-
-
-def is_left(folder, names):
-    """Of the files in a folder, those that are not copied: edits, and what was made, but not the libraries that were proved."""
-    if os.path.basename(folder) == "out":
-        return [name for name in names if name != "rlib"]
-    return [name for name in names if name == "must-fail"]
-
-
 def build(folder):
     """Builds the program in a folder: its path."""
-    crates = listed()
-    below = needed(crates, TOP)
-    for name in below:
-        shutil.copytree(os.path.join(ROOT, "crates", name), os.path.join(folder, "crates", name), dirs_exist_ok=True, ignore=is_left)
-    crate = os.path.join(folder, "crates", "turns_bench")
-    os.makedirs(os.path.join(crate, "src"), exist_ok=True)
-    shutil.copyfile(os.path.join(HERE, "main.rattle"), os.path.join(crate, "src", "main.rt"))
+    crate = copied(folder, needed(["group_book"]), LINE)
     for name, text in INVARIANTS.items():
-        os.makedirs(os.path.join(crate, "proofs", name), exist_ok=True)
-        with open(os.path.join(crate, "proofs", name, "Invariants.antt"), "w") as out:
-            out.write(text)
-    shutil.copyfile(os.path.join(ROOT, "HANDLES"), os.path.join(folder, "HANDLES"))
-    with open(os.path.join(folder, "crates.txt"), "w") as out:
-        out.write("".join(line for name, (line, _) in crates.items() if name in below))
-        out.write("turns_bench: anyhow trend_num disk_model calc_parser calc_check calc_eval calc_refresh group_book\n")
-    with open(os.path.join(folder, "build.log"), "w") as log:
-        subprocess.run(["rt", "run", "--jobs", "2", "--", "2", "1", "kept"], cwd=crate, stdin=subprocess.DEVNULL, stdout=log,
-                       stderr=log, check=True)
-    return os.path.join(crate, "out", "turns_bench")
+        put(crate, "proofs/%s/Invariants.antt" % name, text)
+    return built(crate, "2", "1", "kept")
 
 
 def run(program, windows, turns, kind):

@@ -125,6 +125,8 @@ def told(program, words, folder):
 
 def main():
     program = shlex.split(sys.argv[1]) if len(sys.argv) > 1 else ["historian"]
+    if os.sep in program[0]:  # it runs in other folders
+        program[0] = os.path.abspath(program[0])
     cases = [case for case in kept() if not sys.argv[2:] or case[0] in sys.argv[2:]]
     differ = 0
     for name, words, status, said in cases:

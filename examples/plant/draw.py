@@ -26,10 +26,7 @@ PICTURES = {
 
 def main():
     words = [word for word in sys.argv[1:] if word != "--make"]
-    program = shlex.split(words[0]) if words else ["historian"]
-    if os.sep in program[0]:
-        program[0] = os.path.abspath(program[0])
-    differ = []
+    program, differ = fed.days.program_of(words), []
     with tempfile.TemporaryDirectory() as folder:
         fed.lay(folder)
         fed.feed(program, folder, *fed.TURNS[0][:2])

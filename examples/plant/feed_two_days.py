@@ -52,10 +52,7 @@ def feed(program, folder, base, files):
 
 
 def main():
-    program = shlex.split(sys.argv[1]) if len(sys.argv) > 1 else ["historian"]
-    if os.sep in program[0]:
-        program[0] = os.path.abspath(program[0])
-    differ, count = [], 0
+    program, differ, count = days.program_of(sys.argv[1:]), [], 0
     with tempfile.TemporaryDirectory() as folder:
         lay(folder)
         for base, files, steps in TURNS:

@@ -31,6 +31,14 @@ STEPS = [
 ]
 
 
+def program_of(words):
+    """The program's command from the words of a script: the first one, or `historian`. It stays good in another folder."""
+    program = shlex.split(words[0]) if words else ["historian"]
+    if os.sep in program[0]:
+        program[0] = os.path.abspath(program[0])
+    return program
+
+
 def lay(folder):
     """Copies the plant's texts, and makes the collectors' files."""
     for name in os.listdir(HERE):
@@ -64,8 +72,7 @@ def show(done):
 
 
 def main():
-    program = shlex.split(sys.argv[1]) if len(sys.argv) > 1 else ["historian"]
-    differ = []
+    program, differ = program_of(sys.argv[1:]), []
     with tempfile.TemporaryDirectory() as folder:
         for name, text in live(program, folder, show):
             path = os.path.join(KEPT, name + ".txt")

@@ -4,21 +4,33 @@ These are times and decimals, refused rows, files that are not whole, wrong cloc
 too in which the tools say what is wrong."""
 import csv
 import fcntl
+import itertools
 import os
 import re
+import shlex
 import shutil
 import subprocess
 import tempfile
 import time
+import types
+import unittest.mock
 import zoneinfo
 
+import feed
 import inbox
 import rows
-from plant import Plant
+from plant import Plant, program_of
 from trial import GROUP, Trial, base_text, check_same, feed_text, printed, two_blocks
 
 
 NOW = 1000 * int(time.time())
+TAG_FORM = 'a tag is written as [tag."NAME"], with its scale'
+WRONG_SETTINGS = [('inbocks = "x"', "no setting 'inbocks'"), ("[[tag]]\nscale = 1", TAG_FORM), ("tag = 3", TAG_FORM),
+                  ('[tag]\n"X" = 5', TAG_FORM), ('[tag]\n"X" = ["scale"]', TAG_FORM),
+                  ('[tag."X"]\nscale = 0', "[tag.'X'] must have the one key scale, a whole number from 1"),
+                  ("rows_a_run = 0", "rows_a_run must be a whole number from 1"),
+                  ("future_ms = -1", "future_ms must be a whole number from 0"),
+                  ("settle_seconds = 0.5", "settle_seconds must be a whole number from 0")]
 
 
 def refused(do, *given):
@@ -51,7 +63,11 @@ def times_and_decimals(folder, program, settings):
                              ("nan", 1, "no number"), ("1e16", 1, "too large"), ("9" * 400, 1, "no number")]:
         assert why in refused(rows.whole_value, text, scale), (text, refused(rows.whole_value, text, scale))
     assert rows.whole_value("48,7", 10, ",") == 487 and "no number" in refused(rows.whole_value, "1.048", 10, ",")
-    assert [rows.decimal_text(v, s) for v, s in ((-4870, 100), (5, 1000), (7, 1), (3, 8))] == ["-48.70", "0.005", "7", "0.375"]
+    for value, scale, wanted in [(-4870, 100, "-48.70"), (5, 1000, "0.005"), (7, 1, "7"), (3, 8, "0.375"), (-8, 4, "-2"), (0, 3, "0"),
+                                 (1_234_567_890_123_457, 2, "617283945061728.5"), (2, 200_000, "1e-05"), (3 * 10**16, 3, "1e+16")]:
+        assert rows.decimal_text(value, scale) == wanted, rows.decimal_text(value, scale)
+    for value, scale in itertools.product((1, -7, 999_999_999_999_999, -10**15), (2, 3, 7, 60, 1000, 30_000_000, 10**16 + 1)):
+        assert rows.whole_value(rows.decimal_text(value, scale), scale) == value, (value, scale, rows.decimal_text(value, scale))
     assert rows.iso_text(1_711_789_200_123, None) == "2024-03-30T09:00:00.123Z"
     assert not zones or rows.iso_text(1_711_789_200_123, "Europe/Berlin") == "2024-03-30T10:00:00.123+01:00"
 
@@ -184,6 +200,36 @@ def same_file_twice(folder, program, settings):
     assert sorted(os.listdir(trial.path("refused/000003"))) == ["00-a.csv", "again.csv"]
 
 
+def taken_away_meanwhile(folder, program, settings):
+    """A file that somebody renames or removes while the feeder looks at the inbox is passed over. Without another one no turn is made."""
+    trial = Trial(os.path.join(folder, "a"), program)
+    trial.write("inbox/x.csv", "LIC4.PV,1000,5\n")
+    trial.fed()
+    plant = Plant(trial.folder, program)
+
+    def clock():
+        """The time, and the file is gone behind it."""
+        os.remove(trial.path("inbox/y.csv"))
+        return time.time()
+
+    def fed_with(*names):
+        """What a feed prints that finds these names in the inbox, and then none."""
+        found = [(names, False), ([], False)]
+        with printed() as said, unittest.mock.patch.object(feed, "whole_files", side_effect=found):
+            assert feed.feed(plant, None, 5) == 0
+        assert not os.path.exists(trial.path("feed.d/turn.json"))
+        return said.getvalue()
+
+    trial.write("inbox/y.csv", "LIC4.PV,2000,6")
+    with printed() as said, unittest.mock.patch.object(inbox, "time", types.SimpleNamespace(time=clock, monotonic=time.monotonic)):
+        assert inbox.whole_files(plant, {}) == ([], False) and said.getvalue() == ""
+    assert fed_with("gone.csv") == "" and os.listdir(trial.path("done")) == ["000001"]
+    trial.write("inbox/z.csv", "LIC4.PV,2000,60\n")
+    assert fed_with("gone.csv", "z.csv").startswith("turn 2: 1 files, 1 values of 1 tags stored, 0 refused\n")
+    trial.write("base.toml", base_text(comp_dev=4))
+    assert fed_with("gone.csv") == "the edited base.toml is taken over\n"
+
+
 def said_each_time(folder, program, settings):
     """Each call says that a file stays in the inbox; a feeder with --every says it again after a while. It names UTF-16."""
     trial = Trial(os.path.join(folder, "a"), program)
@@ -229,8 +275,6 @@ def faults_in_words(folder, program, settings):
     status, text = trial.feed()
     assert status == 127 and "--program" in text, (status, text)
     trial.program = program
-    trial.write("feed.toml", 'inbocks = "x"\n')
-    assert trial.feed()[0] == 22 and "no setting 'inbocks'" in trial.feed()[1]
     trial.folder = os.path.join(folder, "empty")
     os.makedirs(trial.folder)
     status, text = trial.feed()
@@ -238,6 +282,30 @@ def faults_in_words(folder, program, settings):
     for tool in ("ask.py", "draw.py"):
         status, text = trial.tool(tool, *["snap,FIC1.PV"] if tool == "ask.py" else ["FIC1.PV", "0", "1", "x.svg"])
         assert status == 22 and "there are no devices" in text, (status, text)
+
+
+def settings_in_words(folder, program, settings):
+    """Each tool refuses a feed.toml that is wrong, and says why."""
+    trial = Trial(os.path.join(folder, "a"), program)
+    for text, why in WRONG_SETTINGS:
+        trial.write("feed.toml", text + "\n")
+        status, said = trial.feed()
+        assert status == 22 and why in said, (text, status, said)
+    status, said = trial.tool("ask.py", "snap,FIC1.PV")
+    assert status == 22 and WRONG_SETTINGS[-1][1] in said, (status, said)
+    assert not os.path.exists(trial.path("historian.d"))
+
+
+def program_with_a_blank(folder, program, settings):
+    """The program may stand in a folder whose name has a blank."""
+    first, *others = shlex.split(program)
+    place = os.path.join(folder, "a b", os.path.basename(first))
+    os.makedirs(os.path.dirname(place))
+    os.symlink(first, place)
+    trial = Trial(os.path.join(folder, "a"), program_of(shlex.join([place, *others])))
+    trial.write("inbox/x.csv", "LIC4.PV,1000,5\nLIC4.PV,2000,60\n")
+    assert trial.feed(how="half")[0] == 137
+    assert "2 values of 1 tags stored" in trial.fed() and "held=2000,60\n" in trial.by_hand("check", "base.toml")
 
 
 def begins_with_init(folder, program, settings):
@@ -255,8 +323,11 @@ def begins_with_init(folder, program, settings):
 
 
 def goes_on_every_second(folder, program, settings):
-    """With --every the feeder feeds what comes while it runs, also after it waited for another process."""
+    """With --every the feeder feeds what comes while it runs, also after it waited for another process. A time of 0 or less is refused."""
     trial = Trial(os.path.join(folder, "a"), program)
+    for every in ("-1", "nan", "inf", "1e300", "0"):
+        status, text = trial.feed("--every", every)
+        assert status == 2 and "--every takes more than 0 seconds" in text, (every, status, text)
     child = subprocess.Popen(trial.words("--every", "0.2"), stdout=subprocess.PIPE, text=True)
     try:
         for number in (1, 2, 3):
@@ -275,5 +346,5 @@ def goes_on_every_second(folder, program, settings):
 
 
 CASES = [times_and_decimals, refused_rows, no_scale_no_decimals, scale_stays, half_written_file, written_to_while_fed,
-         inbox_on_another_disk, wrong_clock, same_file_twice, said_each_time, no_csv_at_all, faults_in_words, begins_with_init,
-         goes_on_every_second]
+         inbox_on_another_disk, wrong_clock, same_file_twice, taken_away_meanwhile, said_each_time, no_csv_at_all, faults_in_words,
+         settings_in_words, program_with_a_blank, begins_with_init, goes_on_every_second]

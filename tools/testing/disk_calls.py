@@ -9,7 +9,8 @@ import re
 import shutil
 
 from disk_cuts import text_of
-from disk_plant import COMMANDS, HALF, NOTHING, ROWS, UNITS, Plant, check_same
+from disk_plant import COMMANDS, HALF, NOTHING, ROWS, UNITS, Plant
+from trial import check_same
 
 NAMED = ("openat", "mkdir", "statx", "rename", "renameat", "renameat2", "unlink", "unlinkat")
 TRACED = "pread64,pwrite64,ftruncate,fsync,fdatasync,read,write,flock,getdents64," + ",".join(NAMED)
@@ -18,8 +19,8 @@ FAILING = {"pwrite64": 10, "fdatasync": 10, "fsync": 1, "openat": 2, "pread64": 
 FOLDER = {"openat": 2, "flock": 1, "fsync": 4, "getdents64": 2, "mkdir": 1}  # the same on the folder
 DEVICE = ("openat", "statx", "fsync", "fdatasync", "pread64", "pwrite64")
 INTERRUPTED = [(kind, "historian.d/T1.tag") for kind in DEVICE] + [
-    ("mkdir", "historian.d"), ("statx", "historian.d"), ("openat", "historian.d"),
-    ("getdents64", "historian.d"), ("openat", "base.toml"), ("read", "base.toml"), ("read", "plan.toml"), ("read", "c1.csv"), ("read", "asks.csv"), ("write", "")]
+    ("mkdir", "historian.d"), ("statx", "historian.d"), ("openat", "historian.d"), ("getdents64", "historian.d"), ("openat", "base.toml"),
+    ("read", "base.toml"), ("read", "plan.toml"), ("read", "c1.csv"), ("read", "asks.csv"), ("write", "")]
 
 
 def injected(plant, verb, errors, paths=()):
@@ -135,6 +136,7 @@ def interrupted_calls(folder, program, settings):
                 check_same(text[:len(check)] + plant.told("trend"), check + trend, kind)
             shutil.rmtree(plant.folder)
     assert not refused, "\n".join(["interrupted:"] + refused)
+    assert count > len(INTERRUPTED), "only %d of %d calls were interrupted" % (count, 2 * len(INTERRUPTED))
     return "%d interrupted calls" % count
 
 

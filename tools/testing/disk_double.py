@@ -9,11 +9,12 @@ import signal
 import time
 
 from disk_kills import duration
-from disk_plant import COMMANDS, ROWS, TAGS, WHOLE, Plant, check_same
+from disk_plant import COMMANDS, ROWS, TAGS, WHOLE, Plant
+from trial import check_same
 
 REFUSED = {"run": "fault: device tag 1\n", "retune": "fault: device tag 1\n", "trend": "fault: device tag 1\n",
            "log": "fault: device log\n"}
-CHANGES = re.compile(r"^\d+ +(pwrite64|ftruncate|mkdir|unlink|rename|fsync|fdatasync)\(|O_CREAT")
+CHANGES = re.compile(r"^\d+ +(pwrite64|ftruncate|mkdir(at)?|unlink(at)?|rename(at2?)?|fsync|fdatasync)\(|O_CREAT")
 
 
 def has_lock(child):

@@ -4,13 +4,15 @@ The program reads a folder that it may not write to. Within seconds it refuses a
 more than 1 GB, and a file whose first byte is damaged. These stay as they are. It refuses a record of many fields in little memory."""
 import os
 import random
+import shlex
 import shutil
 import socket
 import stat
 import subprocess
 import time
 
-from disk_plant import COMMANDS, OPEN, TAGS, UNITS, Plant, base_text, check_same
+from disk_plant import COMMANDS, OPEN, TAGS, UNITS, Plant, base_text
+from trial import check_same
 
 NOBODY = 65534
 MOST_SECONDS = 20
@@ -247,10 +249,10 @@ def reads_what_it_may(plant, wanted, **user):
 def for_everybody(folder, program):
     """Copies the program so that each user may run it, and opens the folder to each user: the command of the copy."""
     os.chmod(folder, 0o755)
-    first, *others = program.split()
+    first, *others = shlex.split(program)
     copy = shutil.copy(first, os.path.join(folder, "program"))
     os.chmod(copy, 0o755)
-    return " ".join([copy, *others])
+    return shlex.join([copy, *others])
 
 
 def reader():

@@ -5,11 +5,13 @@ a stop leaves of a tag has to be the first rows of its file. `pack` finds the li
 import copy
 import os
 import random
+import shlex
 import shutil
 import struct
 import subprocess
 
 from devices import OPEN, events_in, number
+from trial import check_same
 
 TAGS = ("T1", "T2", "T3")
 FILES = {"T1": "c1.csv", "T2": "c1.csv", "T3": "c2.csv"}
@@ -142,7 +144,7 @@ class Plant:
 
     def start(self, *words, under=(), **more):
         """Starts the program, under another one such as strace if asked to: the process."""
-        words = [*under, *self.program.split(), *words]
+        words = [*under, *shlex.split(self.program), *words]
         return subprocess.Popen(words, cwd=self.folder, stdout=subprocess.PIPE, stderr=subprocess.PIPE, text=True, **more)
 
     def call(self, *words, under=(), **more):
@@ -170,7 +172,8 @@ class Plant:
         if (name, count) not in KNOWN:
             text = "".join("%d,%d\n" % row for row in ALL[name][:count])
             words = ["pack", *map(str, (EXC_DEV, EXC_MAX, COMP_DEV, 0, COMP_MAX))]
-            told = subprocess.run([*self.program.split(), *words], input=text, capture_output=True, text=True, check=True).stdout
+            words = [*shlex.split(self.program), *words]
+            told = subprocess.run(words, input=text, capture_output=True, text=True, check=True).stdout
             kept, late = told.count("kept,"), told.count("late,")
             held = told.splitlines()[-1].removeprefix("held,") if count else "none"
             KNOWN[name, count] = "tag %s taken=%d records=%d kept=%d late=%d held=%s\n" % (name, count, kept + late, kept, late, held)
@@ -227,10 +230,3 @@ class Plant:
         """Puts the other rows into the log by another session. Fails unless it then has all."""
         self.deliver(self.logged())
         check_same(self.told("log"), self.lines(WHOLE), "log at the end")
-
-
-def check_same(got, wanted, what):
-    """Fails with the first line that differs, if one does."""
-    if got != wanted:
-        pairs = [(a, b) for a, b in zip(got.splitlines(), wanted.splitlines()) if a != b]
-        raise AssertionError("%s: %r in place of %r" % (what, *(pairs or [(got[-200:], wanted[-200:])])[0]))

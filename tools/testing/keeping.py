@@ -50,6 +50,7 @@ def which_copy(folder, program, settings):
     trial, _ = two_blocks(folder, program)
     device, first = trial.path("historian.d/LIC4.PV.tag"), trial.fed("--backup").strip()
     trial.fed()
+    shutil.copytree(trial.path(first), trial.path("backup/of-mine"))  # a folder that the feeder did not make
     with open(device, "r+b") as out:
         out.seek(401)
         out.write(b"Q")
@@ -182,6 +183,22 @@ def archive_is_full(folder, program, settings):
     assert rest[0][1:3] == ["1970-01-01T00:00:%02d.000Z" % tags["FIC1.PV"][0], "%d.00" % (tags["FIC1.PV"][0] % 2)], rest[0]
 
 
+def rows_without_room_come_again(folder, program, settings):
+    """Another plant takes the rows that went to refused/ for want of room, each with its value, whatever the scale and the decimal mark."""
+    text = 'settle_seconds = 0\nseparator = ";"\ndecimal = ","\n[tag."FIC1.PV"]\nscale = 7\n'
+    trial, other = Trial(os.path.join(folder, "a"), program), Trial(os.path.join(folder, "b"), program)
+    for plant in (trial, other):
+        plant.write("feed.toml", text)
+    trial.write("inbox/x.csv", "".join("FIC1.PV;%d;%d,5\n" % (1000 * n, n % 2 * 100) for n in range(100)))
+    with printed(), unittest.mock.patch.object(feed, "RECORDS", 40):
+        feed.feed(Plant(trial.folder, program), None, 5)
+    os.rename(trial.path("refused/000001/no-room.csv"), other.path("inbox/rest.csv"))
+    assert " values of 1 tags stored, 0 refused" in other.fed()
+    taken = [int(re.search(r"tag FIC1.PV taken=(\d+)", plant.by_hand("check", "base.toml"))[1]) for plant in (trial, other)]
+    assert sum(taken) == 100 and taken[1] > 40, taken
+    assert "held=99000,704\n" in other.by_hand("check", "base.toml"), other.by_hand("check", "base.toml")
+
+
 def files_are_not_too_long(folder, program, settings):
     """A tag with more rows than fit into a collector's file gets them in several runs. The test lowers the limit."""
     trial = Trial(os.path.join(folder, "a"), program)
@@ -271,4 +288,4 @@ def pictures(folder, program, settings):
 
 
 CASES = [found_by_seals, which_copy, log_is_sealed, run_by_hand, killed_by_hand, put_back_from_backup, archive_is_full,
-         files_are_not_too_long, group_is_too_large, questions, pictures]
+         rows_without_room_come_again, files_are_not_too_long, group_is_too_large, questions, pictures]

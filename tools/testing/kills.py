@@ -5,6 +5,7 @@ or changes a name. Then the feed goes on to its end, and the archive has to be t
 import os
 import random
 import re
+import shlex
 import shutil
 import time
 
@@ -105,7 +106,7 @@ def stop_program(trial, wanted, settings, some):
     for call, device, numbers in each if settings.long else some:
         def stopped_feed(number):
             words = strace(call, number, device and trial.path("historian.d", device))
-            trial.program = " ".join([words[0], "-f", *words[1:], plain])
+            trial.program = shlex.join([words[0], "-f", *words[1:], *shlex.split(plain)])
             try:
                 return trial.feed()
             finally:

@@ -9,6 +9,7 @@ import subprocess
 import sys
 import time
 
+from plant import bytes_of
 from trial import Trial, base_text, check_put_away, check_same, children, expected, kill, two_blocks, wait_for_orphans
 
 
@@ -77,11 +78,6 @@ def damaged_while_unfinished(folder, program, settings):
     put_bytes(trial.path("historian.d/FIC1.PV.tag"), good)
     trial.fed()
     check_same(trial.answers(), wanted, "after the device was put back")
-
-
-def bytes_of(path):
-    with open(path, "rb") as data:
-        return data.read()
 
 
 def put_bytes(path, data):
@@ -213,18 +209,23 @@ def late_row_frees_what_was_set_aside(folder, program, settings):
 
 
 def turn_is_damaged(folder, program, settings):
-    """If a file of an unfinished turn in feed.d is damaged, the feeder says so and stores nothing."""
+    """If a file of an unfinished turn in feed.d is damaged or of another form, the feeder says so and stores nothing."""
     trial, _ = two_blocks(folder, program)
     assert trial.feed(how="half")[0] == 137
     before = trial.by_hand("check", "base.toml")
     good = trial.read("feed.d/turn/rows.csv"), trial.read("feed.d/turn.json")
-    for name, text in (("turn/rows.csv", good[0][:-30]), ("turn/rows.csv", good[0][:-5]), ("turn.json", good[1][:50])):
+    forms = ["[]", "3", '{"turn": 2, "files": [], "tags": []}', '{"turn": 2, "files": [], "tags": {"FIC1.PV": 5}}',
+             '{"turn": 2, "files": [], "tags": {}}', good[1].replace('"files": [', '"files": 5, "more": ['), good[1].replace('"held"', '"taken"')]
+    for name, text in (("turn/rows.csv", good[0][:-30]), ("turn/rows.csv", good[0][:-5]), *(("turn.json", text) for text in forms),
+                       ("turn.json", good[1][:50])):
         trial.write("feed.d/turn/rows.csv", good[0])
         trial.write("feed.d/" + name, text)
         status, said = trial.feed()
         assert status == 21 and "feed.d of an unfinished turn is damaged" in said, (status, said)
-    status, said = trial.tool("ask.py", "snap,LIC4.PV")
-    assert status == 21 and "turn.json is damaged" in said, (status, said)
+    for text in (good[1][:50], forms[0], forms[1]):
+        trial.write("feed.d/turn.json", text)
+        status, said = trial.tool("ask.py", "snap,LIC4.PV")
+        assert status == 21 and "turn.json is damaged" in said, (status, said)
     check_same(trial.by_hand("check", "base.toml"), before, "a damaged turn")
 
 

@@ -7,6 +7,7 @@ import shutil
 
 import rows
 import seals
+from daily import refused
 from plant import Plant
 from trial import Trial, two_blocks
 
@@ -86,12 +87,10 @@ def exact_or_rounded(folder, program, settings):
             ("70e-1", None, (7, False)), ("4.0", 1, (4, False)), ("4.10", 10, (41, False)), ("4.1000", 10, (41, False)),
             ("4.11", 10, (41, True)), ("4.15", 10, (42, True)), ("-4.15", 10, (-42, True)), ("0.001", 100, (0, True)),
             ("0.5", 3, (2, True)), ("1.5", 2, (3, False))]:
-        assert rows.value_and_rest(text, scale) == wanted, (text, rows.value_and_rest(text, scale))
+        assert rows.value_and_rounding(text, scale) == wanted, (text, rows.value_and_rounding(text, scale))
     for text in ("7.5", "7.000000000000000000001", "5e-1"):
-        try:
-            raise AssertionError("%s is taken as %r" % (text, rows.value_and_rest(text, None)))
-        except rows.BadField as why:
-            assert "a decimal, and no scale for this tag in feed.toml" in str(why), why
+        why = refused(rows.value_and_rounding, text, None)
+        assert "a decimal, and no scale for this tag in feed.toml" in why, (text, why)
 
 
 EMPTY = "stays in the inbox: it is empty, so its first row is still to come, or was cut off. If nothing writes to it any more, remove it"

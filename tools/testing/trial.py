@@ -8,6 +8,7 @@ import fcntl
 import io
 import os
 import random
+import shlex
 import shutil
 import signal
 import subprocess
@@ -118,7 +119,8 @@ class Trial:
 
     def words(self, *given, how=None):
         """The command that runs feed.py. `how` names what stopper.py does to the program's `run`."""
-        program = self.program if how is None else "%s %s %s %s" % (sys.executable, os.path.join(HERE, "stopper.py"), how, self.program)
+        stopper = [] if how is None else [sys.executable, os.path.join(HERE, "stopper.py"), how]
+        program = shlex.join(stopper + shlex.split(self.program))
         return [sys.executable, os.path.join(TOOLS, "feed.py"), *given, "--wait", "0.3", "--program", program, self.folder]
 
     def feed(self, *given, how=None, under=()):
@@ -140,7 +142,7 @@ class Trial:
 
     def by_hand(self, *words):
         """Runs the program by hand, which has to end well: what it printed."""
-        child = subprocess.run([*self.program.split(), *words], cwd=self.folder, capture_output=True, text=True)
+        child = subprocess.run([*shlex.split(self.program), *words], cwd=self.folder, capture_output=True, text=True)
         if child.returncode:
             raise AssertionError("%s: exit %d, %s" % (words, child.returncode, child.stdout + child.stderr))
         return child.stdout
@@ -262,7 +264,7 @@ def check_same(got, wanted, what):
     """Fails with the first line that differs, if one does."""
     if got != wanted:
         pairs = [(a, b) for a, b in zip(got.splitlines(), wanted.splitlines()) if a != b]
-        raise AssertionError("%s: %s in place of %s" % (what, *(pairs or [(got[-200:], wanted[-200:])])[0]))
+        raise AssertionError("%s: %r in place of %r" % (what, *(pairs or [(got[-200:], wanted[-200:])])[0]))
 
 
 def check_put_away(trial, count):
