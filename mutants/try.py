@@ -3,14 +3,14 @@
 
     python3 mutants/try.py [CRATE ..]
 
-A mutant is a file mutants/CRATE/NAME.edit. It has the form of the edits in crates/CRATE/must-fail/, which the gate tries itself. The
+A mutant is a file mutants/CRATE/NAME.edit. It has the form of the edits in crates/CRATE/must-fail/, which the full check tries itself. The
 script tries the mutants of the crates that are named, or of all. It does so in a copy of the repository, and changes nothing here. It
 prints each mutant that was not refused or not tried, and last `N passed, N failed`. The exit status is 1 if one failed, and 2 for a
 crate without mutants.
 
 The copy takes over the libraries that `rt check` or `rt lib` has built here; `rt must-fail` builds the others. Then a crate takes one check
-from nothing, and each of its mutants about a minute of a processor. Run it before you change a contract, and over all crates at the end of
-a piece of work.
+from nothing, and each of its mutants about a minute of a processor. Run it before and after you change a contract, and over all
+crates before you hand the change over.
 """
 import re
 import shutil

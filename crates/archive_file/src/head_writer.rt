@@ -35,6 +35,7 @@ pub fn begin_layout<D: Disk>(
     ensures ready { OnOk result (Now (D.trace dev.new) (IsShut (blocks_at (length text.now)))) }
     ensures no_memory { IsErrOf result NoMemory → dev.new ≡ dev.old }
     ensures cause { CountsFault result DeviceFault (D.fault_count dev.old) (D.fault_count dev.new) }
+    ensures handed { D.hand_out dev.new ≡ D.hand_out dev.old }
     ensures later { D.ticks dev.old ≤ D.ticks dev.new }
     ensures calls { OnOk result (Shows (D.trace dev.old) (λ c. D.ticks dev.new ≡ D.ticks dev.old + layout_calls c)) }
 {
@@ -83,6 +84,7 @@ pub fn close_layout<D: Disk>(dev: &mut D) -> Result<(), Failed>
     ensures later { D.ticks dev.old ≤ D.ticks dev.new }
     ensures calls { OnOk result (Shows (D.trace dev.old) (λ c. D.ticks dev.new ≡ D.ticks dev.old + closing_calls c)) }
     ensures cause { HasCause (D.fault_count dev.old) (D.fault_count dev.new) result }
+    ensures handed { D.hand_out dev.new ≡ D.hand_out dev.old }
 {
     if dev.len()? > 0 {
         return close_gates(dev, GATE, 1);

@@ -28,6 +28,7 @@ pub fn put_records<D: Disk>(alloc: Global, dev: &mut D, at: u64, recs: &[Rec]) -
         (D.trace dev.old) (D.trace dev.new) }
     ensures unwritten { IsErrOf result WantOfMemory → dev.new ≡ dev.old }
     ensures cause { CountsFault result PutFault (D.fault_count dev.old) (D.fault_count dev.new) }
+    ensures handed { D.hand_out dev.new ≡ D.hand_out dev.old }
     ensures clock { OnOk result (D.ticks dev.new ≡ D.ticks dev.old + 1) }
     ensures later { D.ticks dev.old ≤ D.ticks dev.new }
 {
@@ -65,6 +66,7 @@ pub fn read_records<D: Disk>(
     ensures damaged { (a : ℕ) (byte : Option ℕ) → IsErrOf result (Damaged a byte) →
         IfSome (D.trace dev.old) (λ t. IsDamage (seen (Option.Some t)) at count a byte) }
     ensures cause { CountsFault result DeviceFault (D.fault_count dev.old) (D.fault_count dev.new) }
+    ensures handed { D.hand_out dev.new ≡ D.hand_out dev.old }
     ensures same { D.trace dev.new ≡ D.trace dev.old }
     ensures untimed { D.ticks dev.new ≡ D.ticks dev.old }
 {
@@ -105,6 +107,7 @@ fn read_pieces<D: Disk>(
     ensures damaged { (a : ℕ) (byte : Option ℕ) → IsErrOf result (Damaged a byte) →
         IfSome (D.trace dev.old) (λ t. IsDamage (seen (Option.Some t)) at count a byte) }
     ensures cause { CountsFault result DeviceFault (D.fault_count dev.old) (D.fault_count dev.new) }
+    ensures handed { D.hand_out dev.new ≡ D.hand_out dev.old }
     ensures same { D.trace dev.new ≡ D.trace dev.old }
     ensures untimed { D.ticks dev.new ≡ D.ticks dev.old }
 {
@@ -136,6 +139,7 @@ pub fn read_bytes<D: Disk>(
     ensures len { IfOk result (λ v. length v.items ≡ size) }
     ensures damaged { (a : ℕ) (byte : Option ℕ) → IsErrOf result (Damaged a byte) → ⊥ }
     ensures cause { CountsFault result DeviceFault (D.fault_count dev.old) (D.fault_count dev.new) }
+    ensures handed { D.hand_out dev.new ≡ D.hand_out dev.old }
     ensures same { D.trace dev.new ≡ D.trace dev.old }
     ensures untimed { D.ticks dev.new ≡ D.ticks dev.old }
 {

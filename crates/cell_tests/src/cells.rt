@@ -1,4 +1,4 @@
-// Cells on devices in memory: values written by hand, refusals, and a crash after each call.
+// Cells on devices in memory: their values, refusals, and a crash after each call.
 
 use disk_model::{Disk, MemDisk, Pick};
 use interp_read::Reply;
@@ -33,7 +33,7 @@ pub(crate) fn tag(step: bool, comp_dev: u64) -> Option<TagDef> {
 fn opened(
     rt: &impl Wait,
     alloc: Global,
-    dev: MemDisk,
+    mut dev: MemDisk,
     def: &TagDef,
     slots: u32,
     room: u32,
@@ -43,6 +43,7 @@ fn opened(
     if !trend_num::tuning_ok(&def.tuning) || slots < 1 || slots > 64 {
         return None;
     }
+    dev.forget_name();
     open_cell(rt, alloc, dev, def, slots, room, board, poster).ok()
 }
 

@@ -107,7 +107,7 @@ fn session_over<P: Passes, R: Threads + Wait + Sync>(
 fn session_on<P: Passes, R: Threads + Wait + Sync>(
     rt: &R,
     alloc: Global,
-    dev: MemDisk,
+    mut dev: MemDisk,
     room: u32,
     filled: u32,
     work: &Work,
@@ -124,6 +124,7 @@ fn session_on<P: Passes, R: Threads + Wait + Sync>(
     if !tuning_ok(&def.tuning) {
         return None;
     }
+    dev.forget_name();
     let mut cell = open_cell(rt, alloc, dev, &def, 64, room, shared, poster).ok()?;
     fill(rt, &mut cell, filled)?;
     work_over(rt, alloc, cell, &board, lookers, work, passes)

@@ -5,3 +5,4 @@ pub mod Tapes
 pub mod Writes
 pub mod Histories
 pub mod Told
+pub mod Devices

@@ -30,6 +30,7 @@ pub(crate) fn read_log<D: Disk>(
     ensures other { (at : ℕ) → IsErrOf result (OtherPlant at) → Shows (D.trace dev.old) (λ c. IsOfOther plant.now c at) }
     ensures not_many { (n : ℕ) → IsErrOf result (TooMany n) → ⊥ }
     ensures cause { CountsFault result DeviceFault (D.fault_count dev.old) (D.fault_count dev.new) }
+    ensures handed { D.hand_out dev.new ≡ D.hand_out dev.old }
     ensures same { D.trace dev.new ≡ D.trace dev.old }
     ensures untimed { D.ticks dev.new ≡ D.ticks dev.old }
 {

@@ -1,6 +1,8 @@
 // A log: the raw values of a plant, with all that is under its lock.
 ghost use Rattle.std.specs.Prelude.{◌≡◌, false, true};
 ghost use Rattle.disk_model.specs.Calls.{Rose};
+ghost use Rattle.disk_model.specs.Traces.{FitsName};
+ghost use Rattle.commit_log.specs.Devices.{log_name};
 ghost use Rattle.commit_log.specs.Told.{HasHistory, IsHandedOut};
 
 use crate::history::{LogHistory, LogTurn};
@@ -34,6 +36,8 @@ pub struct Log<D: Disk> {
 impl<D: Disk> Model for Log<D> {
     ghost use Rattle.std.specs.Prelude.{vec_capacity};
     ghost use Rattle.disk_model.specs.Moments.{LeftSince};
+    ghost use Rattle.disk_model.specs.Traces.{FitsName};
+    ghost use Rattle.commit_log.specs.Devices.{log_name};
     ghost use Rattle.commit_log.specs.Histories.{IsLogLegal, IsLogSafe};
     ghost use Rattle.commit_log.specs.Told.{ToldLog, HasRoomForPuts, Waits, IsKept};
 
@@ -58,7 +62,8 @@ impl<D: Disk> Model for Log<D> {
         × Waits l.opening.items l.tape.items l.next l.acked
         × IsKept l.plant.items l.tags l.opening.items l.moment l.faults l.tape.items l.next l.end l.failed
         (D.trace l.dev) (D.ticks l.dev) (D.fault_count l.dev)
-        × IsLogSafe l.plant.items l.tags l.opening.items l.moment l.tape.items (LeftSince (D.trace l.dev)) };
+        × IsLogSafe l.plant.items l.tags l.opening.items l.moment l.tape.items (LeftSince (D.trace l.dev))
+        × FitsName log_name (D.hand_out l.dev) };
 }
 
 impl<D: Disk> Log<D> {
@@ -116,6 +121,7 @@ impl<D: Disk> Log<D> {
     /// Returns the device, and all that happened to the log since it was opened.
     pub fn into_history(self) -> (D, LogHistory)
         ensures device { result.0 ≡ self.dev }
+        ensures named { FitsName log_name (D.hand_out result.0) }
         ensures plant { result.1.plant.items ≡ self.plant }
         ensures tags { result.1.tags ≡ self.tags }
         ensures opening { result.1.opening.items ≡ self.opening }

@@ -4,6 +4,8 @@ ghost use Rattle.disk_model.specs.Calls.{CountsFault, Shows};
 ghost use Rattle.disk_model.specs.Gates.{IsNew, layout_calls};
 ghost use Rattle.disk_model.specs.Images.{IsSettled};
 ghost use Rattle.disk_model.specs.Moments.{During};
+ghost use Rattle.disk_model.specs.Traces.{FitsName};
+ghost use Rattle.commit_log.specs.Devices.{log_name};
 ghost use Rattle.commit_log.specs.declared.refusal.LogNo.TheVariants.{Damaged, DeviceFault, OtherPlant, TooMany};
 ghost use Rattle.commit_log.specs.Blocks.{IsLogRow};
 ghost use Rattle.commit_log.specs.Images.{LogsNothing, StandsForRows};
@@ -41,6 +43,8 @@ pub fn open_log<D: Disk>(
     tags: u32,
     room: u32,
 ) -> Result<Log<D>, LogFail<D>>
+    requires named { FitsName log_name (D.hand_out dev) }
+
     // The log has the rows for which the device's bytes stood.
     ensures opened { IfOk result (λ l. Shows (D.trace dev) (λ c. StandsForRows plant.now tags c l.opening)) }
     ensures any_moment { IfOk result (λ l. During (D.trace dev) (D.trace l.dev) (IsLeftOrStands plant.now tags l.opening (D.trace dev))) }
@@ -65,6 +69,7 @@ pub fn open_log<D: Disk>(
     ensures cause { IfErr result (λ e. IsLogCause plant.now tags room (D.trace dev) e.why) }
     ensures faultless { IfOk result (λ l. D.fault_count l.dev ≡ D.fault_count dev) }
     ensures counts { IfErr result (λ e. CountsLogRefusal e.why (D.fault_count dev) (D.fault_count e.dev)) }
+    ensures handed_refused { IfErr result (λ e. D.hand_out e.dev ≡ D.hand_out dev) }
 {
     let mut dev = dev;
     match open_parts(alloc, &mut dev, plant, tags, room) {
@@ -90,6 +95,7 @@ fn log_of<D: Disk>(alloc: Global, dev: D, tags: u32, room: u32, parts: Parts) ->
     requires empty { parts.tape.items ≡ [] }
     requires capacity { room ≤ vec_capacity parts.tape }
     requires few { length parts.rows.items + room ≤ most_rows }
+    requires named { FitsName log_name (D.hand_out dev) }
     ensures { result ≡ record {
       plant = parts.plant.items;
       tags = tags;
@@ -148,6 +154,7 @@ fn open_parts<D: Disk>(
     ensures few { IfOk result (λ p. length p.rows.items + room ≤ most_rows) }
     ensures cause { IfErr result (IsLogCause plant.now tags room (D.trace dev.old)) }
     ensures counts { CountsFault result DeviceFault (D.fault_count dev.old) (D.fault_count dev.new) }
+    ensures handed { D.hand_out dev.new ≡ D.hand_out dev.old }
 {
     let Ok(()) = dev.sync() else {
         return Err(LogNo::DeviceFault);
@@ -213,6 +220,7 @@ fn begin<D: Disk>(
     ensures undamaged { (a : ℕ) (byte : Option ℕ) → IsErrOf result (Damaged a byte) → ⊥ }
     ensures not_other { (at : ℕ) → IsErrOf result (OtherPlant at) → ⊥ }
     ensures counts { CountsFault result DeviceFault (D.fault_count dev.old) (D.fault_count dev.new) }
+    ensures handed { D.hand_out dev.new ≡ D.hand_out dev.old }
 {
     let none = Stored {
         rows: Vec::new(alloc),

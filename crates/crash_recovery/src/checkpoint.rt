@@ -5,7 +5,7 @@ ghost use Rattle.trend_num.specs.declared.tag_def.TagDef.{TagDef};
 ghost use Rattle.trend_model.specs.State.{State};
 ghost use Rattle.disk_model.specs.Traces.{seen, written};
 ghost use Rattle.disk_model.specs.Images.{FromOld, IsTorn};
-ghost use Rattle.disk_model.specs.Moments.{During};
+ghost use Rattle.disk_model.specs.Moments.{ComesAfter, During};
 ghost use Rattle.disk_model.specs.Calls.{CountsFault, HasCause, Reaches, Sees, Shows};
 ghost use Rattle.archive_file.specs.Records.{recs_image};
 ghost use Rattle.archive_file.specs.declared.failure.PutNo.TheVariants.{DeviceFault as PutFault};
@@ -74,6 +74,8 @@ impl Seat {
         ensures slots { self.new.lane.slots ≡ self.old.lane.slots }
         ensures within { self.new.lane.used ≤ self.new.lane.slots }
         ensures cause { CountsFault result PutFault (D.fault_count dev.old) (D.fault_count dev.new) }
+        ensures continues { ComesAfter (D.trace dev.old) (D.trace dev.new) }
+        ensures handed { D.hand_out dev.new ≡ D.hand_out dev.old }
         ensures later { D.ticks dev.old ≤ D.ticks dev.new }
     {
         if self.has_all_of(core) {
@@ -125,6 +127,8 @@ impl Seat {
             (λ c. D.ticks dev.new ≡ D.ticks dev.old + log_calls self.now (length recs.now) c)) }
         ensures unwritten { IsErrOf result NoMemory → dev.new ≡ dev.old }
         ensures cause { CountsFault result PutFault (D.fault_count dev.old) (D.fault_count dev.new) }
+        ensures continues { ComesAfter (D.trace dev.old) (D.trace dev.new) }
+        ensures handed { D.hand_out dev.new ≡ D.hand_out dev.old }
         ensures later { D.ticks dev.old ≤ D.ticks dev.new }
     {
         self.put_new_records(alloc, dev, recs)?;
@@ -152,6 +156,7 @@ impl Seat {
         ensures calls { OnOk result (D.ticks dev.new ≡ D.ticks dev.old + record_calls self.now.records (length recs.now)) }
         ensures unwritten { IsErrOf result NoMemory → dev.new ≡ dev.old }
         ensures cause { CountsFault result PutFault (D.fault_count dev.old) (D.fault_count dev.new) }
+        ensures handed { D.hand_out dev.new ≡ D.hand_out dev.old }
         ensures later { D.ticks dev.old ≤ D.ticks dev.new }
     {
         let from = (self.records as usize).min(recs.len());
@@ -194,6 +199,8 @@ impl Seat {
         ensures clock { OnOk result (D.ticks dev.new ≡ D.ticks dev.old + 4) }
         ensures later { D.ticks dev.old ≤ D.ticks dev.new }
         ensures cause { HasCause (D.fault_count dev.old) (D.fault_count dev.new) result }
+        ensures continues { ComesAfter (D.trace dev.old) (D.trace dev.new) }
+        ensures handed { D.hand_out dev.new ≡ D.hand_out dev.old }
     {
         let slot = self.spare_slot();
         // These calls are made for their contracts alone: the tuning and the records are in range.

@@ -6,6 +6,7 @@ ghost use Rattle.trend_num.specs.declared.tag_def.TagDef.{TagDef};
 ghost use Rattle.trend_model.specs.History.{Raw};
 ghost use Rattle.trend_model.specs.State.{State, replay};
 ghost use Rattle.disk_model.specs.Calls.{CountsFault, Shows};
+ghost use Rattle.disk_model.specs.Moments.{ComesAfter};
 ghost use Rattle.archive_file.specs.declared.failure.PutNo.TheVariants.{DeviceFault as PutFault, WantOfMemory as NoMemory};
 ghost use Rattle.event_queue.specs.declared.failure.LaneNo.TheVariants.{LaneFull, DeviceFault as LaneFault};
 
@@ -95,6 +96,8 @@ impl<D: Disk> Journal<D> {
         ensures later { D.ticks self.old.dev ≤ D.ticks self.new.dev }
         ensures cause { CountsFault result LaneFault
             (D.fault_count self.old.dev) (D.fault_count self.new.dev) }
+        ensures continues { ComesAfter (D.trace self.old.dev) (D.trace self.new.dev) }
+        ensures handed { D.hand_out self.new.dev ≡ D.hand_out self.old.dev }
     {
         if self.seat.is_full() {
             return Err(LaneNo::LaneFull);
@@ -141,6 +144,8 @@ impl<D: Disk> Journal<D> {
         ensures later { D.ticks self.old.dev ≤ D.ticks self.new.dev }
         ensures cause { CountsFault result PutFault
             (D.fault_count self.old.dev) (D.fault_count self.new.dev) }
+        ensures continues { ComesAfter (D.trace self.old.dev) (D.trace self.new.dev) }
+        ensures handed { D.hand_out self.new.dev ≡ D.hand_out self.old.dev }
     {
         match self.seat.checkpoint(alloc, &mut self.dev, core) {
             Err(PutNo::DeviceFault) => {

@@ -88,6 +88,10 @@ pub fn open_tag<D: Disk>(
     ensures cause { IfErr result (λ e. IsCause def.now (D.trace dev) e.why) }
     ensures faultless { IfOk result (λ o. D.fault_count o.journal.dev ≡ D.fault_count dev) }
     ensures counts { IfErr result (λ e. CountsRefusal e.why (D.fault_count dev) (D.fault_count e.dev)) }
+
+    // It is the same device.
+    ensures handed { IfOk result (λ o. D.hand_out o.journal.dev ≡ D.hand_out dev) }
+    ensures handed_refused { IfErr result (λ e. D.hand_out e.dev ≡ D.hand_out dev) }
 {
     let mut dev = dev;
     let read = match read_tag::<Brand, D>(alloc, &mut dev, def, lane_slots, room, Blank::new(1)) {
@@ -133,6 +137,8 @@ impl<D: Disk> Opened<D> {
         ensures faultless { IfOk result (λ o. D.fault_count o.journal.dev ≡ D.fault_count self.journal.dev) }
         ensures counts { IfErr result (λ e. CountsRefusal e.why (D.fault_count self.journal.dev)
             (D.fault_count e.dev)) }
+        ensures handed { IfOk result (λ o. D.hand_out o.journal.dev ≡ D.hand_out self.journal.dev) }
+        ensures handed_refused { IfErr result (λ e. D.hand_out e.dev ≡ D.hand_out self.journal.dev) }
     {
         let Opened { mut journal, core } = self;
         match journal.checkpoint(alloc, &core) {
@@ -193,6 +199,7 @@ fn read_tag<L: Ledger, D: Disk>(
     ensures room { IfOk result (λ r. 2 * room ≤ r.core.spare) }
     ensures cause { IfErr result (IsCause def.now (D.trace dev.old)) }
     ensures counts { CountsFault result DeviceFault (D.fault_count dev.old) (D.fault_count dev.new) }
+    ensures handed { D.hand_out dev.new ≡ D.hand_out dev.old }
 {
     let Ok(()) = dev.sync() else {
         return Err(OpenNo::DeviceFault);
@@ -232,6 +239,7 @@ fn made<D: Disk>(
     ensures room { IfOk result (λ r. r.core.spare ≡ 2 * room) }
     ensures cause { IfErr result (IsCause def.now (D.trace dev.old)) }
     ensures counts { CountsFault result DeviceFault (D.fault_count dev.old) (D.fault_count dev.new) }
+    ensures handed { D.hand_out dev.new ≡ D.hand_out dev.old }
 {
     let Ok(core) = TagCore::new(alloc, def.tuning, def.step, room) else {
         return Err(OpenNo::WantOfMemory);
@@ -284,6 +292,7 @@ fn read_back<L: Ledger, D: Disk>(
     ensures same { D.trace dev.new ≡ D.trace dev.old }
     ensures untimed { D.ticks dev.new ≡ D.ticks dev.old }
     ensures counts { CountsFault result DeviceFault (D.fault_count dev.old) (D.fault_count dev.new) }
+    ensures handed { D.hand_out dev.new ≡ D.hand_out dev.old }
 {
     let header = read_layout(dev, def)?;
     let stored = read_parts(alloc, dev, &header, def.step)?;

@@ -28,6 +28,7 @@ fn test_parts<D: Disk>(dev: &mut D, stored: &Stored, step: bool) -> Result<(), O
     ensures same { D.trace dev.new ≡ D.trace dev.old }
     ensures untimed { D.ticks dev.new ≡ D.ticks dev.old }
     ensures counts { CountsFault result DeviceFault (D.fault_count dev.old) (D.fault_count dev.new) }
+    ensures handed { D.hand_out dev.new ≡ D.hand_out dev.old }
 {
     let Some(slot) = stored.slot else {
         return Ok(());
@@ -60,6 +61,7 @@ pub(crate) fn read_parts<D: Disk>(
     ensures same { D.trace dev.new ≡ D.trace dev.old }
     ensures untimed { D.ticks dev.new ≡ D.ticks dev.old }
     ensures counts { CountsFault result DeviceFault (D.fault_count dev.old) (D.fault_count dev.new) }
+    ensures handed { D.hand_out dev.new ≡ D.hand_out dev.old }
 {
     let stored = read_stored(alloc, dev, header)?;
     test_parts(dev, &stored, step)?;

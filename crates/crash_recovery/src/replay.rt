@@ -72,6 +72,7 @@ fn value_place<D: Disk>(dev: &mut D, slots: u32, used: u32, number: usize) -> Re
     ensures end { IfOk result (λ a. a < 400 + 1035 * slots) }
     ensures fault { OnErr result (result ≡ Err DeviceFault) }
     ensures counts { HasCause (D.fault_count dev.old) (D.fault_count dev.new) result }
+    ensures handed { D.hand_out dev.new ≡ D.hand_out dev.old }
     ensures same { D.trace dev.new ≡ D.trace dev.old }
     ensures untimed { D.ticks dev.new ≡ D.ticks dev.old }
 {
@@ -95,6 +96,7 @@ fn count_at<D: Disk>(dev: &mut D, slots: u32, slot: u32) -> Result<u16, OpenNo>
     ensures few { IfOk result (λ n. n ≤ 64) }
     ensures fault { OnErr result (result ≡ Err DeviceFault) }
     ensures counts { HasCause (D.fault_count dev.old) (D.fault_count dev.new) result }
+    ensures handed { D.hand_out dev.new ≡ D.hand_out dev.old }
     ensures same { D.trace dev.new ≡ D.trace dev.old }
     ensures untimed { D.ticks dev.new ≡ D.ticks dev.old }
 {
@@ -128,6 +130,7 @@ fn overfull<D: Disk>(dev: &mut D, slots: u32, used: u32, number: usize) -> OpenN
     ensures same { D.trace dev.new ≡ D.trace dev.old }
     ensures untimed { D.ticks dev.new ≡ D.ticks dev.old }
     ensures counts { CountsRefusal result (D.fault_count dev.old) (D.fault_count dev.new) }
+    ensures handed { D.hand_out dev.new ≡ D.hand_out dev.old }
 {
     let at = match value_place(dev, slots, used, number) {
         Ok(at) => at,
@@ -171,6 +174,7 @@ pub(crate) fn read_core<L: Ledger, D: Disk>(
     ensures same { D.trace dev.new ≡ D.trace dev.old }
     ensures untimed { D.ticks dev.new ≡ D.ticks dev.old }
     ensures counts { CountsFault result DeviceFault (D.fault_count dev.old) (D.fault_count dev.new) }
+    ensures handed { D.hand_out dev.new ≡ D.hand_out dev.old }
 {
     let scanned = match scan(alloc, dev, slots, stored.summary.taken) {
         Ok(scanned) => scanned,

@@ -6,7 +6,7 @@ ghost use Rattle.trend_num.specs.Ranges.{InRange};
 ghost use Rattle.trend_num.specs.declared.tag_def.TagDef.{TagDef};
 ghost use Rattle.trend_model.specs.History.{Raw};
 ghost use Rattle.trend_model.specs.State.{State, replay};
-ghost use Rattle.disk_model.specs.Moments.{During};
+ghost use Rattle.disk_model.specs.Moments.{ComesAfter, During};
 ghost use Rattle.disk_model.specs.Calls.{HasCause, Shows};
 ghost use Rattle.event_queue.specs.Slots.{gate_of};
 ghost use Rattle.device_layout.specs.Recovery.{AllFit, Recovers};
@@ -89,6 +89,8 @@ impl Seat {
         ensures within { self.new.lane.used ≤ self.new.lane.slots }
         ensures later { D.ticks dev.old ≤ D.ticks dev.new }
         ensures cause { HasCause (D.fault_count dev.old) (D.fault_count dev.new) result }
+        ensures continues { ComesAfter (D.trace dev.old) (D.trace dev.new) }
+        ensures handed { D.hand_out dev.new ≡ D.hand_out dev.old }
     {
         self.close_stale(dev)?;
         match self.lane.append_batch(dev, points) {
@@ -117,6 +119,8 @@ impl Seat {
         ensures calls { OnOk result (Shows (D.trace dev.old) (λ c. D.ticks dev.new ≡ D.ticks dev.old + stale_calls self.old c)) }
         ensures later { D.ticks dev.old ≤ D.ticks dev.new }
         ensures cause { HasCause (D.fault_count dev.old) (D.fault_count dev.new) result }
+        ensures continues { ComesAfter (D.trace dev.old) (D.trace dev.new) }
+        ensures handed { D.hand_out dev.new ≡ D.hand_out dev.old }
     {
         if !self.stale {
             return Ok(());

@@ -48,6 +48,7 @@ pub fn make_layout<D: Disk>(
     ensures settled { OnOk result (IsSettled (D.trace dev.new)) }
     ensures no_memory { IsErrOf result WantOfMemory → dev.new ≡ dev.old }
     ensures cause { CountsFault result DeviceFault (D.fault_count dev.old) (D.fault_count dev.new) }
+    ensures handed { D.hand_out dev.new ≡ D.hand_out dev.old }
     ensures later { D.ticks dev.old ≤ D.ticks dev.new }
     ensures calls { OnOk result (Shows (D.trace dev.old) (λ c. D.ticks dev.new ≡ D.ticks dev.old + layout_calls c)) }
 {

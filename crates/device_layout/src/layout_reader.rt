@@ -64,6 +64,7 @@ pub fn read_layout<D: Disk>(dev: &mut D, def: &TagDef) -> Result<Header, OpenNo>
     ensures same { D.trace dev.new ≡ D.trace dev.old }
     ensures untimed { D.ticks dev.new ≡ D.ticks dev.old }
     ensures counts { CountsFault result DeviceFault (D.fault_count dev.old) (D.fault_count dev.new) }
+    ensures handed { D.hand_out dev.new ≡ D.hand_out dev.old }
 {
     let Ok(len) = dev.len() else {
         return Err(OpenNo::DeviceFault);
@@ -87,6 +88,7 @@ fn header_of<D: Disk>(dev: &mut D, len: u64) -> Result<Header, OpenNo>
     ensures same { D.trace dev.new ≡ D.trace dev.old }
     ensures untimed { D.ticks dev.new ≡ D.ticks dev.old }
     ensures counts { CountsFault result DeviceFault (D.fault_count dev.old) (D.fault_count dev.new) }
+    ensures handed { D.hand_out dev.new ≡ D.hand_out dev.old }
 {
     if len < HEADER_LEN as u64 {
         return Err(ends_at(len));
@@ -137,6 +139,7 @@ fn counting_slot<D: Disk>(dev: &mut D) -> Result<Option<Slot>, OpenNo>
     ensures slot { IfOk result (λ x. Shows (D.trace dev.old) (λ c. counting c ≡ x)) }
     ensures fault { OnErr result (result ≡ Err DeviceFault) }
     ensures counts { HasCause (D.fault_count dev.old) (D.fault_count dev.new) result }
+    ensures handed { D.hand_out dev.new ≡ D.hand_out dev.old }
     ensures same { D.trace dev.new ≡ D.trace dev.old }
     ensures untimed { D.ticks dev.new ≡ D.ticks dev.old }
 {
@@ -171,6 +174,7 @@ fn counted<D: Disk>(dev: &mut D, slot: Slot) -> Result<Summary, OpenNo>
     ensures same { D.trace dev.new ≡ D.trace dev.old }
     ensures untimed { D.ticks dev.new ≡ D.ticks dev.old }
     ensures counts { CountsFault result DeviceFault (D.fault_count dev.old) (D.fault_count dev.new) }
+    ensures handed { D.hand_out dev.new ≡ D.hand_out dev.old }
 {
     let bytes = read_part::<SUMMARY_LEN, D>(dev, slot.place())?;
     match read_summary(&bytes) {
@@ -194,6 +198,7 @@ fn records_of<D: Disk>(
     ensures same { D.trace dev.new ≡ D.trace dev.old }
     ensures untimed { D.ticks dev.new ≡ D.ticks dev.old }
     ensures counts { CountsFault result DeviceFault (D.fault_count dev.old) (D.fault_count dev.new) }
+    ensures handed { D.hand_out dev.new ≡ D.hand_out dev.old }
 {
     match read_records(alloc, dev, log_start(slots), summary.records) {
         Ok(recs) => Ok(recs),
@@ -237,6 +242,7 @@ pub fn read_stored<D: Disk>(alloc: Global, dev: &mut D, header: &Header) -> Resu
     ensures same { D.trace dev.new ≡ D.trace dev.old }
     ensures untimed { D.ticks dev.new ≡ D.ticks dev.old }
     ensures counts { CountsFault result DeviceFault (D.fault_count dev.old) (D.fault_count dev.new) }
+    ensures handed { D.hand_out dev.new ≡ D.hand_out dev.old }
 {
     let Some(slot) = counting_slot(dev)? else {
         return Ok(Stored {

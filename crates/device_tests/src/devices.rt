@@ -1,4 +1,4 @@
-// What no clause says: that calls succeed if there is memory; and images that were computed by hand.
+// What no clause says: that calls succeed if there is memory; and which images a crash leaves of a few calls.
 ghost use Rattle.std.specs.Prelude.{ℕ, List, IsTrue, OnOk};
 
 use crate::spelled::{change, number, rows_tell, same};

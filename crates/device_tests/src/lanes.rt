@@ -1,4 +1,4 @@
-// Lanes written by hand: what a scan finds, and the first field that breaks the layout.
+// Lanes byte by byte: what a scan finds, and the first field that breaks the layout.
 use crate::spelled::{change, number, rows_tell};
 use disk_model::MemDisk;
 use event_queue::scan;

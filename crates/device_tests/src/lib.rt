@@ -1,4 +1,4 @@
-//! Tests of devices and of what is kept on them: bytes written by hand, crashes, damage, and the number of calls.
+//! Tests of devices and of what is kept on them: each byte, crashes, damage, and the number of calls.
 #![tactic(auto)]
 
 #[cfg(test)]

@@ -1,4 +1,4 @@
-// Records and summaries in bytes that were written by hand.
+// Records and summaries, byte by byte.
 use crate::spelled::{change, number, point, rows_tell, same};
 use archive_file::{
     DeviceFault, Kind, Point, PutNo, Rec, ScanNo, Summary, Tuning, put_records, read_records,

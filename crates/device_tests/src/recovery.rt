@@ -1,4 +1,4 @@
-// Devices that are opened again: stories written by hand, and damaged bytes.
+// Devices that are opened again: after some values and openings, and with damaged bytes.
 ghost use Rattle.std.specs.Prelude.{◌≡◌, ◌<◌};
 
 use crate::spelled::{change, point, rows_tell, same};
@@ -303,7 +303,7 @@ fn checked(rt: &impl Abort, alloc: Global, bytes: Vec<u8>) -> Result<Vec<u8>, Fa
     Ok(tag.journal.into_device().bytes().to_vec(alloc)?)
 }
 
-// The device of `good` as the first version wrote its summary: without a tuning.
+// The device of `good` with a summary that has no tuning, as those have that are from before tags could be retuned.
 fn of_first_version(rt: &impl Abort, alloc: Global) -> Result<Vec<u8>, Fail> {
     let mut bytes = good(rt, alloc)?;
     assert!(rt; bytes.len() == 66_657);

@@ -6,7 +6,7 @@ use disk_model::{Disk, Failed, MemDisk, OPEN, Pick, Store};
 use std::alloc::Global;
 use std::fs::{self, File};
 use std::io;
-use std::os::unix::fs::symlink;
+use std::os::unix::fs::{MetadataExt, symlink};
 use std::process::Abort;
 use std::rt::Files;
 use std::test::Fail;
@@ -264,15 +264,23 @@ fn fail(rt: &impl Abort, dev: &mut impl Disk) {
     counts(rt, dev, 5, 6);
 }
 
-// Takes a device that stops, and gives it back. The store does not hand it out again, but it does another one.
-fn break_one<S: Store>(rt: &impl Abort, store: &mut S) -> Result<(), Fail>
+// Returns which file has the name `a.tag`.
+fn file_number(rt: &(impl Files + AllocGlobal)) -> io::Result<u64> {
+    Ok(fs::metadata(rt, "historian.d/a.tag")?.ino())
+}
+
+// Takes a device that stops, and gives it back. Its file is another one then. The store does not hand it out again, but
+// it does another one.
+fn break_one<S: Store, R: Files + AllocGlobal + Abort>(rt: &R, store: &mut S) -> Result<(), Fail>
 where
     S::Dev: Drop,
 {
     let mut dev = handed(store, "a.tag")?;
     assert!(rt; dev.write_at(0, b"\xa5bc").is_ok());
     fail(rt, &mut dev);
+    let before = file_number(rt)?;
     store.give_back("a.tag", dev);
+    assert!(rt; file_number(rt)? != before);
     assert!(rt; store.device("a.tag").is_err());
     assert!(rt; store.device("b.tag").is_ok());
     Ok(())
@@ -388,7 +396,7 @@ fn what_is_no_plain_file_of_one_name_is_refused(rt: HostRuntime) -> Result<(), F
 }
 
 // If a store did not read a file, its trace is empty, so the store refuses the file. It also refuses a file that became
-// longer since it was read.
+// longer since it was read, and another file of the same length.
 #[test]
 fn a_file_that_is_not_as_it_was_told_is_refused(rt: HostRuntime) -> Result<(), Fail> {
     begin(&rt)?;
@@ -402,6 +410,12 @@ fn a_file_that_is_not_as_it_was_told_is_refused(rt: HostRuntime) -> Result<(), F
     assert!(rt; store.device("a.tag").is_err());
     assert!(rt; store.device("b.tag").is_err());
     file_holds(&rt, b"\xa5bcd")?;
+    drop(store);
+    let mut store = DirStore::read(&rt, Wanted::Archives);
+    fs::write(&rt, "historian.d/other", b"\xa5bce")?;
+    fs::rename(&rt, "historian.d/other", "historian.d/a.tag")?;
+    assert!(rt; store.device("a.tag").is_err());
+    file_holds(&rt, b"\xa5bce")?;
     end(&rt)?;
     Ok(())
 }

@@ -31,7 +31,7 @@ only_since None ticks m c told le left = absurd left.image
 only_since (Some t) ticks m c told le left = record { image = only_calls t.first t.calls m c (omega (arith, told, le)) left.image }
 
 -- a device comes after itself
-after_self : (o : Option Trace) → ComesAfter o o
+pub after_self : (o : Option Trace) → ComesAfter o o
 after_self None = tt
 after_self (Some t) = (refl, [], refl)
 

@@ -1,13 +1,14 @@
 -- How a proof sees a device in memory, and which image of it is picked.
-use Rattle.std.specs.Prelude.{◌≡◌, ◌⊎◌, ℕ, ◌≤◌, Bool, List, [], ◌∷◌, length, replicate, Contains, Option, IsSomeAnd, Result, IsErr, is_ok, if◌then◌else◌}
+use Rattle.std.specs.Prelude.{◌≡◌, ◌⊎◌, ℕ, ◌≤◌, Bool, List, [], ◌∷◌, length, replicate, Contains, Option, None, IsSomeAnd, Result, IsErr, is_ok, if◌then◌else◌}
 use Rattle.disk_model.specs.declared.memory_disk.Pick.{Pick}
 use Rattle.disk_model.specs.declared.memory_disk.Pick.TheVariants.{Old, New, Fill}
-use Rattle.disk_model.specs.Traces.{DeviceCall, Wrote, WroteInPart, Resized, ResizedInPart, Synced, Idle, Trace, written, resized, content}
+use Rattle.disk_model.specs.Traces.{DeviceCall, Wrote, WroteInPart, Resized, ResizedInPart, Synced, Idle, HandOut, Trace, written, resized, content}
 use Rattle.disk_model.specs.Calls.{next_count}
 
--- a device in memory: its trace, the numbers of the calls that are to fail, and the number from which all are to fail;
--- whether it stops together with others; and its counts
+-- a device in memory: the name under which a store handed it out, if one did; its trace; the numbers of the calls that
+-- are to fail, and the number from which all are to fail; whether it stops together with others; and its counts
 pub record DiskState : Type 0 where
+  pub name : Option (List ℕ)
   pub trace : Trace
   pub failing_calls : List ℕ
   pub stop : Option ℕ
@@ -15,12 +16,17 @@ pub record DiskState : Type 0 where
   pub calls : ℕ
   pub faults : ℕ
 
+-- a device that a store handed out under this name, or that none handed out; what it was then is not recorded
+abbrev pub handed_as : Option (List ℕ) → HandOut
+handed_as name = record { name = name; trace = None }
+
 -- the next call is to fail, whatever other devices did
 abbrev pub IsToFail : DiskState → Type 0
 IsToFail s = Contains s.failing_calls s.calls ⊎ IsSomeAnd s.stop (λ stop. stop ≤ s.calls)
 
 -- over one call: it is counted, the calls that are to fail stay, and the faults rise by one if it failed
 pub record IsCalled {T E : Type 0} (old new : DiskState) (result : Result T E) : Type 0 where
+  pub name : new.name ≡ old.name
   pub calls : new.calls ≡ next_count old.calls
   pub failing_calls : new.failing_calls ≡ old.failing_calls
   pub stop : new.stop ≡ old.stop

@@ -1,5 +1,5 @@
 -- A device, as the bytes that it held at first and the calls on it since.
-use Rattle.std.specs.Prelude.{ℕ, ◌+◌, ◌-◌, List, [], ◌∷◌, ◌++◌, length, take, drop, replicate, Option, None, Some}
+use Rattle.std.specs.Prelude.{◌≡◌, IfSome, ℕ, ◌+◌, ◌-◌, List, [], ◌∷◌, ◌++◌, length, take, drop, replicate, Option, None, Some}
 
 -- a call that may change what a crash leaves. A call in part answered that it failed, and may have done some of its
 -- work. An idle call did nothing
@@ -15,6 +15,16 @@ pub data DeviceCall : Type 0 where
 pub record Trace : Type 0 where
   pub first : List ℕ
   pub calls : List DeviceCall
+
+-- how a store handed a device out: its name there, or none if no store did; and what the device was then, if that is
+-- recorded
+pub record HandOut : Type 0 where
+  pub name : Option (List ℕ)
+  pub trace : Option Trace
+
+-- the device may be kept under this name: a store handed it out under it, or no store handed it out
+abbrev pub FitsName : List ℕ → HandOut → Type 0
+FitsName name h = IfSome h.name (λ n. n ≡ name)
 
 -- the bytes with others written over them and past their end
 abbrev pub written : List ℕ → ℕ → List ℕ → List ℕ

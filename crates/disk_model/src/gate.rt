@@ -32,6 +32,7 @@ pub fn write_guarded<D: Disk>(dev: &mut D, at: u64, bytes: &[u8], gate: u64) -> 
     ensures clock { OnOk result (D.ticks dev.new ≡ D.ticks dev.old + 4) }
     ensures later { D.ticks dev.old ≤ D.ticks dev.new }
     ensures cause { HasCause (D.fault_count dev.old) (D.fault_count dev.new) result }
+    ensures handed { D.hand_out dev.new ≡ D.hand_out dev.old }
 {
     dev.write_at(at, bytes)?;
     dev.sync()?;
@@ -58,6 +59,7 @@ pub fn close_gates<D: Disk>(dev: &mut D, at: u64, count: u32) -> Result<(), Fail
     ensures clock { D.ticks dev.new ≤ D.ticks dev.old + (count + 1) }
     ensures calls { OnOk result (Shows (D.trace dev.old) (λ c. D.ticks dev.new ≡ D.ticks dev.old + (open_gates at count c + 1))) }
     ensures cause { HasCause (D.fault_count dev.old) (D.fault_count dev.new) result }
+    ensures handed { D.hand_out dev.new ≡ D.hand_out dev.old }
 {
     for k in 0..count {
         close_gate(dev, at + u64::from(k))?;
@@ -77,6 +79,7 @@ fn close_gate<D: Disk>(dev: &mut D, gate: u64) -> Result<(), Failed>
     ensures clock { D.ticks dev.new ≤ D.ticks dev.old + 1 }
     ensures calls { OnOk result (Shows (D.trace dev.old) (λ c. D.ticks dev.new ≡ D.ticks dev.old + open_gate gate c)) }
     ensures cause { HasCause (D.fault_count dev.old) (D.fault_count dev.new) result }
+    ensures handed { D.hand_out dev.new ≡ D.hand_out dev.old }
 {
     let mut byte = [0];
     dev.read(gate, &mut byte)?;

@@ -2,7 +2,8 @@
 //!
 //! A [`Disk`] holds bytes, and a [`Store`] hands out disks by name. A proof sees the calls on a device as plain data, a
 //! trace: the bytes at first and the calls since. Three things are defined from the trace alone: what a read returns,
-//! what a crash now may leave, and what a crash at any moment since some call might have left.
+//! what a crash now may leave, and what a crash at any moment since some call might have left. A device keeps the name
+//! under which it was handed out. What a store then has at a name is known only if that device was given back there.
 //!
 //! A crash between two syncs may leave any bytes in each written range and past the old end. It may leave any length
 //! between the least and the greatest. A crash after a sync that answered Ok leaves exactly what a read returns. That a

@@ -1,5 +1,5 @@
 // A device in memory. It fails at the calls that a test chooses, and gives the images that a crash may leave.
-ghost use Rattle.std.specs.Prelude.{◌≡◌, ◌⊎◌, ◌↔◌, ◌+◌, ◌-◌, ◌^◌, ◌<◌, ◌≤◌, [], ◌∷◌, length, Option, None, Some, IfOk, IsErr, OnOk, OnErr, IsTrue, Contains, IsSomeAnd, IsSome, is_some, IsOk, is_ok, false, true, if◌then◌else◌};
+ghost use Rattle.std.specs.Prelude.{◌≡◌, ◌⊎◌, ◌↔◌, ◌+◌, ◌-◌, ◌^◌, ◌<◌, ◌≤◌, [], ◌∷◌, length, Option, None, Some, IfOk, IsErr, OnOk, OnErr, IsTrue, Contains, IsSomeAnd, IsSome, is_some, IsOk, is_ok, false, true, if◌then◌else◌, string_bytes};
 ghost use Rattle.disk_model.specs.Logs.{log_first, log_calls};
 ghost use Rattle.disk_model.specs.Traces.{Wrote, WroteInPart, Resized, ResizedInPart, Synced, Idle, seen, noted};
 ghost use Rattle.disk_model.specs.Images.{MayLeave};
@@ -75,11 +75,13 @@ impl Calls {
     }
 }
 
-/// A device in memory. A clause sees its trace, the numbers of the calls that are to fail, counted from 0, and the
-/// number from which on all fail. It also sees whether the device stops together with others, and how many calls and
-/// faults there were. Calls of `len` and `read` are among those counted.
+/// A device in memory. A clause sees the name under which a store handed it out, if one did, and its trace. It sees the
+/// numbers of the calls that are to fail, counted from 0, and the number from which on all fail. It also sees whether
+/// the device stops together with others, and how many calls and faults there were. Calls of `len` and `read` are among
+/// those counted.
 #[derive(Drop)]
 pub struct MemDisk {
+    name: Option<String>,
     log: CallLog,
     calls: Calls,
 }
@@ -91,9 +93,10 @@ impl Model for MemDisk {
 
     ghost use Rattle.std.specs.Prelude.{is_some};
     ghost use Rattle.disk_model.specs.Logs.{log_first, log_calls};
-    ghost use Rattle.disk_model.specs.Disks.{IsKept};
+    ghost use Rattle.disk_model.specs.Disks.{IsKept, name_of};
 
     ghost view = { λ d. record {
+      name = name_of d.name;
       trace = record { first = log_first d.log; calls = log_calls d.log };
       failing_calls = d.calls.failing.items;
       stop = d.calls.stop;
@@ -108,8 +111,10 @@ impl Model for MemDisk {
 impl MemDisk {
     ghost use Rattle.disk_model.specs.Memory.{picked};
 
-    /// Returns a device of these bytes. Its calls with a number in `fail`, counted from 0, fail.
+    /// Returns a device of these bytes, which no store handed out. Its calls with a number in `fail`, counted from 0,
+    /// fail.
     pub fn new(bytes: Vec<u8>, fail: Vec<u64>) -> MemDisk
+        ensures name { result.name ≡ None }
         ensures trace { result.trace ≡ record { first = bytes.items; calls = [] } }
         ensures failing { result.failing_calls ≡ fail.items }
         ensures stop { result.stop ≡ None }
@@ -118,6 +123,7 @@ impl MemDisk {
         ensures faults { result.faults ≡ 0 }
     {
         MemDisk {
+            name: None,
             log: CallLog::new(bytes),
             calls: Calls {
                 failing: fail,
@@ -137,9 +143,10 @@ impl MemDisk {
         self.calls.stop = Some(calls);
     }
 
-    /// Returns a new device that holds the picked one of the images that a crash now may leave. It fails if there is no
-    /// memory for that.
+    /// Returns a new device that holds the picked one of the images that a crash now may leave, and which no store
+    /// handed out. It fails if there is no memory for that.
     pub fn crash(&self, pick: Pick) -> Result<MemDisk, WantOfMemory>
+        ensures name { IfOk result (λ d. d.name ≡ None) }
         ensures trace { IfOk result (λ d. d.trace
             ≡ record { first = picked pick self.now.trace.first self.now.trace.calls; calls = [] }) }
         ensures image { IfOk result (λ d. MayLeave (Some self.now.trace) d.trace.first) }
@@ -154,6 +161,13 @@ impl MemDisk {
         };
         let alloc = *image.allocator();
         Ok(MemDisk::new(image, Vec::new(alloc)))
+    }
+
+    /// Forgets the name under which a store handed the device out. So it may be used under any name.
+    pub fn forget_name(&mut self)
+        ensures { self.new ≡ record self.old { name = None } }
+    {
+        self.name = None;
     }
 
     /// Returns how many calls there were, those of `len` and `read` among them. The count stays at the end of its type.
@@ -176,6 +190,13 @@ impl MemDisk {
         ensures { self.new ≡ record self.old { shares = is_some share } }
     {
         self.calls.share = share;
+    }
+
+    // Gives the device the name under which a store hands it out.
+    pub(crate) fn set_name(&mut self, name: String)
+        ensures { self.new ≡ record self.old { name = Some (string_bytes name) } }
+    {
+        self.name = Some(name);
     }
 
     // Returns the faults so far, and sets their count to 0.
@@ -214,7 +235,7 @@ fn end(
 }
 
 impl Disk for MemDisk {
-    ghost use Rattle.disk_model.specs.Memory.{DiskState, IsToFail, IsCalled};
+    ghost use Rattle.disk_model.specs.Memory.{DiskState, IsToFail, IsCalled, handed_as};
     ghost use Rattle.std.specs.Prelude.{refl};
 
     ghost trace = { λ s. Some s.trace };
@@ -223,6 +244,8 @@ impl Disk for MemDisk {
 
     ghost fault_count = { λ s. s.faults };
 
+    ghost hand_out = { λ s. handed_as s.name };
+
     ghost told = { λ s. refl };
 
     fn len(&mut self) -> Result<u64, Failed>
@@ -230,6 +253,7 @@ impl Disk for MemDisk {
         ensures same { Some self.new.trace ≡ Some self.old.trace }
         ensures untimed { length self.new.trace.calls ≡ length self.old.trace.calls }
         ensures cause { HasCause self.old.faults self.new.faults result }
+        ensures handed { handed_as self.new.name ≡ handed_as self.old.name }
         ensures called { IsCalled self.old self.new result }
         ensures failed_only { IsErr result → IsToFail self.old ⊎ (self.old.shares ≡ true) }
     {
@@ -245,6 +269,7 @@ impl Disk for MemDisk {
         ensures same { Some self.new.trace ≡ Some self.old.trace }
         ensures untimed { length self.new.trace.calls ≡ length self.old.trace.calls }
         ensures cause { HasCause self.old.faults self.new.faults result }
+        ensures handed { handed_as self.new.name ≡ handed_as self.old.name }
         ensures called { IsCalled self.old self.new result }
         ensures failed_only { IsErr result → IsToFail self.old ⊎ (self.old.shares ≡ true) }
     {
@@ -262,6 +287,7 @@ impl Disk for MemDisk {
             (Some self.old.trace) (Some self.new.trace) }
         ensures clock { IsTimed (length self.old.trace.calls) (length self.new.trace.calls) result }
         ensures cause { HasCause self.old.faults self.new.faults result }
+        ensures handed { handed_as self.new.name ≡ handed_as self.old.name }
         ensures called { IsCalled self.old self.new result }
     {
         let whole = !self.calls.begin();
@@ -278,6 +304,7 @@ impl Disk for MemDisk {
             (Some self.old.trace) (Some self.new.trace) }
         ensures clock { IsTimed (length self.old.trace.calls) (length self.new.trace.calls) result }
         ensures cause { HasCause self.old.faults self.new.faults result }
+        ensures handed { handed_as self.new.name ≡ handed_as self.old.name }
         ensures called { IsCalled self.old self.new result }
     {
         let whole = !self.calls.begin();
@@ -293,6 +320,7 @@ impl Disk for MemDisk {
         ensures noted { IsNoted Synced Idle result (Some self.old.trace) (Some self.new.trace) }
         ensures clock { IsTimed (length self.old.trace.calls) (length self.new.trace.calls) result }
         ensures cause { HasCause self.old.faults self.new.faults result }
+        ensures handed { handed_as self.new.name ≡ handed_as self.old.name }
         ensures called { IsCalled self.old self.new result }
     {
         let whole = !self.calls.begin();

@@ -129,15 +129,20 @@ impl Store for MemStore {
             return Err(self.fault());
         };
         let alloc = *self.devices.allocator();
+        let Ok(own) = String::from_str(alloc, name) else {
+            return Err(self.fault());
+        };
         let empty = MemDisk::new(Vec::new(alloc), Vec::new(alloc));
         if let Some(mut dev) = exchange(&mut self.devices, name, empty) {
             dev.take_faults();
+            dev.set_name(own);
             dev.stop_with(share);
             return Ok(dev);
         }
         let empty = MemDisk::new(Vec::new(alloc), Vec::new(alloc));
         if let Ok(()) = add(&mut self.devices, name, empty) {
             let mut dev = MemDisk::new(Vec::new(alloc), Vec::new(alloc));
+            dev.set_name(own);
             dev.stop_with(share);
             return Ok(dev);
         }

@@ -13,6 +13,7 @@ pub fn read_part<const N: usize, D: Disk>(dev: &mut D, at: u64) -> Result<[u8; N
     ensures same { D.trace dev.new ≡ D.trace dev.old }
     ensures untimed { D.ticks dev.new ≡ D.ticks dev.old }
     ensures counts { HasCause (D.fault_count dev.old) (D.fault_count dev.new) result }
+    ensures handed { D.hand_out dev.new ≡ D.hand_out dev.old }
 {
     let mut bytes = [0; N];
     dev.read(at, &mut bytes)?;
@@ -26,6 +27,7 @@ pub fn is_new<D: Disk>(dev: &mut D) -> Result<bool, Failed>
     ensures same { D.trace dev.new ≡ D.trace dev.old }
     ensures untimed { D.ticks dev.new ≡ D.ticks dev.old }
     ensures counts { HasCause (D.fault_count dev.old) (D.fault_count dev.new) result }
+    ensures handed { D.hand_out dev.new ≡ D.hand_out dev.old }
 {
     let len = dev.len()?;
     if len <= 1 {

@@ -4,7 +4,7 @@ ghost use Rattle.std.specs.List.{All};
 ghost use Rattle.trend_num.specs.Ranges.{InRange};
 ghost use Rattle.disk_model.specs.Traces.{seen, written};
 ghost use Rattle.disk_model.specs.Images.{Now, FromOld, IsSettled};
-ghost use Rattle.disk_model.specs.Moments.{During};
+ghost use Rattle.disk_model.specs.Moments.{ComesAfter, During};
 ghost use Rattle.disk_model.specs.Calls.{CountsFault, HasCause, Sees, Shows};
 ghost use Rattle.disk_model.specs.Gates.{IsGuarded, HasGatesOf, IsClosing, open_byte, open_gates};
 ghost use Rattle.event_queue.specs.declared.failure.LaneNo.TheVariants.{LaneFull, DeviceFault as Fault};
@@ -62,6 +62,8 @@ impl Lane {
         ensures clock { OnOk result (D.ticks dev.new ≡ D.ticks dev.old + 4) }
         ensures later { D.ticks dev.old ≤ D.ticks dev.new }
         ensures cause { CountsFault result Fault (D.fault_count dev.old) (D.fault_count dev.new) }
+        ensures continues { ComesAfter (D.trace dev.old) (D.trace dev.new) }
+        ensures handed { D.hand_out dev.new ≡ D.hand_out dev.old }
     {
         if self.used == self.slots {
             return Err(LaneNo::LaneFull);
@@ -102,6 +104,7 @@ impl Lane {
             (λ c. D.ticks dev.new ≡ D.ticks dev.old + (open_gates (gate_of 0) self.old.used c + 1))) }
         ensures later { D.ticks dev.old ≤ D.ticks dev.new }
         ensures cause { HasCause (D.fault_count dev.old) (D.fault_count dev.new) result }
+        ensures handed { D.hand_out dev.new ≡ D.hand_out dev.old }
     {
         let Ok(()) = close_gates(dev, FIRST_GATE, self.used) else {
             return Err(DeviceFault);

@@ -54,6 +54,7 @@ pub fn scan<D: Disk>(alloc: Global, dev: &mut D, slots: u32, taken: u64) -> Resu
     ensures damaged { (a : ℕ) (byte : Option ℕ) → IsErrOf result (Damaged a byte) →
         IfSome (D.trace dev.old) (λ t. IsLaneDamage slots (seen (Option.Some t)) taken a byte) }
     ensures cause { CountsFault result DeviceFault (D.fault_count dev.old) (D.fault_count dev.new) }
+    ensures handed { D.hand_out dev.new ≡ D.hand_out dev.old }
     ensures same { D.trace dev.new ≡ D.trace dev.old }
     ensures untimed { D.ticks dev.new ≡ D.ticks dev.old }
 {
@@ -84,6 +85,7 @@ fn refill<D: Disk>(dev: &mut D, at: u64, len: usize, piece: &mut Vec<u8>) -> Res
     ensures same { D.trace dev.new ≡ D.trace dev.old }
     ensures untimed { D.ticks dev.new ≡ D.ticks dev.old }
     ensures cause { HasCause (D.fault_count dev.old) (D.fault_count dev.new) result }
+    ensures handed { D.hand_out dev.new ≡ D.hand_out dev.old }
 {
     piece.truncate(len);
     dev.read(at, piece)

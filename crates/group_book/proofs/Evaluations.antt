@@ -2,7 +2,7 @@
 use Rattle.std.proofs.Common.{◌≡◌, ℕ, zero, suc, ◌+◌, ◌-◌, ◌*◌, ◌^◌, ◌<◌, ◌≤◌, Bool, true, false, All, List, [], ◌∷◌, ◌++◌, length, map, drop, Vec, nat_le, refl, sym, ap, ap₂, ◌∙◌, subst, arith, append_assoc, append-nil}
 use Rattle.std.specs.Prelude.{◌||◌, Some, min}
 use Rattle.std.specs.declared.alloc.Global.{Global}
-use Rattle.std.proofs.lemmas.Bool.{false≢true}
+use Rattle.std.proofs.lemmas.Bool.{false≢true, or_parts}
 use Rattle.std.proofs.lemmas.Bool.Decides.{nat_tests}
 use Rattle.trend_num.specs.declared.archive.Rec.{Rec}
 use Rattle.trend_num.specs.declared.value.CalcValue.{CalcValue}
@@ -11,15 +11,16 @@ use Rattle.sheet_law.specs.declared.grid.Grid.{Grid}
 use Rattle.sheet_law.specs.Scratch.{column, due_below, is_due, values_at}
 use Rattle.sheet_law.specs.Touched.{any_touched, is_touched, longer, touches}
 use Rattle.sheet_law.specs.Windows.{complete_windows, window_from, window_to}
-use Rattle.sheet_law.proofs.Complete.{complete_are}
+use Rattle.sheet_law.proofs.Complete.{complete_are, complete_grow}
 use Rattle.sheet_law.proofs.Formulas.{values_stay}
+use Rattle.calc_refresh.specs.Lists.{lists_of}
 use Rattle.calc_refresh.specs.Refreshed.{IsRefreshed, evaluated}
 use Rattle.calc_refresh.specs.Sheet.{SheetState}
 use Rattle.group_book.specs.declared.turn.Turn.{Turn}
 use Rattle.group_book.specs.declared.turn.Turn.TheVariants.{Refresh, Ask, Save}
 use Rattle.group_book.specs.declared.history.GroupOpening.{GroupOpening}
 use Rattle.group_book.specs.Tapes.{BookWalk, after_turn, book_start, book_walked, cut, uncut}
-use Rattle.group_book.specs.Histories.{AreRowsEvaluated, BookTurnsFit, IsBookLegal, NeverFall, evaluated_between, evaluated_on}
+use Rattle.group_book.specs.Histories.{AreRowsEvaluated, BookTurnsFit, IsBookLegal, NeverFall, evaluated_between, evaluated_on, is_due_since}
 use Rattle.group_book.proofs.Cuts.{cut-all, cut-longer, never_refl, never_trans, tail_rises}
 use Rattle.group_book.proofs.InputLists.{longer-uncut}
 use Rattle.group_book.proofs.LegalTurns.{at_end, opened_low}
@@ -107,21 +108,30 @@ length-cut [] (rs ∷ rss) same = absurd (omega (arith, same))
 length-cut (v ∷ vs) [] same = absurd (omega (arith, same))
 length-cut (v ∷ vs) (rs ∷ rss) same = ap suc (length-cut vs rss (omega (arith, same)))
 
+-- no fewer windows are complete over more records
+pub cut_windows : (grid : Grid) (vs : List ℕ) (rss : List (List Rec)) → 0 < grid.period → length vs ≡ length rss
+    → complete_windows grid (cut vs rss) ≤ complete_windows grid rss
+cut_windows grid vs rss some same =
+    subst (λ x. complete_windows grid (cut vs rss) ≤ complete_windows grid x) (longer-uncut vs rss (sym same))
+    (complete_grow grid (cut vs rss) (uncut vs rss) some)
+
 -- ---- a group that was just opened
 
 module _ (g : Group) (grid : Grid) (o : GroupOpening) (copies : List (List Rec)) (rows : List (List CalcValue)) (evals : ℕ) where
-  pub evaluated_first : o.versions.items ≡ map length copies → length rows ≡ length g.calcs
+  pub evaluated_first : o.versions.items ≡ map length copies → lists_of o.rows.items ≡ rows → length rows ≡ length g.calcs
       → All (λ row. length row ≡ complete_windows grid copies) rows → evals ≡ 0
       → AreRowsEvaluated g grid o [] copies rows evals
-  evaluated_first opened calcs windows none = record {
-    calcs = calcs;
-    windows = windows;
-    due = λ k within due. absurd (false≢true (sym (not_due k within) ∙ due));
+  evaluated_first opened same calcs windows none = record {
+    rows_are = record {
+      calcs = calcs;
+      windows = windows;
+      due = λ k within due. absurd (false≢true (sym (not_due k within) ∙ due));
+      others = λ k still. ap (column k) (sym same);
+    };
     evals_are = none;
   }
     where
-      not_due : (k : ℕ) → k < complete_windows grid copies
-          → is_due grid (cut o.versions.items copies) (uncut o.versions.items copies) k ≡ false
+      not_due : (k : ℕ) → k < complete_windows grid copies → is_due_since grid o copies k ≡ false
       not_due k within =
           ap₂ (λ a b. nat_le (complete_windows grid a) k || any_touched a b (window_from grid k) (window_to grid k))
           (ap (λ l. cut l copies) opened ∙ cut-all copies) (ap (λ l. uncut l copies) opened)
@@ -135,9 +145,7 @@ module _ (g : Group) (grid : Grid) (o : GroupOpening) (copies : List (List Rec))
   pub evaluated_asked : (tape : List Turn) (reader row calc k : ℕ) (reply : _) → AreRowsEvaluated g grid o tape copies rows evals
       → AreRowsEvaluated g grid o (tape ++ Ask reader row calc k reply ∷ []) copies rows evals
   evaluated_asked tape reader row calc k reply was = record {
-    calcs = was.calcs;
-    windows = was.windows;
-    due = was.due;
+    rows_are = was.rows_are;
     evals_are = was.evals_are ∙ sym (pushed o.versions.items 0 tape);
   }
     where
@@ -151,9 +159,7 @@ module _ (g : Group) (grid : Grid) (o : GroupOpening) (copies : List (List Rec))
   pub evaluated_saved : (tape : List Turn) (number moment : ℕ) → AreRowsEvaluated g grid o tape copies rows evals
       → AreRowsEvaluated g grid o (tape ++ Save number moment ∷ []) copies rows evals
   evaluated_saved tape number moment was = record {
-    calcs = was.calcs;
-    windows = was.windows;
-    due = was.due;
+    rows_are = was.rows_are;
     evals_are = was.evals_are ∙ sym (pushed o.versions.items 0 tape);
   }
     where
@@ -237,13 +243,19 @@ module _ (g : Group) (grid : Grid) (o : GroupOpening) (tape : List Turn) (versio
       (sym here)
       ∙ sym (evaluated-push g grid (longer s.copies mores) (book_start o) 0 tape new)
 
-  -- a window that is due since the opening was due before, or is due now
-  module _ (k : ℕ) (within : k < complete_windows grid (longer s.copies mores)) where
-    abbrev meets_now : (rss : List (List Rec)) → Bool
-    meets_now rss = any_touched s.copies rss (window_from grid k) (window_to grid k)
+  inputs : length s.copies ≡ length o.versions.items
+  inputs = let h = low.inputs in sym (length-lengths s.copies) ∙ h
+    where
+      length-lengths : (rss : List (List Rec)) → length (map length rss) ≡ length rss
+      length-lengths [] = refl
+      length-lengths (rs ∷ rss) = ap suc (length-lengths rss)
 
-    due_both : is_due grid (cut o.versions.items (longer s.copies mores)) (uncut o.versions.items (longer s.copies mores)) k
-        ≡ (is_due grid (cut o.versions.items s.copies) (uncut o.versions.items s.copies) k || meets_now mores)
+  module _ (k : ℕ) where
+    abbrev meets_now : Bool
+    meets_now = any_touched s.copies mores (window_from grid k) (window_to grid k)
+
+    -- a window that is due since the opening was due before, or is due now
+    due_both : is_due_since grid o (longer s.copies mores) k ≡ (is_due_since grid o s.copies k || meets_now)
     due_both =
         ap₂ (λ a b. nat_le (complete_windows grid a) k || any_touched a b (window_from grid k) (window_to grid k))
         (cut-longer o.versions.items s.copies mores low) (uncut-longer o.versions.items s.copies mores as_many low)
@@ -251,20 +263,13 @@ module _ (g : Group) (grid : Grid) (o : GroupOpening) (tape : List Turn) (versio
         (any-longer first behind mores (window_from grid k) (window_to grid k) many (as_many ∙ sym long)
         ∙ ap (λ l. any_touched first behind (window_from grid k) (window_to grid k) || any_touched l mores (window_from grid k) (window_to grid k))
         (longer-uncut o.versions.items s.copies inputs))
-        ∙ either (nat_le (complete_windows grid first) k) (any_touched first behind (window_from grid k) (window_to grid k)) (meets_now mores)
+        ∙ either (nat_le (complete_windows grid first) k) (any_touched first behind (window_from grid k) (window_to grid k)) meets_now
       where
         first : List (List Rec)
         first = cut o.versions.items s.copies
 
         behind : List (List Rec)
         behind = uncut o.versions.items s.copies
-
-        inputs : length s.copies ≡ length o.versions.items
-        inputs = let h = low.inputs in sym (length-lengths s.copies) ∙ h
-          where
-            length-lengths : (rss : List (List Rec)) → length (map length rss) ≡ length rss
-            length-lengths [] = refl
-            length-lengths (rs ∷ rss) = ap suc (length-lengths rss)
 
         long : length first ≡ length s.copies
         long = length-cut o.versions.items s.copies (sym inputs)
@@ -276,6 +281,23 @@ module _ (g : Group) (grid : Grid) (o : GroupOpening) (tape : List Turn) (versio
         either true b c = refl
         either false b c = refl
 
+    -- one that was complete and is not due now keeps its values
+    stays_now : k < complete_windows grid s.copies → meets_now ≡ false → column k t.rows ≡ column k s.rows
+    stays_now known apart =
+        refreshed.others k (subst (λ (w : Grid). k < complete_windows w s.copies) (sym same_grid) known)
+        (subst (λ (w : Grid). any_touched s.copies mores (window_from w k) (window_to w k) ≡ false) (sym same_grid) apart)
+
+    -- one that is not due since the opening has the values of the opening
+    others_then : is_due_since grid o (longer s.copies mores) k ≡ false → column k t.rows ≡ column k (lists_of o.rows.items)
+    others_then still =
+        let parts = or_parts (is_due_since grid o s.copies k) meets_now (sym due_both ∙ still) in
+        let new = (or_parts (nat_le (complete_windows grid (cut o.versions.items s.copies)) k)
+        (any_touched (cut o.versions.items s.copies) (uncut o.versions.items s.copies) (window_from grid k) (window_to grid k)) parts.0).0 in
+        let first : k < complete_windows grid (cut o.versions.items s.copies) = grind (arith, nat_tests) in
+        stays_now (omega (arith, first, cut_windows grid o.versions.items s.copies some (sym inputs))) parts.1
+        ∙ was.rows_are.others k parts.0
+
+  module _ (k : ℕ) (within : k < complete_windows grid (longer s.copies mores)) where
     now_due : is_due grid s.copies mores k ≡ true → column k t.rows ≡ map Some (values_at g grid (longer s.copies mores) k)
     now_due due =
         subst (λ (rss : List (List Rec)). column k t.rows ≡ map Some (values_at g grid rss k)) refreshed.copies
@@ -287,11 +309,10 @@ module _ (g : Group) (grid : Grid) (o : GroupOpening) (tape : List Turn) (versio
         (subst (λ (w : Grid). is_due w s.copies mores k ≡ true) (sym same_grid) due))))
 
     -- one that is not due now keeps its values, and they are those from scratch still
-    still : k < complete_windows grid s.copies → meets_now mores ≡ false → column k s.rows ≡ map Some (values_at g grid s.copies k)
+    still : k < complete_windows grid s.copies → meets_now k ≡ false → column k s.rows ≡ map Some (values_at g grid s.copies k)
         → column k t.rows ≡ map Some (values_at g grid (longer s.copies mores) k)
     still known apart before =
-        refreshed.others k (subst (λ (w : Grid). k < complete_windows w s.copies) (sym same_grid) known)
-        (subst (λ (w : Grid). any_touched s.copies mores (window_from w k) (window_to w k) ≡ false) (sym same_grid) apart)
+        stays_now k known apart
         ∙ before ∙ ap (map Some) (sym (stays s.copies input refl))
       where
         stays : (rss : List (List Rec)) → 0 < length rss → rss ≡ s.copies
@@ -303,19 +324,18 @@ module _ (g : Group) (grid : Grid) (o : GroupOpening) (tape : List Turn) (versio
             ((complete_are grid rs rss k some).0 (subst (λ l. k < complete_windows grid l) (sym same) known))
             (subst (λ l. any_touched l mores (window_from grid k) (window_to grid k) ≡ false) (sym same) apart))
 
-    due_then : is_due grid (cut o.versions.items (longer s.copies mores)) (uncut o.versions.items (longer s.copies mores)) k ≡ true
+    due_then : is_due_since grid o (longer s.copies mores) k ≡ true
         → column k t.rows ≡ map Some (values_at g grid (longer s.copies mores) k)
-    due_then due = by_due (nat_le (complete_windows grid s.copies) k) (meets_now mores) refl refl
+    due_then due = by_due (nat_le (complete_windows grid s.copies) k) (meets_now k) refl refl
       where
-        by_due : (a b : Bool) → nat_le (complete_windows grid s.copies) k ≡ a → meets_now mores ≡ b
+        by_due : (a b : Bool) → nat_le (complete_windows grid s.copies) k ≡ a → meets_now k ≡ b
             → column k t.rows ≡ map Some (values_at g grid (longer s.copies mores) k)
-        by_due true b new touched = now_due (ap (λ x. x || meets_now mores) new)
+        by_due true b new touched = now_due (ap (λ x. x || meets_now k) new)
         by_due false true new touched = now_due (ap₂ (λ x y. x || y) new touched)
         by_due false false new touched =
             let known : k < complete_windows grid s.copies = grind (arith, nat_tests) in
-            still known touched (was.due k known (left (is_due grid (cut o.versions.items s.copies) (uncut o.versions.items s.copies) k)
-            (ap (λ x. is_due grid (cut o.versions.items s.copies) (uncut o.versions.items s.copies) k || x) (sym touched)
-            ∙ sym due_both ∙ due)))
+            still known touched (was.rows_are.due k known (left (is_due_since grid o s.copies k)
+            (ap (λ x. is_due_since grid o s.copies k || x) (sym touched) ∙ sym (due_both k) ∙ due)))
           where
             left : (x : Bool) → (x || false) ≡ true → x ≡ true
             left true h = refl
@@ -325,9 +345,12 @@ module _ (g : Group) (grid : Grid) (o : GroupOpening) (tape : List Turn) (versio
   evaluated_refreshed =
       subst (λ (rss : List (List Rec)). AreRowsEvaluated g grid o (tape ++ Refresh new ∷ []) rss t.rows t.evals) (sym refreshed.copies)
       (record {
-        calcs = subst (λ (h : Group). length t.rows ≡ length h.calcs) now_group refreshed.whole.calcs;
-        windows = subst (λ (rss : List (List Rec)). All (λ row. length row ≡ complete_windows grid rss) t.rows) refreshed.copies
-            (subst (λ (w : Grid). All (λ row. length row ≡ complete_windows w t.copies) t.rows) now_grid refreshed.whole.windows);
-        due = due_then;
+        rows_are = record {
+          calcs = subst (λ (h : Group). length t.rows ≡ length h.calcs) now_group refreshed.whole.calcs;
+          windows = subst (λ (rss : List (List Rec)). All (λ row. length row ≡ complete_windows grid rss) t.rows) refreshed.copies
+              (subst (λ (w : Grid). All (λ row. length row ≡ complete_windows w t.copies) t.rows) now_grid refreshed.whole.windows);
+          due = due_then;
+          others = others_then;
+        };
         evals_are = evals_are;
       })

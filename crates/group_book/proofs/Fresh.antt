@@ -10,7 +10,7 @@ use Rattle.calc_refresh.specs.Sheet.{AreRowsWhole, IsGrid, IsGroup, SheetState, 
 use Rattle.sheet_law.specs.Scratch.{IsScratch}
 use Rattle.group_book.specs.declared.history.GroupOpening.{GroupOpening}
 use Rattle.group_book.specs.Crashes.{IsBookSafe}
-use Rattle.group_book.specs.Histories.{AreRowsEvaluated, IsBookLegal}
+use Rattle.group_book.specs.Histories.{AreRowsEvaluated, AreRowsOver, IsBookLegal}
 use Rattle.group_book.specs.Tapes.{cut}
 use Rattle.group_book.specs.Told.{IsDefined, IsKept, Saved}
 use Rattle.sheet_law.specs.declared.grid.Grid.{Grid}
@@ -68,15 +68,21 @@ module _ (def made : GroupDefParts) (same : made ≡ def) (o : GroupOpening) (s 
   fresh_evaluated whole =
       subst (λ d. AreRowsEvaluated d.calcs (grid_of d.start d.period) o [] s.copies s.rows s.evals) (sym same)
       (evaluated_first def.calcs (grid_of def.start def.period) o s.copies s.rows s.evals (opened ∙ sym copied)
+      (opened_rows ∙ sym (ap (λ x. x.rows) is))
       (whole.calcs ∙ ap (λ x. length x.group.calcs) is)
       (subst (λ (w : Grid). All (λ row. length row ≡ complete_windows w s.copies) s.rows) (ap (λ x. x.grid) is) whole.windows)
       (ap (λ x. x.evals) is))
 
-  pub fresh_kept : (text : List ℕ) (ticks faults : ℕ) → o.moment ≤ ticks → faults ≡ o.faults
+  pub fresh_kept : AreRowsWhole s → (text : List ℕ) (ticks faults : ℕ) → o.moment ≤ ticks → faults ≡ o.faults
       → IsKept text made o [] s.copies saved false None ticks faults
-  fresh_kept text ticks faults before none = record {
+  fresh_kept whole text ticks faults before none = record {
     shut = λ usable. tt;
-    holds = λ usable right. tt;
+    holds = λ usable. tt;
+    range = tt;
+    rows_are =
+        subst (λ rss. AreRowsOver made.calcs (grid_of made.start made.period) o rss saved.rows) (sym (cut_now saved.versions saved_versions))
+        (subst (AreRowsOver made.calcs (grid_of made.start made.period) o s.copies) (ap (λ x. x.rows) is ∙ sym saved_rows)
+        (fresh_evaluated whole).rows_are);
     scratch = λ right.
         subst (λ rss. IsScratch made.calcs (grid_of made.start made.period) rss saved.rows) (sym (cut_now saved.versions saved_versions))
         (subst (IsScratch made.calcs (grid_of made.start made.period) s.copies) (ap (λ x. x.rows) is ∙ sym saved_rows) from_scratch);
@@ -90,4 +96,4 @@ module _ (def made : GroupDefParts) (same : made ≡ def) (o : GroupOpening) (s 
   }
 
   pub fresh_safe : (text : List ℕ) → IsBookSafe text made.calcs (grid_of made.start made.period) o s.copies [] (LeftSince None)
-  fresh_safe text = record { images = λ right t c since left. absurd left.image }
+  fresh_safe text = record { images = λ t c since left. absurd left.image }

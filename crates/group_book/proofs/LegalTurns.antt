@@ -1,5 +1,5 @@
 -- A book's history after a question, and after a refresh.
-use Rattle.std.proofs.Common.{◌≡◌, ◌↔◌, ℕ, ◌<◌, ◌≤◌, Bool, true, false, List, [], ◌∷◌, ◌++◌, Contains, length, map, get_or, slice_get, Vec, Option, None, Some, IfSome, IsSome, option_and_then, nat_lt, ltb-true, ltb-false, refl, sym, ap, ◌∙◌, subst, if◌then◌else◌}
+use Rattle.std.proofs.Common.{◌≡◌, ◌↔◌, ℕ, ◌<◌, ◌≤◌, All, Bool, true, false, List, [], ◌∷◌, ◌++◌, Contains, length, map, get_or, slice_get, Vec, Option, None, Some, IfSome, IsSome, option_and_then, nat_lt, ltb-true, ltb-false, refl, sym, ap, ◌∙◌, subst, if◌then◌else◌}
 use Rattle.std.specs.Option.{option_map}
 use Rattle.std.specs.declared.alloc.Global.{Global}
 use Rattle.std.proofs.lemmas.List.Elements.{All-cons, All-nil}
@@ -9,9 +9,10 @@ use Rattle.trend_num.specs.declared.value.CalcValue.{CalcValue}
 use Rattle.disk_model.specs.Traces.{Trace}
 use Rattle.calc_check.specs.Group.{Group}
 use Rattle.calc_refresh.specs.declared.definition.GroupDefParts.{GroupDefParts}
+use Rattle.calc_refresh.specs.Lists.{lists_of}
 use Rattle.calc_refresh.specs.Sheet.{grid_of}
 use Rattle.sheet_law.specs.declared.grid.Grid.{Grid}
-use Rattle.sheet_law.specs.Scratch.{IsScratch, values_at}
+use Rattle.sheet_law.specs.Scratch.{IsScratch, column, values_at}
 use Rattle.sheet_law.specs.Windows.{complete_windows}
 use Rattle.sheet_law.specs.Touched.{longer}
 use Rattle.group_layout.specs.Rows.{cell_of}
@@ -20,9 +21,10 @@ use Rattle.group_book.specs.declared.turn.Turn.{Turn}
 use Rattle.group_book.specs.declared.turn.Turn.TheVariants.{Refresh, Ask}
 use Rattle.group_book.specs.declared.history.GroupOpening.{GroupOpening}
 use Rattle.group_book.specs.Tapes.{cut, saved_at, book_start, versions_since, book_walked}
-use Rattle.group_book.specs.Histories.{IsBookLegal, IsRight, NeverFall, scratch_at}
+use Rattle.group_book.specs.Histories.{AreRowsOver, IsBookLegal, IsRight, NeverFall, is_due_since, scratch_at}
 use Rattle.group_book.specs.Crashes.{IsBookSafe, StandsForOne}
 use Rattle.group_book.specs.Told.{IsKept, Saved}
+use Rattle.group_book.proofs.Columns.{same_cells}
 use Rattle.group_book.proofs.Cuts.{cut-all, cut-longer, longer_rises, never_refl}
 use Rattle.group_book.proofs.Turns.{contains_left, fit_longer, fit_push, right_back, saved-ask, saved-refresh, saved_rises, since-ask, since-refresh, since_rises, walk_rises, walked-push}
 
@@ -36,19 +38,26 @@ cell_in None (Some v) k is = cc
 cell_in (Some r) None k is = cc
 cell_in (Some r) (Some v) k is = cc
 
--- rows from scratch have the value from scratch
-pub cell_scratch : (g : Group) (w : Grid) (rss : List (List Rec)) (rows : List (List CalcValue)) (calc k : ℕ)
-    → IsScratch g w rss rows → cell_of rows calc k ≡ scratch_at g w rss calc k
-cell_scratch g w rss rows calc k scratch = go (nat_lt k (complete_windows w rss)) refl
+-- rows that are from scratch in a window have the value from scratch there
+pub cell_due : (g : Group) (w : Grid) (rss : List (List Rec)) (rows : List (List CalcValue)) (calc k : ℕ)
+    → All (λ row. length row ≡ complete_windows w rss) rows
+    → (k < complete_windows w rss → column k rows ≡ map Some (values_at g w rss k))
+    → cell_of rows calc k ≡ scratch_at g w rss calc k
+cell_due g w rss rows calc k windows values = go (nat_lt k (complete_windows w rss)) refl
   where
     go : (b : Bool) → nat_lt k (complete_windows w rss) ≡ b
         → cell_of rows calc k ≡ (if b then slice_get (values_at g w rss k) calc else None)
     go true low =
         cell_in (slice_get rows calc) (slice_get (values_at g w rss k) calc) k
         (sym (slice_get-map (λ row. slice_get row k) rows calc)
-        ∙ ap (λ l. slice_get l calc) (scratch.values k (ltb-true k (complete_windows w rss) low))
+        ∙ ap (λ l. slice_get l calc) (values (ltb-true k (complete_windows w rss) low))
         ∙ slice_get-map Some (values_at g w rss k) calc)
-    go false past = cell_past rows calc k (complete_windows w rss) scratch.windows (ltb-false k (complete_windows w rss) past)
+    go false past = cell_past rows calc k (complete_windows w rss) windows (ltb-false k (complete_windows w rss) past)
+
+-- rows from scratch have the value from scratch
+pub cell_scratch : (g : Group) (w : Grid) (rss : List (List Rec)) (rows : List (List CalcValue)) (calc k : ℕ)
+    → IsScratch g w rss rows → cell_of rows calc k ≡ scratch_at g w rss calc k
+cell_scratch g w rss rows calc k scratch = cell_due g w rss rows calc k scratch.windows (scratch.values k)
 
 -- ---- a question
 
@@ -68,10 +77,15 @@ module _ (g : Group) (grid : Grid) (o : GroupOpening) (tape : List Turn) (versio
 
   pub legal_asked : (reader row calc k : ℕ)
       → IsSome (cell_of rows calc k) ↔ ((calc < length g.calcs) × (k < complete_windows grid copies))
+      → AreRowsOver g grid o copies rows
       → IsBookLegal g grid o (tape ++ Ask reader row calc k (cell_of rows calc k) ∷ []) versions copies rows
-  legal_asked reader row calc k there = record {
+  legal_asked reader row calc k there over = record {
     turns = fit_push g grid o copies (book_start o) tape (Ask reader row calc k (cell_of rows calc k)) legal.turns (record {
       there = subst (λ rss. IsSome (cell_of rows calc k) ↔ ((calc < length g.calcs) × (k < complete_windows grid rss))) (sym cut_here) there;
+      due = subst (λ rss. is_due_since grid o rss k ≡ true → cell_of rows calc k ≡ scratch_at g grid rss calc k) (sym cut_here)
+          (λ due. cell_due g grid copies rows calc k over.windows (λ within. over.due k within due));
+      others = subst (λ rss. is_due_since grid o rss k ≡ false → cell_of rows calc k ≡ cell_of (lists_of o.rows.items) calc k) (sym cut_here)
+          (λ still. same_cells rows (lists_of o.rows.items) calc k (over.others k still));
       value = λ right. cell_scratch g grid copies rows calc k (legal.scratch right)
           ∙ ap (λ rss. scratch_at g grid rss calc k) (sym cut_here);
     });
@@ -101,21 +115,24 @@ module _ (g : Group) (grid : Grid) (o : GroupOpening) (tape : List Turn) (versio
     pub safe_refreshed : (text : List ℕ) (left : ℕ → List ℕ → Type 0) → IsBookSafe text g grid o copies tape left
         → IsBookSafe text g grid o (longer copies mores) (tape ++ Refresh new ∷ []) left
     safe_refreshed text left safe = record {
-      images = λ right t c since there.
-          let one = safe.images (right_back g grid o copies mores opened_low right) t c since there in
+      images = λ t c since there.
+          let one = safe.images t c since there in
           let list = versions_since t o.versions.items (o.versions.items ∷ []) tape in
           let low = subst (NeverFall (get_or list one.among.0 one.versions)) at_end
           (since_rises g grid o copies t (book_start o) (o.versions.items ∷ []) tape legal.turns
           (All-cons (λ v. NeverFall v o.versions.items) o.versions.items [] (never_refl o.versions.items)
           (All-nil (λ v. NeverFall v o.versions.items))) one.among.0 one.versions one.among.1) in
+          let same : cut one.versions (longer copies mores) ≡ cut one.versions copies
+          = cut-longer one.versions copies mores (subst (λ v. NeverFall v (map length copies)) one.among.2 low) in
           record {
             versions = one.versions;
             rows = one.rows;
             among = subst (λ l. Contains l one.versions) (sym (since-refresh t o.versions.items (o.versions.items ∷ []) tape new))
                 (contains_left list (new.items ∷ []) one.versions one.among);
             stands = one.stands;
-            scratch = subst (λ rss. IsScratch g grid rss one.rows)
-                (sym (cut-longer one.versions copies mores (subst (λ v. NeverFall v (map length copies)) one.among.2 low))) one.scratch;
+            rows_are = subst (λ rss. AreRowsOver g grid o rss one.rows) (sym same) one.rows_are;
+            scratch = λ right. subst (λ rss. IsScratch g grid rss one.rows) (sym same)
+                (one.scratch (right_back g grid o copies mores opened_low right));
           };
     }
 
@@ -127,6 +144,8 @@ pub kept_asked : (text : List ℕ) (def : GroupDefParts) (o : GroupOpening) (tap
 kept_asked text def o tape copies saved failed trace ticks faults reader row calc k reply kept = record {
   shut = kept.shut;
   holds = kept.holds;
+  range = kept.range;
+  rows_are = kept.rows_are;
   scratch = kept.scratch;
   versions = kept.versions ∙ sym (saved-ask o.versions.items o.versions.items tape reader row calc k reply);
   inputs = kept.inputs;
@@ -141,9 +160,9 @@ pub safe_asked : (text : List ℕ) (g : Group) (grid : Grid) (o : GroupOpening) 
     (left : ℕ → List ℕ → Type 0) (reader row calc k : ℕ) (reply : Option CalcValue)
     → IsBookSafe text g grid o copies tape left → IsBookSafe text g grid o copies (tape ++ Ask reader row calc k reply ∷ []) left
 safe_asked text g grid o copies tape left reader row calc k reply safe = record {
-  images = λ right t c since there.
-      subst (λ l. StandsForOne text g grid copies l c)
-      (sym (since-ask t o.versions.items (o.versions.items ∷ []) tape reader row calc k reply)) (safe.images right t c since there);
+  images = λ t c since there.
+      subst (λ l. StandsForOne text g grid o copies l c)
+      (sym (since-ask t o.versions.items (o.versions.items ∷ []) tape reader row calc k reply)) (safe.images t c since there);
 }
 
 pub kept_refreshed : (text : List ℕ) (def : GroupDefParts) (o : GroupOpening) (tape : List Turn) (versions : List ℕ)
@@ -154,7 +173,10 @@ pub kept_refreshed : (text : List ℕ) (def : GroupDefParts) (o : GroupOpening) 
     → IsKept text def o (tape ++ Refresh new ∷ []) (longer copies mores) saved failed trace ticks faults
 kept_refreshed text def o tape versions copies rows mores new saved failed trace ticks faults legal kept = record {
   shut = kept.shut;
-  holds = λ usable right. kept.holds usable (back right);
+  holds = kept.holds;
+  range = kept.range;
+  rows_are = subst (λ rss. AreRowsOver def.calcs (grid_of def.start def.period) o rss saved.rows)
+      (sym (cut-longer saved.versions copies mores low)) kept.rows_are;
   scratch = λ right. subst (λ rss. IsScratch def.calcs (grid_of def.start def.period) rss saved.rows)
       (sym (cut-longer saved.versions copies mores low)) (kept.scratch (back right));
   versions = kept.versions ∙ sym (saved-refresh o.versions.items o.versions.items tape new);

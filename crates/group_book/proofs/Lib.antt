@@ -7,6 +7,7 @@ pub mod Fresh
 pub mod LegalTurns
 pub mod Pulls
 pub mod Causes
+pub mod Ranges
 pub mod Saving
 pub mod Loaded
 pub mod InputLists

@@ -26,12 +26,13 @@ use Rattle.group_layout.specs.Readings.{IsReadOf}
 use Rattle.group_book.specs.declared.history.GroupOpening.{GroupOpening}
 use Rattle.group_book.specs.declared.refusal.LoadNo.TheVariants.{DeviceFault, Damaged, WantOfMemory}
 use Rattle.group_book.specs.Crashes.{IsBookSafe}
-use Rattle.group_book.specs.Histories.{IsBookLegal, IsRight}
+use Rattle.group_book.specs.Histories.{AreRowsOver, AreValuesInRange, IsBookLegal, IsRight}
 use Rattle.group_book.specs.Openings.{IsAhead, IsBookCause, scan_refusal}
 use Rattle.group_book.specs.Tapes.{cut}
 use Rattle.group_book.specs.Told.{HoldsBlocks, IsKept, IsReady, Saved}
 use Rattle.group_book.proofs.Cuts.{cut-all, part_more}
 use Rattle.group_book.proofs.Saving.{holds_now}
+use Rattle.group_book.proofs.Ranges.{blocks_range}
 
 -- ---- the first records of each input
 
@@ -137,7 +138,7 @@ rows_short rows saved windows few are all = λ k d low.
 
 module _ (text : List ℕ) (def : GroupDefParts) (o : GroupOpening) (copies : List (List Rec)) (rows : List (List CalcValue)) (vs : List ℕ)
     (saved : Saved) (copied : map length copies ≡ vs) (opened : o.versions.items ≡ vs) (opened_rows : lists_of o.rows.items ≡ rows)
-    (saved_versions : saved.versions ≡ vs) (saved_rows : saved.rows ≡ rows) where
+    (saved_versions : saved.versions ≡ vs) (saved_rows : saved.rows ≡ rows) (over : AreRowsOver def.calcs (grid_of def.start def.period) o copies rows) where
   -- the copies are as long as the versions say
   cut_all : (us : List ℕ) → us ≡ vs → cut us copies ≡ copies
   cut_all us are = ap (λ x. cut x copies) (are ∙ sym copied) ∙ cut-all copies
@@ -154,6 +155,17 @@ module _ (text : List ℕ) (def : GroupDefParts) (o : GroupOpening) (copies : Li
       subst (λ rss. IsScratch def.calcs (grid_of def.start def.period) rss saved.rows) (sym (cut_all saved.versions saved_versions))
       (subst (IsScratch def.calcs (grid_of def.start def.period) copies) (sym saved_rows) (right_rows right))
 
+  over_saved : AreRowsOver def.calcs (grid_of def.start def.period) o (cut saved.versions copies) saved.rows
+  over_saved =
+      subst (λ rss. AreRowsOver def.calcs (grid_of def.start def.period) o rss saved.rows) (sym (cut_all saved.versions saved_versions))
+      (subst (AreRowsOver def.calcs (grid_of def.start def.period) o copies) (sym saved_rows) over)
+
+  -- the values of the opening are those of the blocks
+  in_range : (trace : Option Trace) → IfSome trace (λ t. HoldsBlocks text def saved (seen (Some t)))
+      → IfSome trace (λ t. AreValuesInRange (lists_of o.rows.items))
+  in_range None holds = tt
+  in_range (Some t) holds = subst AreValuesInRange (saved_rows ∙ sym opened_rows) (blocks_range text def saved (seen (Some t)) holds)
+
   pub opened_legal : IsBookLegal def.calcs (grid_of def.start def.period) o [] vs copies rows
   opened_legal = record { turns = tt; last = sym opened; copied = sym copied; scratch = right_rows }
 
@@ -162,7 +174,9 @@ module _ (text : List ℕ) (def : GroupDefParts) (o : GroupOpening) (copies : Li
     pub opened_kept : length vs ≡ def.inputs → faults ≡ o.faults → IsKept text def o [] copies saved false trace ticks faults
     opened_kept inputs same = record {
       shut = λ usable. ready;
-      holds = λ usable right. holds;
+      holds = λ usable. holds;
+      range = in_range trace holds;
+      rows_are = over_saved;
       scratch = right_saved;
       versions = saved_versions ∙ sym opened;
       inputs = ap length saved_versions ∙ inputs;
@@ -176,7 +190,7 @@ module _ (text : List ℕ) (def : GroupDefParts) (o : GroupOpening) (copies : Li
     pub opened_safe : length def.calcs.inputs ≡ def.inputs → IfSome trace (λ t. length t.calls ≡ ticks)
         → IsBookSafe text def.calcs (grid_of def.start def.period) o copies [] (LeftSince trace)
     opened_safe named told = record {
-      images = λ right t c since left.
+      images = λ t c since left.
           let has = holds_now text def saved trace ready holds c (only_since trace ticks t c told (omega (arith, since, moment)) left) in
           record {
             versions = saved.versions;
@@ -184,7 +198,8 @@ module _ (text : List ℕ) (def : GroupDefParts) (o : GroupOpening) (copies : Li
             among = subst (λ v. Contains (v ∷ []) saved.versions) (saved_versions ∙ sym opened) (0, lit< tt, refl);
             stands = subst (λ n. StandsFor text n (length def.calcs.calcs) c saved.versions saved.rows) (sym named)
                 (ByBlocks has.blocks has.has (sym has.versions));
-            scratch = right_saved right;
+            rows_are = over_saved;
+            scratch = right_saved;
           };
     }
 

@@ -1,10 +1,8 @@
 -- A book's history after a save, and after one whose device failed.
-use Rattle.std.proofs.Common.{◌≡◌, ◌⊎◌, ⊎_elim, inl, inr, ℕ, ◌+◌, ◌<◌, ◌≤◌, Bool, true, false, All, List, [], ◌∷◌, ◌++◌, Contains, length, get_or, drop, slice_get, Vec, Option, None, Some, IfSome, nat_le, nat_lt, refl, sym, ap, ◌∙◌, subst, arith, lit<, le_trans, if◌then◌else◌}
+use Rattle.std.proofs.Common.{◌≡◌, ◌⊎◌, ⊎_elim, inl, inr, ℕ, ◌+◌, ◌<◌, ◌≤◌, Bool, true, false, All, List, [], ◌∷◌, ◌++◌, Contains, length, get_or, Vec, Option, None, Some, IfSome, nat_le, refl, sym, ap, ◌∙◌, subst, arith, lit<, le_trans, if◌then◌else◌}
 use Rattle.std.specs.declared.alloc.Global.{Global}
 use Rattle.std.proofs.lemmas.Bool.{cases_eq}
 use Rattle.std.proofs.lemmas.Bool.Decides.{nat_tests}
-use Rattle.std.proofs.lemmas.List.{take-append-drop}
-use Rattle.std.proofs.lemmas.Option.{slice_get_within, get_or_from_slice_get}
 use Rattle.trend_num.specs.declared.archive.Rec.{Rec}
 use Rattle.trend_num.specs.declared.value.CalcValue.{CalcValue}
 use Rattle.disk_model.specs.Calls.{Rose, Sees}
@@ -15,17 +13,11 @@ use Rattle.disk_model.specs.Traces.{Trace, seen, written}
 use Rattle.disk_model.proofs.Bytes.{length-written}
 use Rattle.disk_model.proofs.Images.{present}
 use Rattle.disk_model.proofs.Moments.{during_now, only_since, parted}
-use Rattle.calc_check.specs.Group.{Group}
-use Rattle.sheet_law.specs.Number.{IsInRange}
-use Rattle.calc_eval.proofs.Range.{values_range}
 use Rattle.calc_refresh.specs.declared.definition.GroupDefParts.{GroupDefParts}
 use Rattle.calc_refresh.specs.Lists.{lists_of}
 use Rattle.calc_refresh.specs.Sheet.{IsGrid, IsGroup, SheetState, grid_of}
-use Rattle.sheet_law.specs.declared.grid.Grid.{Grid}
-use Rattle.sheet_law.specs.Scratch.{IsScratch, points_by, values_at}
-use Rattle.sheet_law.specs.Touched.{longer}
-use Rattle.sheet_law.specs.Windows.{complete_windows, window_from, window_to}
-use Rattle.sheet_law.proofs.Complete.{complete_grow}
+use Rattle.sheet_law.specs.Scratch.{IsScratch}
+use Rattle.sheet_law.specs.Windows.{complete_windows}
 use Rattle.group_layout.specs.Blocks.{MayFollow, BlockParts, block_image, block_size, last_of, unsaved}
 use Rattle.archive_file.specs.TextHeads.{blocks_at}
 use Rattle.group_layout.specs.Images.{ByBlocks, StandsFor}
@@ -38,12 +30,13 @@ use Rattle.group_book.specs.declared.turn.Turn.{Turn}
 use Rattle.group_book.specs.declared.turn.Turn.TheVariants.{Refresh, Ask, Save}
 use Rattle.group_book.specs.declared.history.GroupOpening.{GroupOpening}
 use Rattle.group_book.specs.Tapes.{BookWalk, after_turn, cut, saved_at, book_start, versions_since, book_walked}
-use Rattle.group_book.specs.Histories.{AreRowsEvaluated, IsBookLegal, IsRight, NeverFall}
+use Rattle.group_book.specs.Histories.{AreRowsEvaluated, AreRowsOver, AreValuesInRange, IsBookLegal, IsRight, NeverFall}
 use Rattle.group_book.specs.Crashes.{IsBookSafe, StandsForOne}
-use Rattle.group_book.specs.Saves.{AreValuesInRange, IsListed, IsOther, IsSame, ListsChanges}
+use Rattle.group_book.specs.Saves.{IsListed, IsOther, IsSame, ListsChanges}
 use Rattle.group_book.specs.Told.{AreFlagged, HoldsBlocks, IsDefined, IsKept, IsReady, Saved, count_of, trace_of}
 use Rattle.group_book.proofs.Cuts.{cut-all, never_refl}
-use Rattle.group_book.proofs.LegalTurns.{cell_scratch}
+use Rattle.group_book.proofs.Evaluations.{cut_windows}
+use Rattle.group_book.proofs.Ranges.{rows_range}
 use Rattle.group_book.proofs.Turns.{contains_last, contains_left, fit_push, saved_rises, walked-push}
 
 -- ---- one save more on a tape
@@ -84,41 +77,6 @@ since_has t w saved since (Save n m ∷ es) now last =
     either : (b : Bool) → Contains (if b then w.versions ∷ [] else since) w.versions
     either true = (0, lit< tt, refl)
     either false = now
-
--- ---- what the rows are
-
--- rows from scratch are in the range of numbers
-scratch_range : (g : Group) (grid : Grid) (copies : List (List Rec)) (rows : List (List CalcValue)) → IsScratch g grid copies rows
-    → AreValuesInRange rows
-scratch_range g grid copies rows scratch = record {
-  each = λ calc k v is. go calc k v (nat_lt k (complete_windows grid copies)) (sym (cell_scratch g grid copies rows calc k scratch) ∙ is);
-}
-  where
-    go : (calc k : ℕ) (v : CalcValue) (b : Bool) → (if b then slice_get (values_at g grid copies k) calc else None) ≡ Some v → IsInRange v
-    go calc k v true is =
-        let vs = values_at g grid copies k in
-        subst IsInRange (get_or_from_slice_get vs calc v v is)
-        (values_range g (points_by copies) (window_from grid k) (window_to grid k) calc v (slice_get_within vs calc v is))
-    go calc k v false is = absurd (cc (is))
-
--- copies are what they are cut to, and the rest
-abbrev rest_of : List ℕ → List (List Rec) → List (List Rec)
-rest_of [] rss = []
-rest_of (v ∷ vs) [] = []
-rest_of (v ∷ vs) (rs ∷ rss) = drop v rs ∷ rest_of vs rss
-
-cut-rest : (vs : List ℕ) (rss : List (List Rec)) → length vs ≡ length rss → longer (cut vs rss) (rest_of vs rss) ≡ rss
-cut-rest [] [] same = refl
-cut-rest [] (rs ∷ rss) same = absurd (omega (arith, same))
-cut-rest (v ∷ vs) [] same = absurd (omega (arith, same))
-cut-rest (v ∷ vs) (rs ∷ rss) same = λ i. take-append-drop v rs i ∷ cut-rest vs rss (omega (arith, same)) i
-
--- no fewer windows are complete
-cut_windows : (grid : Grid) (vs : List ℕ) (rss : List (List Rec)) → 0 < grid.period → length vs ≡ length rss
-    → complete_windows grid (cut vs rss) ≤ complete_windows grid rss
-cut_windows grid vs rss some same =
-    subst (λ x. complete_windows grid (cut vs rss) ≤ complete_windows grid x) (cut-rest vs rss same)
-    (complete_grow grid (cut vs rss) (rest_of vs rss) some)
 
 -- ---- the next block
 
@@ -166,10 +124,38 @@ module _ (text : List ℕ) (def : GroupDefParts) (o : GroupOpening) (tape : List
     (rows : List (List CalcValue)) (saved : Saved) (old : Option Trace) (ticks faults : ℕ)
     (group : IsGroup def.inputs def.calcs) (grid : IsGrid (grid_of def.start def.period)) (inputs : length copies ≡ def.inputs)
     (legal : IsBookLegal def.calcs (grid_of def.start def.period) o tape versions copies rows)
+    (over : AreRowsOver def.calcs (grid_of def.start def.period) o copies rows)
     (kept : IsKept text def o tape copies saved false old ticks faults)
     (b : BlockParts) (is : IsNextBlock saved (length def.calcs.calcs) versions (complete_windows (grid_of def.start def.period) copies) rows b) where
+  -- the values of the opening are in the range of numbers, on a device that may leave an image
   abbrev IsFine : Type 0
-  IsFine = IsRight def.calcs (grid_of def.start def.period) o copies
+  IsFine = AreValuesInRange (lists_of o.rows.items)
+
+  fine : (d : List ℕ) → MayLeave old d → IsFine
+  fine d may = by old kept.range may
+    where
+      by : (x : Option Trace) → IfSome x (λ t. IsFine) → MayLeave x d → IsFine
+      by None range may = absurd may.image
+      by (Some t) range may = range
+
+  range_after : (new : Option Trace) → ComesAfter old new → IfSome new (λ t. IsFine)
+  range_after new after = by old new kept.range after
+    where
+      by : (x y : Option Trace) → IfSome x (λ t. IsFine) → ComesAfter x y → IfSome y (λ t. IsFine)
+      by None None range after = tt
+      by None (Some u) range after = absurd after
+      by (Some t) None range after = tt
+      by (Some t) (Some u) range after = range
+
+  -- the rows are those over what the versions say
+  over_here : AreRowsOver def.calcs (grid_of def.start def.period) o (cut versions copies) rows
+  over_here = subst (λ rss. AreRowsOver def.calcs (grid_of def.start def.period) o rss rows)
+      (sym (ap (λ v. cut v copies) legal.copied ∙ cut-all copies)) over
+
+  scratch_here : IsRight def.calcs (grid_of def.start def.period) o copies
+      → IsScratch def.calcs (grid_of def.start def.period) (cut versions copies) rows
+  scratch_here right = subst (λ rss. IsScratch def.calcs (grid_of def.start def.period) rss rows)
+      (sym (ap (λ v. cut v copies) legal.copied ∙ cut-all copies)) (legal.scratch right)
 
   many : length saved.versions ≡ length copies
   many = kept.inputs ∙ sym inputs
@@ -188,30 +174,26 @@ module _ (text : List ℕ) (def : GroupDefParts) (o : GroupOpening) (tape : List
     rises = subst (λ vs. (i : ℕ) → i < length vs → get_or vs i 0 ≤ get_or b.versions i 0) (sym h.versions)
         (subst (λ vs. (i : ℕ) → i < length saved.versions → get_or saved.versions i 0 ≤ get_or vs i 0) (sym is.versions_are) low.rises);
     windows = more;
-    rows = is.changes.rows_are (scratch_range def.calcs (grid_of def.start def.period) copies rows (legal.scratch right));
+    rows = is.changes.rows_are (rows_range def.calcs (grid_of def.start def.period) o copies rows over right);
   }
     where
-      before : IsScratch def.calcs (grid_of def.start def.period) (cut saved.versions copies) saved.rows
-      before = kept.scratch right
-
       some : 0 < length saved.rows
-      some = omega (arith, before.calcs, group.some_calcs)
+      some = omega (arith, kept.rows_are.calcs, group.some_calcs)
 
       more : (last_of (unsaved def.inputs) h.blocks).windows ≤ b.windows
       more = omega (
         arith,
         is.windows_are,
         h.has.rows_are.windows_are 0 [] some,
-        before.windows 0 [] some,
+        kept.rows_are.windows 0 [] some,
         cut_windows (grid_of def.start def.period) saved.versions copies (omega (arith, grid.some)) many,
       )
 
   -- with it the blocks give the rows
-  gives : IsFine → (d : List ℕ) → (h : HoldsBlocks text def saved d) → AreRowsOf (length def.calcs.calcs) b.windows (h.blocks ++ b ∷ []) rows
-  gives right d h =
-      let now = legal.scratch right in
-      rows_more (length def.calcs.calcs) (last_of (unsaved def.inputs) h.blocks) b h.blocks saved.rows rows h.has.rows_are now.calcs
-      (subst (λ n. All (λ row. length row ≡ n) rows) (sym is.windows_are) now.windows)
+  gives : (d : List ℕ) → (h : HoldsBlocks text def saved d) → AreRowsOf (length def.calcs.calcs) b.windows (h.blocks ++ b ∷ []) rows
+  gives d h =
+      rows_more (length def.calcs.calcs) (last_of (unsaved def.inputs) h.blocks) b h.blocks saved.rows rows h.has.rows_are over.calcs
+      (subst (λ n. All (λ row. length row ≡ n) rows) (sym is.windows_are) over.windows)
       (λ calc k calc_low within. added calc k (is.changes.listed calc k calc_low within))
     where
       added : (calc k : ℕ) → IsListed saved.rows rows b.rows calc k → IsAddedAt saved.rows rows b.rows calc k
@@ -228,7 +210,7 @@ module _ (text : List ℕ) (def : GroupDefParts) (o : GroupOpening) (tape : List
   holds_next right d c h guarded opened = record {
     blocks = h.blocks ++ b ∷ [];
     has = block_opened text d c def.inputs (length def.calcs.calcs) h.blocks saved.rows h.has b saved.end h.end guarded rows opened
-        (follows right d h) (gives right d h);
+        (follows right d h) (gives d h);
     number = ap (λ (x : BlockParts). x.number) (last_of-push (unsaved def.inputs) h.blocks b);
     versions = ap (λ (x : BlockParts). x.versions) (last_of-push (unsaved def.inputs) h.blocks b) ∙ is.versions_are;
     end = end_of-push (blocks_at (length text)) h.blocks b ∙ ap (λ n. n + block_size b) h.end;
@@ -244,11 +226,11 @@ module _ (text : List ℕ) (def : GroupDefParts) (o : GroupOpening) (tape : List
   IsEither c = HoldsBlocks text def saved c ⊎ HoldsBlocks text def next_saved c
 
   -- while it is written an image has the old blocks, or it too
-  either_saved : IsFine → (c : List ℕ) → IsWriting b saved.end old c → IsEither c
-  either_saved right c from =
-      let h = holds_now text def saved old (kept.shut refl) (kept.holds refl right) from.0 from.1 in
+  either_saved : (c : List ℕ) → IsWriting b saved.end old c → IsEither c
+  either_saved c from =
+      let h = holds_now text def saved old (kept.shut refl) (kept.holds refl) from.0 from.1 in
       elim (cases_eq (get_or c saved.end 0) open_byte) [
-        | inl opened ↦ inr (holds_next right from.0 c h from.2 opened)
+        | inl opened ↦ inr (holds_next (fine from.0 from.1) from.0 c h from.2 opened)
         | inr closed ↦ inl (record {
           blocks = h.blocks;
           has = block_closed text from.0 c def.inputs (length def.calcs.calcs) h.blocks saved.rows h.has b saved.end h.end from.2 closed;
@@ -262,10 +244,10 @@ module _ (text : List ℕ) (def : GroupDefParts) (o : GroupOpening) (tape : List
 
   module _ (safe : IsBookSafe text def.calcs (grid_of def.start def.period) o copies tape (LeftSince old)) (new : Option Trace)
       (during : During old new (IsWriting b saved.end old)) where
-    stands_one : IsFine → (t : ℕ) (c : List ℕ) → IsEither c
-        → StandsForOne text def.calcs (grid_of def.start def.period) copies
+    stands_one : (t : ℕ) (c : List ℕ) → IsEither c
+        → StandsForOne text def.calcs (grid_of def.start def.period) o copies
         (versions_since t o.versions.items (o.versions.items ∷ []) tape) c
-    stands_one right t c either =
+    stands_one t c either =
         let has = since_has t (book_start o) o.versions.items (o.versions.items ∷ []) tape (0, lit< tt, refl) (0, lit< tt, refl) in
         let since = versions_since t o.versions.items (o.versions.items ∷ []) tape in
         elim either [
@@ -274,33 +256,36 @@ module _ (text : List ℕ) (def : GroupDefParts) (o : GroupOpening) (tape : List
             rows = saved.rows;
             among = subst (Contains since) (sym kept.versions) has.1;
             stands = stands_for saved c was;
-            scratch = kept.scratch right;
+            rows_are = kept.rows_are;
+            scratch = kept.scratch;
           }
           | inr now ↦ record {
             versions = versions;
             rows = rows;
             among = subst (Contains since) (sym legal.last) has.0;
             stands = stands_for next_saved c now;
-            scratch = subst (λ rss. IsScratch def.calcs (grid_of def.start def.period) rss rows)
-                (sym (ap (λ v. cut v copies) legal.copied ∙ cut-all copies)) (legal.scratch right);
+            rows_are = over_here;
+            scratch = scratch_here;
           }
         ]
 
     pub safe_writing : IsBookSafe text def.calcs (grid_of def.start def.period) o copies tape (LeftSince new)
     safe_writing = record {
-      images = λ right t c since left. ⊎_elim
-          (λ now. stands_one right t c (either_saved right c (during.each c now)))
-          (λ before. safe.images right t c since before)
+      images = λ t c since left. ⊎_elim
+          (λ now. stands_one t c (either_saved c (during.each c now)))
+          (λ before. safe.images t c since before)
           (parted old new t c during.later left);
     }
 
   -- ---- a save that failed
 
-  pub kept_faulted : (new : Option Trace) (ticks' faults' : ℕ) → ticks ≤ ticks' → Rose faults faults'
+  pub kept_faulted : (new : Option Trace) (ticks' faults' : ℕ) → ComesAfter old new → ticks ≤ ticks' → Rose faults faults'
       → IsKept text def o tape copies saved true new ticks' faults'
-  kept_faulted new ticks' faults' later rose = record {
+  kept_faulted new ticks' faults' after later rose = record {
     shut = λ usable. absurd (cc (usable));
-    holds = λ usable right. absurd (cc (usable));
+    holds = λ usable. absurd (cc (usable));
+    range = range_after new after;
+    rows_are = kept.rows_are;
     scratch = kept.scratch;
     versions = kept.versions;
     inputs = kept.inputs;
@@ -334,10 +319,10 @@ module _ (text : List ℕ) (def : GroupDefParts) (o : GroupOpening) (tape : List
         next (Some n) last = is.number ∙ ap (λ k. k + 1) (sym last)
 
     -- an image now has the block after its open gate
-    holds_settled : IsFine → (c : List ℕ) → MayLeave new c → HoldsBlocks text def next_saved c
-    holds_settled right c may =
+    holds_settled : (c : List ℕ) → MayLeave new c → HoldsBlocks text def next_saved c
+    holds_settled c may =
         let from = (during_now old new (IsWriting b saved.end old) during).each c may in
-        holds_next right from.0 c (holds_now text def saved old (kept.shut refl) (kept.holds refl right) from.0 from.1) from.2
+        holds_next (fine from.0 from.1) from.0 c (holds_now text def saved old (kept.shut refl) (kept.holds refl) from.0 from.1) from.2
         (opened old new (kept.shut refl) during.later sees settled c may)
       where
         opened : (x y : Option Trace) → IfSome x (IsReady saved.end) → ComesAfter x y → Sees y (written (written (seen x) (saved.end + 1)
@@ -358,9 +343,10 @@ module _ (text : List ℕ) (def : GroupDefParts) (o : GroupOpening) (tape : List
         → IsKept text def o (tape ++ turn ∷ []) copies next_saved false new ticks' faults'
     kept_saved faults' same = record {
       shut = λ usable. shown new settled ready;
-      holds = λ usable right. held new (holds_settled right);
-      scratch = λ right. subst (λ rss. IsScratch def.calcs (grid_of def.start def.period) rss rows)
-          (sym (ap (λ v. cut v copies) legal.copied ∙ cut-all copies)) (legal.scratch right);
+      holds = λ usable. held new holds_settled;
+      range = range_after new during.later;
+      rows_are = over_here;
+      scratch = scratch_here;
       versions = legal.last ∙ sym (saved-save (book_start o) o.versions.items tape b.number ticks');
       inputs = low.inputs ∙ kept.inputs;
       number = subst (λ w. IfSome w.number (λ n. n ≡ b.number)) (sym (walked-push (book_start o) tape turn)) refl;
@@ -383,27 +369,27 @@ module _ (text : List ℕ) (def : GroupDefParts) (o : GroupOpening) (tape : List
     pub safe_saved : IsBookSafe text def.calcs (grid_of def.start def.period) o copies tape (LeftSince old)
         → IsBookSafe text def.calcs (grid_of def.start def.period) o copies (tape ++ turn ∷ []) (LeftSince new)
     safe_saved safe = record {
-      images = λ right t c since left.
-          subst (λ l. StandsForOne text def.calcs (grid_of def.start def.period) copies l c)
+      images = λ t c since left.
+          subst (λ l. StandsForOne text def.calcs (grid_of def.start def.period) o copies l c)
           (sym (since-save t (book_start o) (o.versions.items ∷ []) tape b.number ticks'))
-          (by_moment right t c since left (nat_le ticks' t) refl);
+          (by_moment t c since left (nat_le ticks' t) refl);
     }
       where
         after_moment : (t : ℕ) → nat_le ticks' t ≡ true → ticks' ≤ t
         after_moment t e = grind (arith, nat_tests)
 
-        by_moment : IsFine → (t : ℕ) (c : List ℕ) → o.moment ≤ t → LeftSince new t c → (x : Bool) → nat_le ticks' t ≡ x
-            → StandsForOne text def.calcs (grid_of def.start def.period) copies
+        by_moment : (t : ℕ) (c : List ℕ) → o.moment ≤ t → LeftSince new t c → (x : Bool) → nat_le ticks' t ≡ x
+            → StandsForOne text def.calcs (grid_of def.start def.period) o copies
             (if x then (book_walked (book_start o) tape).versions ∷ [] else versions_since t o.versions.items (o.versions.items ∷ []) tape) c
-        by_moment right t c since left true e = record {
+        by_moment t c since left true e = record {
           versions = versions;
           rows = rows;
           among = subst (λ v. Contains (v ∷ []) versions) legal.last (0, lit< tt, refl);
-          stands = stands_for next_saved c (holds_settled right c (only_since new ticks' t c told (after_moment t e) left));
-          scratch = subst (λ rss. IsScratch def.calcs (grid_of def.start def.period) rss rows)
-              (sym (ap (λ v. cut v copies) legal.copied ∙ cut-all copies)) (legal.scratch right);
+          stands = stands_for next_saved c (holds_settled c (only_since new ticks' t c told (after_moment t e) left));
+          rows_are = over_here;
+          scratch = scratch_here;
         }
-        by_moment right t c since left false e = (safe_writing safe new during).images right t c since left
+        by_moment t c since left false e = (safe_writing safe new during).images t c since left
 
     -- all that a book keeps
     pub book_saved : (tape' : List Turn) (next : Saved) (failed : Bool) (faults' : ℕ) → tape' ≡ tape ++ turn ∷ [] → next ≡ next_saved

@@ -6,6 +6,7 @@ use Rattle.std.proofs.lemmas.List.Elements.{All-cons, All-nil, All-push}
 use Rattle.trend_num.specs.declared.archive.Rec.{Rec}
 use Rattle.calc_check.specs.Group.{Group}
 use Rattle.calc_refresh.specs.Lists.{lists_of}
+use Rattle.group_layout.specs.Rows.{cell_of}
 use Rattle.sheet_law.specs.declared.grid.Grid.{Grid}
 use Rattle.sheet_law.specs.Scratch.{IsScratch}
 use Rattle.sheet_law.specs.Windows.{complete_windows}
@@ -14,7 +15,7 @@ use Rattle.group_book.specs.declared.turn.Turn.{Turn}
 use Rattle.group_book.specs.declared.turn.Turn.TheVariants.{Refresh, Ask, Save}
 use Rattle.group_book.specs.declared.history.GroupOpening.{GroupOpening}
 use Rattle.group_book.specs.Tapes.{BookWalk, after_turn, cut, saved_at, versions_since, book_walked}
-use Rattle.group_book.specs.Histories.{BookTurnsFit, BookTurnFits, IsRight, NeverFall, scratch_at}
+use Rattle.group_book.specs.Histories.{BookTurnsFit, BookTurnFits, IsRight, NeverFall, is_due_since, scratch_at}
 use Rattle.group_book.proofs.Cuts.{cut-longer, never_refl, never_trans}
 
 -- ---- one more turn
@@ -129,6 +130,8 @@ fit_longer g grid o copies mores w (Refresh versions ∷ es) opened low fits =
 fit_longer g grid o copies mores w (Ask reader row calc k reply ∷ es) opened low fits = (
   record {
     there = subst (λ rss. IsSome reply ↔ ((calc < length g.calcs) × (k < complete_windows grid rss))) (sym same) fits.0.there;
+    due = subst (λ rss. is_due_since grid o rss k ≡ true → reply ≡ scratch_at g grid rss calc k) (sym same) fits.0.due;
+    others = subst (λ rss. is_due_since grid o rss k ≡ false → reply ≡ cell_of (lists_of o.rows.items) calc k) (sym same) fits.0.others;
     value = λ right. fits.0.value (right_back g grid o copies mores opened right) ∙ ap (λ rss. scratch_at g grid rss calc k) (sym same);
   },
   fit_longer g grid o copies mores w es opened low fits.1,

@@ -1,12 +1,14 @@
 -- Legal group histories: each turn on the tape is true.
-use Rattle.std.specs.Prelude.{◌≡◌, ◌↔◌, ℕ, ◌+◌, ◌-◌, ◌*◌, ◌^◌, ◌<◌, ◌≤◌, min, true, List, [], ◌∷◌, All, length, map, slice_index, slice_get, Option, None, Some, IfSome, IsSome, nat_lt, if◌then◌else◌}
+use Rattle.std.specs.Prelude.{◌≡◌, ◌↔◌, ℕ, ◌+◌, ◌-◌, ◌*◌, ◌^◌, ◌<◌, ◌≤◌, min, Bool, true, false, List, [], ◌∷◌, All, length, map, slice_index, slice_get, Option, None, Some, IfSome, IsSome, nat_lt, if◌then◌else◌}
 use Rattle.trend_num.specs.declared.archive.Rec.{Rec}
 use Rattle.trend_num.specs.declared.value.CalcValue.{CalcValue}
 use Rattle.calc_check.specs.Group.{Group}
 use Rattle.sheet_law.specs.declared.grid.Grid.{Grid}
+use Rattle.sheet_law.specs.Number.{IsInRange}
 use Rattle.sheet_law.specs.Windows.{complete_windows}
 use Rattle.sheet_law.specs.Scratch.{IsScratch, column, due_below, is_due, values_at}
 use Rattle.calc_refresh.specs.Lists.{lists_of}
+use Rattle.group_layout.specs.Rows.{cell_of}
 use Rattle.group_book.specs.declared.turn.Turn.{Turn}
 use Rattle.group_book.specs.declared.turn.Turn.TheVariants.{Refresh, Ask, Save}
 use Rattle.group_book.specs.declared.history.GroupOpening.{GroupOpening}
@@ -20,6 +22,24 @@ scratch_at g w rss calc k = if nat_lt k (complete_windows w rss) then slice_get 
 abbrev pub IsRight : Group → Grid → GroupOpening → List (List Rec) → Type 0
 IsRight g w o copies = IsScratch g w (cut o.versions.items copies) (lists_of o.rows.items)
 
+-- all values of these rows are in the range of numbers
+pub record AreValuesInRange (rows : List (List CalcValue)) : Type 0 where
+  pub each : (calc k : ℕ) (v : CalcValue) → cell_of rows calc k ≡ Some v → IsInRange v
+
+-- whether the records behind those of the opening make a window due: it was not complete then, or they touch it
+abbrev pub is_due_since : Grid → GroupOpening → List (List Rec) → ℕ → Bool
+is_due_since w o rss k = is_due w (cut o.versions.items rss) (uncut o.versions.items rss) k
+
+-- What the rows of a group are over these records, whether or not the opening is right. There is a row for each
+-- calculation, with one value for each complete window. A window that the records since the opening made due has its
+-- values from scratch. Any other window has the values of the opening.
+pub record AreRowsOver (g : Group) (grid : Grid) (o : GroupOpening) (rss : List (List Rec)) (rows : List (List CalcValue)) : Type 0 where
+  pub calcs : length rows ≡ length g.calcs
+  pub windows : All (λ row. length row ≡ complete_windows grid rss) rows
+  pub due : (k : ℕ) → k < complete_windows grid rss → is_due_since grid o rss k ≡ true
+      → column k rows ≡ map Some (values_at g grid rss k)
+  pub others : (k : ℕ) → is_due_since grid o rss k ≡ false → column k rows ≡ column k (lists_of o.rows.items)
+
 -- versions that never fall
 pub record NeverFall (old new : List ℕ) : Type 0 where
   pub inputs : length new ≡ length old
@@ -31,10 +51,13 @@ pub record IsNextSave (w : BookWalk) (number moment : ℕ) : Type 0 where
   pub later : w.moment < moment
 
 -- The answer to a question at these versions. There is a value exactly where there are such a calculation and such a
--- complete window. If the opening is right, it is the value from scratch.
+-- complete window. In a window that the records since the opening made due it is the value from scratch, and in any
+-- other the value of the opening. If the opening is right, it is the value from scratch in each window.
 pub record IsTrueReply (g : Group) (grid : Grid) (o : GroupOpening) (copies : List (List Rec)) (versions : List ℕ)
     (calc k : ℕ) (reply : Option CalcValue) : Type 0 where
   pub there : IsSome reply ↔ ((calc < length g.calcs) × (k < complete_windows grid (cut versions copies)))
+  pub due : is_due_since grid o (cut versions copies) k ≡ true → reply ≡ scratch_at g grid (cut versions copies) calc k
+  pub others : is_due_since grid o (cut versions copies) k ≡ false → reply ≡ cell_of (lists_of o.rows.items) calc k
   pub value : IsRight g grid o copies → reply ≡ scratch_at g grid (cut versions copies) calc k
 
 -- a turn is true at its place on the tape
@@ -72,14 +95,10 @@ evaluated_on g w copies now count (Refresh versions ∷ es) =
 evaluated_on g w copies now count (Ask reader row calc k reply ∷ es) = evaluated_on g w copies now count es
 evaluated_on g w copies now count (Save number moment ∷ es) = evaluated_on g w copies now count es
 
--- What holds of a group's rows, whether or not the opening is right. There is a row for each calculation, with one value
--- for each complete window. A window that the records since the opening made due has its values from scratch. As many
--- values were evaluated as the refreshes on the tape made due.
+-- What holds of a group's rows, whether or not the opening is right. In a window that the records since the opening made
+-- due they are from scratch, and in any other those of the opening. As many values were evaluated as the refreshes on
+-- the tape made due.
 pub record AreRowsEvaluated (g : Group) (grid : Grid) (o : GroupOpening) (tape : List Turn) (copies : List (List Rec))
     (rows : List (List CalcValue)) (evals : ℕ) : Type 0 where
-  pub calcs : length rows ≡ length g.calcs
-  pub windows : All (λ row. length row ≡ complete_windows grid copies) rows
-  pub due : (k : ℕ) → k < complete_windows grid copies
-      → is_due grid (cut o.versions.items copies) (uncut o.versions.items copies) k ≡ true
-      → column k rows ≡ map Some (values_at g grid copies k)
+  pub rows_are : AreRowsOver g grid o copies rows
   pub evals_are : evals ≡ evaluated_on g grid copies o.versions.items 0 tape

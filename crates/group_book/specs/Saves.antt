@@ -3,7 +3,6 @@ use Rattle.std.specs.Prelude.{◌≡◌, ◌≢◌, ℕ, pos, ◌+◌, ◌<◌, 
 use Rattle.trend_num.specs.declared.value.Bad.TheVariants.{NoData, DivZero, Range}
 use Rattle.trend_num.specs.declared.value.CalcValue.{CalcValue}
 use Rattle.trend_num.specs.declared.value.CalcValue.TheVariants.{Num, Bad}
-use Rattle.sheet_law.specs.Number.{IsInRange}
 use Rattle.disk_model.specs.Calls.{Sees}
 use Rattle.disk_model.specs.Gates.{open_byte}
 use Rattle.disk_model.specs.Traces.{Trace, seen, written}
@@ -13,6 +12,7 @@ use Rattle.group_layout.specs.declared.block.BlockRow.{BlockRow}
 use Rattle.group_layout.specs.Blocks.{AreRows, IsBefore, IsRow, BlockParts, block_image, block_size, comes_before}
 use Rattle.group_layout.specs.Rows.{cell_of, listed_from}
 use Rattle.group_book.specs.declared.turn.Turn.TheVariants.{Save}
+use Rattle.group_book.specs.Histories.{AreValuesInRange}
 use Rattle.group_book.specs.Told.{ToldBook, versions_of}
 
 -- ---- which rows changed
@@ -23,10 +23,6 @@ row_of calc k (Num n) = record { calc = calc; window = k; kind = 0; value = n }
 row_of calc k (Bad NoData) = record { calc = calc; window = k; kind = 1; value = pos 0 }
 row_of calc k (Bad DivZero) = record { calc = calc; window = k; kind = 2; value = pos 0 }
 row_of calc k (Bad Range) = record { calc = calc; window = k; kind = 3; value = pos 0 }
-
--- all values of these rows are in the range of numbers
-pub record AreValuesInRange (rows : List (List CalcValue)) : Type 0 where
-  pub each : (calc k : ℕ) (v : CalcValue) → cell_of rows calc k ≡ Some v → IsInRange v
 
 -- a cell that changed is listed with its new value, and any other cell is not listed
 pub data IsListed (old new : List (List CalcValue)) (rows : List BlockRow) (calc k : ℕ) : Type 0 where

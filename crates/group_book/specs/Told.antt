@@ -1,5 +1,5 @@
 -- What a clause sees of a book, what the book's type keeps, and what its calls change.
-use Rattle.std.specs.Prelude.{◌≡◌, ◌≢◌, ◌⊎◌, ℕ, ◌+◌, ◌<◌, ◌≤◌, Bool, true, false, List, [], ◌∷◌, ◌++◌, All, length, map, Option, None, Some, IfSome, IsSome, slice_index, slice_index_or, Vec}
+use Rattle.std.specs.Prelude.{◌≡◌, ◌≢◌, ◌⊎◌, ◌==◌, ℕ, ◌+◌, ◌<◌, ◌≤◌, if◌then◌else◌, codes, Bool, true, false, List, [], ◌∷◌, ◌++◌, All, length, map, Option, None, Some, IfSome, IsSome, slice_index, slice_index_or, Vec}
 use Rattle.std.specs.declared.alloc.Global.{Global}
 use Rattle.trend_num.specs.declared.archive.Rec.{Rec}
 use Rattle.trend_num.specs.declared.value.CalcValue.{CalcValue}
@@ -7,7 +7,7 @@ use Rattle.disk_model.specs.Calls.{Rose}
 use Rattle.disk_model.specs.Gates.{IsShut}
 use Rattle.disk_model.specs.Images.{IsSettled}
 use Rattle.disk_model.specs.Moments.{LeftSince}
-use Rattle.disk_model.specs.Traces.{Trace, seen}
+use Rattle.disk_model.specs.Traces.{FitsName, HandOut, Trace, seen}
 use Rattle.tag_cell.specs.declared.entry.Pulled.{Pulled}
 use Rattle.calc_refresh.specs.declared.definition.GroupDefParts.{GroupDefParts}
 use Rattle.calc_refresh.specs.Lists.{lists_of}
@@ -24,7 +24,7 @@ use Rattle.group_book.specs.declared.history.GroupOpening.{GroupOpening}
 use Rattle.group_book.specs.declared.turn.Turn.{Turn}
 use Rattle.group_book.specs.declared.turn.Turn.TheVariants.{Refresh, Ask}
 use Rattle.group_book.specs.Tapes.{cut, saved_at, book_start, book_walked}
-use Rattle.group_book.specs.Histories.{AreRowsEvaluated, IsBookLegal, IsRight}
+use Rattle.group_book.specs.Histories.{AreRowsEvaluated, AreRowsOver, AreValuesInRange, IsBookLegal, IsRight}
 use Rattle.group_book.specs.Crashes.{IsBookSafe}
 
 -- what the last save left: its number, the versions and the rows, and where the next block goes
@@ -64,7 +64,7 @@ pub record IsDefined (def : GroupDefParts) (tags : List ℕ) (s : SheetState) : 
   pub copies : length s.copies ≡ def.inputs
   pub tags_are : length tags ≡ def.inputs
 
--- If the opening is right and no call of the device failed, the device holds the blocks of the saves so far.
+-- the device holds the blocks that it had at the opening and those of the saves since; they give these rows
 pub record HoldsBlocks (text : List ℕ) (def : GroupDefParts) (saved : Saved) (c : List ℕ) : Type 0 where
   pub blocks : List BlockParts
   pub has : HasSaved text def.inputs (length def.calcs.calcs) c blocks saved.rows
@@ -77,13 +77,16 @@ pub record IsReady (end : ℕ) (t : Trace) : Type 0 where
   pub settled : IsSettled (Some t)
   pub shut : IsShut end (seen (Some t))
 
--- As long as no call of the device failed, it keeps what the last save left. If the opening is right, that is one of
--- the versions of the tape with the rows from scratch at it, and the device has settled on it.
+-- As long as no call of the device failed, it has settled on what the last save left: one of the versions of the tape, and
+-- the rows at that version. They are from scratch if the opening is right, and in any case in each window that was due
+-- since; in any other window they are those of the opening. A device that tells its calls opens with values in the range
+-- of numbers.
 pub record IsKept (text : List ℕ) (def : GroupDefParts) (o : GroupOpening) (tape : List Turn) (copies : List (List Rec))
     (saved : Saved) (failed : Bool) (trace : Option Trace) (ticks faults : ℕ) : Type 0 where
   pub shut : failed ≡ false → IfSome trace (λ t. IsReady saved.end t)
-  pub holds : failed ≡ false → IsRight def.calcs (grid_of def.start def.period) o copies
-      → IfSome trace (λ t. HoldsBlocks text def saved (seen (Some t)))
+  pub holds : failed ≡ false → IfSome trace (λ t. HoldsBlocks text def saved (seen (Some t)))
+  pub range : IfSome trace (λ t. AreValuesInRange (lists_of o.rows.items))
+  pub rows_are : AreRowsOver def.calcs (grid_of def.start def.period) o (cut saved.versions copies) saved.rows
   pub scratch : IsRight def.calcs (grid_of def.start def.period) o copies
       → IsScratch def.calcs (grid_of def.start def.period) (cut saved.versions copies) saved.rows
   pub versions : saved.versions ≡ saved_at o.versions.items o.versions.items tape
@@ -109,6 +112,24 @@ pub record AreFlagged (flags : List Bool) (saved : List (List CalcValue)) (s : S
 -- a book with a definition text, which is that of its device, has a device
 abbrev pub IsOnDevice : {D : Type 0} → List ℕ → Option D → Type 0
 IsOnDevice text dev = text ≢ [] → IsSome dev
+
+-- what stands before the first comma
+abbrev pub upto_comma : List ℕ → List ℕ
+upto_comma [] = []
+upto_comma (b ∷ bs) = if b == 44 then [] else b ∷ upto_comma bs
+
+-- the name of the device of the group with this definition text, which begins with the group's name and a comma
+abbrev pub device_name_of : List ℕ → List ℕ
+device_name_of text = upto_comma text ++ codes ".grp"
+
+-- the device of a book may be kept under the name of its group's device
+abbrev pub IsOwnDevice : {D : Type 0} → (D → HandOut) → List ℕ → Option D → Type 0
+IsOwnDevice hand_out text None = Unit {0}
+IsOwnDevice hand_out text (Some dev) = FitsName (device_name_of text) (hand_out dev)
+
+-- a book with a definition text has a device, and that one may be kept under the name of its group's device
+abbrev pub IsAtHome : {D : Type 0} → (D → HandOut) → List ℕ → Option D → Type 0
+IsAtHome hand_out text dev = IsOnDevice text dev × IsOwnDevice hand_out text dev
 
 -- a count of the device, or 0 without a device
 abbrev pub count_of : {D : Type 0} → (D → ℕ) → Option D → ℕ

@@ -4,7 +4,7 @@ ghost use Rattle.disk_model.specs.Calls.{Rose};
 ghost use Rattle.trend_num.specs.declared.archive.Rec.{Rec};
 ghost use Rattle.calc_refresh.specs.Lists.{lists_of};
 ghost use Rattle.calc_refresh.specs.Sheet.{grid_of};
-ghost use Rattle.group_book.specs.Told.{IsBookHistory, IsOnDevice, count_of, trace_of, versions_of};
+ghost use Rattle.group_book.specs.Told.{IsBookHistory, IsOnDevice, IsOwnDevice, count_of, trace_of, versions_of};
 
 use crate::history::{GroupHistory, GroupOpening};
 use crate::turn::Turn;
@@ -48,7 +48,7 @@ impl<D: Disk> Model for Book<D> {
     ghost use Rattle.calc_refresh.specs.Sheet.{grid_of};
     ghost use Rattle.group_book.specs.Crashes.{IsBookSafe};
     ghost use Rattle.group_book.specs.Histories.{AreRowsEvaluated, IsBookLegal};
-    ghost use Rattle.group_book.specs.Told.{ToldBook, AreFlagged, IsDefined, IsKept, IsOnDevice, count_of, trace_of};
+    ghost use Rattle.group_book.specs.Told.{ToldBook, AreFlagged, IsAtHome, IsDefined, IsKept, count_of, trace_of};
 
     ghost Value = { ToldBook D };
 
@@ -73,7 +73,7 @@ impl<D: Disk> Model for Book<D> {
         (record { number = b.number; versions = b.saved_versions.items; rows = lists_of b.saved_rows.items; end = b.end }) b.failed
         (trace_of D.trace b.dev) (count_of D.ticks b.dev) (count_of D.fault_count b.dev)
         × IsBookSafe b.text.items b.def.calcs (grid_of b.def.start b.def.period) b.opening b.sheet.copies b.tape.items (LeftSince (trace_of D.trace b.dev))
-        × IsOnDevice b.text.items b.dev
+        × IsAtHome D.hand_out b.text.items b.dev
         × AreRowsEvaluated b.def.calcs (grid_of b.def.start b.def.period) b.opening b.tape.items b.sheet.copies b.sheet.rows b.sheet.evals
         × AreFlagged b.unsaved.items (lists_of b.saved_rows.items) b.sheet };
 }
@@ -154,6 +154,7 @@ impl<D: Disk> Book<D> {
     pub fn into_history(self) -> (Option<D>, GroupHistory)
         ensures device { result.0 ≡ self.dev }
         ensures there { IsOnDevice self.text result.0 }
+        ensures own { IsOwnDevice D.hand_out self.text result.0 }
         ensures group { result.1.group ≡ self.group }
         ensures def { result.1.def ≡ self.def }
         ensures text { result.1.text.items ≡ self.text }

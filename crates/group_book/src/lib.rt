@@ -12,8 +12,8 @@
 //! * What a crash leaves of the group's device stands for the versions and rows of the last save or of a refresh since
 //!   (`specs/Crashes.antt`).
 //!
-//! What the type says of answers, rows and crashes holds only if the opening of the book is right. That of a new book
-//! is.
+//! Answers and rows are from scratch in each window if the opening of the book is right. That of a new book is. In any
+//! case they are so in each window that was due since the opening, and any other window has the values of the opening.
 //!
 //! [`Book::refresh`] pulls from the cell of each input under its lock, in the order of the inputs. [`Book::publish`]
 //! takes what was pulled into account. [`Book::refresh_from`] takes the records from lists instead, one list for each

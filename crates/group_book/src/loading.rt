@@ -2,6 +2,7 @@
 ghost use Rattle.std.specs.Prelude.{◌≡◌, ◌^◌, ◌<◌, ◌≤◌, [], All, Some, IfErr, IfOk, IsSome, OnOk, false, length, map, replicate, take, vec_len};
 ghost use Rattle.disk_model.specs.Calls.{Shows};
 ghost use Rattle.disk_model.specs.Moments.{During};
+ghost use Rattle.disk_model.specs.Traces.{FitsName};
 ghost use Rattle.calc_refresh.specs.Lists.{lists_of};
 ghost use Rattle.calc_refresh.specs.Refreshed.{fresh};
 ghost use Rattle.calc_refresh.specs.Sheet.{AreRowsWhole, IsCopy, IsGrid, IsGroup, grid_of};
@@ -12,7 +13,7 @@ ghost use Rattle.group_book.specs.declared.refusal.LoadNo.TheVariants.{Ahead, Da
 ghost use Rattle.group_book.specs.Openings.{CountsBookRefusal, IsAheadOrMemory, IsBookCause, IsRefused, StandsForGroup, BookStaysSame, scan_refusal};
 ghost use Rattle.group_book.specs.Tapes.{cut};
 ghost use Rattle.sheet_law.specs.Windows.{complete_windows};
-ghost use Rattle.group_book.specs.Told.{HoldsBlocks, count_of, trace_of, versions_of};
+ghost use Rattle.group_book.specs.Told.{HoldsBlocks, count_of, device_name_of, trace_of, versions_of};
 
 use crate::book::Book;
 use crate::history::GroupOpening;
@@ -60,6 +61,7 @@ pub fn load<D: Disk>(
     requires tags { vec_len tags ≡ def.now.inputs }
     requires inputs { length recovered.now ≡ def.now.inputs }
     requires copied { All IsCopy (lists_of recovered.now) }
+    requires named { FitsName (device_name_of text.now) (D.hand_out dev) }
 
     // The book has what the device's bytes stood for. A crash at any moment leaves what it might have left before, or
     // what stands for the same.
@@ -97,6 +99,8 @@ pub fn load<D: Disk>(
     ensures cause { IfErr result (λ e. IsBookCause text.now def.now (lists_of recovered.now) (D.trace dev) e.why) }
     ensures faultless { IfOk result (λ b. count_of D.fault_count b.dev ≡ D.fault_count dev) }
     ensures counts { IfErr result (λ e. CountsBookRefusal e.why (D.fault_count dev) (D.fault_count e.dev)) }
+    ensures handed { IfOk result (λ b. (d : D) → b.dev ≡ Some d → D.hand_out d ≡ D.hand_out dev) }
+    ensures handed_refused { IfErr result (λ e. D.hand_out e.dev ≡ D.hand_out dev) }
 {
     let mut dev = dev;
     let calcs = def.calcs.defs().len() as u32;

@@ -29,6 +29,7 @@ pub fn read_blocks<D: Disk>(
     ensures damaged { (a : ℕ) (byte : Option ℕ) → IsErrOf result (Damaged a byte)
         → Shows (D.trace dev.old) (λ c. AreDamaged c calcs inputs at a byte) }
     ensures cause { CountsFault result DeviceFault (D.fault_count dev.old) (D.fault_count dev.new) }
+    ensures handed { D.hand_out dev.new ≡ D.hand_out dev.old }
     ensures same { D.trace dev.new ≡ D.trace dev.old }
     ensures untimed { D.ticks dev.new ≡ D.ticks dev.old }
 {
@@ -84,6 +85,7 @@ fn read_next<D: Disk>(
     ensures damaged { (a : ℕ) (byte : Option ℕ) → IsErrOf result (Damaged a byte)
         → Shows (D.trace dev.old) (λ c. BreaksFirst c (block_fields c calcs (parts_of before.now) gate) a byte) }
     ensures cause { CountsFault result DeviceFault (D.fault_count dev.old) (D.fault_count dev.new) }
+    ensures handed { D.hand_out dev.new ≡ D.hand_out dev.old }
     ensures same { D.trace dev.new ≡ D.trace dev.old }
     ensures untimed { D.ticks dev.new ≡ D.ticks dev.old }
 {

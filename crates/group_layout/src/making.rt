@@ -34,6 +34,7 @@ pub fn make_group<D: Disk>(alloc: Global, dev: &mut D, text: &[u8]) -> Result<()
     ensures ready { OnOk result (Now (D.trace dev.new) (IsShut (blocks_at (length text.now)))) }
     ensures no_memory { IsErrOf result NoMemory → dev.new ≡ dev.old }
     ensures cause { CountsFault result DeviceFault (D.fault_count dev.old) (D.fault_count dev.new) }
+    ensures handed { D.hand_out dev.new ≡ D.hand_out dev.old }
     ensures later { D.ticks dev.old ≤ D.ticks dev.new }
     ensures calls { OnOk result (Shows (D.trace dev.old) (λ c. D.ticks dev.new ≡ D.ticks dev.old + layout_calls c)) }
 {
@@ -56,6 +57,7 @@ pub fn put_block<D: Disk>(alloc: Global, dev: &mut D, at: u64, b: &Block) -> Res
     ensures clock { OnOk result (D.ticks dev.new ≡ D.ticks dev.old + 4) }
     ensures no_memory { IsErrOf result NoMemory → dev.new ≡ dev.old }
     ensures cause { CountsFault result DeviceFault (D.fault_count dev.old) (D.fault_count dev.new) }
+    ensures handed { D.hand_out dev.new ≡ D.hand_out dev.old }
     ensures later { D.ticks dev.old ≤ D.ticks dev.new }
 {
     let Ok(bytes) = block_bytes(alloc, b) else {

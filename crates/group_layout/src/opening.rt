@@ -42,6 +42,7 @@ pub fn open_group<D: Disk>(
     ensures damaged { (a : ℕ) (byte : Option ℕ) → IsErrOf result (Damaged a byte)
         → Shows (D.trace dev.old) (λ c. IsGroupDamage text.now inputs calcs c a byte) }
     ensures cause { CountsFault result DeviceFault (D.fault_count dev.old) (D.fault_count dev.new) }
+    ensures handed { D.hand_out dev.new ≡ D.hand_out dev.old }
     ensures later { D.ticks dev.old ≤ D.ticks dev.new }
 {
     let Ok(()) = dev.sync() else {
@@ -74,6 +75,7 @@ fn begin<D: Disk>(
     ensures any_moment { During (D.trace dev.old) (D.trace dev.new) (SavesNothing text.now) }
     ensures undamaged { (a : ℕ) (byte : Option ℕ) → IsErrOf result (Damaged a byte) → ⊥ }
     ensures cause { CountsFault result DeviceFault (D.fault_count dev.old) (D.fault_count dev.new) }
+    ensures handed { D.hand_out dev.new ≡ D.hand_out dev.old }
     ensures later { D.ticks dev.old ≤ D.ticks dev.new }
     ensures calls { OnOk result (Shows (D.trace dev.old) (λ c. D.ticks dev.new ≡ D.ticks dev.old + layout_calls c)) }
 {

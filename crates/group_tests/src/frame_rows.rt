@@ -1,4 +1,4 @@
-// Rows and changes worked by hand.
+// The frames of small rows, and what changes do to them.
 use crate::spelled_frames::{applied, changes, row, write_edit, write_frame};
 use crate::tables::{rows_tell, same};
 use event_frames::{Frames, new_frames};

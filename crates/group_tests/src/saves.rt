@@ -93,13 +93,14 @@ fn copy_of(alloc: Global, cell: &Cell<MemDisk>) -> Result<Vec<Rec>, AllocError>
 // the device and the reason.
 fn loaded(
     alloc: Global,
-    dev: MemDisk,
+    mut dev: MemDisk,
     text: &[u8],
     cell: &Cell<MemDisk>,
 ) -> Option<Result<Book<MemDisk>, LoadFail<MemDisk>>> {
     let def = means(alloc)?;
     let tags = vec![in alloc; 0; 1].ok()?;
     let recovered = [copy_of(alloc, cell).ok()?];
+    dev.forget_name();
     Some(load(alloc, dev, 0, &def, text, tags, &recovered))
 }
 

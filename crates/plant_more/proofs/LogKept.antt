@@ -12,7 +12,8 @@ use Rattle.plant_status.specs.declared.status.Status.TheVariants.{WantOfMemory}
 use Rattle.commit_log.specs.Told.{ToldLog}
 use Rattle.plant_more.specs.LogHeadline.{IsUnopened}
 use Rattle.plant_more.specs.LogOpenings.{AreOthersSame, GainsSyncAtMost, TracesByName, IsGivenBack, IsLogKept, IsLogOpened}
-use Rattle.plant_more.specs.LogTexts.{log_name, plant_text}
+use Rattle.commit_log.specs.Devices.{log_name}
+use Rattle.plant_more.specs.LogTexts.{plant_text}
 
 -- nothing was called
 still : (text : List ℕ) (tags : ℕ) (o : Option Trace) → During o o (IsLogLeftOrSame text tags o)

@@ -32,7 +32,8 @@ use Rattle.plant_more.specs.LogMaking.{total_rows}
 use Rattle.plant_more.specs.LogOpenings.{AreOthersSame, TracesByName, IsLogOpened}
 use Rattle.plant_more.specs.LogRefusals.{AdmitsForeignPut, ArePutsMade, AreUnstopped, IsOfOpening, IsSettlingRefusal, OfCommit, OfFinding, OfMemory, OfOpening, OfPut, OfRest, OfStop}
 use Rattle.plant_more.specs.LogReports.{log_rows}
-use Rattle.plant_more.specs.LogTexts.{log_name, plant_text}
+use Rattle.commit_log.specs.Devices.{log_name}
+use Rattle.plant_more.specs.LogTexts.{plant_text}
 
 -- all rows of a legal history are of its tags
 pub rows_legal : (tags : ℕ) (h : LogHistory) (trace : Option Trace) (ticks faults : ℕ) → IsHandedOut h trace ticks faults → h.tags ≡ tags

@@ -21,7 +21,8 @@ use Rattle.plant_more.specs.LogHeadline.{IsOfOthers, IsRun, IsUndone, IsUnopened
 use Rattle.plant_more.specs.LogMaking.{total_rows}
 use Rattle.plant_more.specs.LogOpenings.{TracesByName, IsOpeningRefusal, status_of}
 use Rattle.plant_more.specs.LogRefusals.{IsSettlingRefusal, OfCommit, OfFinding, OfMemory, OfOpening, OfPut, OfRest, OfStop}
-use Rattle.plant_more.specs.LogTexts.{log_name, plant_text}
+use Rattle.commit_log.specs.Devices.{log_name}
+use Rattle.plant_more.specs.LogTexts.{plant_text}
 
 -- no file is refused so
 no_read : (name plan_name : List ℕ) (told : ToldFiles) (why : Status) → plans.IsReadRefusal name plan_name told why → IsOfOthers why → ⊥

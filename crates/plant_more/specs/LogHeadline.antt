@@ -27,7 +27,8 @@ use Rattle.plant_more.specs.LogMaking.{total_rows}
 use Rattle.plant_more.specs.LogOpenings.{AreOthersSame, GainsSyncAtMost, TracesByName, IsLogKept, IsLogOpened, IsOpeningRefusal}
 use Rattle.plant_more.specs.LogRefusals.{AdmitsForeignPut, AreNotes, ArePutsMade, AreUnstopped, IsOfOpening, IsSettlingRefusal}
 use Rattle.plant_more.specs.LogReports.{IsReportRefusal, IsLineToldOf, log_rows}
-use Rattle.plant_more.specs.LogTexts.{log_name, plant_text}
+use Rattle.commit_log.specs.Devices.{log_name}
+use Rattle.plant_more.specs.LogTexts.{plant_text}
 
 -- ---- a log at its end
 

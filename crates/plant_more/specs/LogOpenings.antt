@@ -14,7 +14,7 @@ use Rattle.commit_log.specs.Images.{StandsForRows}
 use Rattle.archive_file.specs.TextHeads.{TextOpensAt}
 use Rattle.commit_log.specs.Openings.{GainsLogSync, IsLogCause, IsLogLeftOrSame, IsLeftOrStands}
 use Rattle.commit_log.specs.Told.{ToldLog}
-use Rattle.plant_more.specs.LogTexts.{log_name}
+use Rattle.commit_log.specs.Devices.{log_name}
 
 -- the traces of a store's devices by name
 abbrev pub TracesByName : Type 0

@@ -4,7 +4,7 @@ ghost use Rattle.disk_model.specs.Traces.{Synced, noted};
 ghost use Rattle.plant_status.specs.declared.status.Status.TheVariants.{DeviceFault as Fault};
 ghost use Rattle.plant_status.specs.declared.unit.Unit.TheVariants.{Log as LogUnit};
 ghost use Rattle.plant_more.specs.LogOpenings.{IsLogOpened, IsLogKept, IsOpeningRefusal, CountsOpening, status_of};
-ghost use Rattle.plant_more.specs.LogTexts.{log_name};
+ghost use Rattle.commit_log.specs.Devices.{log_name};
 
 use commit_log::{Log, LogFail, LogNo, open_log};
 use disk_model::Store;

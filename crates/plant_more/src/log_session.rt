@@ -1,5 +1,7 @@
 // Running the collectors of a plan on an open log, and ending the log after them.
 ghost use Rattle.std.specs.Prelude.{◌≡◌, ◌^◌, ◌<◌, IfErr, IfOk, OnErr, length};
+ghost use Rattle.disk_model.specs.Traces.{FitsName};
+ghost use Rattle.commit_log.specs.Devices.{log_name};
 ghost use Rattle.plant_more.specs.LogNotes.{row_lists_of};
 ghost use Rattle.plant_more.specs.LogMaking.{AreRowsFor, total_rows};
 ghost use Rattle.plant_more.specs.LogHeadline.{IsEnded};
@@ -37,6 +39,7 @@ pub(crate) fn hold<D: Disk + Send, P: Passes, R: Threads + Wait + Sync>(
     requires small { total_rows (row_lists_of files.now) < 2 ^ 64 }
     ensures ended { IfOk result (IsEnded D.trace D.ticks D.fault_count (row_lists_of files.now) known.now
         (P.stops passes.old) (P.stops passes.new)) }
+    ensures named { IfOk result (λ e. FitsName log_name (D.hand_out e.dev)) }
     ensures unbegun { OnErr result (P.stops passes.new ≡ P.stops passes.old) }
     ensures unchanged { IfErr result (λ back. back ≡ log) }
 {

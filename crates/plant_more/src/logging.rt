@@ -13,7 +13,8 @@ ghost use Rattle.plant_more.specs.LogKnown.{IsAsKnown};
 ghost use Rattle.plant_more.specs.LogMaking.{AreRowsFor, total_rows};
 ghost use Rattle.plant_more.specs.LogOpenings.{AreOthersSame, CountsOpening, TracesByName, IsGivenBack, IsLogOpened};
 ghost use Rattle.plant_more.specs.LogReports.{log_rows};
-ghost use Rattle.plant_more.specs.LogTexts.{log_name, plant_text};
+ghost use Rattle.commit_log.specs.Devices.{log_name};
+ghost use Rattle.plant_more.specs.LogTexts.{plant_text};
 
 use crate::log_known::{KnownLog, known_of};
 use crate::log_made::row_total;

@@ -28,11 +28,11 @@ all_back trace shelf cells books old mid new is many given rest back =
     let as_many = length-map names string_bytes in
     record {
       of_tags = back.given;
-      of_groups = λ i b s below.
+      of_groups = λ i b s below own.
           let there : i < length names = omega (arith, below, many) in
           back.others (string_bytes (get_or names i s)) (λ k d within same.
           is.kinds_apart k d within i [] (omega (arith, there, as_many)) (sym same ∙ sym (get_or-map string_bytes names i s [] there)))
-          ∙ given i b s below;
+          ∙ given i b s below own;
       others = λ n no_tag no_group. back.others n no_tag ∙ rest n (λ i s there same.
           no_group i [] (omega (arith, there, as_many)) (same ∙ sym (get_or-map string_bytes names i s [] there)));
     }

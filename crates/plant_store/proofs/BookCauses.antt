@@ -117,7 +117,8 @@ all_same trace ticks faults groups (s ∷ ss) records old mid new (b ∷ bs) are
       | inl before ↦
           let book = opened.each i g b before in
           let is : group_trace_at new (get_or groups i g) ≡ trace_of trace (get_or (b ∷ bs) i b).dev =
-          ap new (sym (named_at groups (s ∷ ss) i g s are below)) ∙ given i b s before
+          ap new (sym (named_at groups (s ∷ ss) i g s are below))
+          ∙ given i b s before (named_at groups (s ∷ ss) i g s are below ∙ sym book.named)
           ∙ back_is trace (get_or (b ∷ bs) i b).dev _ book.device in
           subst (λ o. During (group_trace_at old (get_or groups i g)) o
           (BookStaysSame (group_definition_text (get_or groups i g)) (group_parts_of (get_or groups i g)) (group_trace_at old (get_or groups i g)))) (sym is) book.same

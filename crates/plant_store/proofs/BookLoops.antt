@@ -5,7 +5,7 @@ use Rattle.std.specs.declared.alloc.Global.{Global}
 use Rattle.disk_model.specs.Traces.{Trace}
 use Rattle.group_book.specs.Told.{ToldBook}
 use Rattle.plant_store.specs.Groups.{DeviceTraces}
-use Rattle.plant_store.specs.BookEndings.{count_after, counts_after, trace_after}
+use Rattle.plant_store.specs.BookEndings.{IsBackUnder, count_after, counts_after}
 use Rattle.plant_store.specs.BookSteps.{HavePlaces}
 use Rattle.plant_store.proofs.BookReturns.{AreBack, none_back, one_back}
 use Rattle.plant_store.proofs.CellLists.{IsNext, next_of}
@@ -50,7 +50,7 @@ pub one_more : {D : Type 0} {trace : D → Option Trace} {faults : D → ℕ} {n
     {before so_far after : ℕ} {b : ToldBook D} {s : String Global} {n : List ℕ}
     → AreGoingBack trace faults names books left many to_come old now had has before so_far
     → AllPairs (λ a b. string_bytes a ≢ string_bytes b) names → many < length names → left ≡ b ∷ rest → to_come ≡ more + 1
-    → s ≡ get_or names many s → n ≡ string_bytes s → new n ≡ trace_after trace b.dev (now n)
+    → s ≡ get_or names many s → n ≡ string_bytes s → IsBackUnder trace b n (now n) (new n)
     → ((m : List ℕ) → m ≢ n → new m ≡ now m) → ((m : List ℕ) → IsTrue (has m) → IsTrue (holds m))
     → after ≡ count_after faults b.dev so_far
     → AreGoingBack trace faults names books rest (many + 1) more old new had holds before after
@@ -60,8 +60,8 @@ one_more {D} {trace} {faults} {names} {books} {rest = rest} {many = many} {old =
       count = omega (arith, going.count, one, ap (length {A = ToldBook D}) is);
       taken = omega (arith, going.taken, one);
       back = one_back trace names books many old now new b s distinct named next.there going.back
-          (subst (λ m. new m ≡ trace_after trace (get_or books many b).dev (now m)) name
-          (subst (λ x. new n ≡ trace_after trace x.dev (now n)) next.is given))
+          (subst (λ m. IsBackUnder trace (get_or books many b) m (now m) (new m)) name
+          (subst (λ x. IsBackUnder trace x n (now n) (new n)) next.is given))
           (λ m other. others m (λ same. other (same ∙ name)));
       places = λ i t below. stay _ (going.places i t below);
       kept_places = λ m was. stay m (going.kept_places m was);

@@ -9,7 +9,7 @@ use Rattle.disk_model.specs.Traces.{Trace}
 use Rattle.group_book.specs.declared.history.GroupHistory.{GroupHistory}
 use Rattle.group_book.specs.Told.{ToldBook, count_of, trace_of}
 use Rattle.plant_store.specs.Groups.{DeviceTraces}
-use Rattle.plant_store.specs.BookEndings.{IsHistoryOfBook, count_after, counts_after, trace_after}
+use Rattle.plant_store.specs.BookEndings.{IsBackUnder, IsHistoryOfBook, count_after, counts_after, trace_after}
 use Rattle.plant_store.specs.BookSteps.{AreOtherNamesSame}
 use Rattle.plant_store.specs.CellClosings.{HasRisen}
 use Rattle.plant_store.proofs.BookTurns.{one_more_name}
@@ -30,7 +30,8 @@ clock_of trace ticks told (Some d) = told d
 pub record AreBack {D : Type 0} (trace : D → Option Trace) (names : List (String Global)) (books : List (ToldBook D)) (many : ℕ)
     (old now : DeviceTraces) : Type 0 where
   pub given : (i : ℕ) (b : ToldBook D) (s : String Global) → i < many
-      → now (string_bytes (get_or names i s)) ≡ trace_after trace (get_or books i b).dev (old (string_bytes (get_or names i s)))
+      → IsBackUnder trace (get_or books i b) (string_bytes (get_or names i s)) (old (string_bytes (get_or names i s)))
+      (now (string_bytes (get_or names i s)))
   pub others : AreOtherNamesSame many names old now
 
 pub none_back : {D : Type 0} (trace : D → Option Trace) (names : List (String Global)) (books : List (ToldBook D)) (old : DeviceTraces)
@@ -47,19 +48,20 @@ differ_at names i j s t distinct before below same = distinct i j s before below
 pub one_back : {D : Type 0} (trace : D → Option Trace) (names : List (String Global)) (books : List (ToldBook D)) (many : ℕ)
     (old now new : DeviceTraces) (b : ToldBook D) (s : String Global) → AllPairs (λ a b. string_bytes a ≢ string_bytes b) names
     → many < length names → many < length books → AreBack trace names books many old now
-    → new (string_bytes (get_or names many s)) ≡ trace_after trace (get_or books many b).dev (now (string_bytes (get_or names many s)))
+    → IsBackUnder trace (get_or books many b) (string_bytes (get_or names many s)) (now (string_bytes (get_or names many s)))
+    (new (string_bytes (get_or names many s)))
     → ((n : List ℕ) → n ≢ string_bytes (get_or names many s) → new n ≡ now n) → AreBack trace names books (many + 1) old new
 one_back {D} trace names books many old now new b s distinct named there back given turn = record {
   given = λ i c t within. elim (cases_eq i many) [
-    | inl same ↦ subst (λ j. new (string_bytes (get_or names j t))
-        ≡ trace_after trace (get_or books j c).dev (old (string_bytes (get_or names j t)))) (sym same) (this c t)
+    | inl same ↦ subst (λ j. IsBackUnder trace (get_or books j c) (string_bytes (get_or names j t))
+        (old (string_bytes (get_or names j t))) (new (string_bytes (get_or names j t)))) (sym same) (this c t)
     | inr differ ↦
         let before : i < many = elim (cases_order i many) [
           | inl same ↦ absurd (differ same)
           | inr (inl lt) ↦ lt
           | inr (inr gt) ↦ absurd (omega (arith, gt, within))
         ] in
-        turn (string_bytes (get_or names i t)) (differ_at names i many t s distinct before named) ∙ back.given i c t before
+        λ own. turn (string_bytes (get_or names i t)) (differ_at names i many t s distinct before named) ∙ back.given i c t before own
   ];
   others = one_more_name names many s old now new back.others named turn;
 }
@@ -68,13 +70,13 @@ one_back {D} trace names books many old now new b s distinct named there back gi
     was = back.others (string_bytes (get_or names many s)) (λ k t before same.
         differ_at names k many t s distinct before named (sym same))
 
-    this : (c : ToldBook D) (t : String Global) → new (string_bytes (get_or names many t))
-        ≡ trace_after trace (get_or books many c).dev (old (string_bytes (get_or names many t)))
-    this c t = subst (λ (x : String Global). new (string_bytes x) ≡ trace_after trace (get_or books many c).dev (old (string_bytes x)))
+    this : (c : ToldBook D) (t : String Global) → IsBackUnder trace (get_or books many c) (string_bytes (get_or names many t))
+        (old (string_bytes (get_or names many t))) (new (string_bytes (get_or names many t)))
+    this c t = subst (λ (x : String Global). IsBackUnder trace (get_or books many c) (string_bytes x) (old (string_bytes x)) (new (string_bytes x)))
         (get_or_default names many s t named)
-        (subst (λ (x : ToldBook D). new (string_bytes (get_or names many s))
-        ≡ trace_after trace x.dev (old (string_bytes (get_or names many s)))) (get_or_default books many b c there)
-        (given ∙ ap (trace_after trace (get_or books many b).dev) was))
+        (subst (λ (x : ToldBook D). IsBackUnder trace x (string_bytes (get_or names many s)) (old (string_bytes (get_or names many s)))
+        (new (string_bytes (get_or names many s)))) (get_or_default books many b c there)
+        (λ own. given own ∙ ap (trace_after trace (get_or books many b).dev) was))
 
 -- ---- histories
 

@@ -1,15 +1,17 @@
 -- Cells that are given back one after the other.
 use Rattle.std.proofs.Common.{◌≡◌, ◌≢◌, ℕ, ◌+◌, ◌^◌, ◌<◌, ◌≤◌, true, List, [], ◌∷◌, ◌++◌, length, take, drop, get_or, Option, refl, sym, ◌∙◌, ap, subst, arith}
-use Rattle.std.specs.Prelude.{All, IfSome}
+use Rattle.std.specs.Prelude.{All}
 use Rattle.std.proofs.lemmas.List.{get_or_default, get_or-take, length-take-le, length_push, take_all, take_more}
 use Rattle.std.proofs.lemmas.List.Elements.{All-nil, All-push, All-weaker}
 use Rattle.std.proofs.lemmas.Slice.Zip.{all_zipped_more}
 use Rattle.disk_model.specs.Calls.{sum_of_counts}
 use Rattle.disk_model.specs.Traces.{Trace}
 use Rattle.tag_cell.specs.declared.history.TagHistory.{TagHistory}
-use Rattle.tag_cell.specs.Told.{ToldCell, IsCellHistory}
+use Rattle.tag_cell.specs.Told.{ToldCell}
 use Rattle.plant_store.proofs.TagTurns.{zip_weaker}
-use Rattle.plant_store.specs.CellClosings.{AreGivenBack, AreHistoriesAt, AreHistoriesOf, CountsCells, HasRisen, IsHistoryAt, IsHistoryOfCell}
+use Rattle.plant_store.specs.CellClosings.{AreGivenBack, AreHistoriesAt, AreHistoriesOf, CountsCells, HasRisen, IsBackAt, IsHistoryAt, IsHistoryOfCell}
+use Rattle.tag_cell.specs.Devices.{device_name}
+use Rattle.trend_num.specs.declared.tag_def.TagDef.{TagDef}
 use Rattle.plant_store.specs.CellNames.{AreApart}
 use Rattle.plant_store.proofs.Risen.{higher_or_end, still_risen}
 use Rattle.plant_store.proofs.CellLists.{all_before, all_last, next_of, zip_joined}
@@ -21,12 +23,12 @@ none_back trace traces = record { given = tt; others = λ n none. refl }
 -- one more device is given back
 pub one_back : {D : Type 0} (trace : D → Option Trace) (names : List (List ℕ)) (cells : List (ToldCell D)) (name : List ℕ)
     (c : ToldCell D) (old now new : List ℕ → Option Trace) → AreGivenBack trace names cells old now → All (λ m. m ≢ name) names
-    → ((n : List ℕ) → n ≢ name → new n ≡ now n) → new name ≡ trace c.journal.dev
+    → ((n : List ℕ) → n ≢ name → new n ≡ now n) → IsBackAt trace new name c
     → AreGivenBack trace (names ++ name ∷ []) (cells ++ c ∷ []) old new
 one_back {D} trace names cells name c old now new back apart others told = record {
-  given = all_zipped_more (λ n (d : ToldCell D). new n ≡ trace d.journal.dev) names cells name c
-      (zip_weaker (λ n (d : ToldCell D). now n ≡ trace d.journal.dev) (λ n (d : ToldCell D). new n ≡ trace d.journal.dev) names cells
-      (λ k n d below was. others (get_or names k n) (apart k n below) ∙ was) back.given) told;
+  given = all_zipped_more (λ n (d : ToldCell D). IsBackAt trace new n d) names cells name c
+      (zip_weaker (λ n (d : ToldCell D). IsBackAt trace now n d) (λ n (d : ToldCell D). IsBackAt trace new n d) names cells
+      (λ k n d below was same. others (get_or names k n) (apart k n below) ∙ was same) back.given) told;
   others = λ n none. others n (all_last (λ m. n ≢ m) names name none)
       ∙ back.others n (all_before (λ m. n ≢ m) names name none);
 }
@@ -100,7 +102,7 @@ pub one_closed : {D : Type 0} (trace : D → Option Trace) (ticks faults : D →
     → AreClosed trace ticks faults names cells rest histories old now before count → rest ≡ c ∷ more
     → length names ≡ length cells → AreApart names → name ≡ get_or names (length histories) name
     → IsHistoryOfCell (trace c.journal.dev) (ticks c.journal.dev) (faults c.journal.dev) c h
-    → new name ≡ trace c.journal.dev → ((n : List ℕ) → n ≢ name → new n ≡ now n)
+    → IsBackAt trace new name c → ((n : List ℕ) → n ≢ name → new n ≡ now n)
     → after ≡ sum_of_counts count (faults c.journal.dev) → (c.journal.failed ≡ true → 1 ≤ faults c.journal.dev)
     → AreClosed trace ticks faults names cells more (histories ++ h ∷ []) old new before after
 one_closed {D} trace ticks faults names cells rest more histories old now new before count after c h name closed is long apart named
@@ -148,13 +150,15 @@ all_closed {D} trace ticks faults names cells rest histories old now before coun
     let told = subst (λ l. AreHistoriesOf trace ticks faults l histories) (take_all (length histories) cells (omega (arith, all)))
     closed.told in (
       back,
-      zip_joined (λ name (c : ToldCell D). now name ≡ trace c.journal.dev) (λ (c : ToldCell D) (h : TagHistory). IsHistoryOfCell
+      zip_joined (λ name (c : ToldCell D). IsBackAt trace now name c) (λ (c : ToldCell D) (h : TagHistory). IsHistoryOfCell
           (trace c.journal.dev) (ticks c.journal.dev) (faults c.journal.dev) c h)
-          (λ name (h : TagHistory). IsHistoryAt (now name) h)
+          (λ name (h : TagHistory). IsHistoryAt name (now name) h)
           (λ name c h says is. record {
+            trace = trace c.journal.dev;
             ticks = ticks c.journal.dev;
             faults = faults c.journal.dev;
-            clock = subst (λ o. IfSome o (λ t. length t.calls ≡ ticks c.journal.dev)) (sym says) is.clock;
-            is = subst (λ o. IsCellHistory h o (ticks c.journal.dev) (faults c.journal.dev)) (sym says) is.history;
+            clock = is.clock;
+            is = is.history;
+            back = λ same. says (same ∙ ap (λ (d : TagDef). device_name d.name) is.def_is);
           }) names cells histories back.given told,
     )

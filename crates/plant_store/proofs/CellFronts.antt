@@ -13,7 +13,8 @@ use Rattle.snapshot_table.specs.Boards.{new_posters, Posting, PostsTo}
 use Rattle.snapshot_table.specs.Snaps.{nothing}
 use Rattle.snapshot_table.proofs.Places.{poster_at, posts_at}
 use Rattle.tag_cell.specs.Told.{ToldCell}
-use Rattle.plant_store.specs.Tags.{device_name, tag_trace_of, AreDistinct, IsOpened, AreTagsOpened, AreOtherTagsSame, AllStaySame, tag_records_in}
+use Rattle.tag_cell.specs.Devices.{device_name}
+use Rattle.plant_store.specs.Tags.{tag_trace_of, AreDistinct, IsOpened, AreTagsOpened, AreOtherTagsSame, AllStaySame, tag_records_in}
 use Rattle.plant_store.proofs.TagDevices.{untouched}
 use Rattle.plant_store.proofs.TagTurns.{IsTag, not_reached, reached}
 use Rattle.plant_store.specs.CellOpenings.{core_of, IsCellOpened, AreCellsOpened, records_opened}

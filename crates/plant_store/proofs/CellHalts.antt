@@ -19,7 +19,8 @@ use Rattle.plant_status.specs.declared.status.Status.{Status}
 use Rattle.plant_status.specs.declared.status.Status.TheVariants.{Limit}
 use Rattle.tag_cell.specs.Told.{ToldCell}
 use Rattle.plant_store.specs.TagRefusals.{status_of, CountsStore, IsRefusedAt, IsRefusal, IsTooMuch}
-use Rattle.plant_store.specs.Tags.{device_name, tag_trace_of, AllStaySame, AreDistinct, AreTagsOpened, AreOtherTagsSame, tag_records_in}
+use Rattle.tag_cell.specs.Devices.{device_name}
+use Rattle.plant_store.specs.Tags.{tag_trace_of, AllStaySame, AreDistinct, AreTagsOpened, AreOtherTagsSame, tag_records_in}
 use Rattle.plant_store.proofs.TagEndings.{counted}
 use Rattle.plant_store.proofs.TagTurns.{IsTag, not_reached, one_longer, reached}
 use Rattle.plant_store.specs.CellClosings.{AreGivenBack, CountsCells}
@@ -225,7 +226,7 @@ pub given_up : {D : Type 0} (trace : D → Option Trace) (ticks faults : D → �
     → (count < 2 ^ 64 → CountsCells faults cells count after)
     → IsGivenUp tags (take (length cells) tags) old now new before after why
 given_up trace ticks faults names tags cells n old now new before count after why same is opened stopped back counts =
-    let given = given_of trace names tags cells now new same
+    let given = given_of trace ticks faults names tags cells old now new same opened
     (subst (λ k. AreGivenBack trace (texts (take k names)) cells now new) is back) in
     let kept = count_kept trace ticks faults (take (length cells) tags) tags old now cells before count after why opened stopped counts in
     record {

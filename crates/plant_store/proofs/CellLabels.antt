@@ -8,12 +8,14 @@ use Rattle.std.proofs.lemmas.List.Elements.{All-map, All-more, All-weaker}
 use Rattle.trend_num.specs.declared.tag_def.TagDef.{TagDef}
 use Rattle.disk_model.specs.Traces.{Trace}
 use Rattle.tag_cell.specs.Told.{ToldCell}
-use Rattle.plant_store.specs.Tags.{device_name, AreDistinct, AreOtherTagsSame}
+use Rattle.tag_cell.specs.Devices.{device_name}
+use Rattle.plant_store.specs.Tags.{tag_trace_of, AreDistinct, AreOtherTagsSame}
 use Rattle.plant_store.proofs.TagTurns.{IsTag, one_name}
-use Rattle.plant_store.specs.CellClosings.{AreGivenBack}
+use Rattle.plant_store.specs.CellClosings.{AreGivenBack, IsBackAt}
+use Rattle.plant_store.specs.CellOpenings.{AreCellsOpened, IsCellOpened}
 use Rattle.plant_store.specs.CellNames.{AreApart, HasPlaces, device_names_of, texts}
 use Rattle.plant_store.specs.CellStops.{AreTold}
-use Rattle.plant_store.proofs.CellLists.{zip_seen}
+use Rattle.plant_store.proofs.CellLists.{zip_follows, zip_seen}
 
 -- there is a name for each tag
 pub as_many_names : (names : List (String Global)) (tags : List TagDef) → texts names ≡ device_names_of tags → length names ≡ length tags
@@ -62,16 +64,21 @@ apart_front names n apart within i j d before there =
     (sym (get_or-take n names i d (omega (arith, before, below))) ∙ (same ∙ get_or-take n names j d below))
 
 -- devices that are given back under the first names are those of the first tags
-pub given_of : {D : Type 0} (trace : D → Option Trace) (names : List (String Global)) (tags : List TagDef) (cells : List (ToldCell D))
-    (now new : List ℕ → Option Trace) → texts names ≡ device_names_of tags
+pub given_of : {D : Type 0} (trace : D → Option Trace) (ticks faults : D → ℕ) (names : List (String Global)) (tags : List TagDef)
+    (cells : List (ToldCell D)) (old now new : List ℕ → Option Trace) → texts names ≡ device_names_of tags
+    → AreCellsOpened trace ticks faults (take (length cells) tags) old cells
     → AreGivenBack trace (texts (take (length cells) names)) cells now new
     → AreOtherTagsSame (take (length cells) tags) now new × AreTold trace tags cells new
-given_of {D} trace names tags cells now new same back =
+given_of {D} trace ticks faults names tags cells old now new same opened back =
     let front = names_front names tags (length cells) same in (
       λ n none. back.others n (none_named (take (length cells) names) (take (length cells) tags) n front none),
-      zip_seen (λ name (c : ToldCell D). new name ≡ trace c.journal.dev) (λ (def : TagDef). device_name def.name)
+      zip_follows (λ def (c : ToldCell D). IsCellOpened def (tag_trace_of old def) (trace c.journal.dev) (ticks c.journal.dev)
+          (faults c.journal.dev) c) (λ def (c : ToldCell D). IsBackAt trace new (device_name def.name) c)
+          (λ def (c : ToldCell D). tag_trace_of new def ≡ trace c.journal.dev)
+          (λ def c is told. told (ap (λ (d : TagDef). device_name d.name) (sym is.def_is))) (take (length cells) tags) cells opened
+          (zip_seen (λ name (c : ToldCell D). IsBackAt trace new name c) (λ (def : TagDef). device_name def.name)
           (take (length cells) tags) cells
-          (subst (λ l. AllZip (λ name (c : ToldCell D). new name ≡ trace c.journal.dev) l cells) front back.given),
+          (subst (λ l. AllZip (λ name (c : ToldCell D). IsBackAt trace new name c) l cells) front back.given)),
     )
 
 -- the bytes of the text at a place

@@ -75,6 +75,14 @@ zip_both Q R P follows (x ∷ xs) [] all both = absurd all
 zip_both Q R P follows (x ∷ xs) (y ∷ ys) all both =
     All-cons P x xs (follows x y all.0 both.0) (zip_both Q R P follows xs ys all.1 both.1)
 
+-- two relations of the elements give a third one
+pub zip_follows : {A B : Type 0} (Q R P : A → B → Type 0) → ((x : A) (y : B) → Q x y → R x y → P x y) → (xs : List A)
+    (ys : List B) → AllZip Q xs ys → AllZip R xs ys → AllZip P xs ys
+zip_follows Q R P follows [] [] all both = tt
+zip_follows Q R P follows [] (y ∷ ys) all both = absurd all
+zip_follows Q R P follows (x ∷ xs) [] all both = absurd all
+zip_follows Q R P follows (x ∷ xs) (y ∷ ys) all both = (follows x y all.0 both.0, zip_follows Q R P follows xs ys all.1 both.1)
+
 -- two relations give a third one where the first list of the one is the second of the other
 pub zip_joined : {A B C : Type 0} (Q : A → B → Type 0) (R : B → C → Type 0) (P : A → C → Type 0)
     → ((x : A) (y : B) (z : C) → Q x y → R y z → P x z) → (xs : List A) (ys : List B) (zs : List C) → AllZip Q xs ys

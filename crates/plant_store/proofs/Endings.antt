@@ -15,7 +15,8 @@ use Rattle.tag_base.specs.declared.definition.Base.{Base}
 use Rattle.tag_cell.specs.Told.{ToldCell}
 use Rattle.plant_store.specs.TagRefusals as tags
 use Rattle.plant_store.specs.Tags as tag
-use Rattle.plant_store.specs.CellClosings.{AreGivenBack, CountsCells}
+use Rattle.tag_cell.specs.Devices.{device_name}
+use Rattle.plant_store.specs.CellClosings.{AreGivenBack, CountsCells, IsBackAt}
 use Rattle.plant_store.specs.CellNames.{device_names_of, texts}
 use Rattle.plant_store.specs.CellOpenings.{AreCellsOpened, IsCellOpened, core_of, records_opened}
 use Rattle.plant_store.proofs.CellFronts.{cores_opened, records_are}
@@ -48,11 +49,12 @@ pub tags_kept : {D : Type 0} (trace : D → Option Trace) (ticks faults : D → 
     → AreGivenBack trace (texts names) cells mid new → tag.AllStaySame ts old new
 tags_kept {D} trace ticks faults names ts cells old mid new same opened back =
     zip_both (λ def (c : ToldCell D). IsCellOpened def (tag.tag_trace_of old def) (trace c.journal.dev) (ticks c.journal.dev)
-    (faults c.journal.dev) c) (λ def (c : ToldCell D). tag.tag_trace_of new def ≡ trace c.journal.dev)
+    (faults c.journal.dev) c) (λ def (c : ToldCell D). IsBackAt trace new (device_name def.name) c)
     (λ def. StaysSame def (tag.tag_trace_of old def) (tag.tag_trace_of new def))
-    (λ def c is told. subst (λ o. StaysSame def (tag.tag_trace_of old def) o) (sym told) is.same) ts cells opened
-    (zip_seen (λ name (c : ToldCell D). new name ≡ trace c.journal.dev) (λ (def : TagDef). tag.device_name def.name) ts cells
-    (subst (λ l. AllZip (λ name (c : ToldCell D). new name ≡ trace c.journal.dev) l cells) same back.given))
+    (λ def c is told. subst (λ o. StaysSame def (tag.tag_trace_of old def) o)
+    (sym (told (ap (λ (d : TagDef). device_name d.name) (sym is.def_is)))) is.same) ts cells opened
+    (zip_seen (λ name (c : ToldCell D). IsBackAt trace new name c) (λ (def : TagDef). device_name def.name) ts cells
+    (subst (λ l. AllZip (λ name (c : ToldCell D). IsBackAt trace new name c) l cells) same back.given))
 
 -- ---- the devices that are given back under the names of tags
 

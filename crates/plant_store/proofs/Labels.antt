@@ -4,10 +4,12 @@ use Rattle.std.specs.Prelude.{All, String, vec_capacity}
 use Rattle.std.specs.declared.alloc.Global.{Global}
 use Rattle.std.proofs.lemmas.List.{append_assoc, same_from_push}
 use Rattle.std.proofs.lemmas.List.Elements.{All-map}
+use Rattle.trend_num.specs.Names.{IsName}
 use Rattle.trend_num.specs.declared.tag_def.TagDef.{TagDef}
 use Rattle.tag_base.specs.declared.definition.Base.{Base}
 use Rattle.tag_base.specs.declared.definition.GroupDef.{GroupDef}
 use Rattle.plant_store.specs.Tags as tag
+use Rattle.tag_cell.specs.Devices.{device_name}
 use Rattle.plant_store.specs.Groups as group
 use Rattle.plant_store.specs.Groups.{DeviceTraces, group_trace_at}
 use Rattle.plant_store.specs.CellNames.{AreApart, device_names_of, texts}
@@ -17,9 +19,9 @@ use Rattle.plant_store.specs.declared.shelf.Shelf.{Shelf}
 use Rattle.plant_store.specs.Shelves.{IsShelfFor}
 
 -- no tag's device is called as a group's
-pub names_apart : (t g : List ℕ) → tag.device_name t ≢ group.device_name g
+pub names_apart : (t g : List ℕ) → device_name t ≢ group.device_name g
 names_apart t g same =
-    let of_tag : (t ++ codes ".ta") ++ 103 ∷ [] ≡ tag.device_name t = append_assoc t (codes ".ta") (103 ∷ []) in
+    let of_tag : (t ++ codes ".ta") ++ 103 ∷ [] ≡ device_name t = append_assoc t (codes ".ta") (103 ∷ []) in
     let of_group : (g ++ codes ".gr") ++ 112 ∷ [] ≡ group.device_name g = append_assoc g (codes ".gr") (112 ∷ []) in
     let ends = same_from_push (t ++ codes ".ta") (g ++ codes ".gr") 103 112 (of_tag ∙ (same ∙ sym of_group)) in
     absurd (omega (arith, ends.1))
@@ -34,7 +36,7 @@ groups_same tags old new others g =
 pub tags_same : (gs : List GroupDef) (old new : DeviceTraces) → group.AreOtherGroupsSame gs old new → (t : TagDef)
     → tag.tag_trace_of new t ≡ tag.tag_trace_of old t
 tags_same gs old new others t =
-    others (tag.device_name t.name) (λ k d below. names_apart t.name (get_or gs k d).name)
+    others (device_name t.name) (λ k d below. names_apart t.name (get_or gs k d).name)
 
 -- the texts of names of the two kinds are apart
 pub texts_apart : (tags : List TagDef) (gs : List GroupDef) (tag_names group_names : List (String Global))
@@ -42,23 +44,25 @@ pub texts_apart : (tags : List TagDef) (gs : List GroupDef) (tag_names group_nam
     → All (λ t. All (λ g. t ≢ g) (texts group_names)) (texts tag_names)
 texts_apart tags gs tag_names group_names tags_are groups_are =
     subst (λ ns. All (λ t. All (λ g. t ≢ g) (texts group_names)) ns) (sym tags_are)
-    (All-map (λ t. All (λ g. t ≢ g) (texts group_names)) (λ (def : TagDef). tag.device_name def.name) tags (λ k d below.
-    subst (λ ns. All (λ g. tag.device_name (get_or tags k d).name ≢ g) ns) (sym groups_are)
-    (All-map (λ g. tag.device_name (get_or tags k d).name ≢ g) (λ (g : GroupDef). group.device_name g.name) gs (λ j e within.
+    (All-map (λ t. All (λ g. t ≢ g) (texts group_names)) (λ (def : TagDef). device_name def.name) tags (λ k d below.
+    subst (λ ns. All (λ g. device_name (get_or tags k d).name ≢ g) ns) (sym groups_are)
+    (All-map (λ g. device_name (get_or tags k d).name ≢ g) (λ (g : GroupDef). group.device_name g.name) gs (λ j e within.
     names_apart (get_or tags k d).name (get_or gs j e).name))))
 
 -- a shelf with these names, and with room for as many histories, is that of the base
 pub shelf_is : (base : Base) (shelf : Shelf) (tags groups : ℕ) → group.AreDistinct base.groups.items
     → texts shelf.tag_names.items ≡ device_names_of base.tags.items → AreApart (texts shelf.tag_names.items)
-    → group.AreNamesOf base.groups.items shelf.group_names.items → shelf.tags.items ≡ [] → shelf.groups.items ≡ []
+    → group.AreNamesOf base.groups.items shelf.group_names.items → All (λ (g : GroupDef). IsName g.name) base.groups.items
+    → shelf.tags.items ≡ [] → shelf.groups.items ≡ []
     → tags ≡ length base.tags.items → groups ≡ length base.groups.items → tags ≤ vec_capacity shelf.tags
     → groups ≤ vec_capacity shelf.groups → IsShelfFor base shelf
-shelf_is base shelf tags groups distinct tags_are apart groups_are no_tags no_groups many_tags many_groups tag_room group_room =
+shelf_is base shelf tags groups distinct tags_are apart groups_are named no_tags no_groups many_tags many_groups tag_room group_room =
     let tag_count = as_many_names shelf.tag_names.items base.tags.items tags_are in
     let group_count = as_many base.groups.items shelf.group_names.items groups_are in
     record {
       tag_names_are = tags_are;
       group_names_are = groups_are;
+      groups_named = named;
       as_many_tags = tag_count;
       as_many_groups = group_count;
       is_shelf = record {

@@ -19,3 +19,4 @@ pub mod BookCauses
 pub mod BookReturns
 pub mod BookLoops
 pub mod BookDevices
+pub mod DeviceNames

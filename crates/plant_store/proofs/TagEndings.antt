@@ -11,7 +11,8 @@ use Rattle.device_layout.specs.declared.failure.OpenNo.TheVariants.{DeviceFault,
 use Rattle.device_layout.specs.Readings.{IsCause}
 use Rattle.trend_num.specs.Limits.{most_stored}
 use Rattle.disk_model.specs.Calls.{CountsFault, Rose}
-use Rattle.plant_store.specs.Tags.{device_name, tag_trace_of, AllStaySame, AreDistinct, AreTagsOpened, AreLeft, AreOtherTagsSame, tag_records_in}
+use Rattle.tag_cell.specs.Devices.{device_name}
+use Rattle.plant_store.specs.Tags.{tag_trace_of, AllStaySame, AreDistinct, AreTagsOpened, AreLeft, AreOtherTagsSame, tag_records_in}
 use Rattle.plant_store.specs.TagRefusals.{status_of, IsRefusedAt, IsRefusal, CountsStore}
 use Rattle.plant_store.proofs.TagTurns.{IsSoFar, IsTag, IsTurn, all_same, not_reached, reached}
 

@@ -8,7 +8,8 @@ use Rattle.trend_num.specs.declared.tag_def.TagDef.{TagDef}
 use Rattle.tag_core.specs.Core.{Core}
 use Rattle.disk_model.specs.Traces.{Trace}
 use Rattle.crash_recovery.specs.Opening.{StaysSame}
-use Rattle.plant_store.specs.Tags.{device_name, tag_trace_of, AreDistinct, IsOpened, AreTagsOpened, AreOtherTagsSame, AllStaySame, IsLeft, AreLeft}
+use Rattle.tag_cell.specs.Devices.{device_name}
+use Rattle.plant_store.specs.Tags.{tag_trace_of, AreDistinct, IsOpened, AreTagsOpened, AreOtherTagsSame, AllStaySame, IsLeft, AreLeft}
 use Rattle.plant_store.proofs.TagDevices.{still}
 use Rattle.plant_store.proofs.CellLists.{all_before, all_last}
 

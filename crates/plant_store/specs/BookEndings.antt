@@ -6,7 +6,7 @@ use Rattle.disk_model.specs.Traces.{Trace}
 use Rattle.calc_refresh.specs.Lists.{lists_of}
 use Rattle.calc_refresh.specs.Sheet.{grid_of}
 use Rattle.group_book.specs.declared.history.GroupHistory.{GroupHistory}
-use Rattle.group_book.specs.Told.{IsBookHistory, IsOnDevice, ToldBook, count_of, trace_of, versions_of}
+use Rattle.group_book.specs.Told.{IsBookHistory, IsOnDevice, ToldBook, count_of, device_name_of, trace_of, versions_of}
 use Rattle.plant_store.specs.Groups.{DeviceTraces}
 
 -- This is the history of the group of a book, on the book's device, whose clock is the number of its calls, if these are
@@ -41,11 +41,16 @@ abbrev pub trace_after : {D : Type 0} → (D → Option Trace) → Option D → 
 trace_after trace None old = old
 trace_after trace (Some dev) old = trace dev
 
+-- the device of a book was given back under this name, if it is the name of the device of the book's group; these are the
+-- traces under the name before and after
+abbrev pub IsBackUnder : {D : Type 0} → (D → Option Trace) → ToldBook D → List ℕ → Option Trace → Option Trace → Type 0
+IsBackUnder trace b name old new = name ≡ device_name_of b.text → new ≡ trace_after trace b.dev old
+
 -- the device of each book was given back under the name at its place
 abbrev pub AreGivenBack : {D : Type 0} → (D → Option Trace) → List (String Global) → List (ToldBook D) → DeviceTraces → DeviceTraces → Type 0
 AreGivenBack {D} trace names books old new = (i : ℕ) (b : ToldBook D) (s : String Global) → i < length books
-    → new (string_bytes (slice_index_or names i s))
-    ≡ trace_after trace (slice_index_or books i b).dev (old (string_bytes (slice_index_or names i s)))
+    → IsBackUnder trace (slice_index_or books i b) (string_bytes (slice_index_or names i s))
+    (old (string_bytes (slice_index_or names i s))) (new (string_bytes (slice_index_or names i s)))
 
 -- a count of faults plus those of a device, if there is one
 abbrev pub count_after : {D : Type 0} → (D → ℕ) → Option D → ℕ → ℕ

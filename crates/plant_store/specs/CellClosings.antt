@@ -5,6 +5,7 @@ use Rattle.disk_model.specs.Calls.{Rose}
 use Rattle.disk_model.specs.Traces.{Trace}
 use Rattle.tag_cell.specs.declared.history.TagHistory.{TagHistory}
 use Rattle.tag_cell.specs.Told.{ToldCell, IsCellHistory}
+use Rattle.tag_cell.specs.Devices.{device_name}
 
 -- This is the history of a cell, on a device with this trace, this clock and this number of faults. The clock is the
 -- number of the device's calls, if these are known. If the cell's journal has failed, the device has counted one fault
@@ -26,21 +27,28 @@ abbrev pub AreHistoriesOf : {D : Type 0} → (D → Option Trace) → (D → ℕ
 AreHistoriesOf {D} trace ticks faults cells histories = AllZip (λ (c : ToldCell D) h. IsHistoryOfCell (trace c.journal.dev)
     (ticks c.journal.dev) (faults c.journal.dev) c h) cells histories
 
--- a history is that of a tag's device, which has made these calls, if they are known; its clock is their number
-pub record IsHistoryAt (trace : Option Trace) (h : TagHistory) : Type 0 where
+-- A history is that of a tag's device, which has made these calls, if they are known; its clock is their number. The
+-- store has the device under this name, if it is the name of the device of the history's tag.
+pub record IsHistoryAt (name : List ℕ) (now : Option Trace) (h : TagHistory) : Type 0 where
+  pub trace : Option Trace
   pub ticks : ℕ
   pub faults : ℕ
   pub clock : IfSome trace (λ t. length t.calls ≡ ticks)
   pub is : IsCellHistory h trace ticks faults
+  pub back : name ≡ device_name h.def.name → now ≡ trace
 
 -- each history is that of the device that the store has under the name at its place
 abbrev pub AreHistoriesAt : (List ℕ → Option Trace) → List (List ℕ) → List TagHistory → Type 0
-AreHistoriesAt traces names histories = AllZip (λ name h. IsHistoryAt (traces name) h) names histories
+AreHistoriesAt traces names histories = AllZip (λ name h. IsHistoryAt name (traces name) h) names histories
+
+-- the store has the device of a cell under this name, if it is the name of the device of the cell's tag
+abbrev pub IsBackAt : {D : Type 0} → (D → Option Trace) → (List ℕ → Option Trace) → List ℕ → ToldCell D → Type 0
+IsBackAt trace new name c = name ≡ device_name c.def.name → new name ≡ trace c.journal.dev
 
 -- the store has the device of each cell under the name at its place, and any other device is unchanged
 pub record AreGivenBack {D : Type 0} (trace : D → Option Trace) (names : List (List ℕ)) (cells : List (ToldCell D))
     (old new : List ℕ → Option Trace) : Type 0 where
-  pub given : AllZip (λ name (c : ToldCell D). new name ≡ trace c.journal.dev) names cells
+  pub given : AllZip (λ name (c : ToldCell D). IsBackAt trace new name c) names cells
   pub others : (n : List ℕ) → All (λ name. n ≢ name) names → new n ≡ old n
 
 -- a count has risen, or is the largest value of its type

@@ -2,7 +2,7 @@
 use Rattle.std.specs.Prelude.{◌≢◌, ℕ, Bool, IsTrue, List, map, All, AllPairs, String, string_bytes}
 use Rattle.std.specs.declared.alloc.Global.{Global}
 use Rattle.trend_num.specs.declared.tag_def.TagDef.{TagDef}
-use Rattle.plant_store.specs.Tags.{device_name}
+use Rattle.tag_cell.specs.Devices.{device_name}
 
 -- the bytes of each of these texts
 abbrev pub texts : List (String Global) → List (List ℕ)

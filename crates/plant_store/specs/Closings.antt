@@ -4,7 +4,7 @@ use Rattle.std.specs.List.{AllZip}
 use Rattle.disk_model.specs.Traces.{Trace}
 use Rattle.tag_cell.specs.Told.{ToldCell as Cell}
 use Rattle.group_book.specs.Told.{ToldBook as Book, count_of}
-use Rattle.plant_store.specs.CellClosings.{HasRisen}
+use Rattle.plant_store.specs.CellClosings.{HasRisen, IsBackAt}
 use Rattle.plant_store.specs.CellNames.{texts}
 use Rattle.plant_store.specs.BookEndings.{AreGivenBack}
 use Rattle.plant_store.specs.Groups.{DeviceTraces}
@@ -14,7 +14,7 @@ use Rattle.plant_store.specs.declared.shelf.Shelf.{Shelf}
 -- under the name of its group. Any other device is unchanged.
 pub record AreDevicesBack {D : Type 0} (trace : D → Option Trace) (shelf : Shelf) (cells : List (Cell D)) (books : List (Book D))
     (old new : DeviceTraces) : Type 0 where
-  pub of_tags : AllZip (λ name (c : Cell D). new name ≡ trace c.journal.dev) (texts shelf.tag_names.items) cells
+  pub of_tags : AllZip (λ name (c : Cell D). IsBackAt trace new name c) (texts shelf.tag_names.items) cells
   pub of_groups : AreGivenBack trace shelf.group_names.items books old new
   pub others : (n : List ℕ) → All (λ name. n ≢ name) (texts shelf.tag_names.items)
       → All (λ name. n ≢ name) (texts shelf.group_names.items) → new n ≡ old n

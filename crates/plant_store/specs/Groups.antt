@@ -16,7 +16,7 @@ use Rattle.tag_base.specs.declared.definition.GroupDef.{GroupDef}
 use Rattle.group_book.specs.declared.history.GroupOpening.{GroupOpening}
 use Rattle.group_book.specs.Openings.{StandsForGroup, BookStaysSame}
 use Rattle.group_book.specs.Tapes.{cut}
-use Rattle.group_book.specs.Told.{ToldBook, count_of, trace_of, versions_of}
+use Rattle.group_book.specs.Told.{ToldBook, count_of, device_name_of, trace_of, versions_of}
 
 -- the traces of a store's devices by name
 abbrev pub DeviceTraces : Type 0
@@ -73,6 +73,7 @@ pub record IsBookOpened {D : Type 0} (trace : D → Option Trace) (ticks faults 
   pub group : b.group ≡ i
   pub def : b.def ≡ group_parts_of g
   pub text : b.text ≡ group_definition_text g
+  pub named : device_name_of b.text ≡ device_name g.name
   pub tags : b.tags ≡ g.inputs.items
   pub opening : IsGroupOpening g recovered o b.opening
   pub moment : b.opening.moment ≡ count_of ticks b.dev

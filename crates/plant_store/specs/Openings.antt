@@ -11,6 +11,7 @@ use Rattle.tag_base.specs.declared.definition.Base.{Base}
 use Rattle.tag_cell.specs.Told.{ToldCell}
 use Rattle.plant_store.specs.TagRefusals as tags
 use Rattle.plant_store.specs.Tags as tag
+use Rattle.tag_cell.specs.Devices.{device_name}
 use Rattle.plant_store.specs.Groups as group
 use Rattle.plant_store.specs.Groups.{DeviceTraces}
 use Rattle.plant_store.specs.BookRefusals as groups
@@ -33,7 +34,7 @@ pub data IsPlantRefusal (base : Base) (old new : DeviceTraces) (before now : ℕ
 
 -- each device except those of the base's tags and groups is unchanged
 abbrev pub AreRestSame : Base → DeviceTraces → DeviceTraces → Type 0
-AreRestSame base old new = (n : List ℕ) → All (λ def. n ≢ tag.device_name def.name) base.tags.items
+AreRestSame base old new = (n : List ℕ) → All (λ def. n ≢ device_name def.name) base.tags.items
     → All (λ g. n ≢ group.device_name g.name) base.groups.items → new n ≡ old n
 
 -- If a call of a device failed, the store counts one fault more, and the status reports it. Otherwise it counts none.

@@ -1,6 +1,8 @@
 -- What is needed to give a plant's devices back.
 use Rattle.std.specs.Prelude.{◌≡◌, ◌≢◌, ◌≤◌, ℕ, Bool, List, [], length, All, AllPairs, string_bytes, vec_capacity}
+use Rattle.trend_num.specs.Names.{IsName}
 use Rattle.tag_base.specs.declared.definition.Base.{Base}
+use Rattle.tag_base.specs.declared.definition.GroupDef.{GroupDef}
 use Rattle.plant_store.specs.CellNames.{AreApart, HasPlaces, device_names_of, texts}
 use Rattle.plant_store.specs.Groups.{AreNamesOf}
 use Rattle.plant_store.specs.BookSteps.{HavePlaces}
@@ -21,6 +23,7 @@ pub record IsShelf (shelf : Shelf) : Type 0 where
 pub record IsShelfFor (base : Base) (shelf : Shelf) : Type 0 where
   pub tag_names_are : texts shelf.tag_names.items ≡ device_names_of base.tags.items
   pub group_names_are : AreNamesOf base.groups.items shelf.group_names.items
+  pub groups_named : All (λ (g : GroupDef). IsName g.name) base.groups.items
   pub as_many_tags : length shelf.tag_names.items ≡ length base.tags.items
   pub as_many_groups : length shelf.group_names.items ≡ length base.groups.items
   pub is_shelf : IsShelf shelf

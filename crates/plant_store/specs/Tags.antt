@@ -1,5 +1,5 @@
 -- The tags of a base, opened over a store of devices.
-use Rattle.std.specs.Prelude.{◌≡◌, ◌≢◌, ℕ, List, ◌++◌, length, codes, Option, All, AllPairs}
+use Rattle.std.specs.Prelude.{◌≡◌, ◌≢◌, ℕ, List, length, Option, All, AllPairs}
 use Rattle.std.specs.List.{AllZip, sum_by}
 use Rattle.trend_num.specs.declared.tag_def.TagDef.{TagDef}
 use Rattle.trend_model.specs.History.{Event, Origin}
@@ -10,10 +10,7 @@ use Rattle.device_layout.specs.Recovery.{Recovers}
 use Rattle.disk_model.specs.Calls.{Shows}
 use Rattle.crash_recovery.specs.Opening.{IsOpenedAs, StaysSame, RecoversThen, MakesLayout, GainsSync}
 use Rattle.crash_recovery.specs.TagImages.{ImageStands, StandsOpened}
-
--- the name of a tag's device
-abbrev pub device_name : List ℕ → List ℕ
-device_name name = name ++ codes ".tag"
+use Rattle.tag_cell.specs.Devices.{device_name}
 
 -- the trace of a tag's device, from these traces by name
 abbrev pub tag_trace_of : (List ℕ → Option Trace) → TagDef → Option Trace

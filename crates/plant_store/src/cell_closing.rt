@@ -3,12 +3,13 @@ ghost use Rattle.std.specs.Prelude.{◌≡◌, ◌≢◌, ℕ, ◌^◌, ◌<◌,
 ghost use Rattle.disk_model.specs.Calls.{sum_of_counts};
 ghost use Rattle.plant_store.specs.CellClosings.{AreGivenBack, AreHistoriesAt, AreHistoriesOf, CountsCells, IsHistoryOfCell};
 ghost use Rattle.plant_store.specs.CellNames.{AreApart, HasPlaces, texts};
+ghost use Rattle.tag_cell.specs.Devices.{device_name};
 
 use disk_model::{Disk, Store};
 use tag_cell::{Cell, TagHistory};
 
-/// Gives the device of each cell back under its name, and appends what happened to its tag to `histories`, in order. It
-/// takes no memory.
+/// Gives the device of each cell back under the name at its place, which is that of its tag's device. Appends what
+/// happened to its tag to `histories`, in order. It takes no memory.
 pub fn close_cells<S: Store>(
     store: &mut S,
     names: &[String],
@@ -40,7 +41,7 @@ pub(crate) fn close_cell<S: Store>(store: &mut S, name: &str, cell: Cell<S::Dev>
     requires { IsTrue (S.has_place store.old name.now) }
     ensures history { IsHistoryOfCell (S.Dev.trace cell.journal.dev) (S.Dev.ticks cell.journal.dev)
         (S.Dev.fault_count cell.journal.dev) cell result }
-    ensures told { S.device_at store.new name.now ≡ S.Dev.trace cell.journal.dev }
+    ensures told { name.now ≡ device_name cell.def.name → S.device_at store.new name.now ≡ S.Dev.trace cell.journal.dev }
     ensures others { (n : List ℕ) → n ≢ name.now → S.device_at store.new n ≡ S.device_at store.old n }
     ensures places { (n : List ℕ) → IsTrue (S.has_place store.old n) → IsTrue (S.has_place store.new n) }
     ensures counted { S.fault_count store.new ≡ sum_of_counts (S.fault_count store.old) (S.Dev.fault_count cell.journal.dev) }

@@ -9,6 +9,7 @@ ghost use Rattle.device_layout.specs.Readings.{IsCause};
 ghost use Rattle.crash_recovery.specs.Opening.{StaysSame};
 ghost use Rattle.snapshot_table.specs.Boards.{PostsTo, new_posters};
 ghost use Rattle.snapshot_table.specs.Snaps.{nothing};
+ghost use Rattle.tag_cell.specs.Devices.{device_name};
 ghost use Rattle.plant_store.specs.Tags.{AreDistinct, AreOtherTagsSame};
 ghost use Rattle.plant_store.specs.CellNames.{HasPlaces, device_names_of, texts};
 ghost use Rattle.plant_store.specs.CellOpenings.{AreCellsOpened, IsCellOpened, records_opened};
@@ -98,6 +99,7 @@ fn open_one<S: Store, R: Wait>(
     requires tuned { TuningInRange def.now.tuning }
     requires here { PostsTo (arc_value board.now) poster }
     requires unposted { poster.last ≡ nothing }
+    requires named { name.now ≡ device_name def.now.name }
     ensures opened { IfOk result (λ c. IsCellOpened def.now (S.device_at store.old name.now) (S.Dev.trace c.journal.dev)
         (S.Dev.ticks c.journal.dev) (S.Dev.fault_count c.journal.dev) c) }
     ensures room { IfOk result (λ c. c.room ≡ room) }

@@ -1,8 +1,9 @@
 // The name of a group's device, and what its book is made with.
-ghost use Rattle.std.specs.Prelude.{◌≡◌, ◌^◌, ◌<◌, [], All, IfOk, length, map, slice_index_or, string_bytes, vec_len};
+ghost use Rattle.std.specs.Prelude.{◌≡◌, ◌^◌, ◌<◌, [], All, IfOk, OnOk, length, map, slice_index_or, string_bytes, vec_len};
 ghost use Rattle.calc_refresh.specs.Lists.{lists_of};
 ghost use Rattle.calc_refresh.specs.Sheet.{IsCopy, IsGrid, IsGroup, grid_of};
 ghost use Rattle.tag_base.specs.Groups.{IsSoundGroup};
+ghost use Rattle.trend_num.specs.Names.{IsName};
 ghost use Rattle.plant_store.specs.Groups.{AreNamesOf, device_name, group_parts_of, input_records_of, group_definition_text};
 
 use calc_refresh::GroupDefParts;
@@ -14,6 +15,7 @@ use trend_num::{Name, Rec, WantOfMemory};
 /// Returns the names of the devices of these groups, in order: the name of each, and `.grp`.
 pub fn group_device_names(alloc: Global, groups: &[GroupDef]) -> Result<Vec<String>, WantOfMemory>
     ensures names { IfOk result (λ names. AreNamesOf groups.now names.items) }
+    ensures named { OnOk result (All (λ g. IsName g.name) groups.now) }
 {
     let mut names = Vec::new(alloc);
     for group in groups {
@@ -25,8 +27,11 @@ pub fn group_device_names(alloc: Global, groups: &[GroupDef]) -> Result<Vec<Stri
 
 // Returns the name of a group's device.
 fn device_name(alloc: Global, name: &Name) -> Result<String, WantOfMemory>
-    ensures { IfOk result (λ text. string_bytes text ≡ device_name name.now) }
+    ensures text { IfOk result (λ text. string_bytes text ≡ device_name name.now) }
+    ensures name { OnOk result (IsName name.now) }
 {
+    // This call is made for its contract alone: the name keeps the rule of names.
+    let _ = name.bytes();
     let name = name.text();
     Ok(format!(in alloc; "{name}.grp")?)
 }
@@ -69,7 +74,10 @@ pub(crate) fn prepare(
     ensures copied { IfOk result (λ p. All IsCopy (lists_of p.recovered.items)) }
     ensures group { IfOk result (λ p. IsGroup p.def.inputs p.def.calcs) }
     ensures grid { IfOk result (λ p. IsGrid (grid_of p.def.start p.def.period)) }
+    ensures named { OnOk result (IsName group.now.name) }
 {
+    // This call is made for its contract alone: the name keeps the rule of names.
+    let _ = group.name.bytes();
     Ok(Prepared {
         def: parts_of(group)?,
         text: definition_text(alloc, &group.name, group.start, group.period, &group.calcs)?,

@@ -6,8 +6,8 @@ ghost use Rattle.group_layout.specs.Readings.{GainsGroupSync};
 ghost use Rattle.tag_base.specs.Groups.{IsSoundGroup};
 ghost use Rattle.group_book.specs.declared.refusal.LoadNo.TheVariants.{DeviceFault, WantOfMemory as NoMemory};
 ghost use Rattle.group_book.specs.Openings.{IsBookCause};
-ghost use Rattle.plant_store.specs.Groups.{IsBookOpened, group_parts_of, input_records_of, group_definition_text};
-ghost use Rattle.plant_store.specs.BookEndings.{IsHistoryOfBook, count_after, trace_after};
+ghost use Rattle.plant_store.specs.Groups.{IsBookOpened, device_name, group_parts_of, input_records_of, group_definition_text};
+ghost use Rattle.plant_store.specs.BookEndings.{IsBackUnder, IsHistoryOfBook, count_after};
 ghost use Rattle.plant_store.specs.BookSteps.{StaysSameOf};
 
 use crate::group_parts::{Prepared, prepare};
@@ -30,6 +30,7 @@ pub fn open_book<S: Store>(
 ) -> Result<Book<S::Dev>, LoadNo>
     requires sound { IsSoundGroup (length records.now) group.now }
     requires copied { All (λ r. IsCopy r.now) records.now }
+    requires named { name.now ≡ device_name group.now.name }
 
     // The book is that of the group, with what its device and its tags have.
     ensures opened { IfOk result (IsBookOpened S.Dev.trace S.Dev.ticks S.Dev.fault_count place group.now
@@ -78,7 +79,7 @@ pub fn open_book<S: Store>(
 pub fn close_book<S: Store>(store: &mut S, name: &str, book: Book<S::Dev>) -> GroupHistory
     requires place { IsTrue (S.has_place store.old name.now) }
     ensures history { IsHistoryOfBook S.Dev.trace S.Dev.ticks S.Dev.fault_count book result }
-    ensures given { S.device_at store.new name.now ≡ trace_after S.Dev.trace book.dev (S.device_at store.old name.now) }
+    ensures given { IsBackUnder S.Dev.trace book name.now (S.device_at store.old name.now) (S.device_at store.new name.now) }
     ensures places { (n : List ℕ) → IsTrue (S.has_place store.old n) → IsTrue (S.has_place store.new n) }
     ensures others { (n : List ℕ) → n ≢ name.now → S.device_at store.new n ≡ S.device_at store.old n }
     ensures counted { S.fault_count store.new ≡ count_after S.Dev.fault_count book.dev (S.fault_count store.old) }

@@ -5,7 +5,8 @@ ghost use Rattle.disk_model.specs.Calls.{CountsFault};
 ghost use Rattle.device_layout.specs.declared.failure.OpenNo.TheVariants.{DeviceFault};
 ghost use Rattle.device_layout.specs.Readings.{IsCause};
 ghost use Rattle.crash_recovery.specs.Opening.{StaysSame};
-ghost use Rattle.plant_store.specs.Tags.{device_name, tag_trace_of, IsOpened, IsLeft};
+ghost use Rattle.tag_cell.specs.Devices.{device_name};
+ghost use Rattle.plant_store.specs.Tags.{tag_trace_of, IsOpened, IsLeft};
 
 use crash_recovery::{OpenFail, OpenNo, Opened, open_tag};
 use disk_model::{Disk, Store};
@@ -61,6 +62,7 @@ fn open_core<D: Disk>(alloc: Global, dev: D, def: &TagDef) -> (D, Result<TagCore
     ensures left { IfOk result.1 (IsLeft def.now (D.trace dev) (D.trace result.0)) }
     ensures cause { IfErr result.1 (IsCause def.now (D.trace dev)) }
     ensures counts { CountsFault result.1 DeviceFault (D.fault_count dev) (D.fault_count result.0) }
+    ensures handed { D.hand_out result.0 ≡ D.hand_out dev }
 {
     match open_tag(alloc, dev, def, LANE_SLOTS, 0) {
         Ok(Opened { journal, core }) => (journal.into_device(), Ok(core)),

@@ -1,5 +1,6 @@
 // Passes that hold a reader, and a device whose sync waits for it.
 ghost use Rattle.std.specs.Prelude.{length, Some, refl};
+ghost use Rattle.disk_model.specs.Memory.{handed_as};
 
 use disk_model::{Disk, Failed, MemDisk, MemStore, Store};
 use plant_run::{Pass, Passes};
@@ -87,6 +88,8 @@ impl<'a> Disk for GateDisk<'a> {
     ghost ticks = { λ d. length d.disk.trace.calls };
 
     ghost fault_count = { λ d. d.disk.faults };
+
+    ghost hand_out = { λ d. handed_as d.disk.name };
 
     ghost told = { λ d. refl };
 

@@ -134,7 +134,8 @@ fn saved(alloc: Global) -> Result<Vec<u8>, Fail> {
 }
 
 // Opens a device as the log of a plant, and returns the result as a text.
-fn opened(alloc: Global, dev: MemDisk, plant: &str) -> Result<String, Fail> {
+fn opened(alloc: Global, mut dev: MemDisk, plant: &str) -> Result<String, Fail> {
+    dev.forget_name();
     let text = match open_log(alloc, dev, plant.as_bytes(), 1, 10) {
         Ok(log) => format!(in alloc; "{} rows", log.opening().len())?,
         Err(fail) => match fail.why {

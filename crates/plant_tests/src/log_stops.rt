@@ -19,7 +19,8 @@ fn is_committed(log: &mut Log<MemDisk>, rows: &str) -> Result<bool, Fail> {
 
 // Opens a device and makes two commits, the second only if the first succeeded. Returns the device, how many rows are
 // acknowledged, and whether both commits succeeded.
-fn session(alloc: Global, dev: MemDisk) -> Result<(MemDisk, u64, bool), Fail> {
+fn session(alloc: Global, mut dev: MemDisk) -> Result<(MemDisk, u64, bool), Fail> {
+    dev.forget_name();
     match open_log(alloc, dev, PLANT, 1, 10) {
         Err(fail) => Ok((fail.dev, 0, false)),
         Ok(log) => {

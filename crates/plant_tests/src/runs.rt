@@ -11,7 +11,7 @@ use std::test::Fail;
 use std::thread::Threads;
 
 // The words, the input after `<`, and then the exit code and what is printed. A bar represents a line feed, and a caret
-// a carriage return. The lines come in this order: which values are kept, worked by hand; input at the limits; lines
+// a carriage return. The lines come in this order: which values are kept; input at the limits; lines
 // that are no points; words that are refused.
 const RUNS: &str = "\
 pack 0 1000000 0 0 1000000 < => 0

@@ -1,5 +1,4 @@
-// Windows of shifts on days on which the clock is set, and on other days. The expected times are from an independent
-// program.
+// Windows of shifts on days on which the clock is set, and on other days.
 ghost use Rattle.shift_calendar.specs.Days.{IsFirstDay};
 
 use shift_calendar::{

@@ -20,6 +20,8 @@ use Rattle.tag_cell.specs.declared.entry.Entry.TheVariants.{Take, Ask, Pull, Com
 use Rattle.tag_cell.specs.declared.history.TagHistory.{TagHistory}
 use Rattle.tag_cell.specs.declared.history.TagOpening.{TagOpening}
 use Rattle.tag_cell.specs.Replays.{FitAll, IsTapeReplayed, Shown, replayed}
+use Rattle.tag_cell.specs.Crashes.{IsSafe}
+use Rattle.disk_model.specs.Moments.{LeftSince}
 use Rattle.tag_cell.specs.Tapes.{CellWalk, after_entry, opened, cell_start, taken, cell_walked}
 use Rattle.tag_cell.specs.Told.{ToldCell as Cell, durable_records, takes_waiting}
 use Rattle.tag_cell.proofs.Entries.{points-end}
@@ -59,6 +61,7 @@ use Rattle.tag_base.specs.declared.schedule.Refresher.{Refresher}
 use Rattle.archive_file.specs.TextHeads.{TextOpensAt}
 use Rattle.crash_recovery.specs.Opening.{OpensAt}
 use Rattle.group_layout.specs.Images.{IsUnsaved}
+use Rattle.tag_cell.specs.Devices.{device_name}
 use Rattle.plant_store.specs.Tags.{IsOpened, tag_trace_of}
 use Rattle.plant_store.specs.CellClosings.{AreHistoriesAt, AreHistoriesOf, IsHistoryAt, IsHistoryOfCell}
 use Rattle.plant_store.specs.CellNames.{device_names_of}
@@ -88,9 +91,10 @@ made_by None many ticks low clock = tt
 made_by (Some t) many ticks low clock = omega (arith, low, clock)
 
 -- the history of a cell is sound
-sound_tag : (trace : Option Trace) (t : TagHistory) → IsHistoryAt trace t → IsTagSound t trace
-sound_tag trace t at =
+sound_tag : (def : TagDef) (trace : Option Trace) (t : TagHistory) → IsHistoryAt (device_name def.name) trace t → IsTagSound def t trace
+sound_tag def trace t at =
     let is = at.is in
+    let own : t.def.name ≡ def.name → at.trace ≡ trace = λ same. sym (at.back (ap device_name (sym same))) in
     let s : State = record { records = t.recs.items; summary = t.summary } in
     record {
       replayed = is.replayed;
@@ -98,18 +102,19 @@ sound_tag trace t at =
         legal = legal org h t.def t.opening t.tape.items s t.acked step stands is.replayed;
         bounded = bounded org (followed h (map Raw (taken t.tape.items)));
       };
-      safe = is.safe;
-      clocked = made_by trace _ at.ticks is.past at.clock;
-      opened_before = made_by trace _ at.ticks is.opened_before at.clock;
+      safe = λ same. subst (λ o. IsSafe t.def t.opening t.tape.items (LeftSince o)) (own same) is.safe;
+      clocked = λ same. subst (HasMade (cell_walked (cell_start t.opening) t.tape.items).moment) (own same)
+          (made_by at.trace _ at.ticks is.past at.clock);
+      opened_before = λ same. subst (HasMade t.opening.moment) (own same) (made_by at.trace _ at.ticks is.opened_before at.clock);
       pulled = pulls_durable t.def t.opening t.tape.items s t.acked is.replayed;
     }
 
 pub sound_tags : (new : DeviceTraces) (defs : List TagDef) (ts : List TagHistory) → AreHistoriesAt new (device_names_of defs) ts
-    → AllZip (λ (def : TagDef) t. IsTagSound t (tag_trace_of new def)) defs ts
+    → AllZip (λ (def : TagDef) t. IsTagSound def t (tag_trace_of new def)) defs ts
 sound_tags new [] [] is = tt
 sound_tags new [] (t ∷ ts) is = absurd is
 sound_tags new (d ∷ ds) [] is = absurd is
-sound_tags new (d ∷ ds) (t ∷ ts) is = (sound_tag (tag_trace_of new d) t is.0, sound_tags new ds ts is.1)
+sound_tags new (d ∷ ds) (t ∷ ts) is = (sound_tag d (tag_trace_of new d) t is.0, sound_tags new ds ts is.1)
 
 -- what has the definition and the opening of a cell was opened as the cell was
 pub tag_opened : {D : Type 0} (trace : D → Option Trace) (ticks faults : D → ℕ) → (def : TagDef) (before : Option Trace)

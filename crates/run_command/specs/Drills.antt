@@ -166,7 +166,7 @@ pub record IsDrilled (number tags events stops_before stops_now : ℕ) (answer :
   pub base : Base
   pub devices : DeviceTraces
   pub base_is : IsDrillBase tags base
-  pub tags_are : AllZip (λ def t. IsTagSound t (tag_trace_of devices def)) base.tags.items s.tags.items
+  pub tags_are : AllZip (λ def t. IsTagSound def t (tag_trace_of devices def)) base.tags.items s.tags.items
   pub groups : AreGroupsSound base devices s
   pub opened_as : (IsOfOpening answer → ⊥) → AreUnitsOpened base fresh_devices s
   pub new : (IsOfOpening answer → ⊥) → AreNew base s

@@ -84,7 +84,7 @@ pub record IsPromised (name plan_name : List ℕ) (told : ToldFiles) (before now
   pub rows : List (List RawRow)
   pub queries : List (List Query)
   pub planned : IsPlanned name plan_name told base plan rows queries
-  pub tags : AllZip (λ (def : TagDef) t. IsTagSound t (tag_trace_of now def)) base.tags.items s.tags.items
+  pub tags : AllZip (λ (def : TagDef) t. IsTagSound def t (tag_trace_of now def)) base.tags.items s.tags.items
   pub groups : AreGroupsSound base now s
   pub opened_as : (IsOfOpening answer → ⊥) → AreUnitsOpened base before s
   pub begun : (AdmitsForeign answer → ⊥) → IsBegun take_item rows queries s

@@ -1,5 +1,5 @@
 -- What a run of a plan comes to: its session, or why there is none.
-use Rattle.std.specs.Prelude.{◌≡◌, ◌≢◌, ℕ, ◌^◌, ◌<◌, ◌≤◌, List, [], length, map, Option, None, Result, OnOk, IfErr, IfOk, IfSome, IsErrAnd, String, string_bytes, slice_index_or}
+use Rattle.std.specs.Prelude.{◌≡◌, ◌≢◌, ℕ, ◌^◌, ◌<◌, ◌≤◌, List, length, map, Option, None, Result, OnOk, IfErr, IfOk, IfSome, IsErrAnd, String, string_bytes, slice_index_or}
 use Rattle.std.specs.List.{AllZip}
 use Rattle.std.specs.declared.alloc.Global.{Global}
 use Rattle.trend_num.specs.Limits.{most_stored}
@@ -27,7 +27,7 @@ use Rattle.plant_store.specs.CellOpenings.{AreCellsOpened, records_opened}
 use Rattle.plant_store.specs.CellClosings.{AreHistoriesAt, AreHistoriesOf}
 use Rattle.plant_store.specs.CellNames.{device_names_of}
 use Rattle.plant_store.specs.Tags.{AllStaySame}
-use Rattle.plant_store.specs.Groups.{AllStaySame as AllGroupsStaySame, AreBooksOpened, DeviceTraces, group_parts_of, group_trace_at}
+use Rattle.plant_store.specs.Groups.{AllStaySame as AllGroupsStaySame, AreBooksOpened, DeviceTraces, group_parts_of, group_definition_text, group_trace_at}
 use Rattle.plant_store.specs.BookEndings.{AreHistoriesOf as AreGroupHistoriesOf}
 use Rattle.plant_store.specs.Closings.{CountsClosed}
 use Rattle.plant_store.specs.Openings.{AreRestSame, IsPlantRefusal, cell_records_in}
@@ -106,9 +106,9 @@ pub record IsGroupHistoryAt (trace : Option Trace) (g : GroupHistory) : Type 0 w
   pub clock : IfSome trace (λ t. length t.calls ≡ ticks)
   pub is : IsGroupHistory g trace ticks faults
 
--- each history of a group that has a text is that of the device that a store has under the group's name
+-- each history of a group that has the group's text is that of the device that a store has under the group's name
 pub record AreGroupHistoriesAt (groups : List GroupDef) (traces : DeviceTraces) (histories : List GroupHistory) : Type 0 where
-  pub each : (i : ℕ) (d : GroupDef) (g : GroupHistory) → i < length histories → (slice_index_or histories i g).text.items ≢ []
+  pub each : (i : ℕ) (d : GroupDef) (g : GroupHistory) → i < length histories → (slice_index_or histories i g).text.items ≡ group_definition_text (slice_index_or groups i d)
       → IsGroupHistoryAt (group_trace_at traces (slice_index_or groups i d)) (slice_index_or histories i g)
 
 -- The histories of a session are those of these cells and books. Each is that of the device under its name. No device

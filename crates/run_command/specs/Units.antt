@@ -1,5 +1,5 @@
 -- The tags and groups of a session: how they were opened, what holds of each, and what was done with them.
-use Rattle.std.specs.Prelude.{◌≡◌, ◌≢◌, ℕ, ◌+◌, ◌*◌, ◌<◌, ◌≤◌, List, [], All, length, map, nat_eq, slice_index_or, Option, IfSome, if◌then◌else◌}
+use Rattle.std.specs.Prelude.{◌≡◌, ℕ, ◌+◌, ◌*◌, ◌<◌, ◌≤◌, List, [], All, length, map, nat_eq, slice_index_or, Option, IfSome, if◌then◌else◌}
 use Rattle.std.specs.List.{AllZip, sum_by}
 use Rattle.trend_num.specs.Limits.{most_stored}
 use Rattle.trend_num.specs.declared.archive.Rec.{Rec}
@@ -61,12 +61,12 @@ HasMade many trace = IfSome trace (λ t. many ≤ length t.calls)
 -- history for which its opening stands. After a crash at any moment since the opening, the tag's device, with these calls,
 -- has the oldest values that were taken since, among them all acknowledged ones. No moment of its opening or of a commit
 -- is above the number of these calls. Each pull of a group ended where the acknowledged records ended then.
-pub record IsTagSound (t : TagHistory) (trace : Option Trace) : Type 0 where
+pub record IsTagSound (def : TagDef) (t : TagHistory) (trace : Option Trace) : Type 0 where
   pub replayed : IsTapeReplayed t.def t.opening t.tape.items (record { records = t.recs.items; summary = t.summary }) t.acked
   pub kept : (org : Origin) (h : List Event) → org.step ≡ t.def.step → Stands org h (opened t.opening) → IsKeptFor org h t
-  pub safe : IsSafe t.def t.opening t.tape.items (LeftSince trace)
-  pub clocked : HasMade (cell_walked (cell_start t.opening) t.tape.items).moment trace
-  pub opened_before : HasMade t.opening.moment trace
+  pub safe : t.def.name ≡ def.name → IsSafe t.def t.opening t.tape.items (LeftSince trace)
+  pub clocked : t.def.name ≡ def.name → HasMade (cell_walked (cell_start t.opening) t.tape.items).moment trace
+  pub opened_before : t.def.name ≡ def.name → HasMade t.opening.moment trace
   pub pulled : ArePullsDurable t.def t.opening t.tape.items
 
 -- the core that a tag of this definition was opened as; its room for records does not matter here and is set to 0
@@ -86,21 +86,21 @@ pub record IsTagOpened (def : TagDef) (before : Option Trace) (its : TagDef) (o 
 abbrev pub grid : GroupHistory → Grid
 grid g = grid_of g.def.start g.def.period
 
--- A group whose device has these calls, if they are known. Its inputs, calculations and windows are allowed. Two facts hold
--- if the opening's rows are those from scratch on the records of its tags. The group's rows and all replies are from
--- scratch too, at the version that each had then. After a crash at any moment since the opening, the device of a group with
--- a definition text has one of the versions since the last save before the crash, with its rows from scratch. The others
--- hold in any case. The windows that were due since the opening have their values from scratch. There is one value of each
--- calculation for each complete window. As many were evaluated as the refreshes had due. No moment of the opening or of a
--- save is above the number of calls of the device.
-pub record IsGroupSound (g : GroupHistory) (trace : Option Trace) : Type 0 where
+-- A group whose device has these calls, if they are known. Its inputs, calculations and windows are allowed. If the
+-- opening's rows are those from scratch on the records of its tags, the group's rows and all replies are from scratch too,
+-- at the version that each had then. The other facts hold in any case. There is one value of each calculation for each
+-- complete window. Rows and replies are from scratch in each window that was due since the opening, and in any other those
+-- of the opening. As many values were evaluated as the refreshes had due. After a crash at any moment since the opening,
+-- the device of a group with a definition text has one of the versions since the last save before the crash, with its rows.
+-- No moment of the opening or of a save is above the number of calls of the device.
+pub record IsGroupSound (d : GroupDef) (g : GroupHistory) (trace : Option Trace) : Type 0 where
   pub defined : IsGroup g.def.inputs g.def.calcs × IsGrid (grid g)
   pub kept : IsGroupLegal g.def.calcs (grid g) g.opening g.tape.items g.versions.items (lists_of g.copies.items) (lists_of g.rows.items)
   pub evaluated : AreRowsEvaluated g.def.calcs (grid g) g.opening g.tape.items (lists_of g.copies.items) (lists_of g.rows.items) g.evals
-  pub safe : g.text.items ≢ [] → IsGroupSafe g.text.items g.def.calcs (grid g) g.opening (lists_of g.copies.items) g.tape.items
+  pub safe : g.text.items ≡ group_definition_text d → IsGroupSafe g.text.items g.def.calcs (grid g) g.opening (lists_of g.copies.items) g.tape.items
       (LeftSince trace)
-  pub clocked : g.text.items ≢ [] → HasMade (book_walked (book_start g.opening) g.tape.items).moment trace
-  pub opened_before : g.text.items ≢ [] → HasMade g.opening.moment trace
+  pub clocked : g.text.items ≡ group_definition_text d → HasMade (book_walked (book_start g.opening) g.tape.items).moment trace
+  pub opened_before : g.text.items ≡ group_definition_text d → HasMade g.opening.moment trace
 
 -- a fact of each group of a session, at its place, with its definition in the base
 abbrev pub AtEachGroup : Base → Session → (ℕ → GroupDef → GroupHistory → Type 0) → Type 0
@@ -110,7 +110,7 @@ AtEachGroup base s P = (i : ℕ) (d : GroupDef) (g : GroupHistory) → i < lengt
 -- a session has the groups of a base, and each is sound
 pub record AreGroupsSound (base : Base) (devices : DeviceTraces) (s : Session) : Type 0 where
   pub as_many : length s.groups.items ≡ length base.groups.items
-  pub each : AtEachGroup base s (λ i d g. IsGroupSound g (group_trace_at devices d))
+  pub each : AtEachGroup base s (λ i d g. IsGroupSound d g (group_trace_at devices d))
 
 -- The base has this group at this place. It was opened as what its device, with these calls, stood for, after these records
 -- of the tags of its inputs were recovered.

@@ -1,18 +1,16 @@
 -- Books that are opened, refreshed once, and closed.
 use Rattle.std.proofs.Common.{◌≡◌, inl, ℕ, ◌<◌, ◌≤◌, List, [], ◌∷◌, All, length, map, get_or, string_bytes, Option, Result, Ok, Err, refl, sym, ap, ap₂, subst, ◌∙◌, arith}
-use Rattle.std.specs.Prelude.{IfErr, IfOk, OnOk, Some, String, true}
+use Rattle.std.specs.Prelude.{IfErr, IfOk, OnOk, String}
 use Rattle.std.specs.Result.{result_and}
 use Rattle.std.specs.declared.alloc.Global.{Global}
 use Rattle.std.proofs.lemmas.List.{get_or-map, get_or_default, length-map}
 use Rattle.trend_num.specs.declared.archive.Rec.{Rec}
-use Rattle.trend_num.specs.declared.value.CalcValue.{CalcValue}
 use Rattle.disk_model.specs.Moments.{During}
 use Rattle.disk_model.specs.Traces.{Trace}
 use Rattle.calc_refresh.specs.declared.definition.GroupDefParts.{GroupDefParts}
 use Rattle.calc_refresh.specs.Lists.{lists_of}
 use Rattle.calc_refresh.specs.Sheet.{grid_of}
-use Rattle.sheet_law.specs.Scratch.{IsScratch, column, is_due, values_at}
-use Rattle.sheet_law.specs.Windows.{complete_windows}
+use Rattle.sheet_law.specs.Scratch.{IsScratch}
 use Rattle.tag_base.specs.declared.definition.GroupDef.{GroupDef}
 use Rattle.group_layout.specs.Readings.{GainsGroupSync}
 use Rattle.plant_status.specs.declared.status.Status.{Status}
@@ -20,11 +18,11 @@ use Rattle.group_book.specs.declared.history.GroupHistory.{GroupHistory}
 use Rattle.group_book.specs.declared.history.GroupOpening.{GroupOpening}
 use Rattle.group_book.specs.declared.refusal.RefreshNo.{RefreshNo}
 use Rattle.group_book.specs.declared.refusal.RefreshNo.TheVariants.{Ahead, CellLimit, CopyLimit, WantOfMemory}
-use Rattle.group_book.specs.Histories.{IsRight}
+use Rattle.group_book.specs.Histories.{AreRowsOver, IsRight}
 use Rattle.group_book.specs.Openings.{BookStaysSame}
-use Rattle.group_book.specs.Told.{ToldBook, count_of, trace_of}
+use Rattle.group_book.specs.Told.{ToldBook, count_of, device_name_of, trace_of}
 use Rattle.group_book.specs.InputLists.{lists_at}
-use Rattle.group_book.specs.Tapes.{cut, uncut}
+use Rattle.group_book.specs.Tapes.{cut}
 use Rattle.plant_store.specs.BookEndings.{AreGivenBack, AreHistoriesOf, IsHistoryOfBook, trace_after}
 use Rattle.plant_store.specs.Groups.{AllStaySame, AreBooksOpened, AreNamesOf, DeviceTraces, IsBookOpened, group_parts_of, input_records_of, group_definition_text, group_trace_at}
 use Rattle.plant_store.specs.BookRefusals.{CountsStore}
@@ -53,14 +51,6 @@ pub record AreRefreshedTo {D : Type 0} (records : List (List Rec)) (upto : ℕ) 
 
 -- ---- what they come to
 
--- what these rows of a group are, over these records, whether or not the opening was right
-abbrev AreWhole : List (List CalcValue) → GroupDefParts → GroupOpening → List (List Rec) → Type 0
-AreWhole rows d x l = (length rows ≡ length d.calcs.calcs)
-    × All (λ row. length row ≡ complete_windows (grid_of d.start d.period) l) rows
-    × ((k : ℕ) → k < complete_windows (grid_of d.start d.period) l
-    → is_due (grid_of d.start d.period) (cut x.versions.items l) (uncut x.versions.items l) k ≡ true
-    → column k rows ≡ map Some (values_at d.calcs (grid_of d.start d.period) l k))
-
 -- one group
 pub rows_told : {D : Type 0} (trace : D → Option Trace) (ticks faults : D → ℕ) (i : ℕ) (g : GroupDef) (recovered : List (List Rec))
     (o : Option Trace) (b c : ToldBook D) (h : GroupHistory) → IsBookOpened trace ticks faults i g recovered o b → c.sheet.copies ≡ recovered
@@ -68,9 +58,13 @@ pub rows_told : {D : Type 0} (trace : D → Option Trace) (ticks faults : D → 
     → IsHistoryOfBook trace ticks faults c h → AreRowsTold g recovered b.opening (lists_of h.rows.items)
 rows_told trace ticks faults i g recovered o b c h book copies within changed told = record {
   within = subst (λ d. AreWithinLimits (book_cells d recovered) recovered) book.def within;
-  calcs = rows.0;
-  windows = rows.1;
-  due = rows.2;
+  rows_are =
+      subst (λ (d : GroupDefParts). AreRowsOver d.calcs (grid_of d.start d.period) b.opening recovered (lists_of h.rows.items))
+      (told.def ∙ ap (λ x. x.def) changed ∙ book.def)
+      (subst (λ (x : GroupOpening). AreRowsOver h.def.calcs (grid_of h.def.start h.def.period) x recovered (lists_of h.rows.items))
+      (told.opening ∙ ap (λ x. x.opening) changed)
+      (subst (λ (l : List (List Rec)). AreRowsOver h.def.calcs (grid_of h.def.start h.def.period) h.opening l (lists_of h.rows.items))
+      (told.copies ∙ copies) told.history.evaluated.rows_are));
   scratch = subst (λ (d : GroupDefParts). IsRight d.calcs (grid_of d.start d.period) b.opening recovered
       → IsScratch d.calcs (grid_of d.start d.period) recovered (lists_of h.rows.items))
       (told.def ∙ ap (λ x. x.def) changed ∙ book.def)
@@ -81,13 +75,6 @@ rows_told trace ticks faults i g recovered o b c h book copies within changed to
       → IsScratch h.def.calcs (grid_of h.def.start h.def.period) l (lists_of h.rows.items))
       (told.copies ∙ copies) told.history.legal.scratch));
 }
-  where
-    rows : AreWhole (lists_of h.rows.items) (group_parts_of g) b.opening recovered
-    rows =
-        subst (λ d. AreWhole (lists_of h.rows.items) d b.opening recovered) (told.def ∙ ap (λ x. x.def) changed ∙ book.def)
-        (subst (λ x. AreWhole (lists_of h.rows.items) h.def x recovered) (told.opening ∙ ap (λ x. x.opening) changed)
-        (subst (λ l. AreWhole (lists_of h.rows.items) h.def h.opening l) (told.copies ∙ copies)
-        (told.history.evaluated.calcs, told.history.evaluated.windows, told.history.evaluated.due)))
 
 -- all groups
 pub all_told : {D : Type 0} (trace : D → Option Trace) (ticks faults : D → ℕ) (groups : List GroupDef) (records : List (List Rec))
@@ -135,6 +122,7 @@ all_back trace ticks faults groups (s ∷ ss) records old mid new (b ∷ bs) clo
     let book = opened.each i g b (omega (arith, below, many)) in
     let is : group_trace_at new (get_or groups i g) ≡ trace_of trace (get_or (b ∷ bs) i b).dev =
     ap new (sym (named_at groups (s ∷ ss) i g s are below)) ∙ given i b s (omega (arith, below, many, devices.as_many))
+    (named_at groups (s ∷ ss) i g s are below ∙ sym book.named ∙ ap device_name_of (sym (devices.texts i b)))
     ∙ ap (λ dev. trace_after trace dev (mid (string_bytes (get_or (s ∷ ss) i s)))) (devices.each i b)
     ∙ back_is trace (get_or (b ∷ bs) i b).dev _ book.device in
     subst (λ o. During (group_trace_at old (get_or groups i g)) o
@@ -153,6 +141,7 @@ all_synced trace ticks faults groups (s ∷ ss) records old mid new (b ∷ bs) c
     let book = opened.each i g b (omega (arith, below, many)) in
     let is : group_trace_at new (get_or groups i g) ≡ trace_of trace (get_or (b ∷ bs) i b).dev =
     ap new (sym (named_at groups (s ∷ ss) i g s are below)) ∙ given i b s (omega (arith, below, many, devices.as_many))
+    (named_at groups (s ∷ ss) i g s are below ∙ sym book.named ∙ ap device_name_of (sym (devices.texts i b)))
     ∙ ap (λ dev. trace_after trace dev (mid (string_bytes (get_or (s ∷ ss) i s)))) (devices.each i b)
     ∙ back_is trace (get_or (b ∷ bs) i b).dev _ book.device in
     subst (λ o. GainsGroupSync (group_definition_text (get_or groups i g)) (group_trace_at old (get_or groups i g)) o) (sym is) book.synced

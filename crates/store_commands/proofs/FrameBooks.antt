@@ -11,7 +11,6 @@ use Rattle.trend_num.specs.declared.value.CalcValue.{CalcValue}
 use Rattle.disk_model.specs.Calls.{Rose}
 use Rattle.disk_model.specs.Traces.{Trace}
 use Rattle.sheet_law.specs.Windows.{complete_windows}
-use Rattle.sheet_law.proofs.Complete.{complete_grow}
 use Rattle.calc_refresh.specs.declared.definition.GroupDefParts.{GroupDefParts}
 use Rattle.calc_refresh.specs.Lists.{lists_of}
 use Rattle.calc_refresh.specs.Sheet.{IsCopy, grid_of}
@@ -25,9 +24,9 @@ use Rattle.group_book.specs.declared.refusal.RefreshNo.{RefreshNo}
 use Rattle.group_book.specs.declared.refusal.RefreshNo.TheVariants.{Ahead, CellLimit, CopyLimit, WantOfMemory}
 use Rattle.group_book.specs.InputLists.{lists_at}
 use Rattle.group_book.specs.Openings.{IsBookCause}
-use Rattle.group_book.specs.Tapes.{cut, uncut}
+use Rattle.group_book.specs.Tapes.{cut}
 use Rattle.group_book.specs.Told.{ToldBook, trace_of}
-use Rattle.group_book.proofs.InputLists.{longer-uncut}
+use Rattle.group_book.proofs.Evaluations.{cut_windows}
 use Rattle.plant_store.specs.BookEndings.{IsHistoryOfBook, trace_after}
 use Rattle.plant_store.specs.BookRefusals.{status_of}
 use Rattle.plant_store.specs.Groups.{IsBookOpened, group_parts_of, input_records_of, group_definition_text}
@@ -125,7 +124,7 @@ module _ {D : Type 0} (trace : D → Option Trace) (ticks faults : D → ℕ) (i
           once.changed told
 
       complete : length refreshed ≡ complete_windows (grid_of g.start g.period) (input_records_of records g)
-      complete = long_row _ (lists_of h.rows.items) k refreshed rows.windows refreshed_is
+      complete = long_row _ (lists_of h.rows.items) k refreshed rows.rows_are.windows refreshed_is
 
       was : slice_get (lists_of b.opening.rows.items) k ≡ Some saved
       was = subst (λ x. slice_get (lists_of x.rows.items) k ≡ Some saved) (told.opening ∙ ap (λ x. x.opening) once.changed) saved_is
@@ -140,12 +139,7 @@ module _ {D : Type 0} (trace : D → Option Trace) (ticks faults : D → ℕ) (i
 
       grow : complete_windows (grid_of g.start g.period) (cut b.opening.versions.items (input_records_of records g))
           ≤ complete_windows (grid_of g.start g.period) (input_records_of records g)
-      grow =
-          subst (λ l. complete_windows (grid_of g.start g.period) (cut b.opening.versions.items (input_records_of records g))
-          ≤ complete_windows (grid_of g.start g.period) l)
-          (longer-uncut b.opening.versions.items (input_records_of records g) many)
-          (complete_grow (grid_of g.start g.period) (cut b.opening.versions.items (input_records_of records g))
-          (uncut b.opening.versions.items (input_records_of records g)) some)
+      grow = cut_windows (grid_of g.start g.period) b.opening.versions.items (input_records_of records g) some (sym many)
 
   -- or a refusal
   pub over_book : (p : Option Trace) (before now : ℕ) (why : RefreshNo) → b.sheet.grid ≡ grid_of b.def.start b.def.period

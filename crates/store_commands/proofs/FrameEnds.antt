@@ -15,6 +15,7 @@ use Rattle.plant_files.specs.Asked.{ToldFiles}
 use Rattle.plant_files.specs.Texts.{IsBaseFile}
 use Rattle.plant_store.specs.Tags.{AllStaySame, AreOtherTagsSame}
 use Rattle.plant_store.specs.Tags as tag
+use Rattle.tag_cell.specs.Devices.{device_name}
 use Rattle.group_book.specs.Openings.{BookStaysSame}
 use Rattle.plant_store.specs.Groups.{DeviceTraces, group_parts_of, group_definition_text, group_trace_at}
 use Rattle.plant_store.specs.Groups as group
@@ -31,7 +32,7 @@ use Rattle.store_commands.proofs.FramePlaces.{named_group}
 -- the devices of tags are as they were where that of one group alone has changed
 pub tags_same : (g : GroupDef) (mid new : DeviceTraces) → ((n : List ℕ) → n ≢ group.device_name g.name → new n ≡ mid n)
     → (t : _) → tag.tag_trace_of new t ≡ tag.tag_trace_of mid t
-tags_same g mid new others t = others (tag.device_name t.name) (λ same. names_apart g.name t.name (sym same))
+tags_same g mid new others t = others (device_name t.name) (λ same. names_apart g.name t.name (sym same))
 
 -- first the tags are opened, and then the group
 pub have_stayed : (name group_name calc_name : List ℕ) (told : ToldFiles) (base : Base) (g : GroupDef) (i k : ℕ) (old mid new : DeviceTraces)

@@ -13,6 +13,7 @@ use Rattle.tag_base.specs.declared.definition.GroupDef.{GroupDef}
 use Rattle.plant_files.specs.RowFiles.{ToldFiles}
 use Rattle.plant_files.specs.Texts.{IsBaseFile}
 use Rattle.plant_store.specs.Tags as tag
+use Rattle.tag_cell.specs.Devices.{device_name}
 use Rattle.plant_store.specs.Groups as group
 use Rattle.plant_store.specs.Groups.{DeviceTraces, input_records_of, group_trace_at}
 use Rattle.plant_store.specs.BookRefusals.{IsRefusal}
@@ -22,7 +23,7 @@ use Rattle.store_commands.specs.Commands.{AreAllKept, AreOtherDevicesSame}
 use Rattle.store_commands.specs.GroupRows.{AllGainSync, AreGroupsTold, IsGroupTold, IsGroupRowsRefusal, IsTooMuchAt, OfCells, OfCopies, OfOpening, OfWant}
 
 -- no group's device is called as a tag's
-pub names_apart : (g t : List ℕ) → group.device_name g ≢ tag.device_name t
+pub names_apart : (g t : List ℕ) → group.device_name g ≢ device_name t
 names_apart g t same =
     let many : length g ≡ length t =
     omega (arith, ap length same, length-append g (codes ".grp"), length-append t (codes ".tag")) in
@@ -41,7 +42,7 @@ groups_same tags old new others g =
 pub tags_same : (gs : List GroupDef) (old new : DeviceTraces) → group.AreOtherGroupsSame gs old new → (t : TagDef)
     → tag.tag_trace_of new t ≡ tag.tag_trace_of old t
 tags_same gs old new others t =
-    others (tag.device_name t.name) (λ k d below same. names_apart (get_or gs k d).name t.name (sym same))
+    others (device_name t.name) (λ k d below same. names_apart (get_or gs k d).name t.name (sym same))
 
 -- ---- what is said of groups after the tags were opened is so of the devices before
 

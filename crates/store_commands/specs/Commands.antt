@@ -8,7 +8,8 @@ use Rattle.plant_status.specs.declared.status.Status.{Status}
 use Rattle.plant_status.specs.declared.status.Status.TheVariants.{WantOfMemory}
 use Rattle.plant_files.specs.Texts.{IsBaseFile, IsBaseRefusal, IsPlanFile, IsPlanRefusal}
 use Rattle.plant_files.specs.Asked.{ToldFiles, AreQueries, IsQueriesRefusal}
-use Rattle.plant_store.specs.Tags.{AllStaySame, device_name}
+use Rattle.tag_cell.specs.Devices.{device_name}
+use Rattle.plant_store.specs.Tags.{AllStaySame}
 use Rattle.trend_report.specs.CheckLines.{check_text}
 use Rattle.plant_store.specs.TagRefusals.{IsRefusal}
 use Rattle.plant_store.specs.Groups as group

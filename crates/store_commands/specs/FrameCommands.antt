@@ -11,7 +11,7 @@ use Rattle.plant_files.specs.Asked.{ToldFiles}
 use Rattle.plant_files.specs.Texts.{IsBaseFile, IsBaseRefusal}
 use Rattle.plant_store.specs.TagRefusals.{IsRefusal}
 use Rattle.plant_store.specs.Tags.{AllStaySame}
-use Rattle.plant_store.specs.Tags as tag
+use Rattle.tag_cell.specs.Devices.{device_name}
 use Rattle.group_layout.specs.Readings.{GainsGroupSync}
 use Rattle.group_book.specs.Openings.{BookStaysSame}
 use Rattle.plant_store.specs.Groups.{group_parts_of, input_records_of, group_definition_text, group_trace_at, DeviceTraces}
@@ -70,7 +70,7 @@ pub record HaveStayed (name group_name calc_name : List ℕ) (told : ToldFiles) 
   pub named : IsNamed base.groups.items group_name calc_name g i k
   pub tags_stay : AllStaySame base.tags.items old new
   pub group_stays : During (group_trace_at old g) (group_trace_at new g) (BookStaysSame (group_definition_text g) (group_parts_of g) (group_trace_at old g))
-  pub rest : (n : List ℕ) → All (λ def. n ≢ tag.device_name def.name) base.tags.items → n ≢ group.device_name g.name → new n ≡ old n
+  pub rest : (n : List ℕ) → All (λ def. n ≢ device_name def.name) base.tags.items → n ≢ group.device_name g.name → new n ≡ old n
 
 -- either no device has changed, or only those of the tags and of the group have, and these keep what they stand for
 abbrev pub AreFramesKept : List ℕ → List ℕ → List ℕ → ToldFiles → DeviceTraces → DeviceTraces → Type 0

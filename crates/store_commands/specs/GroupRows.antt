@@ -1,10 +1,10 @@
 -- The rows of the groups of a base, each refreshed once from the records of its tags.
-use Rattle.std.specs.Prelude.{◌≡◌, ℕ, ◌*◌, ◌<◌, ◌≤◌, true, All, List, length, map, slice_index_or, Option, Some}
+use Rattle.std.specs.Prelude.{◌≡◌, ℕ, ◌*◌, ◌<◌, ◌≤◌, All, List, length, map, slice_index_or, Option}
 use Rattle.trend_num.specs.declared.archive.Rec.{Rec}
 use Rattle.trend_num.specs.declared.refusal.What.TheVariants.{Cells, Copies}
 use Rattle.tag_core.specs.Core.{Core}
 use Rattle.disk_model.specs.Traces.{Trace}
-use Rattle.sheet_law.specs.Scratch.{IsScratch, column, is_due, values_at}
+use Rattle.sheet_law.specs.Scratch.{IsScratch}
 use Rattle.sheet_law.specs.Windows.{complete_windows}
 use Rattle.calc_refresh.specs.Lists.{total_length}
 use Rattle.calc_refresh.specs.Refreshed.{most_cells, most_copies}
@@ -12,8 +12,7 @@ use Rattle.calc_refresh.specs.Sheet.{grid_of}
 use Rattle.group_layout.specs.Readings.{GainsGroupSync}
 use Rattle.tag_base.specs.declared.definition.GroupDef.{GroupDef}
 use Rattle.group_book.specs.declared.history.GroupOpening.{GroupOpening}
-use Rattle.group_book.specs.Histories.{IsRight}
-use Rattle.group_book.specs.Tapes.{cut, uncut}
+use Rattle.group_book.specs.Histories.{AreRowsOver, IsRight}
 use Rattle.plant_status.specs.declared.status.Status.{Status}
 use Rattle.plant_status.specs.declared.status.Status.TheVariants.{Limit, WantOfMemory}
 use Rattle.plant_store.specs.Groups.{AreGroupsOpened, DeviceTraces, IsGroupOpening, input_records_of, group_definition_text, group_trace_at}
@@ -32,14 +31,10 @@ cells_of g recovered = complete_windows (grid_of g.start g.period) recovered * l
 -- These are the rows of a group that was opened so, after one refresh from all records of its tags, which pass no limit.
 -- There is a row for each calculation, with one value for each complete window. If the rows that its device stood for were
 -- right, these are the rows from scratch on all records. In any case a window that is due over what was saved has its
--- values from scratch.
+-- values from scratch, and any other has the values that were saved.
 pub record AreRowsTold (g : GroupDef) (recovered : List (List Rec)) (opening : GroupOpening) (rows : Rows) : Type 0 where
   pub within : AreWithinLimits (cells_of g recovered) recovered
-  pub calcs : length rows ≡ length g.calcs.calcs
-  pub windows : All (λ row. length row ≡ complete_windows (grid_of g.start g.period) recovered) rows
-  pub due : (k : ℕ) → k < complete_windows (grid_of g.start g.period) recovered
-      → is_due (grid_of g.start g.period) (cut opening.versions.items recovered) (uncut opening.versions.items recovered) k ≡ true
-      → column k rows ≡ map Some (values_at g.calcs (grid_of g.start g.period) recovered k)
+  pub rows_are : AreRowsOver g.calcs (grid_of g.start g.period) opening recovered rows
   pub scratch : IsRight g.calcs (grid_of g.start g.period) opening recovered
       → IsScratch g.calcs (grid_of g.start g.period) recovered rows
 

@@ -43,10 +43,11 @@ abbrev pub AreRefreshedOnce : {D : Type 0} → List (List Rec) → List (Book D)
 AreRefreshedOnce records old new = (i : ℕ) (b : Book _) → i < length old
     → IsRefreshedOnce records (slice_index_or old i b) (slice_index_or new i b)
 
--- each book has the device that it had
+-- each book has the device and the text that it had
 pub record HaveDevicesOf {D : Type 0} (old new : List (Book D)) : Type 0 where
   pub as_many : length new ≡ length old
   pub each : (i : ℕ) (b : Book D) → (slice_index_or new i b).dev ≡ (slice_index_or old i b).dev
+  pub texts : (i : ℕ) (b : Book D) → (slice_index_or new i b).text ≡ (slice_index_or old i b).text
 
 -- why a refresh from all these records is refused: there would be so many cells, too many; or else too many records; or
 -- no memory

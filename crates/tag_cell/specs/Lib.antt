@@ -1,4 +1,5 @@
-pub mod Tapes
-pub mod Replays
 pub mod Crashes
+pub mod Devices
+pub mod Replays
+pub mod Tapes
 pub mod Told

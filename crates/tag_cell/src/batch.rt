@@ -5,7 +5,7 @@ ghost use Rattle.trend_num.specs.Ranges.{InRange};
 ghost use Rattle.trend_model.specs.History.{Raw};
 ghost use Rattle.trend_model.specs.State.{State, replay};
 ghost use Rattle.disk_model.specs.Calls.{CountsFault};
-ghost use Rattle.disk_model.specs.Moments.{During};
+ghost use Rattle.disk_model.specs.Moments.{ComesAfter, During};
 ghost use Rattle.crash_recovery.specs.Journals.{AllRecover};
 ghost use Rattle.tag_cell.specs.declared.entry.CommitNo.TheVariants.{DeviceFault, WantOfMemory as NoMemory, Broken as WasBroken};
 ghost use Rattle.tag_cell.specs.Tapes.{last_records, taken};
@@ -130,6 +130,8 @@ pub(crate) fn write_waiting<D: Disk>(
     ensures unmoved { OnErr result (journal.new.acked ≡ journal.old.acked) }
     ensures cause { CountsFault result DeviceFault (D.fault_count journal.old.dev) (D.fault_count journal.new.dev) }
     ensures later { D.ticks journal.old.dev ≤ D.ticks journal.new.dev }
+    ensures continues { ComesAfter (D.trace journal.old.dev) (D.trace journal.new.dev) }
+    ensures handed { D.hand_out journal.new.dev ≡ D.hand_out journal.old.dev }
 {
     if journal.free_slots() == 0 {
         journal.checkpoint(alloc, core)?;

@@ -1,5 +1,7 @@
 // A cell: a tag with all that lies under its lock.
 ghost use Rattle.std.specs.Prelude.{◌≡◌, IsTrue, true, false, length};
+ghost use Rattle.disk_model.specs.Traces.{FitsName};
+ghost use Rattle.tag_cell.specs.Devices.{device_name};
 ghost use Rattle.tag_cell.specs.Told.{IsCellHistory};
 
 use crate::entry::Entry;
@@ -38,8 +40,10 @@ impl<D: Disk> Model for Cell<D> {
     ghost use Rattle.std.specs.Prelude.{vec_capacity};
     ghost use Rattle.std.specs.Arc.{arc_value};
     ghost use Rattle.disk_model.specs.Moments.{LeftSince};
+    ghost use Rattle.disk_model.specs.Traces.{FitsName};
     ghost use Rattle.tag_cell.specs.Replays.{IsTapeReplayed};
     ghost use Rattle.tag_cell.specs.Crashes.{IsSafe};
+    ghost use Rattle.tag_cell.specs.Devices.{device_name};
     ghost use Rattle.tag_cell.specs.Told.{ToldCell, IsInStep, HasRoomForTakes, Waits, IsKept, IsPosted};
 
     ghost Value = { ToldCell D };
@@ -60,7 +64,8 @@ impl<D: Disk> Model for Cell<D> {
         × IsKept c.def c.opening c.tape.items c.next c.journal.failed
         (D.trace c.journal.dev) (D.ticks c.journal.dev) (D.fault_count c.journal.dev)
         × IsSafe c.def c.opening c.tape.items (LeftSince (D.trace c.journal.dev))
-        × IsPosted (arc_value c.board) c.poster c.core.state };
+        × IsPosted (arc_value c.board) c.poster c.core.state
+        × FitsName (device_name c.def.name) (D.hand_out c.journal.dev) };
 }
 
 impl<D: Disk> Cell<D> {
@@ -136,6 +141,7 @@ impl<D: Disk> Cell<D> {
         ensures history { IsCellHistory result.1 (D.trace result.0) (D.ticks result.0) (D.fault_count result.0) }
         ensures rose { self.journal.failed ≡ true → Rose self.opening.faults (D.fault_count result.0) }
         ensures faultless { self.journal.failed ≡ false → D.fault_count result.0 ≡ self.opening.faults }
+        ensures named { FitsName (device_name self.def.name) (D.hand_out result.0) }
     {
         let Cell {
             def,

@@ -9,8 +9,10 @@ ghost use Rattle.device_layout.specs.Recovery.{Recovers};
 ghost use Rattle.crash_recovery.specs.Opening.{GainsSync, HasSlots, IsOpenedAs, LeavesFree, MakesLayout, OpensAt, RecoversThen, StaysSame};
 ghost use Rattle.device_layout.specs.Readings.{CountsRefusal, IsCause};
 ghost use Rattle.disk_model.specs.Calls.{Shows};
+ghost use Rattle.disk_model.specs.Traces.{FitsName};
 ghost use Rattle.snapshot_table.specs.Boards.{PostsTo};
 ghost use Rattle.snapshot_table.specs.Snaps.{nothing};
+ghost use Rattle.tag_cell.specs.Devices.{device_name};
 ghost use Rattle.tag_cell.specs.Tapes.{opened};
 
 use crate::cell::Cell;
@@ -41,6 +43,7 @@ pub fn open_cell<D: Disk, R: Wait>(
     requires tuned { TuningInRange def.now.tuning }
     requires here { PostsTo (arc_value board) poster }
     requires unposted { poster.last ≡ nothing }
+    requires named { FitsName (device_name def.now.name) (D.hand_out dev) }
     ensures any_moment { IfOk result (λ c. StaysSame def.now (D.trace dev) (D.trace c.journal.dev)) }
     ensures any_moment_refused { IfErr result (λ e. StaysSame def.now (D.trace dev) (D.trace e.dev)) }
     ensures opened { IfOk result (λ c. Shows (D.trace dev) (λ seen. (s : State) × Recovers def.now seen s
@@ -62,6 +65,8 @@ pub fn open_cell<D: Disk, R: Wait>(
     ensures cause { IfErr result (λ e. IsCause def.now (D.trace dev) e.why) }
     ensures faultless { IfOk result (λ c. D.fault_count c.journal.dev ≡ D.fault_count dev) }
     ensures counts { IfErr result (λ e. CountsRefusal e.why (D.fault_count dev) (D.fault_count e.dev)) }
+    ensures handed { IfOk result (λ c. D.hand_out c.journal.dev ≡ D.hand_out dev) }
+    ensures handed_refused { IfErr result (λ e. D.hand_out e.dev ≡ D.hand_out dev) }
 {
     let Opened { journal, core } = open_tag(alloc, dev, def, lane_slots, room)?;
     let Ok(content) = content_of(alloc, &core, room) else {

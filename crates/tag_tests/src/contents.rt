@@ -1,4 +1,4 @@
-// Contents worked out by hand: of few records, and of so many that they fill pages.
+// Contents of few records, and of so many that they fill pages.
 ghost use Rattle.std.specs.Prelude.{IsTrue, All};
 ghost use Rattle.trend_num.specs.Ranges.{InRange};
 

@@ -1,4 +1,4 @@
-// What cores keep of histories, worked out by hand.
+// What cores keep of histories.
 ghost use Rattle.std.specs.Prelude.{◌≡◌, ◌<◌};
 
 use crate::spelled::{point, rows_tell};

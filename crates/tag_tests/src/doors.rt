@@ -1,4 +1,4 @@
-// Doors worked out by hand.
+// Doors of values that come one after the other.
 ghost use Rattle.std.specs.Prelude.{◌≡◌, ◌<◌, ◌↔◌, IsTrue};
 ghost use Rattle.trend_num.specs.Ranges.{InRange};
 

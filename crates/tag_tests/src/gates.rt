@@ -1,4 +1,4 @@
-// Offers to an exception test, one after the other, worked out by hand.
+// Offers to an exception test, one after the other.
 use crate::spelled::{point, rows_tell};
 use exception_test::{Gate, Tuning};
 use std::alloc::Global;

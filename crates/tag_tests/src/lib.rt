@@ -1,5 +1,5 @@
-//! Tests of one tag, with results worked out by hand. They test numbers, the bytes that come in and go out, the
-//! exception test, compression, contents, reads and windows.
+//! Tests of one tag: numbers, the bytes that come in and go out, the exception test, compression, contents, reads and
+//! windows.
 #![tactic(auto)]
 
 #[cfg(test)]

@@ -1,4 +1,4 @@
-// Reads of small contents, worked out by hand.
+// Reads of small contents.
 use crate::spelled::{content, number, rows_tell, same};
 use interp_read::{at, at_step, points};
 use late_insert::{Content, Kind, Point, Rec};

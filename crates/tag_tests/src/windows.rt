@@ -1,4 +1,4 @@
-// Windows of small contents, worked out by hand.
+// Windows of small contents, in each measure.
 ghost use Rattle.std.specs.Prelude.{◌<◌, ◌≤◌};
 ghost use Rattle.trend_num.specs.Ranges.{last_time};
 

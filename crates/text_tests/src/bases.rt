@@ -1,5 +1,4 @@
-// Bases and plans with each rule broken, first alone and then together with another one. An independent program gave
-// the answers.
+// Bases and plans with each rule broken, first alone and then together with another one.
 use crate::spelled::{number, rows_tell, same, text};
 use std::alloc::{AllocError, Global};
 use std::fmt::Write;

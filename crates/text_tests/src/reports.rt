@@ -1,4 +1,4 @@
-// Lines of a report, as an independent program prints them.
+// Lines of a report.
 
 use crate::spelled::same;
 use std::alloc::Global;

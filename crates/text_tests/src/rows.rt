@@ -1,4 +1,4 @@
-// Rows of files, as an independent program reads them.
+// Rows of files, read or refused.
 use crate::spelled::{number, rows_tell, text};
 use std::alloc::Global;
 use std::fmt::Write;

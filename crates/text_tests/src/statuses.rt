@@ -1,4 +1,4 @@
-// Statuses with their codes and lines, written out by hand.
+// Statuses with their codes and lines.
 use plant_status::{
     FileId, OpenPasses, Pass, Passes, Place, Reason, Seen, Status, TagDef, Unit, What, code, line,
 };

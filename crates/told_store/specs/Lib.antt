@@ -1,3 +1,4 @@
+pub mod FirstBytes
 pub mod Folders
 pub mod Notes
 pub mod Places

@@ -5,6 +5,7 @@ use Rattle.std.specs.declared.alloc.Global.{Global}
 use Rattle.disk_model.specs.Traces.{Trace}
 use Rattle.disk_model.specs.Stores.{empty_trace}
 use Rattle.told_store.specs.Notes.{IsFresh, told_by}
+use Rattle.told_store.specs.declared.folder.FileId.{FileId}
 use Rattle.told_store.specs.declared.kept.Kept.{Kept}
 
 -- the devices by name
@@ -19,6 +20,15 @@ told_of (Some kept) = told_by kept.log.notes
 -- the trace of the device of a name
 abbrev pub told_in : Places → List ℕ → Trace
 told_in places name = told_of (get_by_text places name)
+
+-- which file was read of a device, if one was
+abbrev pub file_of : Option Kept → Option FileId
+file_of None = None
+file_of (Some kept) = kept.file
+
+-- the same of the device of a name
+abbrev pub file_in : Places → List ℕ → Option FileId
+file_in places name = file_of (get_by_text places name)
 
 -- there is a place for a device of this name
 abbrev pub is_placed : Places → List ℕ → Bool

@@ -1,5 +1,6 @@
 // The folder of devices as a store.
-ghost use Rattle.std.specs.Prelude.{◌≡◌, ◌≢◌, ℕ, List, IfOk, IsErr, OnErr, OnOk, IsTrue, Some};
+ghost use Rattle.std.specs.Prelude.{◌≡◌, ◌≢◌, ℕ, List, IfOk, IsErr, OnErr, OnOk, IsTrue, Some, string_bytes};
+ghost use Rattle.std.specs.BTreeMap.{get_by_text};
 ghost use Rattle.disk_model.specs.Stores.{empty_trace};
 ghost use Rattle.told_store.specs.Notes.{IsFresh, told_by};
 ghost use Rattle.told_store.specs.Places.{AllFresh, is_placed, is_stopped_in, told_in};
@@ -7,7 +8,7 @@ ghost use Rattle.told_store.specs.Places.{AllFresh, is_placed, is_stopped_in, to
 use crate::folder::{FOLDER, Folder, MOST_TRIES};
 use crate::host::Host;
 use crate::kept::Kept;
-use crate::places::{insert, is_stopped, len_of, make_place, put_back, take};
+use crate::places::{file_of, insert, is_stopped, make_place, put_back, take};
 use crate::told_disk::DirDisk;
 use disk_model::{Failed, Store};
 use std::collections::BTreeMap;
@@ -77,8 +78,8 @@ impl<R: Files<File = File> + AllocGlobal> DirStore<R> {
         store
     }
 
-    // Locks the folder if there is one, and reads its wanted devices. If a signal interrupts the read of the names, it
-    // reads them again; no device is read twice.
+    // Locks the folder if there is one, reads its wanted devices, and syncs the names in it: a run that was killed may
+    // have left that undone. If a signal interrupts the read of the names, it reads them again; no device is read twice.
     fn read_all(&mut self, wanted: Wanted) -> io::Result<()>
     where
         R: Clone + Drop,
@@ -92,7 +93,8 @@ impl<R: Files<File = File> + AllocGlobal> DirStore<R> {
         for _ in 0..MOST_TRIES {
             match read_devices(&self.folder, wanted, &mut self.places) {
                 Err(error) if error.kind() == ErrorKind::Interrupted => {}
-                answer => return answer,
+                Err(error) => return Err(error),
+                Ok(()) => return self.folder.sync_names(),
             }
         }
         Err(ErrorKind::Interrupted.into())
@@ -101,6 +103,7 @@ impl<R: Files<File = File> + AllocGlobal> DirStore<R> {
     // Returns the device of a name, over its file.
     fn hand_out(&mut self, name: &str) -> io::Result<DirDisk<Host<File>>>
         ensures told { IfOk result (λ dev. told_by dev.calls.log.notes ≡ told_in self.old.places name.now) }
+        ensures named { IfOk result (λ dev. string_bytes dev.name ≡ name.now) }
         ensures faultless { IfOk result (λ dev. dev.counts.faults ≡ 0) }
         ensures place { OnOk result (IsTrue (is_placed self.new.places name.now)) }
         ensures places { (n : List ℕ) → IsTrue (is_placed self.old.places n) → IsTrue (is_placed self.new.places n) }
@@ -109,6 +112,7 @@ impl<R: Files<File = File> + AllocGlobal> DirStore<R> {
         ensures unchanged { OnErr result ((n : List ℕ) → told_in self.new.places n ≡ told_in self.old.places n) }
         ensures stopped { IsTrue (is_stopped_in self.old.places name.now) → IsErr result }
         ensures out { OnOk result (IsTrue (is_stopped_in self.new.places name.now)) }
+        ensures refused { IsTrue self.old.is_refused → IsErr result }
         ensures faults { self.new.faults ≡ self.old.faults }
     {
         if self.is_refused || is_stopped(&self.places, name) {
@@ -116,9 +120,10 @@ impl<R: Files<File = File> + AllocGlobal> DirStore<R> {
         }
         self.folder.lock()?;
         make_place(self.folder.rt.alloc(), &mut self.places, name)?;
-        let file = self.folder.open(name, len_of(&self.places, name))?;
+        let own = String::from_str(self.folder.rt.alloc(), name)?;
+        let file = self.folder.open(name, file_of(&self.places, name))?;
         match take(&mut self.places, name) {
-            Some((log, bytes)) => Ok(DirDisk::new(Host { file, log }, bytes)),
+            Some((log, bytes)) => Ok(DirDisk::new(own, Host { file, log }, bytes)),
             None => Err(ErrorKind::NotFound.into()),
         }
     }
@@ -154,7 +159,8 @@ fn keep<R: Files<File = File> + AllocGlobal>(
     name: &str,
 ) -> io::Result<()>
     requires { AllFresh places.old }
-    ensures { AllFresh places.new }
+    ensures fresh { AllFresh places.new }
+    ensures kept { (n : List ℕ) → IsTrue (is_placed places.old n) → get_by_text places.new n ≡ get_by_text places.old n }
 {
     if places.contains_key(name) {
         return Ok(());
@@ -183,8 +189,10 @@ impl<R: Files<File = File> + AllocGlobal> Store for DirStore<R> {
         Err(Failed)
     }
 
+    /// It writes a device that has failed anew under the name that it was handed out with.
     fn give_back(&mut self, name: &str, dev: DirDisk<Host<File>>) {
         let DirDisk {
+            name: own,
             calls,
             mirror,
             counts,
@@ -192,7 +200,7 @@ impl<R: Files<File = File> + AllocGlobal> Store for DirStore<R> {
         let Host { file, log } = calls;
         drop(file);
         if counts.is_stopped {
-            self.folder.settle(name, &mirror, counts.is_unsynced);
+            self.folder.settle(&own, &mirror, counts.is_unsynced);
         }
         self.faults = self.faults.saturating_add(counts.faults);
         put_back(&mut self.places, name, Kept::used(log));

@@ -18,6 +18,24 @@ const MOST_BYTES: u64 = 1 << 30;
 /// How many times at most a call is made that signals interrupt.
 pub(crate) const MOST_TRIES: u32 = 1 << 20;
 
+/// Which file it is, and how many bytes it has.
+#[derive(Clone, Copy, PartialEq, Eq)]
+pub(crate) struct FileId {
+    device: u64,
+    inode: u64,
+    len: u64,
+}
+
+// Which file is open.
+fn id_of(file: &File) -> io::Result<FileId> {
+    let found = again(|| file.metadata())?;
+    Ok(FileId {
+        device: found.dev(),
+        inode: found.ino(),
+        len: found.len(),
+    })
+}
+
 // Makes a call, and makes it again if a signal interrupts it.
 fn again<T: Drop, Call: Fn() -> io::Result<T>>(call: Call) -> io::Result<T>
     requires { Call.IsAlwaysCallable call }
@@ -64,36 +82,38 @@ impl<R: Files<File = File> + AllocGlobal> Folder<R> {
         Ok(())
     }
 
-    /// Syncs the file of a device, and reads all its bytes. A file that has a mark is written anew.
-    pub(crate) fn read(&self, name: &str) -> io::Result<Vec<u8>> {
+    /// Syncs the file of a device, and reads all its bytes. If the sync fails, the file gets a mark. A file that has a
+    /// mark is written anew.
+    pub(crate) fn read(&self, name: &str) -> io::Result<(FileId, Vec<u8>)> {
         let file = self.open_plain(name, OpenOptions::new().read(true))?;
-        let len = again(|| file.metadata())?.len();
-        if len > MOST_BYTES {
+        let id = id_of(&file)?;
+        if id.len > MOST_BYTES {
             return Err(ErrorKind::FileTooLarge.into());
         }
-        file.sync_all()?;
-        let mut bytes = vec![in self.rt.alloc(); 0; len as usize]?;
-        file.read_exact_at(&mut bytes, 0)?;
-        let mark = self.path(name, MARK)?;
-        if again(|| fs::exists(&self.rt, mark.as_str()))? {
-            self.renew(name, &bytes)?;
+        if let Err(error) = file.sync_all() {
+            let _ = self.mark(name);
+            return Err(error);
         }
-        Ok(bytes)
+        let mut bytes = vec![in self.rt.alloc(); 0; id.len as usize]?;
+        file.read_exact_at(&mut bytes, 0)?;
+        if self.has_mark(name)? {
+            return Ok((self.renew(name, &bytes)?, bytes));
+        }
+        Ok((id, bytes))
     }
 
-    /// Opens the file of a device that has `len` bytes. If it has none, the file may be missing; then this makes it.
-    pub(crate) fn open(&self, name: &str, len: usize) -> io::Result<File> {
-        if len > 0 {
-            return self.reopen(name, len);
-        }
-        let path = self.path(name, "")?;
-        let file = match File::create_new(&self.rt, path.as_str()) {
-            Err(error) if error.kind() == ErrorKind::AlreadyExists => self.reopen(name, 0)?,
-            answer => answer?,
+    /// Opens the file of a device that was read, or makes the file of one that had none. It fails if it is no longer the
+    /// file that was read, or no longer of that length, or if a file is there that was not read.
+    pub(crate) fn open(&self, name: &str, read: Option<FileId>) -> io::Result<File> {
+        let file = match read {
+            Some(id) => self.reopen(name, id)?,
+            None => File::create_new(&self.rt, self.path(name, "")?.as_str())?,
         };
-        file.sync_all()?;
-        self.sync_names()?;
-        File::open(&self.rt, ".")?.sync_all()?;
+        if read.is_none_or(|id| id.len == 0) {
+            file.sync_all()?;
+            self.sync_names()?;
+            File::open(&self.rt, ".")?.sync_all()?;
+        }
         Ok(file)
     }
 
@@ -111,35 +131,47 @@ impl<R: Files<File = File> + AllocGlobal> Folder<R> {
     }
 
     // Writes a file anew. A new file with the rights and the owner of the old one takes its name. Then the mark is
-    // removed.
-    fn renew(&self, name: &str, bytes: &[u8]) -> io::Result<()> {
+    // removed. Returns which file that is.
+    fn renew(&self, name: &str, bytes: &[u8]) -> io::Result<FileId> {
         let old = self.open_plain(name, OpenOptions::new().read(true).write(true))?;
-        if let Err(error) = self.write_new(name, bytes, &again(|| old.metadata())?) {
+        let new = self.write_new(name, bytes, &again(|| old.metadata())?);
+        if new.is_err() {
             let _ = self.remove(name, NEW);
-            return Err(error);
+            return new;
         }
         let path = self.path(name, "")?;
         fs::rename(&self.rt, self.path(name, NEW)?.as_str(), path.as_str())?;
         self.sync_names()?;
         self.remove(name, MARK)?;
-        self.sync_names()
+        self.sync_names()?;
+        new
     }
 
-    // Writes the new file, and syncs it. If this user may not give it to the old one's owner, it keeps its own.
-    fn write_new(&self, name: &str, bytes: &[u8], old: &Metadata) -> io::Result<()> {
+    // Writes the new file, and syncs it. If this user may not give it to the old one's owner, it keeps its own. Returns
+    // which file it is.
+    fn write_new(&self, name: &str, bytes: &[u8], old: &Metadata) -> io::Result<FileId> {
         self.remove(name, NEW)?;
         let mut file = File::create_new(&self.rt, self.path(name, NEW)?.as_str())?;
         let _ = fchown(&file, Some(old.uid()), Some(old.gid()));
         file.set_permissions(old.permissions())?;
         file.write_all(bytes)?;
-        file.sync_all()
+        file.sync_all()?;
+        id_of(&file)
     }
 
-    // Makes the file that marks the device, and syncs it and its name.
+    // Makes the file that marks the device, unless it is there, and syncs it and its name.
     fn mark(&self, name: &str) -> io::Result<()> {
-        self.remove(name, MARK)?;
-        File::create_new(&self.rt, self.path(name, MARK)?.as_str())?.sync_all()?;
+        if !self.has_mark(name)? {
+            self.remove(name, MARK)?;
+            File::create_new(&self.rt, self.path(name, MARK)?.as_str())?.sync_all()?;
+        }
         self.sync_names()
+    }
+
+    // Returns whether the device has a mark.
+    fn has_mark(&self, name: &str) -> io::Result<bool> {
+        let mark = self.path(name, MARK)?;
+        again(|| fs::exists(&self.rt, mark.as_str()))
     }
 
     // Removes the file whose name is a device's name and `behind`, if it is there.
@@ -150,15 +182,15 @@ impl<R: Files<File = File> + AllocGlobal> Folder<R> {
         }
     }
 
-    // Opens a file that was read and has this length. If it may not be written, it is opened for reading only.
-    fn reopen(&self, name: &str, len: usize) -> io::Result<File> {
+    // Opens the file that was read. If it may not be written, it is opened for reading only.
+    fn reopen(&self, name: &str, read: FileId) -> io::Result<File> {
         let file = match self.open_plain(name, OpenOptions::new().read(true).write(true)) {
             Err(error) if is_denied(error.kind()) => {
                 self.open_plain(name, OpenOptions::new().read(true))?
             }
             answer => answer?,
         };
-        if again(|| file.metadata())?.len() != len as u64 {
+        if id_of(&file)? != read {
             return Err(ErrorKind::InvalidData.into());
         }
         Ok(file)
@@ -180,8 +212,8 @@ impl<R: Files<File = File> + AllocGlobal> Folder<R> {
         Ok(file)
     }
 
-    // Syncs the folder, which brings the names in it to the disk.
-    fn sync_names(&self) -> io::Result<()> {
+    /// Syncs the folder, which brings the names in it to the disk.
+    pub(crate) fn sync_names(&self) -> io::Result<()> {
         match &self.locked {
             Some(folder) => folder.sync_all(),
             None => Err(ErrorKind::NotFound.into()),

@@ -1,24 +1,27 @@
 // The devices that a store keeps, by name.
-ghost use Rattle.std.specs.Prelude.{◌≡◌, ◌≢◌, ℕ, List, IfNone, IfSome, IsNone, OnOk, OnErr, OnSome, Some, IsTrue, bytes_eq, if◌then◌else◌};
+ghost use Rattle.std.specs.Prelude.{◌≡◌, ◌≢◌, ℕ, List, IfNone, IfSome, IsNone, OnOk, OnErr, OnSome, Some, IsTrue, false, bytes_eq, if◌then◌else◌};
 ghost use Rattle.std.specs.BTreeMap.{get_by_text};
 ghost use Rattle.told_store.specs.Notes.{read_as, told_by};
-ghost use Rattle.told_store.specs.Places.{told_in, is_placed, is_stopped_in};
+ghost use Rattle.told_store.specs.Places.{file_in, told_in, is_placed, is_stopped_in};
 
+use crate::folder::FileId;
 use crate::kept::Kept;
 use crate::record::Record;
 use std::alloc::{AllocError, Global};
 use std::collections::BTreeMap;
 use std::mem;
 
-// Puts a device at a name.
+// Puts a device at a name where there is none.
 pub(crate) fn insert(
     alloc: Global,
     places: &mut BTreeMap<String, Kept>,
     name: &str,
     kept: Kept,
 ) -> Result<(), AllocError>
+    requires { is_placed places.old name.now ≡ false }
     ensures put { OnOk result ((n : List ℕ) → get_by_text places.new n
         ≡ (if bytes_eq name.now n then Some kept else get_by_text places.old n)) }
+    ensures kept { (n : List ℕ) → IsTrue (is_placed places.old n) → get_by_text places.new n ≡ get_by_text places.old n }
     ensures err { OnErr result ((n : List ℕ) → get_by_text places.new n ≡ get_by_text places.old n) }
 {
     let key = String::from_str(alloc, name)?;
@@ -40,7 +43,7 @@ pub(crate) fn make_place(
     if places.contains_key(name) {
         return Ok(());
     }
-    insert(alloc, places, name, Kept::read(Vec::new(alloc)))
+    insert(alloc, places, name, Kept::read(None, Vec::new(alloc)))
 }
 
 // Takes the device of a name to hand it out: the record of its reading, and the bytes that were read. It is not handed
@@ -83,10 +86,12 @@ pub(crate) fn is_stopped(places: &BTreeMap<String, Kept>, name: &str) -> bool
     }
 }
 
-// How many bytes were read of the device of a name, or 0 if there are none.
-pub(crate) fn len_of(places: &BTreeMap<String, Kept>, name: &str) -> usize {
+// Returns which file was read of the device of a name, or `None` if there was none.
+pub(crate) fn file_of(places: &BTreeMap<String, Kept>, name: &str) -> Option<FileId>
+    ensures { result ≡ file_in places.now name.now }
+{
     match places.get(name) {
-        Some(kept) => kept.len(),
-        None => 0,
+        Some(kept) => kept.file,
+        None => None,
     }
 }

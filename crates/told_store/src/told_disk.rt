@@ -1,7 +1,8 @@
 // A file as a device, which the program reads from memory.
-ghost use Rattle.std.specs.Prelude.{◌≡◌, ◌+◌, ◌-◌, ◌^◌, ◌<◌, ◌≤◌, ◌↔◌, length, vec_len, vec_capacity, IsTrue, IsFalse, IsErr, IfOk, OnOk, OnErr, Some};
+ghost use Rattle.std.specs.Prelude.{◌≡◌, ◌+◌, ◌-◌, ◌^◌, ◌<◌, ◌≤◌, ◌↔◌, length, vec_len, vec_capacity, IsTrue, IsFalse, IsErr, IfOk, OnOk, OnErr, Some, string_bytes};
 ghost use Rattle.disk_model.specs.Traces.{Wrote, WroteInPart, Resized, ResizedInPart, Synced, Idle, seen, written};
 ghost use Rattle.disk_model.specs.Calls.{next_count, Rose, HasCause, HasLength, IsNoted, IsTimed, Reaches, Reads};
+ghost use Rattle.disk_model.specs.Memory.{handed_as};
 ghost use Rattle.told_store.specs.Notes.{read_as};
 
 use crate::calls::Calls;
@@ -47,6 +48,7 @@ impl Counts {
         ensures later { self.old.faults ≤ self.new.faults }
         ensures rose { Rose self.old.faults self.new.faults }
         ensures stopped { IsTrue self.new.is_stopped }
+        ensures unsynced { self.new.is_unsynced ≡ self.old.is_unsynced }
     {
         self.is_stopped = true;
         self.fault()
@@ -59,6 +61,7 @@ impl Counts {
 /// never again.
 #[derive(Drop)]
 pub struct DirDisk<C: Calls> {
+    pub(crate) name: String,
     pub(crate) calls: C,
     pub(crate) mirror: Vec<u8>,
     pub(crate) counts: Counts,
@@ -67,13 +70,15 @@ pub struct DirDisk<C: Calls> {
 }
 
 impl<C: Calls> DirDisk<C> {
-    // A device of which these bytes were read, with no call since.
-    pub(crate) fn new(calls: C, bytes: Vec<u8>) -> DirDisk<C>
+    // A device of this name of which these bytes were read, with no call since.
+    pub(crate) fn new(name: String, calls: C, bytes: Vec<u8>) -> DirDisk<C>
         requires { C.told calls ≡ read_as bytes.items }
+        ensures name { result.name ≡ name }
         ensures calls { result.calls ≡ calls }
         ensures faultless { result.counts.faults ≡ 0 }
     {
         DirDisk {
+            name,
             calls,
             mirror: bytes,
             counts: Counts {
@@ -116,6 +121,8 @@ impl<C: Calls> Disk for DirDisk<C> {
 
     ghost fault_count = { λ d. d.counts.faults };
 
+    ghost hand_out = { λ d. handed_as (Some (string_bytes d.name)) };
+
     ghost told = { λ d. d.counted };
 
     fn len(&mut self) -> Result<u64, Failed>
@@ -123,6 +130,7 @@ impl<C: Calls> Disk for DirDisk<C> {
         ensures same { Some (C.told self.new.calls) ≡ Some (C.told self.old.calls) }
         ensures untimed { self.new.counts.ticks ≡ self.old.counts.ticks }
         ensures cause { HasCause self.old.counts.faults self.new.counts.faults result }
+        ensures handed { handed_as (Some (string_bytes self.new.name)) ≡ handed_as (Some (string_bytes self.old.name)) }
         ensures fails { IsErr result ↔ IsTrue self.old.counts.is_stopped }
         ensures stopped { self.new.counts.is_stopped ≡ self.old.counts.is_stopped }
     {
@@ -138,6 +146,7 @@ impl<C: Calls> Disk for DirDisk<C> {
         ensures same { Some (C.told self.new.calls) ≡ Some (C.told self.old.calls) }
         ensures untimed { self.new.counts.ticks ≡ self.old.counts.ticks }
         ensures cause { HasCause self.old.counts.faults self.new.counts.faults result }
+        ensures handed { handed_as (Some (string_bytes self.new.name)) ≡ handed_as (Some (string_bytes self.old.name)) }
         ensures fails { IsErr result ↔ IsTrue self.old.counts.is_stopped }
         ensures stopped { self.new.counts.is_stopped ≡ self.old.counts.is_stopped }
     {
@@ -156,6 +165,7 @@ impl<C: Calls> Disk for DirDisk<C> {
             (Some (C.told self.old.calls)) (Some (C.told self.new.calls)) }
         ensures clock { IsTimed self.old.counts.ticks self.new.counts.ticks result }
         ensures cause { HasCause self.old.counts.faults self.new.counts.faults result }
+        ensures handed { handed_as (Some (string_bytes self.new.name)) ≡ handed_as (Some (string_bytes self.old.name)) }
         ensures fails { IsTrue self.old.counts.is_stopped → IsErr result }
         ensures stops { OnErr result (IsTrue self.new.counts.is_stopped) }
     {
@@ -180,6 +190,7 @@ impl<C: Calls> Disk for DirDisk<C> {
             (Some (C.told self.old.calls)) (Some (C.told self.new.calls)) }
         ensures clock { IsTimed self.old.counts.ticks self.new.counts.ticks result }
         ensures cause { HasCause self.old.counts.faults self.new.counts.faults result }
+        ensures handed { handed_as (Some (string_bytes self.new.name)) ≡ handed_as (Some (string_bytes self.old.name)) }
         ensures fails { IsTrue self.old.counts.is_stopped → IsErr result }
         ensures stops { OnErr result (IsTrue self.new.counts.is_stopped) }
     {
@@ -201,9 +212,12 @@ impl<C: Calls> Disk for DirDisk<C> {
     }
 
     fn sync(&mut self) -> Result<(), Failed>
+        ensures unsynced { OnErr result (IsFalse self.old.counts.is_stopped → self.old.counts.ticks < 2 ^ 64 - 1
+            → IsTrue self.new.counts.is_unsynced) }
         ensures noted { IsNoted Synced Idle result (Some (C.told self.old.calls)) (Some (C.told self.new.calls)) }
         ensures clock { IsTimed self.old.counts.ticks self.new.counts.ticks result }
         ensures cause { HasCause self.old.counts.faults self.new.counts.faults result }
+        ensures handed { handed_as (Some (string_bytes self.new.name)) ≡ handed_as (Some (string_bytes self.old.name)) }
         ensures fails { IsTrue self.old.counts.is_stopped → IsErr result }
         ensures stops { OnErr result (IsTrue self.new.counts.is_stopped) }
     {

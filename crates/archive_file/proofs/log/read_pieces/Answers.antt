@@ -55,6 +55,7 @@ loop-done-preserved g c =
       same = c.in-Ok.ensures.same ∙ c.loop-done.invariant.same;
       untimed = c.in-Ok.ensures.untimed ∙ c.loop-done.invariant.untimed;
       faults = c.in-Ok.ensures.cause.passed ∙ c.loop-done.invariant.faults;
+      handed = c.in-Ok.ensures.handed ∙ c.loop-done.invariant.handed;
       len = omega (arith, c.in_ok-parse.ensures.len, c.loop-done.invariant.len);
       capacity = c.in_ok-parse.ensures.capacity ∙ c.loop-done.invariant.capacity;
     }

@@ -44,4 +44,5 @@ walk-preserved g c =
       same = read.same ∙ c.walk.invariant.same;
       untimed = read.untimed ∙ c.walk.invariant.untimed;
       faults = read.cause.passed ∙ c.walk.invariant.faults;
+      handed = read.handed ∙ c.walk.invariant.handed;
     }

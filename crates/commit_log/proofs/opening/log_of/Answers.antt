@@ -9,6 +9,7 @@ invariant_of-result g c =
     let D = g.D.Disk in
     let dev = c.args.dev in
     let acked : c.len-acked.result ≡ length p.rows.items = omega (arith, c.len-acked.ensures) in
-    opened_keeps p.plant.items c.args.tags p.rows.items c.clock-moment.result c.faults-faults.result p.tape.items (vec_capacity p.tape)
+    let now = opened_keeps p.plant.items c.args.tags p.rows.items c.clock-moment.result c.faults-faults.result p.tape.items (vec_capacity p.tape)
     c.args.room c.len-acked.result p.end (D.trace dev) (D.ticks dev) (D.fault_count dev) c.requires.empty c.clock-moment.ensures
-    c.faults-faults.ensures acked c.requires.rows c.requires.capacity c.requires.few c.requires.ready (g.met.D.Disk.told dev)
+    c.faults-faults.ensures acked c.requires.rows c.requires.capacity c.requires.few c.requires.ready (g.met.D.Disk.told dev) in
+    (now.0, now.1, now.2, now.3, now.4, c.requires.named)

@@ -26,6 +26,7 @@ loop-j-preserved g c =
       same = read.same ∙ so_far.same;
       untimed = read.untimed ∙ so_far.untimed;
       faults = read.counts.passed ∙ so_far.faults;
+      handed = read.handed ∙ so_far.handed;
       counted = λ taken holds. shows _ _ (IsCountedTo slots taken c.args.number (j + 1)
           (c.loop-j.rest - c.from-count.result))
           (λ c' so. subst (λ k. IsCountedTo slots taken c.args.number (j + 1) k c') (ap (λ k. c.loop-j.rest - k)

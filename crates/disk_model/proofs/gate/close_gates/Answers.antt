@@ -9,6 +9,7 @@ loop-k-init g c = record {
   clock = omega arith;
   calls = none_counted c.args.at _ _;
   faultless = refl;
+  handed = refl;
 }
 
 pub returns-in_err-close_gate-clause-any_moment : goal.returns-in_err-close_gate-clause-any_moment
@@ -24,6 +25,7 @@ loop-k-preserved g c = record {
   calls = one_counted c.args.at c.loop-k.k _ _ _ _ _ _ (omega (arith, c.from.ensures)) c.loop-k.invariant.closed.any_moment.later
       (c.loop-k.invariant.closed.ahead _ (omega (arith, c.from.ensures))) c.loop-k.invariant.calls c.in_ok-close_gate.ensures.calls;
   faultless = c.in_ok-close_gate.ensures.cause.passed ∙ c.loop-k.invariant.faultless;
+  handed = c.close_gate.ensures.handed ∙ c.loop-k.invariant.handed;
 }
 
 pub returns-clause-any_moment : goal.returns-clause-any_moment

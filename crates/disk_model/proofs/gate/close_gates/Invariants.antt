@@ -11,4 +11,5 @@ invariant-loop-k g l = record {
   clock : g.D.Disk.ticks l.dev ≤ g.D.Disk.ticks l.fn.dev + l.k;
   calls : Shows (g.D.Disk.trace l.fn.dev) (λ c. g.D.Disk.ticks l.dev ≡ g.D.Disk.ticks l.fn.dev + open_gates l.at l.k c);
   faultless : g.D.Disk.fault_count l.dev ≡ g.D.Disk.fault_count l.fn.dev;
+  handed : g.D.Disk.hand_out l.dev ≡ g.D.Disk.hand_out l.fn.dev;
 }

@@ -8,6 +8,7 @@ invariant-loop-j g l = record {
   same : g.D.Disk.trace l.dev ≡ g.D.Disk.trace l.fn.dev;
   untimed : g.D.Disk.ticks l.dev ≡ g.D.Disk.ticks l.fn.dev;
   faults : g.D.Disk.fault_count l.dev ≡ g.D.Disk.fault_count l.fn.dev;
+  handed : g.D.Disk.hand_out l.dev ≡ g.D.Disk.hand_out l.fn.dev;
   slots_same : l.scanned.lane.slots ≡ l.slots;
   within : IsWithin l.slots l.taken (min (64 * l.j) l.used) l.scanned;
   read : IfSome (g.D.Disk.trace l.fn.dev)

@@ -2,6 +2,7 @@ use Rattle.std.proofs.Common.{◌≡◌, ◌∙◌, ℕ, All, [], Err, Some, fal
 use Rattle.std.proofs.lemmas.List.{length-map}
 use Rattle.disk_model.specs.Calls.{Shows}
 use Rattle.disk_model.specs.Moments.{LeftSince}
+use Rattle.disk_model.specs.Traces.{FitsName}
 use Rattle.calc_check.specs.Group.{calculation}
 use Rattle.calc_refresh.specs.declared.definition.GroupDefParts.{GroupDefParts}
 use Rattle.calc_refresh.specs.Lists.{lists_of}
@@ -12,7 +13,7 @@ use Rattle.group_book.specs.declared.turn.Turn.{Turn}
 use Rattle.group_book.specs.Crashes.{IsBookSafe}
 use Rattle.group_book.specs.Histories.{AreRowsEvaluated, IsBookLegal}
 use Rattle.group_book.specs.Openings.{IsBookCause}
-use Rattle.group_book.specs.Told.{AreFlagged, IsDefined, IsKept, IsOnDevice, Saved}
+use Rattle.group_book.specs.Told.{AreFlagged, IsAtHome, IsDefined, IsKept, Saved, device_name_of}
 use Rattle.sheet_law.specs.declared.grid.Grid.{Grid}
 use Rattle.sheet_law.specs.Windows.{complete_windows}
 use Rattle.group_book.proofs.Evaluations.{evaluated_first}
@@ -63,6 +64,11 @@ invariant_of-result g c =
     let ready = loaded_ready g'.end (D.trace dev) c.in-Ok.ensures.settled c.in-Ok.ensures.ready in
     let holds = loaded_holds c.args.text.now def g' (D.trace dev)
     (subst (λ (n : ℕ). Shows (D.trace dev) (λ x. IsReadOf c.args.text.now def.inputs n x g')) calcs c.in-Ok.ensures.holds) in
+    let first = evaluated_first def.calcs (grid_of def.start def.period) o s.copies s.rows s.evals (opened ∙ sym copied) opened_rows
+    (is.whole.calcs ∙ ap (λ (x : SheetState). length x.group.calcs) is.sheet)
+    (subst (λ (w : Grid). All (λ row. length row ≡ complete_windows w s.copies) s.rows) (ap (λ (x : SheetState). x.grid) is.sheet)
+    is.whole.windows)
+    (ap (λ (x : SheetState). x.evals) is.sheet) in
     let left = LeftSince (D.trace dev) in
     let tape : [] ≡ c.new.result.items = sym c.new.ensures.items in
     let defined : IsDefined def c.args.tags.items s = record {
@@ -77,34 +83,30 @@ invariant_of-result g c =
     × IsBookLegal d.calcs (grid_of d.start d.period) o c.new.result.items vs s.copies s.rows
     × IsKept r.text.items d o c.new.result.items s.copies saved false (D.trace dev) (D.ticks dev) (D.fault_count dev)
     × IsBookSafe r.text.items d.calcs (grid_of d.start d.period) o s.copies c.new.result.items left
-    × IsOnDevice r.text.items (Some dev)
+    × IsAtHome D.hand_out r.text.items (Some dev)
     × AreRowsEvaluated d.calcs (grid_of d.start d.period) o c.new.result.items s.copies s.rows s.evals
     × AreFlagged r.unsaved.items saved.rows s) (sym is.def)
     (subst (λ (l : List Turn). IsDefined def c.args.tags.items s
     × IsBookLegal def.calcs (grid_of def.start def.period) o l vs s.copies s.rows
     × IsKept r.text.items def o l s.copies saved false (D.trace dev) (D.ticks dev) (D.fault_count dev)
     × IsBookSafe r.text.items def.calcs (grid_of def.start def.period) o s.copies l left
-    × IsOnDevice r.text.items (Some dev)
+    × IsAtHome D.hand_out r.text.items (Some dev)
     × AreRowsEvaluated def.calcs (grid_of def.start def.period) o l s.copies s.rows s.evals
     × AreFlagged r.unsaved.items saved.rows s) tape
     (subst (λ (t : List ℕ). IsDefined def c.args.tags.items s
     × IsBookLegal def.calcs (grid_of def.start def.period) o [] vs s.copies s.rows
     × IsKept t def o [] s.copies saved false (D.trace dev) (D.ticks dev) (D.fault_count dev)
     × IsBookSafe t def.calcs (grid_of def.start def.period) o s.copies [] left
-    × IsOnDevice t (Some dev)
+    × IsAtHome D.hand_out t (Some dev)
     × AreRowsEvaluated def.calcs (grid_of def.start def.period) o [] s.copies s.rows s.evals
     × AreFlagged r.unsaved.items saved.rows s) (sym is.text) (
       defined,
-      opened_legal c.args.text.now def o s.copies s.rows vs saved copied opened opened_rows saved_versions saved_rows,
-      opened_kept c.args.text.now def o s.copies s.rows vs saved copied opened opened_rows saved_versions saved_rows (D.trace dev) ready
+      opened_legal c.args.text.now def o s.copies s.rows vs saved copied opened opened_rows saved_versions saved_rows first.rows_are,
+      opened_kept c.args.text.now def o s.copies s.rows vs saved copied opened opened_rows saved_versions saved_rows first.rows_are (D.trace dev) ready
           holds (D.ticks dev) (D.fault_count dev) c.clock.ensures inputs (sym c.faults.ensures),
-      opened_safe c.args.text.now def o s.copies s.rows vs saved copied opened opened_rows saved_versions saved_rows (D.trace dev) ready
+      opened_safe c.args.text.now def o s.copies s.rows vs saved copied opened opened_rows saved_versions saved_rows first.rows_are (D.trace dev) ready
           holds (D.ticks dev) (D.fault_count dev) c.clock.ensures c.requires.group.named (g.met.D.Disk.told dev),
-      λ some. refl,
-      evaluated_first def.calcs (grid_of def.start def.period) o s.copies s.rows s.evals (opened ∙ sym copied)
-          (is.whole.calcs ∙ ap (λ (x : SheetState). length x.group.calcs) is.sheet)
-          (subst (λ (w : Grid). All (λ row. length row ≡ complete_windows w s.copies) s.rows) (ap (λ (x : SheetState). x.grid) is.sheet)
-          is.whole.windows)
-          (ap (λ (x : SheetState). x.evals) is.sheet),
+      (λ some. refl, subst (FitsName (device_name_of c.args.text.now)) (sym c.open_group.ensures.handed) c.requires.named),
+      first,
       flagged_saved r.unsaved.items saved.rows s is.flags saved_rows is.whole,
     )))

@@ -41,12 +41,12 @@ invariant_of-result g c =
           c.in_ok-sheet.ensures.scratch versions c.in_ok-zeros.ensures rows saved_versions saved_rows),
       subst (λ tape. IsKept c.new.result.items made o tape s.copies saved false None 0 0) empty
           (fresh_kept def made c.in_ok-def.ensures o s c.in_ok-versions.versions.items saved c.in_ok-sheet.ensures.empty
-          c.in_ok-sheet.ensures.scratch versions c.in_ok-zeros.ensures rows saved_versions saved_rows c.new.result.items 0 0
-          (omega arith) refl),
+          c.in_ok-sheet.ensures.scratch versions c.in_ok-zeros.ensures rows saved_versions saved_rows c.in_ok-sheet.ensures.whole
+          c.new.result.items 0 0 (omega arith) refl),
       subst (λ tape. IsBookSafe c.new.result.items made.calcs (grid_of made.start made.period) o s.copies tape (LeftSince None)) empty
           (fresh_safe def made c.in_ok-def.ensures o s c.in_ok-versions.versions.items saved c.in_ok-sheet.ensures.empty
           c.in_ok-sheet.ensures.scratch versions c.in_ok-zeros.ensures rows saved_versions saved_rows c.new.result.items),
-      λ some. absurd (some c.new.ensures.items),
+      (λ some. absurd (some c.new.ensures.items), tt),
       subst (λ tape. AreRowsEvaluated made.calcs (grid_of made.start made.period) o tape s.copies s.rows s.evals) empty
           (fresh_evaluated def made c.in_ok-def.ensures o s c.in_ok-versions.versions.items saved c.in_ok-sheet.ensures.empty
           c.in_ok-sheet.ensures.scratch versions c.in_ok-zeros.ensures rows saved_versions saved_rows c.in_ok-sheet.ensures.whole),

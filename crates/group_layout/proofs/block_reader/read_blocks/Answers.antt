@@ -57,4 +57,5 @@ walk-preserved g c =
       same = c.in_ok-block.ensures.same ∙ c.walk.invariant.same;
       untimed = c.in_ok-block.ensures.untimed ∙ c.walk.invariant.untimed;
       faults = c.in_ok-block.ensures.cause.passed ∙ c.walk.invariant.faults;
+      handed = c.in_ok-block.ensures.handed ∙ c.walk.invariant.handed;
     }

@@ -12,6 +12,7 @@ invariant-walk g l = record {
   same : g.D.Disk.trace l.dev ≡ g.D.Disk.trace l.initial.dev;
   untimed : g.D.Disk.ticks l.dev ≡ g.D.Disk.ticks l.initial.dev;
   faults : g.D.Disk.fault_count l.dev ≡ g.D.Disk.fault_count l.initial.dev;
+  handed : g.D.Disk.hand_out l.dev ≡ g.D.Disk.hand_out l.initial.dev;
 }
 
 abbrev pub decreases-walk : goal.decreases-walk

@@ -12,4 +12,4 @@ returns-in-Ok-clause-run g c old others was =
     is_run _ _ _ c.args.base.now (row_lists_of c.args.rows.now) c.args.known.now c.args.log c.in-Ok.field-0 old
     (g.S.Store.device_at c.args.store.now) (g.S.Store.device_at c.give_back.new.self) (g.S.Store.fault_count c.args.store.now)
     (g.S.Store.fault_count c.give_back.new.self) _ _ _ c.in-Ok.ensures.ended was c.requires.kept c.requires.plant c.requires.tags others
-    c.give_back.ensures.others c.give_back.ensures.told c.give_back.ensures.counted c.reported.ensures
+    c.give_back.ensures.others (c.give_back.ensures.told c.in-Ok.ensures.named) c.give_back.ensures.counted c.reported.ensures

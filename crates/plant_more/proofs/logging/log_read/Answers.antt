@@ -6,7 +6,8 @@ use Rattle.value_rows.specs.declared.raw.RawRow.{RawRow}
 use Rattle.plant_more.specs.LogNotes.{row_lists_of}
 use Rattle.plant_more.specs.LogHeadline.{IsRun, IsUnopened}
 use Rattle.plant_more.specs.LogMaking.{total_rows}
-use Rattle.plant_more.specs.LogTexts.{log_name, plant_text}
+use Rattle.commit_log.specs.Devices.{log_name}
+use Rattle.plant_more.specs.LogTexts.{plant_text}
 use Rattle.plant_more.proofs.LogKept.{gains_none, kept_ready, opened_for, synced_ready, unready_for, untouched}
 use Rattle.plant_more.proofs.logging.log_read.Goals as goal
 

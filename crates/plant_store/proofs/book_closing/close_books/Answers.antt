@@ -1,5 +1,6 @@
 use Rattle.std.proofs.Common.{◌≡◌, ◌∙◌, ◌≤◌, ◌∷◌, [], ap, arith, length, length-append, subst, sym}
-use Rattle.std.specs.Vec.Iter.{into_iter_items}
+use Rattle.std.specs.Vec.Iter.{into_iter_items, into_iter_len}
+use Rattle.std.proofs.lemmas.Grind.{common_steps}
 use Rattle.group_book.specs.declared.history.GroupHistory.{GroupHistory}
 use Rattle.plant_store.specs.CellClosings.{HasRisen}
 use Rattle.plant_store.specs.BookEndings.{counts_after}
@@ -49,6 +50,14 @@ loop-book-preserved g c =
     }
 
 -- ---- all books are back
+
+none_left : (g : _) (c : After-destroy_empty g) → into_iter_len c.loop-book.rest ≡ 0
+none_left g c = grind (arith, common_steps)
+
+pub returns-clause-given : goal.returns-clause-given
+returns-clause-given g c = λ i b s below.
+    c.loop-book.invariant.going.back.given i b s
+    (omega (arith, below, none_left g (goal.at.returns-clause-given g c).After-destroy_empty, c.loop-book.invariant.going.taken))
 
 -- the faults of all devices are added
 added : (g : _) (c : After-destroy_empty g) → g.S.Store.fault_count c.loop-book.store

@@ -39,6 +39,12 @@ loop-place-preserved g c =
           (c.in_ok-book.ensures.counts (subst (λ n. n < 2 ^ 64) (sym so_far) small)).passed ∙ so_far;
     }
 
+pub open_book-requires-clause-named : goal.open_book-requires-clause-named
+open_book-requires-clause-named g c κs within =
+    (at_place c.args.groups.now c.args.names.now c.loop-place.place c.index-groups-place.result c.index-names-place.result
+    c.as_str-name.result.now c.requires.names c.loop-place-test.true c.index-groups-place.is c.index-names-place.is
+    c.as_str-name.ensures.value).named
+
 pub returns-in_err-book-clause-rest : goal.returns-in_err-book-clause-rest
 returns-in_err-book-clause-rest g c =
     let groups = c.args.groups.now in

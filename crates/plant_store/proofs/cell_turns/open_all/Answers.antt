@@ -5,6 +5,8 @@ use Rattle.std.specs.Vec.Iter.{into_iter_items, into_iter_len}
 use Rattle.std.proofs.lemmas.List.{length-drop}
 use Rattle.trend_num.specs.declared.archive.Rec.{Rec}
 use Rattle.trend_model.specs.State.{State}
+use Rattle.trend_num.specs.declared.tag_def.TagDef.{TagDef}
+use Rattle.tag_cell.specs.Devices.{device_name}
 use Rattle.snapshot_table.specs.Boards.{new_posters}
 use Rattle.snapshot_table.proofs.Places.{length-new_posters}
 use Rattle.crash_recovery.specs.Opening.{StaysSame}
@@ -48,6 +50,13 @@ pub open_one-requires-clause-unposted : goal.open_one-requires-clause-unposted
 open_one-requires-clause-unposted g c κs within =
     (posts_to (arc_value c.args.board.now) c.loop-def.def-index c.in-Some.poster (into_iter_items c.next.new.self)
     (omega (arith, c.loop-def-test.true, c.requires.places)) (sym c.loop-def.invariant.posters ∙ c.in-Some.ensures.items)).1
+
+pub open_one-requires-clause-named : goal.open_one-requires-clause-named
+open_one-requires-clause-named g c κs within =
+    (named_at c.args.names.now c.args.tags.now c.loop-def.def-index c.len-tag.result c.index-names-tag.result
+    c.as_str-name.result.now c.def-item.result c.requires.names c.loop-def-test.true c.def-item.is
+    (omega (arith, c.len-tag.ensures, c.loop-def.cells.ok.0, c.loop-def.invariant.first.count)) c.index-names-tag.is
+    c.as_str-name.ensures.value).named
 
 pub returns-in-Err-clause-others : goal.returns-in-Err-clause-others
 returns-in-Err-clause-others g c =
@@ -121,7 +130,8 @@ returns-then-records-gt-MAX_STORE_RECORDS-clause-stopped g c =
     c.loop-def.cells.items cell old now new (g.S.Store.fault_count c.args.store.now) (g.S.Store.fault_count c.open_one.new.store)
     (g.S.Store.fault_count c.close_cell.new.store) (c.loop-def.records + length c.recs.result.now) c.requires.distinct inv.first
     inv.others at.tag at.named
-    (λ n other. c.close_cell.ensures.others n other ∙ c.open_one.ensures.others n other) c.close_cell.ensures.told is number_is
+    (λ n other. c.close_cell.ensures.others n other ∙ c.open_one.ensures.others n other)
+    (c.close_cell.ensures.told (at.named ∙ ap (λ (d : TagDef). device_name d.name) (sym is.def_is))) is number_is
     c.if-records-gt-MAX_STORE_RECORDS.true (c.in-Ok.ensures.passed ∙ inv.passed) c.close_cell.ensures.counted)
 
 pub loop-def-preserved :

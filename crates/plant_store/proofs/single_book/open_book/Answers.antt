@@ -9,10 +9,19 @@ use Rattle.group_layout.specs.Images.{IsUnsaved}
 use Rattle.group_layout.specs.Readings.{GainsGroupSync}
 use Rattle.group_book.specs.Openings.{StandsForGroup, BookStaysSame}
 use Rattle.group_book.specs.Tapes.{cut}
-use Rattle.group_book.specs.Told.{trace_of}
+use Rattle.group_book.specs.Told.{device_name_of, trace_of}
 use Rattle.plant_store.specs.Groups.{group_parts_of, input_records_of, group_definition_text}
 use Rattle.plant_store.proofs.BookTurns.{held_by, same_of, still, untouched}
+use Rattle.plant_store.proofs.DeviceNames.{fits, text_names}
 use Rattle.plant_store.proofs.single_book.open_book.Goals as goal
+
+pub load-requires-clause-named : goal.load-requires-clause-named
+load-requires-clause-named g c =
+    let group = c.args.group.now in
+    let made = c.in-Ok.ensures in
+    let text : c.deref.result.now ≡ group_definition_text group = c.deref.ensures.value ∙ made.text in
+    fits (g.S.Dev.Disk.hand_out c.in-Ok-device.dev) _ _ c.in-Ok-device.ensures.named
+    (c.requires.named ∙ sym (text_names group made.named) ∙ ap device_name_of (sym text))
 
 pub returns-in_default-clause-same : goal.returns-in_default-clause-same
 returns-in_default-clause-same g c = still c.args.group.now _
@@ -38,6 +47,7 @@ returns-in-Ok-load-clause-opened g c =
       group = is.group;
       def = is.def ∙ made.def;
       text = is.text ∙ text;
+      named = ap device_name_of (is.text ∙ text) ∙ text_names group made.named;
       tags = is.tags ∙ made.tags;
       opening = record {
         stood = subst (λ (o : Option Trace). Shows o (StandsForGroup (group_definition_text group) (group_parts_of group) vs rows)) told.told

@@ -1,7 +1,7 @@
 use Rattle.std.proofs.Common.{◌∙◌, All, arith, refl, subst, sym}
 use Rattle.std.specs.Prelude.{◌≢◌}
 use Rattle.std.proofs.lemmas.List.Elements.{All-map}
-use Rattle.plant_store.specs.Tags as tag
+use Rattle.tag_cell.specs.Devices.{device_name}
 use Rattle.plant_store.specs.Groups as group
 use Rattle.plant_store.specs.CellClosings.{AreHistoriesAt}
 use Rattle.run_command.proofs.Zipped.{zip_length}
@@ -26,13 +26,13 @@ returns-clause-over g c old rest =
           c.close_plant-tags.ensures.devices;
       others = λ n no_tag no_group. c.close_plant-tags.ensures.back.others n
           (subst (All (λ name. n ≢ name)) (sym c.requires.shelf.tag_names_are)
-          (All-map (λ name. n ≢ name) (λ def. tag.device_name def.name) tags no_tag))
+          (All-map (λ name. n ≢ name) (λ def. device_name def.name) tags no_tag))
           (subst (All (λ name. n ≢ name)) (sym c.requires.shelf.group_names_are)
           (All-map (λ name. n ≢ name) (λ d. group.device_name d.name) groups no_group))
           ∙ rest n no_tag no_group;
       group_devices = groups_back g.S.Dev.Disk.trace g.S.Dev.Disk.ticks g.S.Dev.Disk.fault_count groups c.args.ended.books.items
           (g.S.Store.device_at c.args.store.now) new c.args.shelf.group_names.items c.close_plant-tags.result.1.items
-          c.requires.shelf.group_names_are (omega (arith, c.requires.books, c.args.ended.books.ok))
+          c.requires.shelf.group_names_are c.requires.shelf.groups_named (omega (arith, c.requires.books, c.args.ended.books.ok))
           c.close_plant-tags.ensures.groups c.close_plant-tags.ensures.back.of_groups;
       no_log = refl;
     }

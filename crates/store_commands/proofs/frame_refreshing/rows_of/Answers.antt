@@ -15,6 +15,7 @@ use Rattle.store_commands.specs.FrameRows.{AreFrameRows, IsFrameRowsRefusal}
 use Rattle.store_commands.specs.GroupRows.{tag_records}
 use Rattle.store_commands.specs.Refreshing.{IsOverIn, IsRefreshedOnce, book_cells}
 use Rattle.store_commands.proofs.FrameBooks.{all_times, given_back, inputs_copied, not_opened, over_book, rows_of_book}
+use Rattle.group_book.specs.Told.{device_name_of}
 use Rattle.store_commands.proofs.frame_refreshing.rows_of.Goals as goal
 
 pub returns-in_default-clause-same : goal.returns-in_default-clause-same
@@ -93,7 +94,9 @@ returns-clause-refused g c =
     c.in-Ok-open_book.ensures.opened) in
     let given = given_back D.trace D.ticks D.fault_count i group records (group_trace_at old group) book opened closed (group_trace_at mid group)
     (group_trace_at new group) (ap (λ b. b.dev) c.in-Err-refreshed.ensures.unchanged)
-    (subst (λ n. new n ≡ trace_after D.trace closed.dev (mid n)) c.requires.name c.close_book-history.ensures.given) in
+    (subst (λ n. new n ≡ trace_after D.trace closed.dev (mid n)) c.requires.name
+    (c.close_book-history.ensures.given (c.requires.name ∙ sym opened.named
+    ∙ ap (λ b. device_name_of b.text) (sym c.in-Err-refreshed.ensures.unchanged)))) in
     subst (IsFrameRowsRefusal i group recovered (group_trace_at old group) (group_trace_at new group) before now) (sym c.refusal_of.ensures)
     (over_book D.trace D.ticks D.fault_count i group records (group_trace_at old group) book opened (group_trace_at new group) before now
     c.in-Err-refreshed.no c.refresh_once-refreshed.ensures.same_grid

@@ -7,6 +7,8 @@ use Rattle.crash_recovery.specs.Journals.{AllRecover}
 use Rattle.device_layout.specs.Recovery.{Recovers}
 use Rattle.crash_recovery.specs.Opening.{IsOpenedAs}
 use Rattle.disk_model.specs.Calls.{Shows}
+use Rattle.disk_model.specs.Traces.{FitsName}
+use Rattle.tag_cell.specs.Devices.{device_name}
 use Rattle.tag_cell.specs.declared.history.TagOpening.{TagOpening}
 use Rattle.tag_cell.specs.Tapes.{opened}
 use Rattle.tag_cell.proofs.Openings.{same_state, open_replayed, open_in_step, open_has_room, open_waits, open_kept, open_safe, open_posted}
@@ -40,6 +42,7 @@ invariant_of-result g c =
       open_safe def o tape trace (g.D.Disk.ticks dev) none (g.met.D.Disk.told dev) c.clock.ensures recovers,
       open_posted (arc_value c.args.board) c.args.poster c.post.new.poster c.summary-summary.result found.core.state c.requires.here
           c.post.ensures summary,
+      subst (FitsName (device_name def.name)) (sym told.handed) c.requires.named,
     )
 
 pub returns-clause-opened : goal.returns-clause-opened

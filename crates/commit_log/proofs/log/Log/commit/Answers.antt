@@ -2,7 +2,8 @@ use Rattle.std.proofs.Common.{◌≡◌, ℕ, ◌+◌, ◌-◌, ◌≤◌, true,
 use Rattle.std.specs.Prelude.{vec_capacity}
 use Rattle.disk_model.specs.Calls.{Sees}
 use Rattle.disk_model.specs.Gates.{open_byte}
-use Rattle.disk_model.specs.Traces.{seen, written}
+use Rattle.disk_model.specs.Traces.{FitsName, seen, written}
+use Rattle.commit_log.specs.Devices.{log_name}
 use Rattle.commit_log.specs.declared.history.LogAcked.{LogAcked}
 use Rattle.commit_log.specs.declared.history.LogTurn.{LogTurn}
 use Rattle.commit_log.specs.declared.history.LogTurn.TheVariants.{Commit}
@@ -116,6 +117,10 @@ ends g c is =
       is.long,
     )
 
+-- the device is still the log's own
+own : (g : given.Over) (c : After-write_guarded g) → FitsName log_name (g.D.Disk.hand_out c.write_guarded.new.dev)
+own g c = subst (FitsName log_name) (sym c.write_guarded.ensures.handed) c.self.invariant.5
+
 pub invariant_of-self-in-Ok : goal.invariant_of-self-in-Ok
 invariant_of-self-in-Ok g c =
     let s = c.self.inside in
@@ -125,17 +130,18 @@ invariant_of-self-in-Ok g c =
     let is = block g at in
     let room : length s.tape.items + (s.room - s.count) + 1 ≤ vec_capacity c.push_reserved.new.self
     = omega (arith, c.in_ok-make_places.ensures.room, c.push_reserved.ensures.capacity, was.1.within, s.tape.ok) in
-    committed _ _ _ _ _ _ _ _ _ _ _ _ was.0 was.2 (kept g at) _ _ _ is (some g at) (few g at) _ _ _ c.in-Ok.ensures.clock
+    let now = committed _ _ _ _ _ _ _ _ _ _ _ _ was.0 was.2 (kept g at) _ _ _ is (some g at) (few g at) _ _ _ c.in-Ok.ensures.clock
     c.write_guarded.ensures.any_moment c.in-Ok.ensures.reads c.in-Ok.ensures.settled (g.met.D.Disk.told c.write_guarded.new.dev) _
     (longer g here.After-push_reserved) _ _ s.count s.room c.in-Some.end s.failed c.if-self.false (counted g at) was.1 room
-    (ends g here.After-push_reserved is) c.in-Ok.ensures.cause.passed was.4
+    (ends g here.After-push_reserved is) c.in-Ok.ensures.cause.passed was.4 in
+    (now.0, now.1, now.2, now.3, now.4, own g at)
 
 pub invariant_of-self-in-Err : goal.invariant_of-self-in-Err
 invariant_of-self-in-Err g c =
     let s = c.self.inside in
     let was = c.self.invariant in
     let at = (goal.at.invariant_of-self-in-Err g c).After-write_guarded in
-    same_tape _ _ _ _ s.faults s.tape.items c.make_places.new.tape.items (vec_capacity s.tape) (vec_capacity c.make_places.new.tape)
+    let now = same_tape _ _ _ _ s.faults s.tape.items c.make_places.new.tape.items (vec_capacity s.tape) (vec_capacity c.make_places.new.tape)
     s.count s.room s.next s.acked s.end true (g.D.Disk.trace c.write_guarded.new.dev) _ _ c.make_places.ensures.same
     c.make_places.ensures.more (
       was.0,
@@ -145,7 +151,8 @@ invariant_of-self-in-Err g c =
           c.write_guarded.ensures.later c.in-Err.ensures.cause.failed,
       writing_safe _ _ _ _ _ _ _ _ _ _ _ _ was.0 was.2 (kept g at) _ _ _ (block g at) (some g at) (few g at) _ was.4
           c.write_guarded.ensures.any_moment,
-    )
+    ) in
+    (now.0, now.1, now.2, now.3, now.4, own g at)
 
 pub returns-in-Ok-clause-committed : goal.returns-in-Ok-clause-committed
 returns-in-Ok-clause-committed g c = λ more.

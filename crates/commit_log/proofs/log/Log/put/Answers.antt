@@ -17,7 +17,7 @@ invariant_of-self g c =
     let tape = s.tape.items in
     let places = vec_capacity c.push_reserved.new.self in
     let tag : row.tag < s.tags = omega (arith, c.if-row-self.false) in
-    subst (λ (l : List LogTurn). IsLogLegal s.tags o s.moment l s.acked × HasRoomForPuts o l places (s.count + 1) s.room × Waits o l s.next s.acked
+    let now = subst (λ (l : List LogTurn). IsLogLegal s.tags o s.moment l s.acked × HasRoomForPuts o l places (s.count + 1) s.room × Waits o l s.next s.acked
     × IsKept s.plant.items s.tags o s.moment s.faults l s.next s.end s.failed (D.trace s.dev) (D.ticks s.dev) (D.fault_count s.dev)
     × IsLogSafe s.plant.items s.tags o s.moment l (LeftSince (D.trace s.dev))) (sym c.push_reserved.ensures.items) (
       put_legal s.tags o s.moment tape row s.acked was.0 (record { tag = tag; point = c.requires }),
@@ -27,4 +27,5 @@ invariant_of-self g c =
       put_kept s.tags o s.moment tape row s.plant.items s.faults s.next s.end s.acked s.failed (D.trace s.dev) (D.ticks s.dev)
           (D.fault_count s.dev) was.2 was.3,
       put_safe s.tags o s.moment tape row s.plant.items (LeftSince (D.trace s.dev)) was.4,
-    )
+    ) in
+    (now.0, now.1, now.2, now.3, now.4, was.5)

@@ -4,7 +4,7 @@ use Rattle.trend_num.specs.declared.tag_def.TagDef.{TagDef}
 use Rattle.trend_model.specs.History.{Raw}
 use Rattle.trend_model.specs.State.{State, replay}
 use Rattle.disk_model.specs.Moments.{During}
-use Rattle.disk_model.proofs.Moments.{during_now}
+use Rattle.disk_model.proofs.Moments.{after_both, during_now}
 use Rattle.crash_recovery.specs.declared.seat.Seat.{Seat}
 use Rattle.device_layout.specs.Recovery.{AllFit, Recovers}
 use Rattle.crash_recovery.specs.Journals.{AllRecover, RecoversEither, SeatedOn}
@@ -74,3 +74,9 @@ returns-in-Ok-clause-seated g c =
     (append_seated q c.args.points.now batch _ _ c.in_ok-close_stale.ensures.laid
     (c.append_batch.ensures.any_moment (clear g at).free)
     c.in-Ok.ensures.settled c.in-Ok.ensures.reads))
+
+pub returns-in-Ok-clause-continues : goal.returns-in-Ok-clause-continues
+returns-in-Ok-clause-continues g c = after_both _ _ _ c.close_stale.ensures.continues c.append_batch.ensures.continues
+
+pub returns-in-Err-DeviceFault-clause-continues : goal.returns-in-Err-DeviceFault-clause-continues
+returns-in-Err-DeviceFault-clause-continues g c = after_both _ _ _ c.close_stale.ensures.continues c.append_batch.ensures.continues

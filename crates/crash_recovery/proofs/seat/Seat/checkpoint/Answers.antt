@@ -1,10 +1,11 @@
 use Rattle.trend_num.specs.declared.tag_def.TagDef.{TagDef}
 use Rattle.trend_model.specs.State.{State}
-use Rattle.disk_model.specs.Moments.{During}
-use Rattle.disk_model.proofs.Moments.{during_now}
+use Rattle.disk_model.specs.Traces.{Trace}
+use Rattle.disk_model.specs.Moments.{ComesAfter, During}
+use Rattle.disk_model.proofs.Moments.{after_both, after_self, during_now}
 use Rattle.device_layout.specs.Recovery.{Recovers}
 use Rattle.crash_recovery.specs.Journals.{AllRecover, GoesOnFrom, RecoversEither}
-use Rattle.std.proofs.Common.{◌≡◌, ◌+◌, ap, subst, length}
+use Rattle.std.proofs.Common.{◌≡◌, ◌+◌, Option, ap, subst, length}
 use Rattle.disk_model.specs.Calls.{Shows}
 use Rattle.crash_recovery.specs.Seats.{log_calls}
 use Rattle.crash_recovery.proofs.Calls.{checkpoint_counted}
@@ -108,3 +109,36 @@ returns-clause-calls g c = λ more.
     ≡ g.D.Disk.ticks c.close_stale.new.dev + log_calls c.close_stale.new.self (length rs) b)) c.recs.ensures.value
     c.in_ok-log_records.ensures.calls) c.in_ok-log_records.ensures.gates c.in-Ok-put_summary.ensures.clock c.in-Ok-put_summary.ensures.gates
     c.in-Ok-close_stale.ensures.calls
+
+pub returns-then-has_all_of-clause-continues : goal.returns-then-has_all_of-clause-continues
+returns-then-has_all_of-clause-continues g c = after_self _
+
+pub returns-then-taken-self-clause-continues : goal.returns-then-taken-self-clause-continues
+returns-then-taken-self-clause-continues g c = after_self _
+
+pub returns-in_err-log_records-clause-continues : goal.returns-in_err-log_records-clause-continues
+returns-in_err-log_records-clause-continues g c = after_both _ _ _ c.close_stale.ensures.continues c.log_records.ensures.continues
+
+-- once the records are written
+then_logged : (g : given.Over) (c : After-log_records g) → ComesAfter (g.D.Disk.trace c.args.dev.now) (g.D.Disk.trace c.log_records.new.dev)
+then_logged g c = after_both _ _ _ c.close_stale.ensures.continues c.log_records.ensures.continues
+
+pub returns-in_default-put_summary-clause-continues : goal.returns-in_default-put_summary-clause-continues
+returns-in_default-put_summary-clause-continues g c =
+    after_both _ _ _ (then_logged g (goal.at.returns-in_default-put_summary-clause-continues g c).After-log_records)
+    c.put_summary.ensures.continues
+
+-- and once the gates are closed
+then_closed : (g : given.Over) (c : After-close_stale-2 g) (o : Option Trace)
+    → ComesAfter o (g.D.Disk.trace c.log_records.new.dev) → ComesAfter o (g.D.Disk.trace c.close_stale-2.new.dev)
+then_closed g c o before = after_both _ _ _ (after_both _ _ _ before c.put_summary.ensures.continues) c.close_stale-2.ensures.continues
+
+pub returns-in_default-close_stale-clause-continues : goal.returns-in_default-close_stale-clause-continues
+returns-in_default-close_stale-clause-continues g c =
+    let here = goal.at.returns-in_default-close_stale-clause-continues g c in
+    then_closed g here.After-close_stale-2 _ (then_logged g here.After-log_records)
+
+pub returns-clause-continues : goal.returns-clause-continues
+returns-clause-continues g c =
+    let here = goal.at.returns-clause-continues g c in
+    then_closed g here.After-close_stale-2 _ (then_logged g here.After-log_records)

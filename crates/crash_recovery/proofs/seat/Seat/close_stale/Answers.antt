@@ -1,6 +1,6 @@
 use Rattle.std.proofs.Common.{false, subst, sym}
 use Rattle.disk_model.specs.Images.{Now}
-use Rattle.disk_model.proofs.Moments.{started}
+use Rattle.disk_model.proofs.Moments.{after_self, started}
 use Rattle.event_queue.specs.Places.{HasRoom}
 use Rattle.device_layout.specs.Recovery.{Recovers}
 use Rattle.crash_recovery.specs.Seats.{LaidOn}
@@ -39,3 +39,12 @@ returns-clause-laid g c =
     c.if-not-self.false
     c.in_ok-restart.ensures.settled (subst (λ l. Now new (HasRoom l.slots l.used)) moved
     c.in_ok-restart.ensures.room_left))
+
+pub returns-then-not-self-clause-continues : goal.returns-then-not-self-clause-continues
+returns-then-not-self-clause-continues g c = after_self _
+
+pub returns-in_err-restart-clause-continues : goal.returns-in_err-restart-clause-continues
+returns-in_err-restart-clause-continues g c = c.restart.ensures.any_moment.later
+
+pub returns-clause-continues : goal.returns-clause-continues
+returns-clause-continues g c = c.restart.ensures.any_moment.later

@@ -1,5 +1,6 @@
 use Rattle.std.proofs.Common.{◌∙◌, refl, ap, length, drop, rules}
 use Rattle.archive_file.specs.Records.{recs_image}
+use Rattle.disk_model.proofs.Moments.{after_both}
 use Rattle.device_layout.specs.Recovery.{summary_gate}
 use Rattle.crash_recovery.specs.Seats.{spare_slot}
 use Rattle.crash_recovery.proofs.Logged.{put_moments, gates_torn, log_moments, log_laid, ready_on}
@@ -43,6 +44,8 @@ returns-in-Ok g c =
           c.in_ok-put_new_records.ensures.reads) c.in_ok-put_new_records.ensures.calls c.in-Ok.ensures.calls;
       unwritten = search rules;
       cause = search rules;
+      continues = after_both _ _ _ c.put_new_records.ensures.any_moment.later c.close_gates.ensures.any_moment.later;
+      handed = search rules;
       later = search rules;
     }
 
@@ -53,3 +56,10 @@ returns-in-Err-clause-any_moment g c = λ def s all.
     let n = length (recs_image (drop p.records c.args.recs.now)) in
     log_moments p n c.gate.result gate _ _ c.requires.laid c.put_new_records.ensures.any_moment _
     c.close_gates.ensures.any_moment def s all
+
+pub returns-in_err-put_new_records-clause-continues : goal.returns-in_err-put_new_records-clause-continues
+returns-in_err-put_new_records-clause-continues g c = c.put_new_records.ensures.any_moment.later
+
+pub returns-in-Err-clause-continues : goal.returns-in-Err-clause-continues
+returns-in-Err-clause-continues g c =
+    after_both _ _ _ c.put_new_records.ensures.any_moment.later c.close_gates.ensures.any_moment.later

@@ -71,4 +71,9 @@ returns g c =
       clock = search rules;
       later = search rules;
       cause = search rules;
+      continues = c.write_guarded.ensures.any_moment.later;
+      handed = search rules;
     }
+
+pub returns-in_default-clause-continues : goal.returns-in_default-clause-continues
+returns-in_default-clause-continues g c = c.write_guarded.ensures.any_moment.later

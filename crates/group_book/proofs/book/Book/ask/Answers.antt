@@ -34,7 +34,7 @@ invariant_of-self-2 g c =
           ↔ ((a.calc < length h.calcs) × (a.k < complete_windows grid b.sheet.copies))) c.self.invariant.0.same_group
           (subst (λ (w : Grid). IsSome c.row-reply.result
           ↔ ((a.calc < length b.sheet.group.calcs) × (a.k < complete_windows w b.sheet.copies))) c.self.invariant.0.same_grid
-          c.row-reply.ensures.there)))),
+          c.row-reply.ensures.there))) c.self.invariant.5.rows_are),
       subst (λ l. IsKept b.text.items b.def b.opening l b.sheet.copies saved b.failed (trace_of g.D.Disk.trace b.dev)
           (count_of g.D.Disk.ticks b.dev) (count_of g.D.Disk.fault_count b.dev)) (sym told)
           (kept_asked b.text.items b.def b.opening tape b.sheet.copies saved b.failed (trace_of g.D.Disk.trace b.dev)

@@ -8,6 +8,7 @@ use Rattle.calc_check.specs.Group.{Group}
 use Rattle.disk_model.specs.Gates.{IsShut}
 use Rattle.disk_model.specs.Images.{Now}
 use Rattle.disk_model.specs.Moments.{LeftSince}
+use Rattle.disk_model.specs.Traces.{FitsName}
 use Rattle.sheet_law.specs.declared.grid.Grid.{Grid}
 use Rattle.sheet_law.specs.Windows.{complete_windows}
 use Rattle.calc_refresh.specs.Lists.{lists_of}
@@ -18,7 +19,7 @@ use Rattle.group_book.specs.declared.turn.Turn.TheVariants.{Save}
 use Rattle.group_book.specs.Crashes.{IsBookSafe}
 use Rattle.group_book.specs.Histories.{AreRowsEvaluated}
 use Rattle.group_book.specs.Saves.{HasAllChanges, IsSaved, ListsChanges}
-use Rattle.group_book.specs.Told.{IsKept, IsOnDevice, Saved, ToldBook, count_of, trace_of}
+use Rattle.group_book.specs.Told.{IsAtHome, IsKept, IsOwnDevice, Saved, ToldBook, count_of, device_name_of, trace_of}
 use Rattle.group_book.proofs.Evaluations.{evaluated_saved}
 use Rattle.group_book.proofs.Flags.{flagged_changes, flagged_saved}
 use Rattle.group_book.proofs.Saving.{IsNextBlock, KeepsAll, book_saved, keeps_alike, kept_faulted, kept_there, next_block_is, safe_writing}
@@ -53,6 +54,13 @@ safe g c =
     subst (λ d. IsBookSafe s.text.items s.def.calcs (grid_of s.def.start s.def.period) s.opening s.sheet.copies s.tape.items
     (LeftSince (trace_of g.D.Disk.trace d))) c.in-Some.is c.self.invariant.3
 
+-- it is still the group's own
+own_after : (g : given.Over) (c : After-put_block g) → IsOwnDevice g.D.Disk.hand_out c.self.inside.text.items (Some c.put_block.new.dev)
+own_after g c =
+    let text = c.self.inside.text.items in
+    subst (FitsName (device_name_of text)) (sym c.put_block.ensures.handed)
+    (subst (IsOwnDevice g.D.Disk.hand_out text) c.in-Some.is c.self.invariant.4.1)
+
 -- the block is the next one
 next : (g : given.Over) (c : After-put_block g)
     → let s = c.self.inside in
@@ -71,9 +79,9 @@ whole g c =
     let s = c.self.inside in
     let was = c.self.invariant in
     record {
-      calcs = was.5.calcs ∙ ap (λ (h : Group). length h.calcs) (sym was.0.same_group);
+      calcs = was.5.rows_are.calcs ∙ ap (λ (h : Group). length h.calcs) (sym was.0.same_group);
       windows = subst (λ (w : Grid). All (λ row. length row ≡ complete_windows w s.sheet.copies) s.sheet.rows) (sym was.0.same_grid)
-          was.5.windows;
+          was.5.rows_are.windows;
     }
 
 -- with room for more windows the saved rows are the same
@@ -128,7 +136,7 @@ invariant_of-self-in-Ok g c =
     } in
     let end_is : c.in-Ok.end ≡ s.end + block_size b = c.in-Ok.ensures.next in
     let kept' = book_saved s.text.items s.def s.opening tape s.versions.items copies s.sheet.rows saved (D.trace c.in-Some.dev)
-    (D.ticks c.in-Some.dev) (D.fault_count c.in-Some.dev) was.0.group was.0.grid was.0.copies was.1 kept b is (D.trace c.put_block.new.dev)
+    (D.ticks c.in-Some.dev) (D.fault_count c.in-Some.dev) was.0.group was.0.grid was.0.copies was.1 was.5.rows_are kept b is (D.trace c.put_block.new.dev)
     moment (omega (arith, c.in-Ok.ensures.clock)) c.put_block.ensures.any_moment c.in-Ok.ensures.reads c.in-Ok.ensures.settled
     (subst (λ (n : ℕ). Now (D.trace c.put_block.new.dev) (IsShut n)) end_is c.in-Ok.ensures.ready) (g.met.D.Disk.told c.put_block.new.dev)
     c.push_reserved.new.self.items next s.failed (D.fault_count c.put_block.new.dev) longer
@@ -138,7 +146,7 @@ invariant_of-self-in-Ok g c =
       kept'.0,
       kept'.1,
       kept'.2,
-      λ some. refl,
+      (λ some. refl, own_after g at),
       subst (λ l. AreRowsEvaluated s.def.calcs grid s.opening l copies s.sheet.rows s.sheet.evals) (sym longer)
           (evaluated_saved s.def.calcs grid s.opening copies s.sheet.rows s.sheet.evals tape b.number moment was.5),
       flagged_saved c.clear_flags.new.flags.items rows s.sheet
@@ -225,7 +233,7 @@ invariant_of-self-in-Err-DeviceFault g c =
     let new = D.trace c.put_block.new.dev in
     let ticks' : ℕ = D.ticks c.put_block.new.dev in
     let faults' : ℕ = D.fault_count c.put_block.new.dev in
-    keeps_alike s.text.items s.def s.tags.items s.opening s.versions.items s.sheet saved true new ticks' faults' (IsOnDevice s.text.items (Some c.put_block.new.dev))
+    keeps_alike s.text.items s.def s.tags.items s.opening s.versions.items s.sheet saved true new ticks' faults' (IsAtHome D.hand_out s.text.items (Some c.put_block.new.dev))
     tape c.make_place.new.tape.items saved.rows
     (lists_of (with_items s.saved_rows c.make_room.new.rows).items) s.unsaved.items c.make_room.new.flags.items c.make_place.ensures.same
     (roomy s.saved_rows c.deref_mut.result.now c.make_room.new.rows (omega (arith, c.make_room.auto.rows, c.deref_mut.ensures.len))
@@ -233,12 +241,12 @@ invariant_of-self-in-Err-DeviceFault g c =
       was.0,
       was.1,
       kept_faulted s.text.items s.def s.opening tape s.versions.items copies s.sheet.rows saved (D.trace c.in-Some.dev)
-          (D.ticks c.in-Some.dev) (D.fault_count c.in-Some.dev) was.0.group was.0.grid was.0.copies was.1 kept b is new ticks' faults'
-          c.put_block.ensures.later (c.in-Err-DeviceFault.ensures.cause.failed (ap Err c.in-Err-DeviceFault.field-0-is)),
+          (D.ticks c.in-Some.dev) (D.fault_count c.in-Some.dev) was.0.group was.0.grid was.0.copies was.1 was.5.rows_are kept b is new ticks' faults'
+          c.put_block.ensures.any_moment.later c.put_block.ensures.later (c.in-Err-DeviceFault.ensures.cause.failed (ap Err c.in-Err-DeviceFault.field-0-is)),
       safe_writing s.text.items s.def s.opening tape s.versions.items copies s.sheet.rows saved (D.trace c.in-Some.dev)
-          (D.ticks c.in-Some.dev) (D.fault_count c.in-Some.dev) was.0.group was.0.grid was.0.copies was.1 kept b is safe new
+          (D.ticks c.in-Some.dev) (D.fault_count c.in-Some.dev) was.0.group was.0.grid was.0.copies was.1 was.5.rows_are kept b is safe new
           c.put_block.ensures.any_moment,
-      λ some. refl,
+      (λ some. refl, own_after g at),
       was.5,
       was.6,
     )
@@ -250,12 +258,12 @@ invariant_of-self-in_err-make_room g c =
     let saved : Saved
     = record { number = s.number; versions = s.saved_versions.items; rows = lists_of s.saved_rows.items; end = s.end } in
     keeps_alike s.text.items s.def s.tags.items s.opening s.versions.items s.sheet saved s.failed (D.trace c.in-Some.dev) (D.ticks c.in-Some.dev)
-    (D.fault_count c.in-Some.dev) (IsOnDevice s.text.items (Some c.in-Some.dev)) s.tape.items c.make_place.new.tape.items saved.rows
+    (D.fault_count c.in-Some.dev) (IsAtHome D.hand_out s.text.items (Some c.in-Some.dev)) s.tape.items c.make_place.new.tape.items saved.rows
     (lists_of (with_items s.saved_rows c.make_room.new.rows).items) s.unsaved.items c.make_room.new.flags.items c.make_place.ensures.same
     (roomy s.saved_rows c.deref_mut.result.now c.make_room.new.rows (omega (arith, c.make_room.auto.rows, c.deref_mut.ensures.len))
     c.make_room.ensures.same_rows c.deref_mut.ensures.value) c.make_room.ensures.same_flags
     (subst (λ d. KeepsAll s.text.items s.def s.tags.items s.opening s.versions.items s.sheet saved s.failed (trace_of D.trace d)
-    (count_of D.ticks d) (count_of D.fault_count d) (IsOnDevice s.text.items d) s.tape.items saved.rows s.unsaved.items)
+    (count_of D.ticks d) (count_of D.fault_count d) (IsAtHome D.hand_out s.text.items d) s.tape.items saved.rows s.unsaved.items)
     c.in-Some.is c.self.invariant)
 
 pub invariant_of-self-in-Err-WantOfMemory : goal.invariant_of-self-in-Err-WantOfMemory
@@ -265,12 +273,12 @@ invariant_of-self-in-Err-WantOfMemory g c =
     let saved : Saved
     = record { number = s.number; versions = s.saved_versions.items; rows = lists_of s.saved_rows.items; end = s.end } in
     keeps_alike s.text.items s.def s.tags.items s.opening s.versions.items s.sheet saved s.failed (D.trace c.put_block.new.dev) (D.ticks c.put_block.new.dev)
-    (D.fault_count c.put_block.new.dev) (IsOnDevice s.text.items (Some c.put_block.new.dev)) s.tape.items c.make_place.new.tape.items saved.rows
+    (D.fault_count c.put_block.new.dev) (IsAtHome D.hand_out s.text.items (Some c.put_block.new.dev)) s.tape.items c.make_place.new.tape.items saved.rows
     (lists_of (with_items s.saved_rows c.make_room.new.rows).items) s.unsaved.items c.make_room.new.flags.items c.make_place.ensures.same
     (roomy s.saved_rows c.deref_mut.result.now c.make_room.new.rows (omega (arith, c.make_room.auto.rows, c.deref_mut.ensures.len))
     c.make_room.ensures.same_rows c.deref_mut.ensures.value) c.make_room.ensures.same_flags
     (subst (λ d. KeepsAll s.text.items s.def s.tags.items s.opening s.versions.items s.sheet saved s.failed (trace_of D.trace d)
-    (count_of D.ticks d) (count_of D.fault_count d) (IsOnDevice s.text.items d) s.tape.items saved.rows s.unsaved.items)
+    (count_of D.ticks d) (count_of D.fault_count d) (IsAtHome D.hand_out s.text.items d) s.tape.items saved.rows s.unsaved.items)
     (c.in-Some.is ∙ ap Some (sym (c.in-Err-WantOfMemory.ensures.no_memory (ap Err c.in-Err-WantOfMemory.field-0-is)))) c.self.invariant)
 
 pub next_block-requires : goal.next_block-requires

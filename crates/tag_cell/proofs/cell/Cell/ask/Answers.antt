@@ -43,4 +43,5 @@ invariant_of-self-2 g c =
           tt was.3.within was.4 longer,
       safe_entry s.def s.opening tape tape' e (LeftSince (g.D.Disk.trace dev)) tt was.5 longer,
       was.6,
+      was.7,
     )

@@ -2,6 +2,8 @@ use Rattle.std.proofs.Common.{◌≡◌, ◌∙◌, ℕ, ◌+◌, ◌-◌, ◌<�
 use Rattle.std.proofs.lemmas.List.{append-nil}
 use Rattle.std.specs.Prelude.{vec_capacity}
 use Rattle.disk_model.specs.Moments.{LeftSince}
+use Rattle.disk_model.specs.Traces.{FitsName}
+use Rattle.tag_cell.specs.Devices.{device_name}
 use Rattle.tag_cell.specs.declared.entry.Entry.{Entry}
 use Rattle.tag_cell.specs.declared.entry.Entry.TheVariants.{Commit}
 use Rattle.tag_cell.specs.Tapes.{taken, last_records}
@@ -98,6 +100,7 @@ invariant_of-self-in_err-entries g c =
           (g.D.Disk.ticks s.journal.dev) (g.D.Disk.fault_count s.journal.dev) was.0 was.1 was.3 was.4 fine from
           c.write_waiting.ensures.any_moment)),
       was.6,
+      subst (FitsName (device_name s.def.name)) (sym c.write_waiting.ensures.handed) was.7,
     )
 
 pub returns-in_err-entries-clause-idle : goal.returns-in_err-entries-clause-idle
@@ -167,6 +170,7 @@ invariant_of-self-2 g c =
       commit_safe s.def o tape tape' new s.next n ticks' journal'.acked safe longer reach waits'.acked_are
           (g.met.D.Disk.told journal'.dev) (λ few. kept'.recovers wrote.usable few),
       was.6,
+      subst (FitsName (device_name s.def.name)) (sym c.write_waiting.ensures.handed) was.7,
     )
 
 pub returns-clause-idle : goal.returns-clause-idle

@@ -47,4 +47,5 @@ invariant_of-self-2 g c =
       safe_entry s.def s.opening tape tape' e (LeftSince (g.D.Disk.trace dev)) tt was.5 longer,
       take_posted (arc_value s.board) s.poster c.post.new.poster c.taken.result held s.core.state core'.state was.6 c.post.ensures
           c.taken.ensures took.held,
+      was.7,
     )
