@@ -7,7 +7,7 @@ import json
 import os
 
 from devices import begins
-from plant import CHANGED, UNREADABLE, Refusal, write_whole
+from files import BUSY, CHANGED, UNREADABLE, Refusal, write_whole
 from seals import SHOWN, copy_of, counted, differences, require_sealed, seal, sealed, sealed_events
 from turns import stored_scales
 
@@ -79,13 +79,15 @@ def where_to_find(plant, device):
     try:
         sha = sealed(plant)[device]
     except (Refusal, KeyError, TypeError):  # damaged seals, none of this device, none at all
-        return "Put it back; if you have it no more, put the whole plant back from a backup (docs/RUNNING.md, Backup)."
+        return "Put it back; if you have it no more, put the whole plant back from a backup: feed.py --restore last."
     return "If you have it elsewhere, put it back. " + copy_of(plant, device, sha)
 
 
 def begun_anew(plant, names):
     """Has the program make the devices of tags anew, empty, that are gone, and seals them. All other devices have to be as they were
     sealed. A stop before the end leaves the seals as they were, so the next feed refuses, and --seal accepts the empty devices."""
+    if os.path.exists(plant.path("feed.d", "base.new.toml")):
+        raise Refusal(BUSY, "the feeder was stopped while it took an edited base.toml over: run feed.py first")
     base = plant.fed_base()
     require_gone(plant, names, *plant.base(base))
     require_sealed(plant, [device_of(name) for name in names])
@@ -106,7 +108,8 @@ def require_gone(plant, names, tags, groups):
     there = [file for file in files if os.path.lexists(plant.path(file))]
     if there:
         raise Refusal(CHANGED, "nothing was done: to begin %s anew, first move away what stands there, and keep it: %s. (The rows of a"
-                      " group are made anew.)" % (", ".join(names), ", ".join(there)))
+                      " group are made anew. If a feed.py --anew was stopped, these are the empty devices that it made: then feed.py"
+                      " --seal accepts them.)" % (", ".join(names), ", ".join(there)))
     gone = lost(plant)
     unused = [name for name in names if name not in gone]
     if unused:

@@ -1,210 +1,143 @@
 #!/usr/bin/env python3
-"""ask.py: asks a plant's archive, and prints CSV with ISO times and with values divided by each tag's scale.
+"""ask.py: asks a plant's archive, and prints CSV (on a terminal columns), with times on the plant's clock and values in their units.
 
-    ask.py QUERY..                                   one line for each answer
-    ask.py --csv TAG FROM TO [--every MILLISECONDS]  the points of the archive, or values at equal steps
+    ask.py QUERY..                                one line for each answer
+    ask.py --tags [WORD..]                        a line for each tag: newest value, age, how full it is; WORDs are parts of its name or
+                                                  descriptor
+    ask.py --csv TAG FROM TO [--every STEP]       the points of a tag, or its values at equal steps
+    ask.py --table TAG.. FROM TO [--every STEP]   the same of several tags, with a column for each; with --measure AVG or another
+                                                  measure, the measure of each step
+    ask.py --shifts CALENDAR DAY [DAYS]           the figures of a calendar's shifts, of the running one until the newest value
+    ask.py --frames GROUP CALC LEAST [FROM TO]    when a calculation was true for LEAST windows or more
 
-A query is a row of a reader's file (docs/FORMATS.md): at,TAG,T  points,TAG,FROM,TO  avg,TAG,FROM,TO (and area total low high count
-first last)  snap,TAG  row,GROUP,CALC,K. Times are ISO 8601 or milliseconds; the K of a row may be a time in that window. `area` is
-twice the area, in value times milliseconds, and `total` is value times seconds, as the program has them.
+A query is at,TAG,T  points,TAG,FROM,TO  snap,TAG  avg,TAG,FROM,TO (and area total low high count first last; docs/FORMATS.md)  or
+row,GROUP,CALC,T. `total` is value times seconds; total/h is divided by the seconds of an hour, so that of m3/h it is m3 (also /min, /s, /d,
+or a number). `area` is twice the area, in value times milliseconds.
 
-It asks with the base of the last feed and holds the plant's lock meanwhile, so it changes nothing in the archive. If a device is not as
-the last turn left it, it says so and asks nothing: the program would begin a missing device anew, and finds few of the bits that flip."""
-import argparse
-import csv
-import os
+A time is ISO 8601, milliseconds, `now`, `today`, `yesterday`, `14:30`, `newest` (the tag's newest value), -8h (before now), today+6h or
+newest-1d. A STEP is 500ms, 10s, 15min, 1h, 1d; a number alone is milliseconds.
+
+It asks copies of the devices, which it takes while no turn of the feeder runs. So it changes nothing, and needs no right to write."""
 import sys
-import tempfile
 
-import seals
-from devices import TUNING
+import answers
+import clock
+import reading
+from fields import MOST_TIME, BadField
+from options import parsed, parser_of
 from plant import UNREADABLE, Plant, Refusal, ended
-from rows import BadField, decimal_text, iso_text, milliseconds
-from turns import require_scales
+from tables import TAGS, Table, export, printed, tag_lines
 
-READERS, QUERIES = 16, 4_096   # of a plan; of a reader's file
-PARTS = 16                     # into which a stretch with more points is divided
-MEASURES = ("area", "avg", "total", "low", "high", "count", "first", "last")
-WAIT = 60                      # seconds for the feeder's turn to end, if --wait does not say otherwise
+MODES = {"tags": (0, None), "csv": (3, 3), "table": (3, None), "shifts": (2, 3), "frames": (3, 5)}  # how many words each takes
 
 
-class Archive:
-    """What can be asked of a plant whose lock is held."""
-
-    def __init__(self, plant):
-        self.plant = plant
-        self.base = plant.fed_base()
-        seals.require_good(plant)
-        self.tags, self.groups = plant.base(self.base)
-        require_scales(plant, self.tags)
-
-    def replies(self, queries):
-        """The text of each reply. As many questions as fit go to the program at once."""
-        texts = []
-        for first in range(0, len(queries), READERS * QUERIES):
-            texts += self.replies_at_once(queries[first:first + READERS * QUERIES])
-        return texts
-
-    def replies_at_once(self, queries):
-        with tempfile.TemporaryDirectory(prefix="ask-") as folder:
-            names = [os.path.join(folder, "%d.csv" % first) for first in range(0, len(queries), QUERIES)]
-            for number, name in enumerate(names):
-                write_text(name, "".join(query + "\n" for query in queries[number * QUERIES:(number + 1) * QUERIES]))
-            plan, base = os.path.join(folder, "plan.toml"), os.path.join(folder, "tags.toml")
-            write_text(plan, "".join('[[reader]]\nfile = "%s"\n' % name for name in names))
-            write_text(base, tags_alone(self.tags))
-            about_groups = any(query.startswith("row,") for query in queries)
-            text = self.plant.call("trend", self.base if about_groups else base, plan)
-        return [line.split(" ", 3)[3] for line in text.splitlines() if line.startswith("reply ")]
-
-    def points(self, tag, first, last):
-        """All points of the archive of a tag from one time to another, both included.
-
-        A reply has at most 256: a stretch that has more is divided behind its 256th point, and all open stretches are asked at once."""
-        found, stretches = {}, [(first, last)]
-        while stretches:
-            texts, rest = self.replies(["points,%s,%d,%d" % (tag, *stretch) for stretch in stretches]), []
-            for (_, end), text in zip(stretches, texts):
-                points = [tuple(int(n) for n in word.split(",")) for word in text.split()[:-1]]
-                found.update(points)
-                if text.endswith("more"):
-                    rest += divided(points[-1][0] + 1, end)
-            stretches = rest
-        return sorted(found.items())
-
-    def scale(self, tag):
-        if tag not in self.tags:
-            raise Refusal(UNREADABLE, "the base has no tag %s; it has %s" % (tag, ", ".join(self.tags)))
-        return self.plant.scale(tag, self.tags[tag]) or 1
-
-
-def tags_alone(tags):
-    """The base without its groups. Questions about tags alone are asked with it, so a group that is too large or damaged, which the
-    program brings up to date before it answers, does not keep them from being answered."""
-    lines = []
-    for name, tag in tags.items():
-        lines += ["[[tag]]", 'name = "%s"' % name, "step = %s" % ("true" if tag.get("step") else "false")]
-        lines += ["%s = %d" % (key, tag[key]) for key in TUNING]
-    return "\n".join(lines) + "\n"
-
-
-def write_text(path, text):
-    with open(path, "w") as out:
-        out.write(text)
-
-
-def divided(first, last):
-    """A stretch of time in up to sixteen parts."""
-    width = max(1, (last - first) // PARTS + 1)
-    return [(start, min(last, start + width - 1)) for start in range(first, last + 1, width)]
-
-
-def time_of(plant, text):
-    """A time that a person gave, in milliseconds."""
+def step_of(text):
+    """A step that a person gave."""
     try:
-        return milliseconds(text, plant.settings.zone)
+        return clock.Step(text)
     except BadField as why:
-        raise Refusal(UNREADABLE, str(why)) from None
+        raise Refusal(UNREADABLE, "--every: %s" % why) from None
 
 
-def plain_query(archive, query):
-    """A person's query as the program takes it: its times as milliseconds, the time of a row's window as its number."""
-    fields = [field.strip() for field in query.split(",")]
-    verb, plant = fields[0], archive.plant
-    if verb == "row" and len(fields) == 4 and not fields[3].isdigit():
-        if fields[1] not in archive.groups:
-            raise Refusal(UNREADABLE, "the base has no group %s" % fields[1])
-        group = archive.groups[fields[1]]
-        fields[3] = str(max(0, (time_of(plant, fields[3]) - group["start"]) // group["period"]))
-    elif verb not in ("row", "snap"):
-        fields[2:] = [str(time_of(plant, field)) for field in fields[2:]]
-    if verb not in ("at", "points", "snap", "row") + MEASURES or len(fields) != {"at": 3, "snap": 2}.get(verb, 4):
-        raise Refusal(UNREADABLE, "no query: %s (ask.py --help has the forms)" % query)
-    if verb != "row":
-        archive.scale(fields[1])
-    return fields
+def times_of(archive, tags, words):
+    """Two times that a person gave, the first before the second or the same."""
+    first, last = (answers.time_in(archive, word, tags) for word in words)
+    if first > last:
+        raise Refusal(UNREADABLE, "FROM is behind TO: %s" % " ".join(words))
+    return first, last
 
 
-def answers(archive, queries):
-    """The lines of all answers: query, what it asks, from, to, value, and what the value is."""
-    asked = [plain_query(archive, query) for query in queries]
-    texts = iter(archive.replies([",".join(fields) for fields in asked if fields[0] != "points"]))
-    zone = archive.plant.settings.zone
-    for fields in asked:
-        verb, name = fields[:2]
-        times = [iso_text(int(t), zone) for t in fields[2:]] if verb not in ("row", "snap") else []
-        if verb == "points":
-            for t, v in archive.points(name, int(fields[2]), int(fields[3])):
-                yield "point", name, iso_text(t, zone), "", decimal_text(v, archive.scale(name)), ""
-            continue
-        words = next(texts).split()
-        if verb == "at":
-            yield verb, name, times[0], "", value_of(words[-1], archive.scale(name)), words[0]
-        elif verb == "snap":
-            held = None if words[2] == "none" else [int(n) for n in words[2].split(",")]
-            yield (verb, name, iso_text(held[0], zone) if held else "", "",
-                   decimal_text(held[1], archive.scale(name)) if held else "", "taken=%s" % words[1])
-        elif verb == "row":
-            group = archive.groups[name]
-            start = group["start"] + int(fields[3]) * group["period"]
-            number = words[0] if len(words) == 1 and words[0] != "none" else ""
-            yield verb, name + "/" + fields[2], iso_text(start, zone), iso_text(start + group["period"], zone), number, \
-                "" if number else " ".join(words)
-        else:
-            yield (verb, name, *times, value_of(words[0], 1 if verb == "count" else archive.scale(name)),
-                   "none" if words[0] == "none" else "")
+def ask_queries(plant, given):
+    queries, tags, groups = answers.subjects(given.words)
+    with given.opened(plant, tags, groups, given.wait) as archive:
+        printed(answers.HEADER, list(answers.answers(archive, queries)))
 
 
-def value_of(word, scale):
-    """The value of a reply, divided by the scale; empty if there is none."""
-    return "" if word == "none" else decimal_text(int(word), scale)
+def ask_tags(plant, given):
+    with given.opened(plant, None, (), given.wait, lenient=True) as archive:
+        lines = list(tag_lines(archive, given.words, clock.now()))
+    if given.words and not lines:
+        raise Refusal(UNREADABLE, "no tag has %s in its name or descriptor" % " or ".join(given.words))
+    printed(TAGS, lines)
 
 
-def export(archive, out, tag, first, last, every):
-    """Writes the points of a tag as CSV, or its values at equal steps with what each is: exact, line, flat or none."""
-    zone, scale = archive.plant.settings.zone, archive.scale(tag)
-    if every is None:
-        out.writerow(("time", tag))
-        out.writerows((iso_text(t, zone), decimal_text(v, scale)) for t, v in archive.points(tag, first, last))
-        return
-    out.writerow(("time", tag, "kind"))
-    times = range(first, last + 1, every)
-    for start in range(0, len(times), READERS * QUERIES):
-        some = times[start:start + READERS * QUERIES]
-        for t, text in zip(some, archive.replies(["at,%s,%d" % (tag, t) for t in some])):
-            out.writerow((iso_text(t, zone), value_of(text.split()[-1], scale), text.split()[0]))
+def ask_csv(plant, given):
+    tag = given.words[0]
+    with given.opened(plant, [tag], (), given.wait) as archive:
+        first, last = times_of(archive, [tag], given.words[1:])
+        times = given.every and given.every.times(first, last, plant.settings.zone)
+        export(archive, tag, first, last, times, given.units)
 
 
-def require_devices(plant):
-    """A folder without devices is no plant that was fed: the program would make empty ones there, and answer `none`."""
-    folder = plant.path("historian.d")
-    if not os.path.isdir(folder) or not any(name.endswith(".tag") for name in os.listdir(folder)):
-        raise Refusal(UNREADABLE, "there are no devices in %s: is this the plant's folder, and was it fed?" % folder)
+def ask_table(plant, given):
+    *tags, first, last = given.words
+    with given.opened(plant, tags, (), given.wait) as archive:
+        first, last = times_of(archive, tags, (first, last))
+        table = Table(archive, tags, given.measure, given.excel, given.units)
+        if not given.every:
+            table.points(first, last)
+            return
+        for tag in table.steps(given.every.times(first, last, plant.settings.zone), last):
+            held = archive.held(tag)
+            print("%s: %s" % (tag, "the newest value is of %s; fields behind it are empty" % answers.said(archive, held[0]) if held
+                              else "no value was ever fed"), file=sys.stderr)
+
+
+def ask_shifts(plant, given):
+    calendar = answers.calendar_of(plant, given.words[0])
+    days = int(given.words[2]) if given.words[2:] and given.words[2].isdigit() else 1 if not given.words[2:] else 0
+    with given.opened(plant, calendar["tags"], (), given.wait) as archive:
+        day = clock.local(answers.time_in(archive, given.words[1]), plant.settings.zone).date()
+        if not 1 <= days <= 366:
+            raise Refusal(UNREADABLE, "DAYS is a number from 1 to 366, and not %s" % given.words[2])
+        printed(answers.HEADER, list(answers.shift_lines(archive, calendar, day.isoformat(), days)))
+
+
+def ask_frames(plant, given):
+    group, calculation, least, *times = given.words
+    if not least.isdigit() or not 1 <= int(least) <= 1_000_000 or len(times) == 1:
+        raise Refusal(UNREADABLE, "--frames takes GROUP CALC LEAST, LEAST being a number of windows from 1, and optionally FROM and TO")
+    with given.opened(plant, [], [group], given.wait) as archive:
+        span = times_of(archive, [], times) if times else (0, MOST_TIME)
+        printed(answers.HEADER, list(answers.frame_lines(archive, group, calculation, int(least), *span)))
+
+
+def add_words(parser):
+    """Adds what says what is asked."""
+    parser.add_argument("words", nargs="*", metavar="WORD", help="queries, or what the option takes")
+    one = parser.add_mutually_exclusive_group()
+    for mode, about in (("tags", "a line for each tag"), ("csv", "export a tag"), ("table", "export several tags"),
+                        ("shifts", "figures of shifts"), ("frames", "frames of a calculation")):
+        one.add_argument("--" + mode, dest="mode", action="store_const", const=mode, help=about)
+    parser.add_argument("--every", metavar="STEP", help="with --csv or --table: values at equal steps in place of points")
+    parser.add_argument("--measure", metavar="MEASURE", help="with --table and --every: avg, low, high, total/h .. of each step")
+    parser.add_argument("--excel", action="store_true", help="with --table: local times without an offset, which stands beside them; the"
+                        " separator and the decimal mark of feed.toml")
+    parser.add_argument("--no-units", dest="units", action="store_false", help="with --csv or --table: no units in the header, so that"
+                        " feed.py takes the file")
+
+
+def answer(plant, parser, given, opened):
+    """Prints what is asked of a plant, which `opened` opens as reading.opened does."""
+    least, most = MODES.get(given.mode, (1, None))
+    if len(given.words) < least or most is not None and len(given.words) > most:
+        parser.error("look at the forms above: so many words are too few or too many")
+    if given.every is not None and given.mode not in ("csv", "table") or given.excel and given.mode != "table" or (
+            given.measure and not (given.every and given.mode == "table")):
+        parser.error("--every goes with --csv or --table, --excel with --table, --measure with --table and --every")
+    if given.measure:
+        answers.Query("%s,TAG,0,1" % given.measure)
+    given.every, given.opened = given.every and step_of(given.every), opened
+    asked = {None: ask_queries, "tags": ask_tags, "csv": ask_csv, "table": ask_table, "shifts": ask_shifts, "frames": ask_frames}
+    return asked[given.mode](plant, given)
 
 
 def main():
-    parser = argparse.ArgumentParser(description=__doc__, formatter_class=argparse.RawDescriptionHelpFormatter)
-    parser.add_argument("query", nargs="+", help="queries, or with --csv the tag and two times")
-    parser.add_argument("--csv", action="store_true", help="export a tag: TAG FROM TO")
-    parser.add_argument("--every", type=int, metavar="MILLISECONDS", help="with --csv: values at equal steps in place of points")
-    parser.add_argument("--plant", default=".", metavar="FOLDER", help="the plant's folder (default: this one)")
-    parser.add_argument("--program", default="historian", metavar="PATH", help="the historian (default: on the path)")
-    parser.add_argument("--wait", type=float, default=WAIT, metavar="SECONDS", help="for another process on this plant to end (60)")
-    given = parser.parse_args()
-    if given.csv and len(given.query) != 3 or given.every is not None and (not given.csv or given.every < 1):
-        parser.error("--csv takes TAG FROM TO, and --every takes at least 1 and goes with --csv")
-    plant, out = Plant(given.plant, given.program), csv.writer(sys.stdout, lineterminator="\n")
-    require_devices(plant)
-    with plant.locked("ask.py", given.wait):
-        archive = Archive(plant)
-        if given.csv:
-            tag, first, last = given.query
-            export(archive, out, tag, time_of(plant, first), time_of(plant, last), given.every)
-        else:
-            lines = list(answers(archive, given.query))
-            out.writerow(("query", "of", "from", "to", "value", "note"))
-            out.writerows(lines)
+    parser = parser_of(__doc__)
+    add_words(parser)
+    given = parsed(parser)
+    return answer(Plant(given.plant, given.program), parser, given, reading.opened)
 
 
 if __name__ == "__main__":
-    ended(main)
+    ended(main, "Nothing was changed.")

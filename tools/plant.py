@@ -3,25 +3,25 @@
 Whoever calls the program through `Plant.call` holds the lock on `historian.d/feed.lock`, and so does the program as long as it runs,
 even if the tool that started it is killed. So no two of these processes ever work on the devices at once: that would lose values."""
 import contextlib
+import errno
 import fcntl
-import hashlib
 import os
 import re
 import resource
 import shlex
 import shutil
+import stat
 import subprocess
 import sys
 import time
-import tomllib
-import zoneinfo
+import traceback
 
-import rows
+import bases
+from files import (BUSY, CHANGED, MEMORY, OUTPUT, REFUSED, UNREADABLE, Refusal, bytes_of, copied, read_toml, sha256_of,  # noqa: F401
+                   shown, sync_folder, write_whole)
+from settings import Settings  # noqa: F401
 
-BUSY, CHANGED, UNREADABLE = 20, 21, 22  # exit statuses of the tools; the program's own are 2 to 16
 TAG_LINE = re.compile(r"tag (\S+) taken=(\d+) records=(\d+) kept=(\d+) late=(\d+) held=(\S+)")
-SETTINGS = {"inbox": "inbox", "future_ms": 60_000, "not_before": None, "zone": None, "separator": ",", "decimal": ".",
-            "rows_a_run": 4_000_000, "settle_seconds": 2, "tag": {}}
 ADVICE = {
     2: "The tool and the program are of different versions.",
     3: "Correct the text: docs/FORMATS.md lists the rules of a base by their numbers. Nothing was stored.",
@@ -48,14 +48,6 @@ LIMITS = {
 }
 
 
-class Refusal(Exception):
-    """Why a tool ends: its exit status, and what it says to the person."""
-
-    def __init__(self, status, text):
-        super().__init__(text)
-        self.status, self.text = status, text
-
-
 class Tag:
     """What a tag's line of `check` and `run` says."""
 
@@ -63,39 +55,6 @@ class Tag:
         self.name = match[1]
         self.taken, self.records, self.kept, self.late = (int(n) for n in match.groups()[1:5])
         self.held = None if match[6] == "none" else tuple(int(n) for n in match[6].split(","))
-
-
-class Settings:
-    """feed.toml: how the plant's files are read. Without the file each setting has its usual value."""
-
-    def __init__(self, path):
-        given = read_toml(path) if os.path.exists(path) else {}
-        unknown = sorted(set(given) - set(SETTINGS))
-        if unknown:
-            raise Refusal(UNREADABLE, "%s has no setting %r; there are %s" % (path, unknown[0], ", ".join(SETTINGS)))
-        for key, usual in SETTINGS.items():
-            setattr(self, key, given.get(key, usual))
-        for key, least in (("future_ms", 0), ("rows_a_run", 1), ("settle_seconds", 0)):
-            if type(getattr(self, key)) is not int or getattr(self, key) < least:
-                raise Refusal(UNREADABLE, "%s: %s must be a whole number from %d" % (path, key, least))
-        if type(self.tag) is not dict or any(type(table) is not dict for table in self.tag.values()):
-            raise Refusal(UNREADABLE, '%s: a tag is written as [tag."NAME"], with its scale' % path)
-        for name, table in self.tag.items():
-            if set(table) != {"scale"} or type(table["scale"]) is not int or table["scale"] < 1:
-                raise Refusal(UNREADABLE, "%s: [tag.%r] must have the one key scale, a whole number from 1" % (path, name))
-        marks = self.separator, self.decimal
-        if any(type(mark) is not str or len(mark) != 1 for mark in marks) or type(self.inbox) is not str:
-            raise Refusal(UNREADABLE, "%s: inbox is a folder's name, separator and decimal are one character each" % path)
-        self.rows_a_run = min(self.rows_a_run, SETTINGS["rows_a_run"])
-        if self.zone is not None:
-            try:
-                zoneinfo.ZoneInfo(self.zone)
-            except (ValueError, OSError, KeyError, TypeError):
-                raise Refusal(UNREADABLE, "%s: this machine knows no zone %r" % (path, self.zone)) from None
-        try:
-            self.not_before = 0 if self.not_before is None else rows.milliseconds(str(self.not_before), self.zone)
-        except rows.BadField as why:
-            raise Refusal(UNREADABLE, "%s: not_before: %s" % (path, why)) from None
 
 
 class Plant:
@@ -107,46 +66,70 @@ class Plant:
         if os.sep in self.program[0]:
             self.program[0] = os.path.abspath(self.program[0])
         self.settings = Settings(self.path("feed.toml"))
-        self.lock = None
+        self.lock, self.troubles, self.shown_progress = None, [], 0
 
     def path(self, *names):
         return os.path.join(self.folder, *names)
 
+    def say(self, text):
+        """Prints lines. In a log each begins with date and time. If nothing can be printed, the work goes on, and the exit status says so
+        at the end."""
+        self.progress("")
+        for line in text.splitlines():
+            put_line(sys.stdout, stamp(sys.stdout) + shown(line, len(line)))
+
+    def trouble(self, text):
+        """Prints a line that somebody should see: the exit status says so too, and on_trouble of feed.toml is called."""
+        self.troubles.append(text)
+        self.say(text)
+
+    def progress(self, text):
+        """Shows on a terminal how far a long work is; nothing in a log."""
+        if sys.stderr.isatty() and (text or self.shown_progress) and (not text or time.monotonic() > self.shown_progress + 0.2):
+            self.shown_progress = time.monotonic() if text else 0
+            put_line(sys.stderr, "\r\x1b[K" + text, end="")
+
     def base(self, name="base.toml"):
         """The tags and the groups of a base, by name and in their order."""
+        tags, groups = self.tables(name)
+        return {tag["name"]: tag for tag in tags}, {group["name"]: group for group in groups}
+
+    def tables(self, name):
+        """The tables of the tags and of the groups of a base, as they stand there."""
         text = read_toml(self.path(name))
-        try:
-            return {tag["name"]: tag for tag in text["tag"]}, {group["name"]: group for group in text.get("group", [])}
-        except (KeyError, TypeError):
-            raise Refusal(UNREADABLE, "%s: a base has [[tag]] tables, each with a name" % self.path(name)) from None
+        tags, groups = text.get("tag"), text.get("group", [])
+        if any(type(tables) is not list or any(type(table) is not dict or type(table.get("name")) is not str for table in tables)
+               for tables in (tags, groups)):
+            raise Refusal(UNREADABLE, "%s: a base has [[tag]] tables, each with a name in quotes" % self.path(name))
+        return tags, groups
 
     def fed_base(self):
         """The name of the base with which the devices were opened last: the feeder's copy, or base.toml if nothing was fed yet.
 
         Who reads with this one never retunes a tag, and so changes no device, even when base.toml was edited meanwhile."""
-        if os.path.exists(self.path("feed.d", "base.new.toml")):
-            raise Refusal(BUSY, "the feeder was stopped while it took an edited base.toml over: run feed.py first")
         return "feed.d/base.toml" if os.path.exists(self.path("feed.d", "base.toml")) else "base.toml"
 
     def scale(self, tag, definition):
         """By what a person's value is multiplied to be stored: from feed.toml, or from `engunits = "0.01 degC"`, or None."""
-        given = self.settings.tag.get(tag)
-        return given["scale"] if given else step_of(definition.get("engunits", ""))[0]
+        given = self.settings.of_tag(tag)["scale"]
+        told = step_of(definition.get("engunits", ""))[0]
+        if given and told and given != told:
+            raise Refusal(UNREADABLE, "the scale of %s is %d in feed.toml, and `engunits` of base.toml says %d: make them agree, and nothing"
+                          " was done" % (tag, given, told))
+        return given or told
 
     @contextlib.contextmanager
     def locked(self, who, wait):
         """Holds the plant's lock; if another process has it for longer than `wait` seconds, that is a refusal."""
         if not os.path.isfile(self.path("base.toml")):
             raise Refusal(UNREADABLE, "there is no base.toml in %s: is this the plant's folder?" % self.folder)
-        os.makedirs(self.path("historian.d"), exist_ok=True)
-        handle = os.open(self.path("historian.d", "feed.lock"), os.O_RDWR | os.O_CREAT, 0o666)
+        handle = open_lock(self.path("historian.d"), False)
         try:
             end = time.monotonic() + wait
             while not try_lock(handle):
                 if time.monotonic() > end:
-                    holder = os.pread(handle, 200, 0).decode("utf-8", "replace").strip()
-                    raise Refusal(BUSY, "another process works on this plant (%s holds historian.d/feed.lock): nothing was done"
-                                  % (holder or "it"))
+                    raise Refusal(BUSY, "another process works on this plant (%s holds historian.d/feed.lock): nothing was done" % holder(
+                        handle))
                 time.sleep(0.05)
             os.ftruncate(handle, 0)
             os.pwrite(handle, ("%s, process %d\n" % (who, os.getpid())).encode(), 0)
@@ -156,24 +139,28 @@ class Plant:
             self.lock = None
             os.close(handle)
 
-    def call(self, *words):
-        """What the program prints. It inherits the lock, so that nothing else starts while it runs, whatever becomes of the tool."""
+    def call(self, *words, folder=None, data=None):
+        """What the program prints, in the plant's folder or in another one, with this data as its standard input. It inherits the lock, so
+        that nothing else starts while it runs, whatever becomes of the tool."""
         raise_open_files()
+        folder, given = folder or self.folder, {"stdin": subprocess.DEVNULL} if data is None else {"input": data}
         try:
-            child = subprocess.run(self.program + list(words), cwd=self.folder, stdin=subprocess.DEVNULL, stdout=subprocess.PIPE,
+            child = subprocess.run(self.program + list(words), cwd=folder, **given, stdout=subprocess.PIPE,
                                    pass_fds=() if self.lock is None else (self.lock,), restore_signals=False)
         except OSError as why:
             raise Refusal(127, "%s does not start: %s. Give the program with --program PATH." % (self.program[0], why)) from None
         text = child.stdout.decode("utf-8", "replace")
+        if child.returncode == 7 and is_taken(self.path("historian.d")):
+            raise Refusal(BUSY, "another historian, which no tool started, works in historian.d: wait until it ends")
         if child.returncode:
-            raise Refusal(*self.explained(words, child.returncode, text))
+            raise Refusal(*self.explained(words, child.returncode, text, folder))
         return text
 
     def tags_of(self, text):
         """The tag lines of an output, by name."""
         return {match[1]: Tag(match) for match in map(TAG_LINE.fullmatch, text.splitlines()) if match}
 
-    def explained(self, words, status, text):
+    def explained(self, words, status, text, folder):
         """The exit status of a refusal, and its line in words: which file, which tag, and what to do."""
         if status < 0:
             return 128 - status, "the program was ended by signal %d: what is stored stays stored, and the next feed goes on" % -status
@@ -182,36 +169,79 @@ class Plant:
         advice = ADVICE.get(status, "See the fault table in docs/TOUR.md.")
         if status == 10:
             advice = LIMITS.get(parts[2] if len(parts) > 2 else "", "See the limits in docs/FORMATS.md.")
-        return status, "historian %s: %s%s\n  %s" % (" ".join(words), line, self.named(parts, words[1]), advice)
+        return status, "historian %s: %s%s\n  %s" % (" ".join(words), line, self.named(parts, os.path.join(folder, words[1])), advice)
+
+    def named_formula(self, base, place):
+        """The group in which a formula is wrong."""
+        return "(group %s): the formula is wrong at that byte" % list(self.base(base)[1])[place]
 
     def named(self, parts, base):
         """The names behind the numbers of a fault line."""
         try:
-            tags, groups = self.base(base)
             if parts[1] == "text" and parts[2] == "base":
-                return named_table(int(parts[4]), int(parts[6]), list(tags), list(groups))
-            for kind, names, end in (("tag", list(tags), "tag"), ("group", list(groups), "grp")):
+                return " " + (bases.wrong_in(self.path(base)) or self.named_formula(base, int(parts[6]))).strip()
+            tags, groups = self.tables(base)
+            for kind, tables, end in (("tag", tags, "tag"), ("group", groups, "grp")):
                 if kind in parts[1:-1]:
-                    name = names[int(parts[parts.index(kind) + 1]) - 1]
+                    name = tables[int(parts[parts.index(kind) + 1]) - 1]["name"]
                     return " (%s %s: historian.d/%s.%s)" % (kind, name, name, end)
         except (Refusal, ValueError, IndexError, OSError):
             pass
         return ""
 
 
-def named_table(rule, place, tags, groups):
-    """Whose table of the base breaks a rule."""
-    kind, names = ("tag", tags) if rule <= 5 else ("group", groups)
-    return " (%s %s)" % (kind, names[place]) if rule >= 3 and place < len(names) else ""
-
-
-def try_lock(handle):
-    """Whether the lock could be taken now."""
+def open_lock(folder, shared):
+    """The lock file of a plant's devices, opened. No link is followed. A shared lock needs no right to write, and makes no file: None if
+    no tool ever fed this plant."""
+    path = os.path.join(folder, "feed.lock")
+    flags = os.O_NOFOLLOW | os.O_NONBLOCK | (os.O_RDONLY if shared else os.O_RDWR | os.O_CREAT)
+    if not shared:
+        os.makedirs(folder, exist_ok=True)
     try:
-        fcntl.flock(handle, fcntl.LOCK_EX | fcntl.LOCK_NB)
+        handle = os.open(path, flags, 0o666)
+    except FileNotFoundError:
+        return None
+    except OSError as why:
+        if why.errno not in (errno.ELOOP, errno.EISDIR, errno.ENXIO):
+            raise
+        raise Refusal(UNREADABLE, "%s is a link or no file, and nothing was done: remove it" % path) from None
+    if not stat.S_ISREG(os.fstat(handle).st_mode) or os.fstat(handle).st_nlink > 1:
+        os.close(handle)
+        raise Refusal(UNREADABLE, "%s has a second name or is no file, and nothing was done: remove it" % path)
+    return handle
+
+
+def holder(handle):
+    """Who holds the lock, as far as its file tells: the tool that wrote its name there, if it still runs."""
+    told = os.pread(handle, 200, 0).decode("utf-8", "replace").strip()
+    match = re.fullmatch(r"([a-z_]+\.py), process ([0-9]{1,9})", told)
+    try:
+        if match and match[1].encode() in bytes_of("/proc/%s/cmdline" % match[2]):
+            return told
+    except OSError:
+        pass
+    return "somebody"
+
+
+def try_lock(handle, shared=False):
+    """Whether the lock could be taken now; with `shared` together with others who read."""
+    try:
+        fcntl.flock(handle, (fcntl.LOCK_SH if shared else fcntl.LOCK_EX) | fcntl.LOCK_NB)
         return True
     except BlockingIOError:
         return False
+
+
+def is_taken(folder):
+    """Whether another process holds the program's own lock, which is on the folder of the devices."""
+    try:
+        handle = os.open(folder, os.O_RDONLY | os.O_DIRECTORY)
+    except OSError:
+        return False
+    try:
+        return not try_lock(handle)
+    finally:
+        os.close(handle)
 
 
 def raise_open_files():
@@ -223,19 +253,10 @@ def raise_open_files():
 
 def step_of(engunits):
     """The scale and the unit of `0.01 degC`: 100 and degC. Without such a number the scale is None."""
+    if type(engunits) is not str:
+        return None, ""
     match = re.fullmatch(r"0\.(0*)1(?: +(.*))?", engunits)
     return (10 ** (len(match[1]) + 1), match[2] or "") if match else (None, engunits)
-
-
-def read_toml(path):
-    """The tables of a TOML text."""
-    try:
-        with open(path, "rb") as text:
-            return tomllib.load(text)
-    except OSError as why:
-        raise Refusal(UNREADABLE, "%s cannot be read: %s" % (path, why.strerror)) from None
-    except (tomllib.TOMLDecodeError, UnicodeDecodeError) as why:
-        raise Refusal(UNREADABLE, "%s is no TOML: %s" % (path, why)) from None
 
 
 def program_of(text):
@@ -245,58 +266,61 @@ def program_of(text):
     return shlex.join([os.path.abspath(found)] + words[1:]) if found else None
 
 
-def bytes_of(path):
-    """The bytes of a file."""
-    with open(path, "rb") as data:
-        return data.read()
-
-
-def sha256_of(path):
-    """The sha256 of a file's bytes."""
-    with open(path, "rb") as data:
-        return hashlib.file_digest(data, "sha256").hexdigest()
-
-
-def write_whole(path, data):
-    """Puts a file in its place whole and synced: after a stop at any moment the old or the new bytes stand there."""
-    with open(path + ".new", "wb") as out:
-        out.write(data)
-        out.flush()
-        os.fsync(out.fileno())
-    os.replace(path + ".new", path)
-    sync_folder(os.path.dirname(path))
-
-
-def copied(source, target):
-    """Copies a file and syncs the copy."""
-    shutil.copy2(source, target)
-    with open(target, "rb") as data:
-        os.fsync(data.fileno())
-
-
-def sync_folder(folder):
-    """Makes the names in a folder durable."""
-    handle = os.open(folder, os.O_RDONLY)
-    try:
-        os.fsync(handle)
-    finally:
-        os.close(handle)
-
-
-def ended(main):
-    """Runs a tool, and ends it with its status and a clear line."""
+def ended(main, stays="", logs=False):
+    """Runs a tool, and ends it with its status and a clear line. `stays` says what a failed call leaves as it is; `logs` that its lines go
+    to a log."""
+    name = os.path.basename(sys.argv[0])
     sys.stdout.reconfigure(errors="backslashreplace")
+    sys.stderr.reconfigure(errors="backslashreplace")
     try:
-        sys.exit(main())
+        status, text = main() or 0, None
+        sys.stdout.flush()
     except Refusal as refusal:
-        print("%s: %s" % (os.path.basename(sys.argv[0]), refusal.text), file=sys.stderr)
-        sys.exit(refusal.status)
+        status, text = refusal.status, refusal.text
     except BrokenPipeError:
         os.dup2(os.open(os.devnull, os.O_WRONLY), sys.stdout.fileno())
-        sys.exit(141)
+        status, text = 141, None
     except OSError as why:
-        print("%s: %s. What is stored stays stored; the next feed goes on from there." % (os.path.basename(sys.argv[0]), why),
-              file=sys.stderr)
-        sys.exit(UNREADABLE)
+        status, text = UNREADABLE, "%s. %s" % (why, stays)
+    except MemoryError:
+        status, text = MEMORY, "there is no memory. %s" % stays
     except KeyboardInterrupt:
-        sys.exit(130)
+        status, text = 130, None
+    except Exception:
+        status, text = 1, "%sThis is a fault of the tool: please report it. %s" % (traceback.format_exc(), stays)
+    if text is not None:
+        put_line(sys.stderr, "%s%s: %s" % (stamp(sys.stderr) if logs else "", name, text.strip()))
+    leave(status)
+
+
+def stamp(stream):
+    """Date and time for the beginning of a line of a log; nothing on a terminal."""
+    return "" if stream.isatty() else time.strftime("%Y-%m-%d %H:%M:%S%z ")
+
+
+LOST = []  # streams that could not be written
+
+
+def put_line(stream, text, end="\n"):
+    """Prints a line. A stream that cannot be written, as on a full disk, is given up."""
+    try:
+        print(text, file=stream, end=end, flush=True)
+    except OSError:
+        give_up(stream)
+
+
+def give_up(stream):
+    """Lets what is still printed to a stream go nowhere."""
+    LOST.append(stream)
+    nowhere = os.open(os.devnull, os.O_WRONLY)
+    os.dup2(nowhere, stream.fileno())
+    os.close(nowhere)
+
+
+def leave(status):
+    """Ends the process. If what it said could not be written, the status says so instead of a good one."""
+    try:
+        sys.stdout.flush()
+    except OSError:
+        give_up(sys.stdout)
+    sys.exit(status or (OUTPUT if sys.stdout in LOST else 0))

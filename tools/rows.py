@@ -1,151 +1,21 @@
-"""rows.py: what stands in CSV files, as times in milliseconds and whole values of tags; and back to ISO times and decimals.
+"""rows.py: what stands in CSV files, as times in milliseconds and whole values of tags.
 
-`feed.py`, `ask.py` and `draw.py` share it. It reads and converts; it writes nothing. A value that it cannot read is never guessed
-or dropped: it is handed back as a refusal that has the line's number, the field's text and the reason."""
+Each row is stored as what it says, or refused with its number and the reason: never guessed, and never dropped in silence. The loops
+over the rows make no object a row: a text that was read once is looked up the next time."""
 import array
 import codecs
 import csv
-import datetime
-import functools
-import io
-import re
-import zoneinfo
+import itertools
+import operator
 
-MOST_TIME = 253_402_300_799_999
-MOST_VALUE = 10**15
-EPOCH = datetime.datetime(1970, 1, 1, tzinfo=datetime.timezone.utc)
-MILLISECOND = datetime.timedelta(milliseconds=1)
-NUMBER = re.compile(r"([+-]?)(\d*)(?:\.(\d*))?(?:[eE]([+-]?\d{1,2}))?")
+from fields import BadField, instants, twice, value_and_rounding
+from files import nearest, shown
+
 TIME_WORDS = ("time", "timestamp")
-csv.field_size_limit(1 << 30)  # a line without separators in a file that is no CSV file
 REFUSED_HEADER = ["tag", "time", "value", "row", "reason"]
-
-
-class BadField(Exception):
-    """A field that is no time or no value; its text is the reason."""
-
-
-@functools.lru_cache(maxsize=65_536)
-def milliseconds(text, zone):
-    """The milliseconds since 1970 of an ISO 8601 time, or of a whole number, which is milliseconds already.
-
-    What is finer than a millisecond is cut off. A time without an offset is taken in the zone, if one is given; a time that the
-    zone's clock shows twice or never, because it was changed, is refused: nobody can say which one is meant."""
-    if text.isascii() and text.isdigit():
-        return within_time(int(text[:20]), text)
-    try:
-        moment = datetime.datetime.fromisoformat(text)
-    except (ValueError, OverflowError):
-        raise BadField("no ISO time and no whole milliseconds: %r" % text[:64]) from None
-    if moment.tzinfo is None:
-        if zone is None:
-            raise BadField("a time without an offset, and no zone in feed.toml: %r" % text)
-        moment = moment.replace(tzinfo=zoneinfo.ZoneInfo(zone))
-        if moment.utcoffset() != moment.replace(fold=1).utcoffset():
-            raise BadField("the clock of %s shows this time twice or never, so it needs an offset: %r" % (zone, text))
-    return within_time((moment - EPOCH) // MILLISECOND, text)
-
-
-def within_time(t, text):
-    """The same time, if the program can store it."""
-    if not 0 <= t <= MOST_TIME:
-        raise BadField("a time before 1970 or after 9999: %r" % text)
-    return t
-
-
-def whole_value(text, scale, decimal="."):
-    """A decimal times the scale, rounded half away from zero."""
-    return value_and_rounding(text, scale, decimal)[0]
-
-
-def value_and_rounding(text, scale, decimal="."):
-    """A decimal times the scale, rounded half away from zero, and whether it was rounded: 7.00 is 7 exactly. Without a scale (None) what
-    would have to be rounded is refused: a scale cannot be given any more once there are values."""
-    plain = text if decimal == "." else text.replace(".", "?").replace(decimal, ".")
-    match = NUMBER.fullmatch(plain) if len(plain) <= 64 else None
-    sign, whole, fraction, exponent = match.groups() if match else ("", "", "", "")
-    fraction, power = fraction or "", int(exponent or 0)
-    if not whole and not fraction:
-        raise BadField("no number: %r" % text[:64])
-    over, under = int(whole + fraction) * (scale or 1) * 10 ** max(power, 0), 10 ** (len(fraction) + max(-power, 0))
-    rounded = over % under != 0
-    if scale is None and rounded:
-        raise BadField("a decimal, and no scale for this tag in feed.toml: %r" % text)
-    value = (2 * over + under) // (2 * under)
-    if value > MOST_VALUE:
-        raise BadField("too large: %r times its scale is more than 10^15" % text)
-    return -value if sign == "-" else value, rounded
-
-
-def decimal_text(value, scale):
-    """A stored value as a person reads it: divided by the tag's scale. `whole_value` finds the same value again in this text."""
-    digits = len(str(scale)) - 1
-    if scale == 10**digits:
-        whole, part = divmod(abs(value), scale)
-        return "%s%d%s" % ("-" if value < 0 else "", whole, ".%0*d" % (digits, part) if digits else "")
-    return repr(value / scale).removesuffix(".0")
-
-
-def iso_text(t, zone):
-    """A stored time as a person reads it: ISO 8601, with the zone's offset, or Z without a zone."""
-    moment = EPOCH + t * MILLISECOND
-    if zone and t < MOST_TIME - 86_400_000:
-        return moment.astimezone(zoneinfo.ZoneInfo(zone)).isoformat(timespec="milliseconds")
-    return moment.replace(tzinfo=None).isoformat(timespec="milliseconds") + "Z"
-
-
-def fields_of(line, separator):
-    """The fields of one line, without the blanks around them; None if a quote is not closed, which spoils its own line alone."""
-    if '"' in line:
-        try:
-            return [field.strip() for field in next(csv.reader([line], delimiter=separator, strict=True), [])]
-        except csv.Error:
-            return None
-    return [field.strip() for field in line.split(separator)]
-
-
-def cells(data, separator=","):
-    """Each value of a file: its line's number, and the texts of tag, time and value, or in place of them None and the line.
-
-    A file has `tag,time,value` in each line, in that order without a header or in any order with one; or it is wide: a header line
-    `time,TAG,TAG,..`, in which case an empty field is no value."""
-    columns, names = (0, 1, 2), None
-    first = True
-    for number, line in enumerate(io.BytesIO(data.removeprefix(codecs.BOM_UTF8)), 1):
-        line = line.decode("utf-8", "replace").rstrip("\r\n")
-        if not line.strip():
-            continue
-        fields = fields_of(line, separator)
-        if fields is None:
-            yield number, None, line, "a quote is not closed"
-            continue
-        if first:
-            first, words = False, [field.lower() for field in fields]
-            if {"tag", "time", "value"} <= set(words):
-                columns = tuple(words.index(word) for word in ("tag", "time", "value"))
-                width = len(words)
-                continue
-            if words[0] in TIME_WORDS:
-                names = fields
-                continue
-            width = 3
-        if names:
-            yield from wide_cells(number, line, names, fields)
-        elif len(fields) != width:
-            hint = "" if width > 3 or number > 1 else ": is `separator` in feed.toml right? A wide file's header begins with `time`"
-            yield number, None, line, "%d fields, not %d%s" % (len(fields), width, hint)
-        else:
-            yield (number, *(fields[column] for column in columns))
-
-
-def wide_cells(number, line, names, fields):
-    """The values of a line of a wide file; an empty field is none."""
-    if len(fields) != len(names):
-        yield number, None, line, "%d fields, and the header has %d" % (len(fields), len(names))
-        return
-    for name, field in zip(names[1:], fields[1:]):
-        if field:
-            yield number, name, fields[0], field
+CHUNK = 1 << 20   # bytes whose lines are split at once
+KNOWN = 200_000   # texts that are remembered of a kind
+csv.field_size_limit(1 << 30)  # a line without separators in a file that is no CSV file
 
 
 class Values:
@@ -153,42 +23,415 @@ class Values:
 
     def __init__(self):
         self.tags = {}
-        self.count = self.rounded = 0
+        self.rounded = 0
 
-    def add(self, tag, t, v):
+    @property
+    def count(self):
+        return sum(len(times) for times, _ in self.tags.values())
+
+    def arrays(self, tag):
+        """The times and the values of a tag, to which more may be added."""
         if tag not in self.tags:
             self.tags[tag] = array.array("q"), array.array("q")
-        times, values = self.tags[tag]
+        return self.tags[tag]
+
+    def add(self, tag, t, v):
+        times, values = self.arrays(tag)
         times.append(t)
         values.append(v)
-        self.count += 1
 
     def of(self, tag):
         """The times and the values of a tag."""
         return self.tags.get(tag, ((), ()))
 
+    def sizes(self):
+        """How many values each tag has."""
+        return {tag: len(times) for tag, (times, _) in self.tags.items()}
 
-def read_values(data, scales, settings, latest, values):
-    """Adds what a file's bytes hold to the values, and answers its refusals: tag, time, value, line number, reason.
+    def cut(self, sizes):
+        """Takes away what was added since the sizes were these."""
+        for tag, arrays in self.tags.items():
+            for one in arrays:
+                del one[sizes.get(tag, 0):]
 
-    `scales` has the tags of the base, each with its scale or None. A value later than `latest` is refused, so that one wrong clock
-    never makes a tag late for ever; nor is one before `not_before` taken, which could never be removed."""
-    refused = []
-    for number, tag, time, value in cells(data, settings.separator):
-        if tag is None:
-            refused.append((time, "", "", number, value))
-            continue
+
+class Known:
+    """What is remembered while files of one source are read, so that a text is read once: names of tags, times, numbers."""
+
+    def __init__(self):
+        self.names, self.times = {}, {}
+
+
+class Intake:
+    """What a turn reads: the values, and what reading has to know of the plant.
+
+    `scales` has the tags of the base, each with its scale or None. A value later than `latest` is refused, so that one wrong clock never
+    makes a tag late for ever; nor is one before `not_before` taken, which could never be removed. `newest` has the newest time of each
+    tag: a row that is not newer is late, and of these each tag takes `late_rows` a turn."""
+
+    def __init__(self, settings, scales, latest, newest=None):
+        self.settings, self.scales, self.latest, self.values = settings, scales, latest, Values()
+        self.newest, self.late, self.bad, self.numbers, self.known = dict(newest or {}), {}, {}, {}, {}
+        self.over = Values()
+        self.kept = {table.get("quality_tag"): name for name, table in settings.tag.items() if table.get("quality_tag")}
+
+    def known_of(self, source):
+        return self.known.setdefault(id(source), Known())
+
+    def entry(self, text, tags):
+        """Where the values of a tag go: the tag, how a time and a value are added, its numbers that are exact and that were rounded."""
+        name = tags.get(text, text)
+        if name not in self.scales:
+            raise BadField("the base has no tag '%s'%s" % (shown(name), nearest(name, self.scales) if len(name) <= 64 else ""))
+        if name in self.kept:
+            raise BadField("the feeder keeps %s itself, as the quality_tag of %s" % (name, self.kept[name]))
+        times, values = self.values.arrays(name)
+        exact, rounded = self.numbers.setdefault(self.scales[name], ({}, {}))
+        return times.append, values.append, exact, rounded, name
+
+
+class Layout:
+    """Where a file's columns stand: of tag, time, value and quality; or of a wide file that of the time, and the names of the others."""
+
+    def __init__(self, width, tag, time, value, quality=None, names=None):
+        self.width, self.tag, self.time, self.value, self.quality, self.names = width, tag, time, value, quality, names
+
+
+def layout_of(fields, source, tags):
+    """The layout that a header line tells, and whether the line is a header. A header that can be read in two ways spoils its file: that
+    is a BadField."""
+    plain = Layout(3, 0, 1, 2)
+    if fields == REFUSED_HEADER:
+        return Layout(5, 0, 1, 2), True
+    if type(source.columns) is list:
+        places = {word: place for place, word in enumerate(source.columns)}
+        return Layout(len(source.columns), places["tag"], places["time"], places["value"], places.get("quality")), False
+    found = {word: places_of(word, fields, source.columns) for word in ("tag", "time", "value", "quality")}
+    if not found["time"]:
+        return plain, False
+    rest = [name for place, name in enumerate(fields) if place not in itertools.chain(*found.values())]
+    doubled = [fields[places[1]] for places in found.values() if len(places) > 1]
+    doubled += [name for name in rest if [source.tags.get(other, other) for other in rest].count(source.tags.get(name, name)) > 1]
+    if doubled:
+        raise BadField("the header has the column '%s' twice" % shown(doubled[0]))
+    ignored = {str(name).lower() for name in source.ignore} | {"row", "reason"}
+    first = {word: places[0] if places else None for word, places in found.items()}
+    if found["tag"] and found["value"]:
+        strange = [name for name in rest if name.lower() not in ignored]
+        if strange:
+            raise BadField("the header has a column whose meaning nothing says: '%s' (name it in `ignore` or `columns` of its source in"
+                           " feed.toml)" % shown(strange[0]))
+        return Layout(len(fields), first["tag"], first["time"], first["value"], first["quality"]), True
+    half = [word for word in ("tag", "value", "quality") if found[word] and fields[first[word]] not in tags]
+    if half:
+        raise BadField("the header has a column '%s', but not all of tag, time and value, so the file is neither long nor wide" % half[0])
+    if first["time"] != 0 and "time" not in source.columns:
+        raise BadField("the header has the time in column %d; a wide file begins with it (or name it in `columns` of its source in"
+                       " feed.toml)" % (first["time"] + 1))
+    names = [None if place == first["time"] or name.lower() in ignored and name not in tags else name for place, name in enumerate(fields)]
+    return Layout(len(fields), None, first["time"], None, None, names), True
+
+
+def places_of(word, fields, columns):
+    """In which columns of a header a word stands: under the name that the source gives it, or under its own."""
+    theirs = columns.get(word)
+    places = [place for place, field in enumerate(fields) if theirs is not None and field.lower() == theirs.strip().lower()]
+    own = TIME_WORDS if word == "time" else (word,)
+    return places or [place for place, field in enumerate(fields) if field.lower() in own]
+
+
+def fields_of(line, separator):
+    """The fields of one line, without the blanks around them; None if a quote is not closed, which spoils its own line alone."""
+    if '"' in line:
         try:
-            if tag not in scales:
-                raise BadField("the base has no tag %r" % tag[:64])
-            t = milliseconds(time, settings.zone)
-            if t > latest:
-                raise BadField("later than the clock by more than %d ms: %r" % (settings.future_ms, time))
-            if t < settings.not_before:
-                raise BadField("earlier than not_before in feed.toml: %r (a whole number is milliseconds)" % time)
-            whole, rounded = value_and_rounding(value, scales[tag], settings.decimal)
-            values.add(tag, t, whole)
-            values.rounded += rounded
+            return [field.strip() for field in next(csv.reader([line], delimiter=separator, strict=True), [])]
+        except (csv.Error, StopIteration):
+            return None
+    return [field.strip() for field in line.split(separator)]
+
+
+def lines_of(data, begin, progress):
+    """The lines of a file's bytes, in pieces."""
+    while begin < len(data):
+        end = data.rfind(b"\n", begin, begin + CHUNK) + 1 or data.find(b"\n", begin) + 1 or len(data)
+        lines = data[begin:end].decode("utf-8", "replace").replace("\r\n", "\n").split("\n")
+        if not lines[-1]:
+            lines.pop()
+        yield lines
+        begin = end
+        progress(begin, len(data))
+
+
+class Reader:
+    """Reads the lines of one file, and adds what they say to the values of a turn.
+
+    `refuse(tag, time, value, number, why)` takes each row that is not stored; a line without fields stands in place of its tag. `place`
+    has what the lines of a growing file said that were read before: how many there were, their header, and of tags whose last time the
+    clock shows twice which one it was. So its next lines are read as if all came at once."""
+
+    def __init__(self, intake, source, refuse, place=None):
+        self.intake, self.source, self.refuse = intake, source, refuse
+        known, place = intake.known_of(source), place or {}
+        self.names, self.times, self.separator, self.good = known.names, known.times, source.separator, source.good
+        self.lines, self.header, self.hours = place.get("lines", 0), place.get("header"), place.get("hours", {})
+        self.layout, self.skip, self.pending = None, place.get("skip", source.skip), {}
+        if self.header is not None:
+            self.layout = layout_of(fields_of(self.header, self.separator) or [], source, intake.scales)[0]
+
+    def read(self, data, progress=lambda done, size: None):
+        """Adds what a file's bytes hold. A BadField says why the whole file is spoilt; then nothing of it was added."""
+        sizes = self.intake.values.sizes()
+        begin = len(codecs.BOM_UTF8) if self.lines == 0 and data.startswith(codecs.BOM_UTF8) else 0
+        for lines in lines_of(data, begin, progress):
+            number, self.lines = self.lines + 1, self.lines + len(lines)
+            if self.layout is None:
+                number, lines = self.behind_header(number, lines)
+            if lines:
+                (self.read_long if self.layout.names is None else self.read_wide)(number, lines)
+        self.settle_hours(sizes)
+        self.limit_late(sizes)
+
+    def place(self):
+        """What the next lines of a growing file need of these."""
+        return {"lines": self.lines, "header": self.header, "skip": self.skip, "hours": self.hours}
+
+    def behind_header(self, number, lines):
+        """The lines behind the header, and the number of their first one. The first line that is not blank tells the layout."""
+        for place, line in enumerate(lines):
+            fields = fields_of(line, self.separator)
+            if not line.strip() or fields != REFUSED_HEADER and self.skip:
+                self.skip -= bool(line.strip())
+                continue
+            self.layout, is_header = layout_of(fields or [], self.source, self.intake.scales)
+            self.header = line if is_header else ""
+            return number + place + is_header, lines[place + is_header:]
+        return number, []
+
+    def read_long(self, number, lines):
+        """Rows of one value each."""
+        names, times, separator, layout, good = self.names, self.times, self.separator, self.layout, self.good
+        tag, time, value, quality, width = layout.tag, layout.time, layout.value, layout.quality, layout.width
+        for number, line in enumerate(lines, number):
+            fields = line.split(separator)
+            try:
+                put_time, put_value, exact, _, _ = names[fields[tag]]
+                t, v = times[fields[time]], exact[fields[value]]
+                if len(fields) != width or quality is not None and fields[quality] not in good:
+                    raise KeyError
+            except (KeyError, IndexError):
+                self.long_row(number, line, fields)
+                continue
+            put_time(t)
+            put_value(v)
+
+    def long_row(self, number, line, plain):
+        """A row that has a text which is not known yet, or that is not stored."""
+        fields, layout = fields_of(line, self.separator), self.layout
+        if not line.strip():
+            return
+        if fields is None:
+            return self.refuse(line, "", "", number, BadField("a quote is not closed"))
+        if len(fields) != layout.width:
+            hint = ("" if layout.width > 3 or number > 1 else
+                    ": is `separator` in feed.toml right? A wide file's header begins with `time`")
+            return self.refuse(line, "", "", number, BadField("%d fields, not %d%s" % (len(fields), layout.width, hint)))
+        tag, time, value = fields[layout.tag], fields[layout.time], fields[layout.value]
+        plain = plain if '"' not in line else [""] * layout.width
+        try:
+            entry = self.entry(tag, plain[layout.tag])
+            found = self.time(time, plain[layout.time])
+            if layout.quality is not None and fields[layout.quality].lower() not in self.good:
+                return self.bad_value(entry[4], found, BadField("its quality is not good", fields[layout.quality]), fields, number)
+            v = self.number(entry, value, plain[layout.value])
         except BadField as why:
-            refused.append((tag, time, value, number, str(why)))
+            return self.refuse(tag, time, value, number, why)
+        self.put(entry, found, v, number, tag, time, value)
+
+    def bad_value(self, name, found, why, fields, number):
+        """A value of bad quality: it is refused; or, if the tag has a quality_tag, that tag shows it."""
+        if self.intake.settings.of_tag(name)["quality_tag"] is None or len(found) > 1:
+            layout = self.layout
+            return self.refuse(fields[layout.tag], fields[layout.time], fields[layout.value], number, why)
+        self.intake.bad.setdefault(name, array.array("q")).append(found[0])
+
+    def read_wide(self, number, lines):
+        """Rows of a value for each of the header's tags; an empty field is none."""
+        times, separator, width, time = self.times, self.separator, self.layout.width, self.layout.time
+        columns = [(place, self.column(name)) for place, name in enumerate(self.layout.names) if name is not None]
+        for number, line in enumerate(lines, number):
+            fields = line.split(separator)
+            t = times.get(fields[time]) if len(fields) == width and '"' not in line else None
+            if t is None:
+                self.wide_row(number, line, fields)
+                continue
+            for place, (put_time, put_value, exact, _, _) in columns:
+                field = fields[place]
+                v = exact.get(field) if field else None
+                if v is not None:
+                    put_time(t)
+                    put_value(v)
+                elif field:
+                    self.wide_cell(number, place, (t,), fields[time], field, field)
+
+    def column(self, name):
+        """Where the values of a wide file's column go; nothing is known of its fields if the base has no such tag."""
+        try:
+            return self.entry(name, name)
+        except BadField:
+            return None, None, {}, {}, name
+
+    def wide_row(self, number, line, plain):
+        """A row of a wide file whose time is not known yet, or that is not stored."""
+        fields, time = fields_of(line, self.separator), self.layout.time
+        if not line.strip():
+            return
+        if fields is None or len(fields) != self.layout.width:
+            why = "a quote is not closed" if fields is None else "%d fields, and the header has %d" % (len(fields), self.layout.width)
+            return self.refuse(line, "", "", number, BadField(why))
+        plain = plain if '"' not in line else [""] * self.layout.width
+        try:
+            found = self.time(fields[time], plain[time])
+        except BadField as why:
+            found = why
+        for place, name in enumerate(self.layout.names):
+            if name is not None and fields[place]:
+                self.wide_cell(number, place, found, fields[time], fields[place], plain[place])
+
+    def wide_cell(self, number, place, found, time, value, plain):
+        """A value of a wide file; `found` are its times, or why it has none."""
+        name, value = self.layout.names[place], value.strip()
+        if not value:
+            return
+        try:
+            entry = self.entry(name, name)
+            if isinstance(found, BadField):
+                raise found
+            v = self.number(entry, value, plain)
+        except BadField as why:
+            return self.refuse(name, time, value, number, why)
+        self.put(entry, found, v, number, name, time, value)
+
+    def entry(self, text, plain):
+        """Where the values of a tag go; `plain` is the field as it came, which is remembered."""
+        if plain not in self.names:
+            entry = self.intake.entry(text, self.source.tags)
+            if not plain:
+                return entry
+            remember(self.names, plain, entry)
+        return self.names[plain]
+
+    def time(self, text, plain):
+        """The time or the two times that a field may mean. A single one is remembered."""
+        if plain in self.times:
+            return self.times[plain],
+        intake, found = self.intake, instants(text, self.source.zone, self.source.time)
+        if found[0] > intake.latest:
+            raise BadField("later than the clock by more than %d ms" % intake.settings.future_ms, text)
+        if found[0] < intake.settings.not_before:
+            raise BadField("earlier than not_before in feed.toml (a whole number is milliseconds)", text)
+        if len(found) == 1 and plain:
+            remember(self.times, plain, found[0])
+        return found
+
+    def number(self, entry, text, plain):
+        """A field as a tag's whole value."""
+        _, _, exact, rounded, name = entry
+        if plain in exact:
+            return exact[plain]
+        if plain not in rounded:
+            v, is_rounded = value_and_rounding(text, self.intake.scales[name], self.source.decimal)
+            self.intake.values.rounded += is_rounded
+            if plain:
+                remember(rounded if is_rounded else exact, plain, v)
+            return v
+        self.intake.values.rounded += 1
+        return rounded[plain]
+
+    def put(self, entry, found, v, number, tag, time, value):
+        """Adds a value. If its time may be one of two, that is settled once the rows around it are known."""
+        if len(found) > 1:
+            place = len(self.intake.values.arrays(entry[4])[0])
+            self.pending.setdefault(entry[4], []).append((place, found[1], number, tag, time, value))
+        entry[0](found[0])
+        entry[1](v)
+
+    def settle_hours(self, sizes):
+        """Decides of times that the clock shows twice which one is meant: the rows of each tag rise."""
+        hours = {}
+        for name, pending in self.pending.items():
+            times, values = self.intake.values.arrays(name)
+            first, spans = sizes.get(name, 0), spans_of([row[0] for row in pending])
+            for begin, end in reversed(spans):
+                rows = pending[begin:end]
+                place = rows[0][0]
+                before = times[place - 1] if place > first else self.hours.get(name)
+                settled = settled_times(before, times[place:place + len(rows)], [row[1] for row in rows], self.intake.latest)
+                for row in () if settled else rows:
+                    self.refuse(*row[3:], row[2], twice(row[4], self.source.zone))
+                times[place:place + len(rows)] = array.array("q", settled or ())
+                if not settled:
+                    del values[place:place + len(rows)]
+                elif end == len(pending) and place + len(rows) == len(times):
+                    hours[name] = times[-1]
+        self.hours = hours
+
+    def limit_late(self, sizes):
+        """Takes no more late rows of a tag than `late_rows` allows a turn; the others are put aside."""
+        intake, most = self.intake, self.intake.settings.late_rows
+        for name, (times, values) in intake.values.tags.items():
+            first, newest = sizes.get(name, 0), intake.newest.get(name, -1)
+            if len(times) == first:
+                continue
+            some = times[first:]
+            if some[0] > newest and all(map(operator.lt, some, some[1:])):
+                intake.newest[name] = some[-1]
+                continue
+            kept, count = [], intake.late.get(name, 0)
+            for place, t in enumerate(some, first):
+                count += t <= newest
+                if t > newest or count <= most:
+                    kept.append(place)
+                else:
+                    intake.over.add(name, t, values[place])
+                newest = max(newest, t)
+            intake.newest[name], intake.late[name] = newest, count
+            if len(kept) < len(some):
+                times[first:], values[first:] = (array.array("q", [one[place] for place in kept]) for one in (times, values))
+
+
+def remember(texts, text, meaning):
+    """Notes what a text means. Too many texts are forgotten: they are read again as they come."""
+    if len(texts) >= KNOWN:
+        texts.clear()
+    texts[text] = meaning
+
+
+def spans_of(places):
+    """The spans of neighbouring places, as positions in the list."""
+    cuts = [0] + [n for n in range(1, len(places)) if places[n] != places[n - 1] + 1] + [len(places)]
+    return list(zip(cuts, cuts[1:]))
+
+
+def settled_times(before, early, late, latest):
+    """Which times are meant by rows that follow each other, each at its early or its late time; None if the order cannot tell.
+
+    The rows rise. So if they fall once on the clock, those before that are early and those behind it late. If they do not, they are late
+    if the row before them is not earlier; and early if the last one would be later than the clock otherwise."""
+    falls = [n for n in range(1, len(early)) if early[n] <= early[n - 1]]
+    if before is not None and before >= early[0]:
+        return list(late) if not falls and before < late[0] and late[-1] <= latest else None
+    if len(falls) == 1:
+        return list(early[:falls[0]]) + list(late[falls[0]:]) if late[-1] <= latest else None
+    return list(early) if not falls and late[-1] > latest else None
+
+
+def read_values(data, scales, settings, latest, values, name=""):
+    """Adds what the bytes of a file of this name hold to the values, and answers its refusals: tag, time, value, line number, reason."""
+    intake, refused = Intake(settings, scales, latest), []
+    intake.values = values
+    refuse = lambda tag, time, value, number, why: refused.append((tag, time, value, number, str(why)))  # noqa: E731
+    try:
+        Reader(intake, settings.source_of(name), refuse).read(data)
+    except BadField as why:
+        refused.append(("", "", "", 1, str(why)))
     return refused

@@ -10,18 +10,17 @@ run by hand since changes none of that. Its line, and a line for each tag of how
 import json
 import os
 import re
-import shutil
-import sys
-import time
 
-from devices import begins, events_on, log_end, sha256_of_first
-from plant import CHANGED, Refusal, copied, sha256_of, sync_folder, write_whole
+from devices import TUNING, begins, events_on, log_end, sha256_of_first  # noqa: F401
+from files import CHANGED, Refusal, sha256_of, write_whole
 
 LINE = re.compile(r"([0-9a-f]{64}|# \d+ events|# [0-9a-f]{64} of the first \d+ bytes)  (historian\.d/.+)\n")
 LOG = "historian.d/plant.log"
+CHANGED_SINCE = "is not as the last turn left it: a bit flipped, another program wrote to it, or a wrong file was put there"
+BY_NO_TURN = "was made by no turn: another program ran here"
+NO_DEVICE = "is missing or does not begin as a device"
 SHOWN = 20  # devices that a line tells of
-BACKUP = re.compile(r"\d{4}-\d\d-\d\dT\d{6}Z")  # the name of a copy
-UNFINISHED = re.compile(BACKUP.pattern + r"\.part")
+COPY = re.compile(r"(?:([0-9]{6,})\.)?([0-9]{4}-[0-9]{2}-[0-9]{2}T[0-9]{6}Z)")  # the name of a copy; older feeders gave none a number
 
 
 def devices(plant):
@@ -93,20 +92,24 @@ def differences(plant, but=()):
             if name.endswith(".tag"):
                 found[name] = "is missing"
         elif sha256_of(plant.path(name)) != sha:
-            found[name] = "is not as the last turn left it: a bit flipped, another program wrote to it, or a wrong file was put there"
+            found[name] = CHANGED_SINCE
     if log and not os.path.isfile(plant.path(LOG)):
         found[LOG] = "is missing"
     elif log and sha256_of_first(plant.path(LOG), log[1]) != log[0]:
         found[LOG] = "no longer begins with the rows that it had: a bit flipped, or a wrong file was put there"
     for name in devices(plant) if kept is not None else ():
         if name.endswith(".tag") and name not in kept and name not in but:
-            found[name] = "was made by no turn: another program ran here"
+            found[name] = BY_NO_TURN
     return found
 
 
 def require_sealed(plant, but=()):
     """Ends with a refusal if a device is not as it was sealed. Nothing was opened or changed by then."""
-    found = differences(plant, but)
+    refuse_changed(plant, differences(plant, but))
+
+
+def refuse_changed(plant, found):
+    """Ends with a refusal if there are devices, by name, that are not as they were sealed."""
     if found:
         kept = sealed(plant)
         lines = ["%s %s.\n    %s" % (name, what, copy_of(plant, name, kept.get(name))) for name, what in found.items()]
@@ -144,23 +147,27 @@ def counted(plant):
 def require_good(plant):
     """Ends with a refusal if a device is not as it was sealed. Of those that an unfinished turn may have changed only the first bytes are
     looked at."""
-    tags = []
-    if os.path.exists(plant.path("feed.d", "turn.json")):
-        try:
-            with open(plant.path("feed.d", "turn.json")) as text:
-                tags = list(json.load(text)["tags"])
-        except (ValueError, KeyError, TypeError):
-            raise Refusal(CHANGED, "feed.d/turn.json is damaged, so nobody can say what is stored, and nothing was done: run"
-                          " feed.py") from None
+    tags = tags_of_turn(plant)
     groups = [name for name in devices(plant) if name.endswith(".grp")] if tags else []
     require_sealed(plant, ["historian.d/%s.tag" % name for name in tags] + groups)
     require_begun(plant, tags)
 
 
+def tags_of_turn(plant):
+    """The tags of an unfinished turn; none if there is no such turn."""
+    try:
+        with open(plant.path("feed.d", "turn.json")) as text:
+            return list(json.load(text)["tags"])
+    except FileNotFoundError:
+        return []
+    except (ValueError, KeyError, TypeError):
+        raise Refusal(CHANGED, "feed.d/turn.json is damaged, so nobody can say what is stored, and nothing was done: run feed.py") from None
+
+
 def copy_of(plant, name, sha):
     """Where a good copy of a device stands, and whether that one file or the whole plant has to be put back."""
     log = sealed_log(plant) if name == LOG else None
-    copies = [path for path in (os.path.join("backup", backup, name) for backup in backups(plant)) if os.path.isfile(plant.path(path))]
+    copies = [path for path in (os.path.join(copy, name) for copy in copies_of(plant)) if os.path.isfile(plant.path(path))]
     for path in copies:
         if sha and sha256_of(plant.path(path)) == sha or log and sha256_of_first(plant.path(path), log[1]) == log[0]:
             return "The bytes of the last turn stand in %s: copy that file back, and no other." % path
@@ -171,76 +178,23 @@ def copy_of(plant, name, sha):
     if not sha:
         return "If nobody is to have made it, move it away."
     if copies:
+        copy = os.path.dirname(os.path.dirname(copies[0]))
         return ("No backup has the bytes of the last turn, and an older copy of one file does not fit the others: put the whole plant"
-                " back from %s (docs/RUNNING.md, Backup)." % os.path.dirname(os.path.dirname(copies[0])))
-    return ("No backup has this device. If done/ has all files that were fed, move historian.d and feed.d away and feed those files"
-            " again (docs/RUNNING.md, Backup).")
+                " back from %s: feed.py --restore %s." % (copy, os.path.basename(copy)))
+    return "No backup has this device. If done/ has all turns, all of them can be made again: feed.py --restore nothing."
 
 
 def require_begun(plant, names):
     """Ends with a refusal if one of these devices of tags no longer begins as one: the program would refuse it, or begin it anew."""
     for name in names:
         if not begins(plant.path("historian.d", name + ".tag")):
-            raise Refusal(CHANGED, "historian.d/%s.tag is missing or does not begin as a device: nothing was done, and no file was"
-                          " changed. Put the plant back from a backup (docs/RUNNING.md, Backup)." % name)
+            raise Refusal(CHANGED, "historian.d/%s.tag %s: nothing was done, and no file was changed. Put the plant back from a backup:"
+                          " feed.py --restore last." % (name, NO_DEVICE))
 
 
-def backups(plant):
-    """The names of the whole copies that this tool made, the newest first."""
-    folder = plant.path("backup")
-    return sorted(filter(BACKUP.fullmatch, os.listdir(folder)), reverse=True) if os.path.isdir(folder) else []
-
-
-def remove_unfinished(plant):
-    """Removes the copies of this tool that a stop left unfinished, and says so. Nobody else makes one now, because the lock is held. What
-    has such a name and is no folder was made by somebody else, and stays."""
-    folder = plant.path("backup")
-    for name in sorted(os.listdir(folder)) if os.path.isdir(folder) else ():
-        path = os.path.join(folder, name)
-        if UNFINISHED.fullmatch(name) and os.path.isdir(path) and not os.path.islink(path):
-            shutil.rmtree(path)
-            note("backup/%s, a copy that was stopped, is removed" % name)
-        elif UNFINISHED.fullmatch(name):
-            note("backup/%s is no folder, so feed.py did not make it: it stays as it is" % name)
-
-
-def note(text):
-    """Says something besides the answer."""
-    print(text, file=sys.stderr, flush=True)
-
-
-def free_name(plant):
-    """The time now as the name of a copy. If another copy has that name, it waits for the next second."""
-    while True:
-        name = time.strftime("%Y-%m-%dT%H%M%SZ", time.gmtime())
-        if not any(os.path.lexists(plant.path("backup", name + end)) for end in ("", ".part")):
-            return name
-        time.sleep(0.05)
-
-
-def back_up(plant):
-    """Copies texts, devices, seals and the list of fed files, compares the devices with the seals, and answers the copy's name."""
-    require_known(plant)
-    if sealed(plant) is None:
-        os.makedirs(plant.path("feed.d"), exist_ok=True)
-        seal(plant)
-    put_seals(plant, ["%s  %s\n" % (what, name) for what, name in seal_lines(plant) if name != LOG])
-    remove_unfinished(plant)
-    name = free_name(plant)
-    part = plant.path("backup", name + ".part")
-    texts = ["base.toml", "feed.toml", "feed.d/base.toml", "feed.d/seals", "feed.d/fed", "feed.d/scales"]
-    kept, log = sealed(plant), sealed_log(plant)
-    for file in texts + list(kept) + [LOG]:
-        if os.path.isfile(plant.path(file)):
-            os.makedirs(os.path.dirname(os.path.join(part, file)), exist_ok=True)
-            copied(plant.path(file), os.path.join(part, file))
-            if file in kept and sha256_of(os.path.join(part, file)) != kept[file] or (
-                    file == LOG and sha256_of_first(os.path.join(part, file), log[1]) != log[0]):
-                raise Refusal(CHANGED, "the copy of %s differs from it: is the disk good? The unfinished copy is %s" % (file, part))
-    for folder in ("historian.d", "feed.d", ""):
-        if os.path.isdir(os.path.join(part, folder)):
-            sync_folder(os.path.join(part, folder))
-    os.replace(part, plant.path("backup", name))
-    for folder in ("backup", ""):
-        sync_folder(plant.path(folder))
-    return "backup/" + name
+def copies_of(plant):
+    """The whole copies of the plant that the feeder made, the newest first: by their numbers, because a clock may be wrong."""
+    folder = plant.path(plant.settings.backups)
+    found = [match for match in map(COPY.fullmatch, os.listdir(folder)) if match] if os.path.isdir(folder) else []
+    found.sort(key=lambda match: (int(match[1] or 0), match[2]), reverse=True)
+    return [os.path.join(plant.settings.backups, match[0]) for match in found]

@@ -1,54 +1,112 @@
-"""telling.py: what feed.py prints of a turn."""
-import csv
+"""telling.py: what feed.py prints of a turn, and whom it calls when something is wrong."""
+import json
 import os
+import shlex
+import subprocess
+import time
 
-SHOWN = 5  # refused rows of a file that are printed
+from files import shown, write_whole
 
-
-def say(text):
-    print(text, flush=True)
+SHOWN = 5  # causes of a file that are printed
+AGAIN = 3_600  # seconds after which on_trouble is called again for a trouble that lasts
+PATIENCE = 60  # seconds that its command may take
+LATE_ROWS = "late-rows.csv"  # the file of the rows that came late beyond late_rows
 
 
 def tell(plant, turn, state, without_room):
-    """One line for the turn, a line for each file without values or that was fed before, and the first refused rows of each file."""
-    refused = {file["name"]: file["refused"] for file in turn.files if file["refused"]}
+    """One line for the turn, and lines for each file of which something is not stored: a line for a cause."""
     name, count = without_room
-    if count:
-        refused[name] = count
-    if not turn.files:
-        say("the edited base.toml is taken over")
+    refused = count + sum(file["refused"] + file.get("late", 0) for file in turn.files)
+    if not turn.files and not turn.values.count:
         return
-    say("turn %d: %d files, %d values of %d tags stored, %d refused%s" % (
-        turn.number, len(turn.files), turn.values.count - count, len(turn.tags), sum(refused.values()), late_and_rounded(turn, state)))
-    for file in turn.files:
-        tell_file(turn, file)
-    for name, count in refused.items():
-        tell_refused(plant, os.path.join(turn.folder("refused"), name), name, count)
+    line = "turn %d: %d files, %d values of %d tags stored, %d refused%s" % (
+        turn.number, len(turn.files), turn.values.count - count, len(turn.tags), refused, besides(turn, state))
+    plant.say(line)
+    told = [text for file in turn.files for text in lines_of(turn, file)]
+    if count:
+        told += ["  %d values find no room: no tag takes more records than docs/RUNNING.md says" % count,
+                 "  all %d are in %s; begin a new folder for them" % (count, os.path.join(turn.folder("refused"), name))]
+    for text in told:
+        plant.say(text)
+    if refused:
+        plant.troubles.append("%s; %s" % (line, told[0].strip()))
 
 
-def late_and_rounded(turn, state):
-    """How many of the turn's stored values came late, and how many of its values were rounded; nothing of a kind that is not there.
+def besides(turn, state):
+    """How many of the turn's stored values came late, how many of its values were rounded, and how many were bad; nothing of a kind that is
+    not there.
 
     The program counts the late ones of each tag. What it has counted since the turn began is exact also after a stop, because turn.json
     has the numbers from before."""
     late = sum(state[name].late - before.get("late", state[name].late) for name, before in turn.tags.items())
     rounded = sum(file.get("rounded", 0) for file in turn.files)
-    return "".join(", %d %s" % (count, what) for count, what in ((late, "late"), (rounded, "rounded")) if count)
+    bad = turn.notes.get("bad", 0)
+    return "".join(", %d %s" % (count, what) for count, what in ((late, "late"), (rounded, "rounded"), (bad, "bad")) if count)
 
 
-def tell_file(turn, file):
-    """A line for a file of which nothing is stored, and why."""
+def lines_of(turn, file):
+    """The lines about a file of which something is not stored, and what to do."""
+    name, folder, lines = shown(file["name"], 255), turn.folder("refused"), []
     if file.get("twice"):
-        say("  %s has the bytes of %s: none of its rows is stored again, and it goes to %s" % (
-            file["name"], file["twice"], turn.folder("refused")))
+        lines.append("  %s has the bytes of %s: none of its rows is stored again, and it goes to %s" % (
+            name, shown(file["twice"], 300), folder))
+    if file.get("spoilt"):
+        lines += ["  all %s rows of %s: %s" % (format(file["refused"], ","), name, file["spoilt"]),
+                  "  it goes to %s; correct it there, or what the reason names, and move it to the inbox" % folder]
     if file.get("nothing"):
-        say("  %s has %s: nothing of it is stored, and it goes to %s" % (file["name"], file["nothing"], turn.folder(file["goes"])))
+        lines.append("  %s has %s: nothing of it is stored, and it goes to %s" % (name, file["nothing"], turn.folder(file["goes"])))
+    if file.get("causes"):
+        lines += causes_of(file, name) + ["  %s %s; correct them there and move that file to the inbox" % (
+            where_refused(turn, file), os.path.join(folder, name))]
+    elif file["refused"] and not file.get("spoilt"):  # a turn of an older feeder
+        lines.append("  all %d are in %s" % (file["refused"], os.path.join(folder, name)))
+    if file.get("late"):
+        lines.append("  %s: %s rows came late, more than late_rows of feed.toml lets a tag take in a turn. Each would cost a record for ever. They"
+                     " are in %s; if they are right, raise late_rows, and move that file to the inbox" % (
+                         name, format(file["late"], ","), os.path.join(folder, LATE_ROWS)))
+    return lines
 
 
-def tell_refused(plant, place, name, count):
-    """The first refused rows of a file."""
-    with open(plant.path(place), newline="", errors="replace") as text:
-        reader = csv.reader(text, delimiter=plant.settings.separator)
-        for tag, _, _, number, reason in [row for row, _ in zip(reader, range(SHOWN + 1))][1:]:
-            say("  %s%s: %s: %s" % (name, number and " row " + number, tag[:80], reason))
-    say("  all %d are in %s; correct them there and move that file to the inbox" % (count, place))
+
+def where_refused(turn, file):
+    """How many of a file's refused rows are written down, as the begin of a line. So many may be refused that the list of them ends."""
+    if file.get("written", file["refused"]) == file["refused"]:
+        return "all %d are in" % file["refused"]
+    return "all of them are in %s, and the first %d in" % (os.path.join(turn.folder(file["goes"]), shown(file["name"], 255)), file["written"])
+
+def causes_of(file, name):
+    """A line for each cause for which rows of a file are refused, the most frequent ones first."""
+    lines, causes = [], sorted(file["causes"], key=lambda cause: -cause[1])
+    for cause, count, number, tag, reason in causes[:SHOWN]:
+        if count == 1:
+            lines.append("  %s row %d: %s: %s" % (name, number, shown(tag, 80), reason))
+        elif count == file["refused"] and not file["rows"]:
+            lines.append("  all %s rows of %s: %s" % (format(count, ","), name, reason if len(reason) < 200 else cause))
+        else:
+            lines.append("  %s: %s rows, first row %d: %s: %s" % (name, format(count, ","), number, shown(tag, 80), reason))
+    if len(causes) > SHOWN:
+        lines.append("  %s: %s rows for %d other reasons" % (name, format(sum(cause[1] for cause in causes[SHOWN:]), ","),
+                                                             len(causes) - SHOWN))
+    return lines
+
+
+def call_for_help(plant):
+    """Calls the command on_trouble of feed.toml with each line about a trouble; again only an hour later, if the trouble lasts."""
+    if not plant.settings.on_trouble:
+        return
+    path, now = plant.path("feed.d", "troubles"), time.time()
+    try:
+        with open(path) as text:
+            known = {line: at for line, at in json.load(text).items() if abs(now - at) < AGAIN}
+    except (OSError, ValueError, AttributeError, TypeError):
+        known = {}
+    new = [line for line in dict.fromkeys(plant.troubles) if line not in known]
+    for line in new:
+        try:
+            subprocess.run(shlex.split(plant.settings.on_trouble) + [line], cwd=plant.folder, stdin=subprocess.DEVNULL, timeout=PATIENCE)
+        except (OSError, ValueError, subprocess.TimeoutExpired) as why:
+            plant.say("on_trouble of feed.toml failed: %s" % shown(str(why), 200))
+    if new and os.path.isdir(plant.path("feed.d")):
+        write_whole(path, json.dumps(known | dict.fromkeys(new, now)).encode())
+
+

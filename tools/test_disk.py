@@ -3,7 +3,7 @@
 
 It tests what the program does in these cases:
 - it is killed, or the power is cut.
-- a call of the system fails or is interrupted, and what becomes of that device.
+- a call of the system fails or is interrupted, and what becomes of that device, also as the program opens it.
 - two sessions meet in one folder.
 - a file of the folder is damaged, of another kind, or may only be read.
 
@@ -25,6 +25,7 @@ import disk_cuts  # noqa: E402
 import disk_double  # noqa: E402
 import disk_files  # noqa: E402
 import disk_kills  # noqa: E402
+import disk_opening  # noqa: E402
 import disk_renew  # noqa: E402
 from test_tools import run_cases  # noqa: E402
 
@@ -37,7 +38,8 @@ def main():
     parser.add_argument("--jobs", type=int, default=min(4, os.cpu_count() or 1), help="how many cases run at the same time")
     parser.add_argument("--only", nargs="+", default=[], metavar="NAME", help="only the cases whose names begin so")
     settings = parser.parse_args()
-    cases = disk_kills.CASES + disk_cuts.CASES + disk_calls.CASES + disk_renew.CASES + disk_double.CASES + disk_files.CASES
+    cases = disk_kills.CASES + disk_cuts.CASES + disk_calls.CASES + disk_renew.CASES + disk_opening.CASES
+    cases += disk_double.CASES + disk_files.CASES
     return run_cases(cases, settings)
 
 

@@ -20,14 +20,26 @@ import traceback
 sys.dont_write_bytecode = True
 HERE = os.path.dirname(os.path.abspath(__file__))
 sys.path[:0] = [HERE, os.path.join(HERE, "testing")]
+import again  # noqa: E402
+import asked  # noqa: E402
+import audited  # noqa: E402
+import boarded  # noqa: E402
 import cuts  # noqa: E402
 import daily  # noqa: E402
 import drawn  # noqa: E402
 import keeping  # noqa: E402
 import kills  # noqa: E402
 import lost  # noqa: E402
+import pages  # noqa: E402
+import site_asks  # noqa: E402
+import site_daily  # noqa: E402
+import site_dask  # noqa: E402
+import site_kills  # noqa: E402
+import sources  # noqa: E402
 import stops  # noqa: E402
+import strange  # noqa: E402
 import told  # noqa: E402
+import tuned  # noqa: E402
 from plant import program_of  # noqa: E402
 
 
@@ -52,7 +64,9 @@ def main():
     parser.add_argument("--only", nargs="+", default=[], metavar="NAME", help="only the cases whose names begin so")
     settings = parser.parse_args()
     settings.kills = settings.kills or (300 if settings.long else 20)
-    cases = [case for cases in (kills, cuts, stops, daily, keeping, told, lost, drawn) for case in cases.CASES]
+    modules = (kills, cuts, stops, strange, again, sources, daily, keeping, told, lost, pages, asked, drawn, tuned, audited, boarded,
+               site_kills, site_asks, site_daily, site_dask)
+    cases = [case for module in modules for case in module.CASES]
     return run_cases(cases, settings)
 
 

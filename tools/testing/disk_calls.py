@@ -16,17 +16,16 @@ NAMED = ("openat", "mkdir", "statx", "rename", "renameat", "renameat2", "unlink"
 TRACED = "pread64,pwrite64,ftruncate,fsync,fdatasync,read,write,flock,getdents64," + ",".join(NAMED)
 CHANGES = ("pwrite64", "fdatasync", "ftruncate")
 FAILING = {"pwrite64": 10, "fdatasync": 10, "fsync": 1, "openat": 2, "pread64": 1}  # of a thread's first so many calls, one fails
-FOLDER = {"openat": 2, "flock": 1, "fsync": 4, "getdents64": 2, "mkdir": 1}  # the same on the folder
+FOLDER = {"openat": 2, "flock": 1, "fsync": 5, "getdents64": 2, "mkdir": 1}  # the same on the folder
 DEVICE = ("openat", "statx", "fsync", "fdatasync", "pread64", "pwrite64")
 INTERRUPTED = [(kind, "historian.d/T1.tag") for kind in DEVICE] + [
-    ("mkdir", "historian.d"), ("statx", "historian.d"), ("openat", "historian.d"), ("getdents64", "historian.d"), ("openat", "base.toml"),
-    ("read", "base.toml"), ("read", "plan.toml"), ("read", "c1.csv"), ("read", "asks.csv"), ("write", "")]
+    ("mkdir", "historian.d"), ("statx", "historian.d"), ("openat", "historian.d"), ("getdents64", "historian.d"), ("fsync", "historian.d"),
+    ("openat", "base.toml"), ("read", "base.toml"), ("read", "plan.toml"), ("read", "c1.csv"), ("read", "asks.csv"), ("write", "")]
 
 
-def injected(plant, verb, errors, paths=()):
+def watched(plant, verb, errors=(), paths=()):
     """Runs a command in which calls have errors, on these paths or on all. An error is given as strace takes it, such as
-    `fdatasync:error=EIO:when=2`. Returns the exit status, what it printed, and the calls after the first error as their kinds and names.
-    The last is None if no call had an error."""
+    `fdatasync:error=EIO:when=2`. Returns the exit status, what it printed, and the lines of strace in the order of their moments."""
     trace = plant.path("trace")
     os.makedirs(trace)
     under = ["strace", "-ff", "-ttt", "-y", "-xx", "-qq", "-o", os.path.join(trace, "of"), "-e", "trace=" + TRACED]
@@ -41,7 +40,13 @@ def injected(plant, verb, errors, paths=()):
         with open(os.path.join(trace, name)) as lines:
             calls += lines
     shutil.rmtree(trace)
-    calls.sort()
+    return status, text, sorted(calls)
+
+
+def injected(plant, verb, errors, paths=()):
+    """The same. Returns the calls after the first error as their kinds and names, or None if no call had an error, in place of the
+    lines."""
+    status, text, calls = watched(plant, verb, errors, paths)
     places = [place for place, line in enumerate(calls) if "(INJECTED)" in line]
     return status, text, list(map(kind_and_names, calls[places[0] + 1:])) if places else None
 

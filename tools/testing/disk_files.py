@@ -56,13 +56,15 @@ def refused(plant, name):
 
 
 def unknown_word(folder, program, settings):
-    """With words that are no command the program opens no device, and writes no marked one anew."""
+    """With words that are no command, and for `pack` and `drill`, the program opens no device, and writes no marked one anew."""
     plant = full_plant(os.path.join(folder, "plant"), program)
     plant.write("historian.d/T1.tag.fault", b"")
     before = state(plant)
     for words in (("chek", "base.toml"), ("--help",), ()):
         assert plant.call(*words) == (2, "fault: words\n"), words
-    assert state(plant) == before, "an unknown word changes the folder"
+    for words in (("pack", "0", "1000000", "1", "0", "1000000"), ("drill", "1", "1", "4")):
+        assert plant.call(*words, stdin=subprocess.DEVNULL)[0] == 0, words
+    assert state(plant) == before, "a command without devices changes the folder"
 
 
 def damaged_first_bytes(folder, program, settings):

@@ -9,7 +9,7 @@ import unittest.mock
 import xml.etree.ElementTree
 
 import feed
-import rows
+import fields
 import seals
 import turns
 from plant import Plant
@@ -20,7 +20,7 @@ SPREAD = 3_000_000
 
 def found_by_seals(folder, program, settings):
     """Each tool names a device with a flipped bit before the program opens anything, and the feeder names a missing one. It names the
-    copy in backup/, with which all goes on."""
+    copy in backup/, with which all goes on. Other tags may be asked about meanwhile."""
     trial, wanted = two_blocks(folder, program)
     copy = trial.fed("--backup").strip()
     device, good = trial.path("historian.d/LIC4.PV.tag"), trial.path(copy, "historian.d/LIC4.PV.tag")
@@ -33,7 +33,8 @@ def found_by_seals(folder, program, settings):
             status, text = trial.feed(*asked)
             assert status == 21 and "historian.d/LIC4.PV.tag is not as the last turn left it" in text, (place, text)
             assert "stand in %s/historian.d/LIC4.PV.tag: copy that file back, and no other" % copy in text, text
-        for tool, asked in (("ask.py", ["snap,FIC1.PV"]), ("draw.py", ["FIC1.PV", "1711670400000", "1711680000000", "x.svg"])):
+        assert trial.tool("ask.py", "snap,FIC1.PV")[0] == 0
+        for tool, asked in (("ask.py", ["snap,LIC4.PV"]), ("draw.py", ["LIC4.PV", "1711670400000", "1711680000000", "x.svg"])):
             status, text = trial.tool(tool, *asked)
             assert status == 21 and "LIC4.PV.tag is not as the last turn left it" in text, (place, text)
         assert open(device, "rb").read() == flipped, "the damaged device was changed"
@@ -54,12 +55,12 @@ def which_copy(folder, program, settings):
     with open(device, "r+b") as out:
         out.seek(401)
         out.write(b"Q")
-    assert "an older copy of one file does not fit the others: put the whole plant back from %s (" % first in trial.feed()[1]
+    assert "an older copy of one file does not fit the others: put the whole plant back from %s: feed.py --restore %s." % (first, os.path.basename(first)) in trial.feed()[1]
     shutil.copy(trial.path(first, "historian.d/LIC4.PV.tag"), device)  # put back wrongly
     assert "historian.d/LIC4.PV.tag is not as the last turn left it" in trial.feed()[1]
     shutil.rmtree(trial.path("backup"))
     text = trial.feed()[1]
-    assert "No backup has this device. If done/ has all files that were fed, move historian.d and feed.d away" in text, text
+    assert "No backup has this device. If done/ has all turns, all of them can be made again: feed.py --restore nothing." in text, text
     trial.fed("--seal")
     with open(trial.path("historian.d/unit.grp"), "ab") as out:
         out.write(b"Q")
@@ -136,35 +137,10 @@ def killed_by_hand(folder, program, settings):
     trial.fed("--seal")
     for name in os.listdir(trial.path("inbox")):
         os.remove(trial.path("inbox", name))
-    trial.write("inbox/rest.csv", "".join("%s,%d,%s\n" % (name, t, rows.decimal_text(v, (LINES | STEPS)[name]))
+    trial.write("inbox/rest.csv", "".join("%s,%d,%s\n" % (name, t, fields.decimal_text(v, (LINES | STEPS)[name]))
                                           for t, name, v in trial.rows[150:]))
     trial.fed()
     check_same(trial.answers(), wanted, "after the rest was fed")
-
-
-def put_back_from_backup(folder, program, settings):
-    """The devices are lost. The backup is put back, the files that were fed later are fed again, and nothing is missing."""
-    trial = Trial(os.path.join(folder, "a"), program)
-    trial.deliver(0, hours=3)
-    trial.fed()
-    copy = trial.fed("--backup").strip()
-    os.makedirs(trial.path("backup/2020-01-01T000000Z.part"))  # as a stop leaves it
-    for block in (1, 2):
-        trial.deliver(block, hours=3)
-        for file in "ab":  # files of the same names in each turn
-            os.rename(trial.path("inbox/%02d-%s.csv" % (block, file)), trial.path("inbox/%s.csv" % file))
-        trial.fed()
-    shutil.rmtree(trial.path("historian.d"))
-    shutil.rmtree(trial.path("feed.d"))
-    shutil.copytree(trial.path(copy), trial.folder, dirs_exist_ok=True)
-    for turn in ("000002", "000003"):  # turn by turn, as docs/RUNNING.md has it
-        for name in os.listdir(trial.path("done", turn)):
-            os.rename(trial.path("done", turn, name), trial.path("inbox", name))
-        trial.fed()
-    check_same(trial.answers(), expected(os.path.join(folder, "hand"), program, trial.rows), "put back from a backup")
-    assert sorted(os.listdir(trial.path("done/000005"))) == ["a.csv", "b.csv"] and os.listdir(trial.path("done/000003")) == []
-    trial.fed("--backup")
-    assert not any(name.endswith(".part") for name in os.listdir(trial.path("backup")))
 
 
 def archive_is_full(folder, program, settings):
@@ -243,22 +219,23 @@ def questions(folder, program, settings):
     trial = Trial(os.path.join(folder, "a"), program)
     points = [(START + 1000 * n, 100 * (n % 2) + n % 7) for n in range(SPREAD // 1000)]
     trial.write("base.toml", base_text().replace("exc_dev = 10", "exc_dev = 0").replace("comp_dev = 30", "comp_dev = 0"))
-    lines = ["FIC1.PV,%d,%s\nTIC3.PV,%d,20.2%d\n" % (t, rows.decimal_text(v, 100), t, t // 1000 % 2) for t, v in points]
+    lines = ["FIC1.PV,%d,%s\nTIC3.PV,%d,20.2%d\n" % (t, fields.decimal_text(v, 100), t, t // 1000 % 2) for t, v in points]
     trial.write("inbox/x.csv", "".join(lines))
     trial.fed()
-    status, text = trial.tool("ask.py", "--csv", "FIC1.PV", rows.iso_text(START, None), str(START + SPREAD))
+    status, text = trial.tool("ask.py", "--csv", "FIC1.PV", fields.iso_text(START, None), str(START + SPREAD))
     assert status == 0, text
-    got = [(rows.milliseconds(t, None), rows.whole_value(v, 100)) for t, v in list(csv.reader(text.splitlines()))[1:]]
+    got = [(fields.milliseconds(t, None), fields.whole_value(v, 100)) for t, v in list(csv.reader(text.splitlines()))[1:]]
     assert got == points, (len(got), len(points))
-    middle = rows.iso_text(START + 500, None)
+    middle = fields.iso_text(START + 500, None)
     status, text = trial.tool("ask.py", "at,FIC1.PV," + middle, "avg,FIC1.PV,%d,%d" % (START, START + 2000), "snap,TIC3.PV",
                               "row,unit,hot," + middle, "at,FIC1.PV,0", "points,FIC1.PV,%d,%d" % (START, START + 1000))
     first = trial.by_hand("check", "base.toml").splitlines()[0]
     lines = list(csv.reader(text.splitlines()))
-    assert status == 0 and lines[1] == ["at", "FIC1.PV", "2024-03-29T00:00:00.500Z", "", "0.51", "line"], text
-    assert lines[2][4:] == ["0.51", ""] and lines[3][4:] == ["20.210", "taken=%d" % len(points)], text
-    assert lines[4] == ["row", "unit/hot", "2024-03-29T00:00:00.000Z", "2024-03-29T00:15:00.000Z", "1", ""], text
-    assert lines[5][4:] == ["", "none"] and [line[4] for line in lines[6:]] == ["0.00", "1.01"], text
+    assert status == 0 and lines[1] == ["at", "FIC1.PV", "2024-03-29T00:00:00.500Z", "", "0.51", "", "line"], text
+    assert lines[2][4:] == ["0.51", "", ""] and lines[3][4:] == ["20.210", "", "taken=%d" % len(points)], text
+    assert lines[4] == ["row", "unit/hot", "2024-03-29T00:00:00.000Z", "2024-03-29T00:15:00.000Z", "1", "", ""], text
+    assert lines[5][4:] == ["", "", "none; the first value is of 2024-03-29 00:00:00Z"], text
+    assert [line[4] for line in lines[6:]] == ["0.00", "1.01"], text
     status, text = trial.tool("ask.py", "--csv", "FIC1.PV", str(START), str(START + 2000), "--every", "500")
     assert [line.split(",")[1:] for line in text.splitlines()[1:]][:3] == [["0.00", "exact"], ["0.51", "line"], ["1.01", "exact"]], text
     assert trial.by_hand("check", "base.toml").splitlines()[0] == first and "each as" in trial.fed("--verify")
@@ -272,7 +249,7 @@ def pictures(folder, program, settings):
     trial.deliver(0)
     trial.fed()
     raw = [word for name in ("00-a.csv", "00-b.csv") for word in ("--raw", "done/000001/" + name)]
-    times = [rows.iso_text(START, None), rows.iso_text(START + 6 * HOUR, None)]
+    times = [fields.iso_text(START, None), fields.iso_text(START + 6 * HOUR, None)]
     status, text = trial.tool("draw.py", "FIC1.PV", *times, "x.svg", *raw, "--limit", "201.5", "--group", "unit", "flow", "--frames", "1")
     assert status == 0, text
     svg = trial.read("x.svg")
@@ -287,5 +264,5 @@ def pictures(folder, program, settings):
     assert trial.tool("draw.py", "NOBODY", *times, "z.svg")[0] == 22 and not os.path.exists(trial.path("z.svg"))
 
 
-CASES = [found_by_seals, which_copy, log_is_sealed, run_by_hand, killed_by_hand, put_back_from_backup, archive_is_full,
+CASES = [found_by_seals, which_copy, log_is_sealed, run_by_hand, killed_by_hand, archive_is_full,
          rows_without_room_come_again, files_are_not_too_long, group_is_too_large, questions, pictures]

@@ -62,8 +62,8 @@ def wait_for(holds):
 
 
 def damaged_while_unfinished(folder, program, settings):
-    """While a turn is unfinished, a device has a damaged first byte, a first sector of zeros, no bytes, or is missing. feed.py and ask.py
-    refuse before the program opens anything, and the file stays as it is."""
+    """While a turn is unfinished, a device has a damaged first byte, a first sector of zeros, no bytes, or is missing. feed.py, and ask.py
+    about that tag, refuse before the program opens anything, and the file stays as it is."""
     trial, wanted = two_blocks(folder, program)
     assert trial.feed(how="half")[0] == 137
     good = bytes_of(trial.path("historian.d/FIC1.PV.tag"))
@@ -72,7 +72,8 @@ def damaged_while_unfinished(folder, program, settings):
             os.remove(trial.path("historian.d/FIC1.PV.tag"))
         else:
             put_bytes(trial.path("historian.d/FIC1.PV.tag"), bad)
-        for status, text in (trial.feed(), trial.tool("ask.py", "snap,LIC4.PV")):
+        assert trial.tool("ask.py", "snap,LIC4.PV")[0] == 0
+        for status, text in (trial.feed(), trial.tool("ask.py", "snap,FIC1.PV")):
             assert status == 21 and "FIC1.PV.tag is missing or does not begin as a device" in text, (status, text)
         assert bad is None or bytes_of(trial.path("historian.d/FIC1.PV.tag")) == bad
     put_bytes(trial.path("historian.d/FIC1.PV.tag"), good)
@@ -184,7 +185,7 @@ def edited_and_run_by_hand(folder, program, settings):
     trial.by_hand("check", "base.toml")
     before = trial.by_hand("check", "base.toml")
     status, text = trial.feed()
-    assert status == 21 and "FIC1.PV was retuned" in text and "Backup" in text, (status, text)
+    assert status == 21 and "FIC1.PV was retuned" in text and "feed.py --restore last" in text, (status, text)
     check_same(trial.by_hand("check", "base.toml"), before, "a refused turn")
 
 

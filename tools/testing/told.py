@@ -5,11 +5,11 @@ import os
 import re
 import shutil
 
-import rows
-import seals
+import fields
+import backups
 from daily import refused
 from plant import Plant
-from trial import Trial, two_blocks
+from trial import REFUSED, Trial, two_blocks
 
 
 def folder_of(folder, name):
@@ -42,7 +42,7 @@ def late_values_are_counted(folder, program, settings):
         line = turn_line(trial.fed())
         assert line == "turn 2: 1 files, 6 values of 3 tags stored, 0 refused, 3 late" and late_by_program(trial) == 3, line
         trial.write("inbox/3.csv", "LIC4.PV,3999,1\nLIC4.PV,soon,1\n")
-        assert turn_line(trial.fed()) == "turn 3: 1 files, 1 values of 1 tags stored, 1 refused, 1 late"
+        assert turn_line(trial.fed(ends=REFUSED)) == "turn 3: 1 files, 1 values of 1 tags stored, 1 refused, 1 late"
     two, _ = two_blocks(folder, program)
     before = late_by_program(two)
     assert turn_line(two.fed()).endswith(" refused, %d late" % (late_by_program(two) - before)) and late_by_program(two) > before
@@ -74,7 +74,7 @@ def rounded_values_are_counted(folder, program, settings):
         trial.write("inbox/2.csv", "FIC1.PV,2,48.705\nFIC1.PV,3,48.70\nFIC1.PV,4,-2.345\nLIC4.PV,4,7.5\nFIC1.PV,1,1.2300\n")
         if how:
             assert trial.feed(how=how)[0] == 137
-        text = trial.fed()
+        text = trial.fed(ends=REFUSED)
         assert turn_line(text) == "turn 2: 1 files, 4 values of 1 tags stored, 1 refused, 1 late, 2 rounded", text
         assert "2.csv row 4: LIC4.PV: a decimal, and no scale for this tag in feed.toml: '7.5'" in text, text
         assert "held=4,-235\n" in trial.by_hand("check", "base.toml")
@@ -87,9 +87,9 @@ def exact_or_rounded(folder, program, settings):
             ("70e-1", None, (7, False)), ("4.0", 1, (4, False)), ("4.10", 10, (41, False)), ("4.1000", 10, (41, False)),
             ("4.11", 10, (41, True)), ("4.15", 10, (42, True)), ("-4.15", 10, (-42, True)), ("0.001", 100, (0, True)),
             ("0.5", 3, (2, True)), ("1.5", 2, (3, False))]:
-        assert rows.value_and_rounding(text, scale) == wanted, (text, rows.value_and_rounding(text, scale))
+        assert fields.value_and_rounding(text, scale) == wanted, (text, fields.value_and_rounding(text, scale))
     for text in ("7.5", "7.000000000000000000001", "5e-1"):
-        why = refused(rows.value_and_rounding, text, None)
+        why = refused(fields.value_and_rounding, text, None)
         assert "a decimal, and no scale for this tag in feed.toml" in why, (text, why)
 
 
@@ -104,7 +104,7 @@ def files_without_values(folder, program, settings):
     trial = Trial(os.path.join(folder, "a"), program)
     for name, text in {"a.csv": "", "d.csv": "\ufeff"}.items() | {name: text for name, (text, _) in NOTHING.items()}.items():
         trial.write("inbox/" + name, text)
-    text = trial.fed()
+    text = trial.fed(ends=REFUSED)
     for name in ("a.csv", "d.csv"):
         assert "inbox/%s %s\n" % (name, EMPTY) in text, text
     assert turn_line(text) == "turn 1: 4 files, 0 values of 0 tags stored, 0 refused", text
@@ -115,7 +115,7 @@ def files_without_values(folder, program, settings):
     assert sorted(os.listdir(trial.path("inbox"))) == ["a.csv", "d.csv"]
     trial.write("inbox/a.csv", "tag,time,value\nLIC4.PV,1000,5\n")
     trial.write("inbox/b.csv", NOTHING["b.csv"][0])  # the same header again, as the next day brings it
-    text = trial.fed()
+    text = trial.fed(ends=REFUSED)
     assert "turn 2: 2 files, 1 values of 1 tags stored, 0 refused\n  b.csv has a header, and no row" in text, text
 
 
@@ -128,7 +128,7 @@ def part_in_the_inbox(folder, program, settings):
     old = os.path.getmtime(trial.path("inbox/y.csv.part")) - 3_601
     os.utime(trial.path("inbox/y.csv.part"), (old, old))
     for _ in range(2):
-        text = trial.fed()
+        text = trial.fed(ends=REFUSED)
         assert text == ("inbox/y.csv.part stays in the inbox: its name ends in .part, so copying it was stopped. Copy it again, or take"
                         " .part off its name if it is whole\n"), text
     os.rename(trial.path("inbox/y.csv.part"), trial.path("inbox/y.csv"))
@@ -141,7 +141,7 @@ def backups_within_a_second(folder, program, settings):
     plant, names = Plant(trial.folder, program), []
     with plant.locked("test", 5):
         for _ in range(3):
-            names.append(seals.back_up(plant))
+            names.append(backups.back_up(plant))
     assert sorted(os.listdir(trial.path("backup"))) == sorted({os.path.basename(name) for name in names}) and len(set(names)) == 3, names
     for name in names:
         assert sorted(os.listdir(trial.path(name, "historian.d"))) == sorted(set(os.listdir(trial.path("historian.d"))) - {"feed.lock"})

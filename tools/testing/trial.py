@@ -8,6 +8,7 @@ import fcntl
 import io
 import os
 import random
+import re
 import shlex
 import shutil
 import signal
@@ -15,12 +16,15 @@ import subprocess
 import sys
 import threading
 import time
+import types
 
 HERE = os.path.dirname(os.path.abspath(__file__))
 TOOLS = os.path.dirname(HERE)
 START, MINUTE, HOUR = 1_711_670_400_000, 60_000, 3_600_000  # 2024-03-29 00:00 UTC; clocks go forward on the 31st
 ZONE = datetime.timezone(datetime.timedelta(hours=1))
 LINES = {"FIC1.PV": 100, "FIC2.PV": 100, "TIC3.PV": 1000, "LIC4.PV": 1, "PIC5.PV": 10, "QIC6.PV": 100}
+STAMP = re.compile(r"^\d{4}-\d\d-\d\d \d\d:\d\d:\d\d[+-]\d{4} ", re.M)  # what a line of a log begins with
+REFUSED = 24  # the exit status of a feed that stored the good rows alone
 STEPS = {"XV7.ZSO": 1, "XV8.ZSO": 1}
 WIDE = ("TIC3.PV", "LIC4.PV", "XV8.ZSO")  # these come in wide files, the others in files of one value a line
 TAG = '[[tag]]\nname = "%s"\nexc_dev = %d\nexc_max = 600_000\ncomp_dev = %d\ncomp_min = 0\ncomp_max = 28_800_000\n%s\n'
@@ -87,15 +91,8 @@ def block_files(block, hours=6, every=3 * MINUTE):
     return {"%02d-a.csv" % block: first, "%02d-b.csv" % block: second}, long + wide
 
 
-class Trial:
-    """The folder of a test's plant, and the program."""
-
-    def __init__(self, folder, program, rows_a_run=4_000_000):
-        self.folder, self.program = folder, program
-        os.makedirs(os.path.join(folder, "inbox"))
-        self.write("base.toml", base_text())
-        self.write("feed.toml", feed_text(rows_a_run))
-        self.rows, self.blocks = [], []
+class Folder:
+    """The folder of a test, in `folder`."""
 
     def path(self, *names):
         """The path of a file in the plant's folder."""
@@ -108,6 +105,17 @@ class Trial:
     def read(self, name):
         with open(self.path(name)) as text:
             return text.read()
+
+
+class Trial(Folder):
+    """The folder of a test's plant, and the program."""
+
+    def __init__(self, folder, program, rows_a_run=4_000_000):
+        self.folder, self.program = folder, program
+        os.makedirs(os.path.join(folder, "inbox"))
+        self.write("base.toml", base_text())
+        self.write("feed.toml", feed_text(rows_a_run))
+        self.rows, self.blocks = [], []
 
     def deliver(self, block, **sizes):
         """Puts the files of a block into the inbox, and notes its rows."""
@@ -126,12 +134,12 @@ class Trial:
     def feed(self, *given, how=None, under=()):
         """Runs feed.py to its end, under another program such as strace if asked to: exit status, and what it printed."""
         child = subprocess.run([*under, *self.words(*given, how=how)], capture_output=True, text=True)
-        return child.returncode, child.stdout + child.stderr
+        return child.returncode, without_stamps(child.stdout + child.stderr)
 
-    def fed(self, *given):
-        """Runs feed.py, which has to end well: what it printed."""
+    def fed(self, *given, ends=0):
+        """Runs feed.py, which has to end well, or with the given status: what it printed."""
         status, text = self.feed(*given)
-        assert status == 0, "feed.py %s ends with %d: %s" % (given, status, text)
+        assert status == ends, "feed.py %s ends with %d: %s" % (given, status, text)
         return text
 
     def tool(self, name, *given):
@@ -167,6 +175,11 @@ class Trial:
         return self.by_hand("check", base) + self.by_hand("trend", base, "questions.toml")
 
 
+def without_stamps(text):
+    """What was printed, without the date and the time before each line of a log."""
+    return STAMP.sub("", text)
+
+
 INSIDE = threading.Lock()  # a case holds it while it calls functions of the tools itself
 
 
@@ -174,7 +187,7 @@ INSIDE = threading.Lock()  # a case holds it while it calls functions of the too
 def printed():
     """Catches what functions of the tools print. One case at a time, because there is one standard output."""
     with INSIDE, contextlib.redirect_stdout(io.StringIO()) as said:
-        yield said
+        yield types.SimpleNamespace(getvalue=lambda: without_stamps(said.getvalue()))
 
 
 KNOWN = {}  # the answers of plants that took some rows, found already
@@ -270,7 +283,7 @@ def check_same(got, wanted, what):
 def check_put_away(trial, count):
     """Fails unless so many files lie in done/, none in the inbox or in refused/, and feed.d has nothing of an unfinished turn."""
     assert os.listdir(trial.path("inbox")) == [], os.listdir(trial.path("inbox"))
-    done = [name for turn in os.listdir(trial.path("done")) for name in os.listdir(trial.path("done", turn))]
+    done = [name for turn in os.listdir(trial.path("done")) for name in os.listdir(trial.path("done", turn)) if name.endswith(".csv")]
     assert len(done) == len(set(done)) == count, sorted(done)
     assert not os.path.exists(trial.path("refused")), os.listdir(trial.path("refused"))
-    assert sorted(os.listdir(trial.path("feed.d"))) == ["base.toml", "fed", "scales", "seals"], os.listdir(trial.path("feed.d"))
+    assert sorted(os.listdir(trial.path("feed.d"))) == ["base.toml", "fed", "looked", "scales", "seals", "tunings"], os.listdir(trial.path("feed.d"))

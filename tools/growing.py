@@ -1,0 +1,125 @@
+"""growing.py: files that stay where they are written, and of which each whole line is taken once: those of a source with `grows = true`.
+
+What was taken of each stands in feed.d/grown: how many bytes, their sha256, and what its next lines need of these (rows.Reader). A file
+that no longer begins with those bytes is refused in words: nobody can say which of its lines are new."""
+import hashlib
+import json
+import os
+import stat
+
+from files import CHANGED, Refusal, sha256_of_next, shown
+from inbox import MOST_BYTES, NOT_FOLLOWED, Piece, Unfit, fed_before, read_piece, say_hourly
+
+
+def grown_of(plant):
+    """What was taken of each growing file, by its path."""
+    try:
+        with open(plant.path("feed.d", "grown")) as text:
+            return {str(path): dict(known) for path, known in json.load(text).items()}
+    except FileNotFoundError:
+        return {}
+    except (ValueError, AttributeError, TypeError):
+        raise Refusal(CHANGED, "feed.d/grown, which says what was taken of growing files, is damaged, and nothing was done. Put it back"
+                      " from the newest backup: feed.py --restore last.") from None
+
+
+def growing_files(plant):
+    """The growing files that there are, each with its source: its path, from the plant's folder."""
+    files = {}
+    for source in plant.settings.source:
+        folder = source.folder or plant.settings.inbox
+        if source.grows and os.path.isdir(plant.path(folder)):
+            for name in sorted(os.listdir(plant.path(folder))):
+                path = os.path.join(folder, name)
+                if source.fits(name) and not name.startswith(".") and path not in files:
+                    if source.folder is not None or plant.settings.source_of(name) is source:
+                        files[path] = source
+    return files
+
+
+def have_grown(plant, said):
+    """The growing files that have bytes which were not looked at yet, with their sources."""
+    grown, found = grown_of(plant), []
+    for path, source in growing_files(plant).items():
+        try:
+            info = os.lstat(plant.path(path))
+        except OSError:
+            continue
+        known = grown.get(path, {})
+        if not stat.S_ISREG(info.st_mode):
+            not_taken(plant, said, path, "it is no plain file")
+        elif [info.st_ino, info.st_size, info.st_mtime_ns] != known.get("seen"):
+            found.append((path, source))
+    return found
+
+
+def not_taken(plant, said, path, why):
+    """Says that of a growing file nothing is taken."""
+    say_hourly(plant, said, path, "%s: %s. Nothing more is taken of it" % (shown(path, 255), why))
+
+
+def read_growing(plant, turn, intake, files, said):
+    """Reads the whole lines of growing files that were not taken yet. Answers what is known of the files then."""
+    grown, changed = grown_of(plant), {}
+    _, before = fed_before(plant)
+    for path, source in files:
+        if intake.values.count >= plant.settings.rows_a_run:
+            break
+        known = grown.get(path, {"bytes": 0, "sha256": hashlib.sha256().hexdigest(), "place": None})
+        try:
+            data, sha, seen = lines_behind(plant.path(path), known)
+        except Unfit as why:
+            not_taken(plant, said, path, str(why))
+            continue
+        if not data:
+            continue
+        place, size = len(turn.files), known["bytes"] + len(data)
+        more, name = {"grows": path, "from": known["bytes"], "to": size}, os.path.basename(path)
+        name = "%d.csv" % place if name in [file["name"] for file in turn.files] else name
+        try:
+            read_piece(plant, turn, intake, Piece(name, data, source, more, known["place"]), before)
+        except Unfit as why:
+            not_taken(plant, said, path, str(why))
+            continue
+        file = turn.files[place]
+        if file["spoilt"]:  # its header can not be read: nothing is taken, so that it can be corrected
+            turn.files.pop()
+            not_taken(plant, said, path, file["spoilt"])
+            continue
+        changed[path] = {"bytes": size, "sha256": sha, "place": file["place"], "seen": seen if size == seen[1] else None}
+        write_piece(plant, place, data)
+    return changed
+
+
+def lines_behind(path, known):
+    """The whole lines of a growing file behind those that were taken; the sha256 of all of its bytes up to their end; and what the file
+    was as it was opened. It takes no more at once than a file may have."""
+    try:
+        handle = os.open(path, NOT_FOLLOWED)
+    except OSError as why:
+        raise Unfit("it cannot be read (%s)" % why.strerror) from None
+    with open(handle, "rb") as opened:
+        info = os.fstat(handle)
+        if not stat.S_ISREG(info.st_mode):
+            raise Unfit("it is no plain file")
+        try:
+            sha = sha256_of_next(opened, known["bytes"])
+            if sha is None or sha.hexdigest() != known["sha256"]:
+                raise Unfit("it no longer begins with the %d bytes that were taken of it. If it is a new file, give it a new name that fits its"
+                            " pattern; if its lines were edited, undo that" % known["bytes"])
+            data = opened.read(MOST_BYTES)
+        except OSError as why:
+            raise Unfit("it cannot be read (%s)" % why.strerror) from None
+    data = data[:data.rfind(b"\n") + 1]
+    if not data and info.st_size > known["bytes"] + MOST_BYTES:
+        raise Unfit("it has a line of more than %d bytes" % MOST_BYTES)
+    sha.update(data)
+    return data, sha.hexdigest(), [info.st_ino, info.st_size, info.st_mtime_ns]
+
+
+def write_piece(plant, place, data):
+    """Keeps the lines that a turn takes of a growing file, for done/."""
+    with open(plant.path("feed.d", "turn", "piece-%d" % place), "wb") as out:
+        out.write(data)
+        out.flush()
+        os.fsync(out.fileno())
