@@ -183,12 +183,13 @@ def move_away(plant, state):
 
 
 def copy_back(plant, state):
-    """Copies the devices of a copy back, and what the feeder knew then. What was taken of growing files stays what it is."""
+    """Copies the devices of a copy back, and what the feeder knew then. What was taken of growing files stays what it is. The lock that
+    --verify leaves in a copy stays there: in the plant it would take the place of the one that is held."""
     for folder in ("historian.d", "feed.d") if state["copy"] else ():
         source = plant.path(state["copy"], folder)
         for name in sorted(os.listdir(source) if os.path.isdir(source) else ()):
             target = plant.path(folder, name)
-            if not (name == "plant.log" and os.path.isfile(target)):
+            if name != "feed.lock" and not (name == "plant.log" and os.path.isfile(target)):
                 plant.progress("%s is put back" % name)
                 copied(os.path.join(source, name), target + ".new")
                 os.replace(target + ".new", target)

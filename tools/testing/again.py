@@ -121,6 +121,22 @@ def put_back_elsewhere(folder, program, settings):
     check_same(other.answers(), wanted, "put back in another folder")
 
 
+def verified_copy_is_put_back(folder, program, settings):
+    """A copy is verified in its own folder, which leaves a lock there. It can be put back, and the plant's lock stays the one that is
+    held."""
+    trial, wanted, copy = lived_in(folder, program)
+    place = trial.path("backup", copy)
+    status, text = trial.tool("feed.py", "--verify", place)
+    assert status == 0 and "each as the last turn left it" in text, text
+    lock = os.stat(trial.path("historian.d/feed.lock")).st_ino
+    assert "turns up to turn 5 are made again" in trial.fed("--restore", copy)
+    assert os.stat(trial.path("historian.d/feed.lock")).st_ino == lock, "another file took the name of the lock that was held"
+    check_same(trial.answers("feed.d/base.toml"), wanted, "put back from a copy that was verified")
+    with open(os.path.join(place, "historian.d/LIC4.PV.tag"), "ab") as device:
+        device.write(b"Q")
+    assert trial.tool("feed.py", "--verify", place)[0] == 21
+
+
 def stopped_while_put_back(folder, program, settings):
     """The feeder is killed at its calls while it puts a plant back. The next feed goes on with it, and the archive is that from before."""
     trial, wanted, copy = lived_in(folder, program)
@@ -291,6 +307,6 @@ def growing_is_put_back(folder, program, settings):
     assert json.loads(trial.read("feed.d/grown"))["inbox/log1.csv"]["bytes"] == os.path.getsize(trial.path("inbox/log1.csv"))
 
 
-CASES = [put_back, put_back_until, refuses_to_put_back, put_back_elsewhere, stopped_while_put_back, killed_while_put_back,
-         backups_and_turns_are_pruned, grows, beginning_has_changed, growing_stopped_at_its_calls, growing_killed_at_random,
-         growing_is_put_back]
+CASES = [put_back, put_back_until, refuses_to_put_back, put_back_elsewhere, verified_copy_is_put_back, stopped_while_put_back,
+         killed_while_put_back, backups_and_turns_are_pruned, grows, beginning_has_changed, growing_stopped_at_its_calls,
+         growing_killed_at_random, growing_is_put_back]
