@@ -136,7 +136,7 @@ def main():
         if got != (status, said):
             differ += 1
             print("%s ends with %d and prints:\n%s" % (name, *got))
-    print("%d of %d cases are not as kept" % (differ, len(cases)) if differ else "%d cases, each as it is kept" % len(cases))
+    print("%d of %d cases are not as expected" % (differ, len(cases)) if differ else "%d cases, each as expected" % len(cases))
     sys.exit(1 if differ else 0)
 
 

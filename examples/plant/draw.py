@@ -74,7 +74,7 @@ def main():
             with open(os.path.join(DOCS, name), "w", encoding="utf-8") as out:
                 out.write(texts[name])
         differ = []
-    print("not as kept: %s" % ", ".join(differ) if differ else "%d pictures, each as it is kept" % len(texts))
+    print("not as expected: %s" % ", ".join(differ) if differ else "%d pictures, each as expected" % len(texts))
     sys.exit(1 if differ else 0)
 
 

@@ -64,9 +64,9 @@ def main():
                     if kept.read() != got:
                         differ.append((name, got))
     for name, text in differ:
-        print("%s is not as it is kept:\n%s" % (name, text))
+        print("%s is not as expected:\n%s" % (name, text))
     if not differ:
-        print("%d outputs of the plant that was fed, each as it is kept" % count)
+        print("%d outputs of the plant that was fed, each as expected" % count)
     sys.exit(1 if differ else 0)
 
 

@@ -82,9 +82,9 @@ def main():
             elif not os.path.exists(path) or open(path).read() != text:
                 differ.append((name, text))
     for name, text in differ:
-        print("%s is not as it is kept:\n%s" % (name, text))
+        print("%s is not as expected:\n%s" % (name, text))
     if not differ:
-        print("%d steps, each as it is kept" % len(STEPS))
+        print("%d steps, each as expected" % len(STEPS))
     sys.exit(1 if differ else 0)
 
 
