@@ -1,7 +1,7 @@
 """compression.py: what a tag makes of one more event: the exception test and compression, by the rules of docs/DEFINITIONS.md.
 
-The program does the same, and is proved to. This is written from the rules, for who wants to read a device without the program: the
-values of a device's lane are not records yet, and what they make of the records follows from these rules. Points are (time, value)."""
+The program does the same, and is proved to. Who reads a device without the program needs this too: the values of a device's lane are
+not records yet, and what they make of the records follows from these rules. Points are (time, value)."""
 import collections
 
 KEPT, LATE = "K", "L"

@@ -1,5 +1,5 @@
 #!/usr/bin/env python3
-"""show_faults.py [PROGRAM [CASE..]]: makes each fault, and compares exit status and line with those kept in faults.txt.
+"""show_faults.py [PROGRAM [CASE..]]: makes each fault, and compares exit status and line with those in faults.txt.
 
 PROGRAM is the command that runs the program: `historian` on the path, or a built one. CASE names some of the cases. Each case gets a
 fresh folder with a copy of the texts next to this script, and with what its recipe below writes. Then its words run there. The script

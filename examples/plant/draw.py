@@ -1,9 +1,9 @@
 #!/usr/bin/env python3
-"""draw.py [PROGRAM] [--make]: draws the pictures of the plant and of the oven in docs/ by tools/draw.py, and compares them with those kept.
+"""draw.py [PROGRAM] [--make]: draws the pictures of the plant and of the oven by tools/draw.py, and compares them with those in docs/.
 
 It feeds the first day and the buffer of the plant in a fresh folder, as feed_two_days.py does, and the week of the oven in another. The
 pictures show the flow, the temperature with its hot hours, the valve, and the oven, from the files that were fed and from the program's
-answers. The script prints the names of pictures that differ, and then ends with 1. With --make it keeps what it draws in docs/."""
+answers. The script prints the names of pictures that differ, and then ends with 1. With --make it writes what it draws to docs/."""
 import os
 import shlex
 import shutil

@@ -2,8 +2,8 @@
 """feed_two_days.py [PROGRAM]: feeds the two days of the plant by tools/feed.py, and compares what comes of it with live_two_days.py.
 
 `make_days.py --iso` writes files as loggers do: with ISO times and decimals, and one of them wide. They go into the inbox in three turns.
-Then the program has to print what live_two_days.py kept when the program took the same values by hand. So the feeder makes the same
-archive. Between the turns the script edits base.toml as an operator would: without the group while the buffer comes, and with another
+Then the program has to print what live_two_days.py expects, which gives it the same values without the feeder. So the feeder makes the
+same archive. Between the turns the script edits base.toml as an operator would: without the group while the buffer comes, and with another
 CompDev on the second day.
 
 It prints the outputs that differ, or how many there are. The exit status is 1 if one differs. If the tool refuses a turn, the script ends

@@ -1,12 +1,12 @@
 #!/usr/bin/env python3
-"""live_two_days.py PROGRAM [--make]: takes two days of the plant through the program, and compares each output with the kept one.
+"""live_two_days.py PROGRAM [--make]: takes two days of the plant through the program, and compares each output with the expected one.
 
 PROGRAM is the command that runs the program: `historian` on the path, or a built one. make_days.py makes the collectors' files in a fresh
-folder. Then the steps below run in order, over the same devices. Each has to print what is kept, byte for byte. The number of evaluations
-is left out, because it depends on when the refresher comes.
+folder. Then the steps below run in order, over the same devices. Each has to print what stands in kept/, byte for byte. The number of
+evaluations is left out, because it depends on when the refresher comes.
 
-The script prints the steps that differ, or how many there are. The exit status is 1 if one differs. With --make it keeps what the steps
-print. On a terminal it shows on standard error how far it is."""
+The script prints the steps that differ, or how many there are. The exit status is 1 if one differs. With --make it writes what the steps
+print to kept/. On a terminal it shows on standard error how far it is."""
 import os
 import re
 import shlex

@@ -1,6 +1,6 @@
 """sources.py: tests of how the files of different sources are read; test_tools.py runs them. None of them needs the program.
 
-Expected values are written down here by hand: what a row says, or why it is refused."""
+A test expects of each row the value that it says, or why it is refused."""
 import os
 import zoneinfo
 
