@@ -211,7 +211,7 @@ fn follow_row(rt: &impl Abort, alloc: Global, line: &str) -> Result<(), Fail> {
 }
 
 #[test]
-fn rows_are_as_worked_by_hand(rt: HostRuntime) -> Result<(), Fail> {
+fn rows_are_as_listed(rt: HostRuntime) -> Result<(), Fail> {
     for line in ROWS.lines() {
         follow_row(&rt, rt.alloc(), line)?;
     }

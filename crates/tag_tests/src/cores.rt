@@ -142,6 +142,6 @@ fn all_told<L: Ledger>(rt: &impl Abort, alloc: Global, blank: Blank) -> Result<(
 }
 
 #[test]
-fn cores_keep_what_is_worked_by_hand(rt: HostRuntime) -> Result<(), Fail> {
+fn cores_keep_what_is_listed(rt: HostRuntime) -> Result<(), Fail> {
     all_told::<Brand>(&rt, rt.alloc(), Blank::new(1))
 }

@@ -88,6 +88,6 @@ fn walked<L: Ledger>(rt: &impl Abort, alloc: Global, blank: Blank) -> Result<(),
 }
 
 #[test]
-fn doors_are_as_worked_by_hand(rt: HostRuntime) -> Result<(), Fail> {
+fn doors_are_as_listed(rt: HostRuntime) -> Result<(), Fail> {
     walked::<Brand>(&rt, rt.alloc(), Blank::new(1))
 }

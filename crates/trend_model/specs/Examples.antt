@@ -1,4 +1,4 @@
--- Small histories, worked by hand.
+-- Small histories.
 use Rattle.std.specs.Prelude.{ℕ, ℤ, pos, negsuc, true, false, List, [], ◌∷◌, map}
 use Rattle.trend_num.specs.declared.point.Point.{Point}
 use Rattle.trend_num.specs.declared.archive.Rec.{Rec}

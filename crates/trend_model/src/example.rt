@@ -1,4 +1,4 @@
-// Small histories, worked by hand.
+// Small histories and what is kept of them.
 ghost use Rattle.std.specs.Prelude.{◌≡◌, ◌+◌, ◌*◌, pos, negsuc, [], ◌∷◌, None, Some};
 ghost use Rattle.trend_model.specs.Lists.{IsAmong};
 ghost use Rattle.trend_model.specs.History.{InOrder, IsInOrder, in_force, pending, sent, tuning_of_value};
@@ -8,7 +8,7 @@ ghost use Rattle.trend_model.specs.Content.{IsCleanSpan, content_at, late_at};
 ghost use Rattle.trend_model.specs.Bound.{IsBoundedBy};
 ghost use Rattle.trend_model.specs.Examples.{at, climbing, doubled, hasty, late_about, lines, long, loosened, overtaken, shallow, spiked, stairs, steep, sharpened, tightened, tuned, untested, wide};
 
-/// Small histories of values with the records that were worked out by hand.
+/// Small histories of values with their records.
 pub fn worked_histories()
     ensures steep { records (lines (tuned 0 1 0 1000000)) steep
         ≡ kept (at 0 (pos 0)) ∷ kept (at 1 (pos 0)) ∷ kept (at 2 (pos 3)) ∷ [] }

@@ -1,4 +1,4 @@
-use Rattle.tag_tests.proofs.cores.cores_keep_what_is_worked_by_hand.Given as goal
+use Rattle.tag_tests.proofs.cores.cores_keep_what_is_listed.Given as goal
 
 -- the ledger is that of the blank
 abbrev pub ghosts-all_told : goal.ghosts-all_told
