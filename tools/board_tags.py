@@ -12,7 +12,8 @@ import os
 import shutil
 
 from compression import LATE, State, Tuning, raw_deviation
-from device_reader import MOST_RECORDS, content, read_device
+from device_reader import content, read_device
+from devices import TAG_RECORDS
 from line_windows import Windows, width_for
 from tunings import stretches
 
@@ -243,7 +244,7 @@ def written(board, name, path, notes, anew, about):
     head, state = pages.head(device, notes), device.state
     late = late_count(device, pages)
     row = dict(about, name=name, taken=state.taken, records=state.records, late=late, held=state.held, newest=state.newest(),
-               rate=pages.rate(state.held), limit=MOST_RECORDS, spark=pages.spark.whole(state.held))
+               rate=pages.rate(state.held), limit=TAG_RECORDS, spark=pages.spark.whole(state.held))
     head.update({key: value for key, value in row.items() if key != "spark"})
     pages.write("head.js", "board.head(%s)\n" % json.dumps(head, separators=(",", ":")))
     return row

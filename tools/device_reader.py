@@ -8,11 +8,11 @@ import operator
 import struct
 
 from compression import KEPT, LATE, State, Tuning
-from devices import OPEN, number, tuning_in
+from devices import OPEN, TAG_RECORDS, number, tuning_in
 from fields import MOST_TIME, MOST_VALUE
 
 HEADER, SUMMARY, SLOT, RECORD = 400, 128, 1_034, 17  # bytes; the header goes as far as the gates of the lane
-MOST_SLOTS, MOST_RECORDS = 65_536, 1_048_576
+MOST_SLOTS = 65_536
 HELD, PENDING, HINGE, DOORS, TUNED = 1, 2, 4, 8, 16  # flags of a summary
 
 
@@ -82,7 +82,7 @@ def summary_of(data, at, made, step):
                 raise Damaged(at + place, "a point that the flags do not name")
     if flags & TUNED:
         state.tuning = Tuning(*tuning_in(data[at:at + SUMMARY]))
-    if state.records > min(MOST_RECORDS, 2 * state.taken) or (state.held is None) != (state.records == 0):
+    if state.records > min(TAG_RECORDS, 2 * state.taken) or (state.held is None) != (state.records == 0):
         raise Damaged(at, "a summary whose numbers do not fit")
     return state
 

@@ -6,6 +6,7 @@ from files import sha256_of_next
 TUNING = ("exc_dev", "exc_max", "comp_dev", "comp_min", "comp_max")
 OPEN = 0xA5  # a gate
 HELD, PENDING, TUNED = 0x01, 0x02, 0x10  # of a summary's flags: it has a held point, a pending one, a tuning
+TAG_RECORDS, PLANT_RECORDS = 1_048_576, 8_388_608  # that a tag, and all tags of a base together, may have
 
 
 def sha256_of_first(path, size):

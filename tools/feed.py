@@ -27,7 +27,8 @@ import turns
 from devices import retuned
 from fields import decimal_text, iso_text
 from growing import have_grown, read_growing
-from inbox import fed_before, fed_by, fed_lines, forget_taken, look_back, note_fed, put_file, read_files, take, taken_before, whole_files
+from inbox import (fed_before, fed_by, fed_lines, forget_taken, fullness, look_back, note_fed, put_file, read_files, take, taken_before,
+                   whole_files)
 from plant import (BUSY, CHANGED, REFUSED, UNREADABLE, Plant, Refusal, bytes_of, ended, sha256_of, shown, step_of, sync_folder,
                    write_whole)
 from quality import add_quality
@@ -225,7 +226,8 @@ def put_away(plant, turn, state):
             (put_piece if "grows" in file else put_file)(plant, turn, place, file)
         put_record(plant, turn, state, now)
         forget_taken(plant, turn)
-    note_fed(plant, turn.notes.get("again") or fed_by(turn, counts_of(turn, state, without_room[1]) | {"time": now}))
+    told = turn.notes.get("again") or fed_by(turn, counts_of(turn, state, without_room[1]) | {"time": now})
+    note_fed(plant, told[:-1] + [told[-1] | fullness(state)])
     end(plant, turn)
     if not turn.notes.get("again"):
         tell(plant, turn, state, without_room)

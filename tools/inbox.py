@@ -342,6 +342,12 @@ def fed_by(turn, counts):
             if file["rows"]] + [{"turn": turn.number} | counts]
 
 
+def fullness(state):
+    """How many records all tags have together, and which tag has the most, by the tag lines of all tags."""
+    most = max(state.values(), key=lambda tag: tag.records, default=None)
+    return {"records": sum(tag.records for tag in state.values()), "fullest": most and [most.name, most.records]}
+
+
 def note_fed(plant, told):
     """Adds lines to feed.d/fed, so that the same bytes are not fed twice. A line twice in the list does no harm."""
     with open(plant.path("feed.d", "fed"), "a+b") as out:

@@ -29,7 +29,6 @@ READERS, QUERIES = 16, 4_096   # of a plan; of a reader's file
 POINT_QUERIES = 4_096          # queries of points that are asked at once: their replies may have 256 points each
 REPLY = 256                    # points in a reply
 MOST_BYTES = 120_000_000       # of the devices that one call of the program opens: 17 bytes a record, and 8,388,608 records at most
-MOST_RECORDS = 1_048_576       # of a tag
 WAIT = 60                      # seconds for the feeder's turn to end, if --wait does not say otherwise
 
 

@@ -20,6 +20,7 @@ import answers
 import ask
 import clock
 import site_turns
+from devices import PLANT_RECORDS, TAG_RECORDS
 from fields import decimal_text
 from inbox import whole_files
 from options import plain_words
@@ -143,7 +144,6 @@ def ask_site(site, machines, given):
 # Looking after the parts
 
 CHECK = ("tag", "part", "taken", "records", "full %", "full at", "newest", "value", "unit", "age", "note")
-TAG_RECORDS, PART_RECORDS = 1_048_576, 8_388_608  # that a tag, and all tags of a part, may have
 END_OF_DATES = 253_370_764_800_000
 
 
@@ -169,13 +169,13 @@ def part_lines(archive, part, tags, state):
     now, zone = clock.now(), archive.plant.settings.zone
     paces = {tag: pace_of(archive, part, tag, state) for tag in tags}
     records = sum(state[tag].records for tag in tags if tag in state)
-    whole = full_at(now, PART_RECORDS - records, sum(paces.values()))
+    whole = full_at(now, PLANT_RECORDS - records, sum(paces.values()))
     for tag in tags:
         held, mine = archive.held(tag), state[tag].records if tag in state else 0
         full = min(filter(None, (whole, full_at(now, TAG_RECORDS - mine, paces[tag]))), default=None)
         value = (clock.short_text(held[0], zone), decimal_text(held[1], archive.scale(tag)), archive.unit(tag),
                  clock.length_text(now - held[0]), "") if held else ("", "", archive.unit(tag), "", "no value was ever fed")
-        yield (tag, part.folder, state[tag].taken if tag in state else 0, mine, "%.1f" % (100 * max(mine / TAG_RECORDS, records / PART_RECORDS)),
+        yield (tag, part.folder, state[tag].taken if tag in state else 0, mine, "%.1f" % (100 * max(mine / TAG_RECORDS, records / PLANT_RECORDS)),
                clock.local(full, zone).date().isoformat() if full else "", *value)
 
 

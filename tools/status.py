@@ -6,11 +6,13 @@ import time
 
 import restore
 import seals
+from devices import PLANT_RECORDS, TAG_RECORDS
 from files import Refusal, shown
 from inbox import fed_lines
 from plant import Plant, open_lock, try_lock
 
 WORDS = ("OK", "WARNING", "CRITICAL", "UNKNOWN")
+FULL = 90  # per cent of the records that may be: more than that is a warning
 
 
 def note_look(plant):
@@ -61,8 +63,11 @@ def looked_at(plant, age):
                          (looked.get("stays", 0), "%d files stay in the inbox")):
         if count:
             found.append((1, words % count))
+    shares = shares_of(turns.get(last, {}))
+    found += [(1, "%s is %d %% full: begin a new folder" % (what, share)) for what, share in shares.items() if share > FULL]
     note_told(plant, last)
-    figures = "turn=%d age=%ds refused=%d late=%d stays=%d" % (last, turn_age or 0, refused, late, looked.get("stays", 0))
+    figures = "turn=%d age=%ds refused=%d late=%d stays=%d full=%.1f%%" % (
+        last, turn_age or 0, refused, late, looked.get("stays", 0), max(shares.values(), default=0))
     return found, figures, "turn %d, %s ago" % (last, in_words(turn_age)) if last else "nothing was fed yet"
 
 
@@ -84,6 +89,12 @@ def state_of(plant):
     finally:
         if lock is not None:
             os.close(lock)
+
+
+def shares_of(turn):
+    """How full the plant and its fullest tag were after a turn, in per cent, by what a line calls them."""
+    shares = {"the plant": 100 * turn["records"] / PLANT_RECORDS} if "records" in turn else {}
+    return shares | ({"tag " + turn["fullest"][0]: 100 * turn["fullest"][1] / TAG_RECORDS} if turn.get("fullest") else {})
 
 
 def note_told(plant, last):

@@ -5,6 +5,7 @@ import sys
 
 import clock
 from answers import measured_in, quotient_text
+from devices import TAG_RECORDS
 from fields import decimal_text, iso_text
 from progress import Progress
 
@@ -127,7 +128,7 @@ def tag_line(archive, tag, state, at):
         value, time = decimal_text(held[1], archive.scale(tag)), clock.short_text(archive.newest[tag], zone)
         age, full = clock.length_text(at - archive.newest[tag]), full_at(archive, tag, state)
     note = "" if held else "no value was ever fed"
-    return (tag, archive.descriptor(tag), value, archive.unit(tag), time, age, state.records, "%.1f" % (100 * state.records / 1_048_576),
+    return (tag, archive.descriptor(tag), value, archive.unit(tag), time, age, state.records, "%.1f" % (100 * state.records / TAG_RECORDS),
             full, state.late, state.taken, note)
 
 
@@ -136,5 +137,5 @@ def full_at(archive, tag, state):
     first = archive.first(tag)
     if not first or state.records < 2 or state.held[0] <= first[0]:
         return ""
-    t = state.held[0] + (1_048_576 - state.records) * (state.held[0] - first[0]) // state.records
+    t = state.held[0] + (TAG_RECORDS - state.records) * (state.held[0] - first[0]) // state.records
     return "" if t > 253_370_764_800_000 else clock.local(t, archive.plant.settings.zone).date().isoformat()

@@ -22,6 +22,7 @@ import tempfile
 import bases
 import reading
 from clock import DAY, length_text
+from devices import TAG_RECORDS
 from fields import MOST_TIME, BadField, decimal_text, whole_value
 from options import parsed, parser_of
 from plant import UNREADABLE, Plant, Refusal, ended, step_of
@@ -111,7 +112,7 @@ def line_of(plant, tag, definition, sample, noise, comp_dev, exc_dev, mark):
     promised = comp_dev + (1 if definition.get("step") else 2) * exc_dev
     seen = "%.*f" % (len(str(scale)), greatest / scale)
     return (comp_dev, exc_dev, "%.1f" % (comp_dev / noise), decimal_text(promised, scale), seen, unit, records,
-            "%.0f" % a_day, "%.1f" % (len(times) / max(1, records)), "%.1f" % (reading.MOST_RECORDS / a_day / 365.25), mark)
+            "%.0f" % a_day, "%.1f" % (len(times) / max(1, records)), "%.1f" % (TAG_RECORDS / a_day / 365.25), mark)
 
 
 def tried_of(texts, scale):

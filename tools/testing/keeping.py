@@ -11,6 +11,7 @@ import xml.etree.ElementTree
 import feed
 import fields
 import seals
+import status
 import turns
 from plant import Plant
 from trial import GROUP, HOUR, LINES, START, STEPS, Trial, base_text, check_same, expected, printed, two_blocks
@@ -159,6 +160,27 @@ def archive_is_full(folder, program, settings):
     assert rest[0][1:3] == ["1970-01-01T00:00:%02d.000Z" % tags["FIC1.PV"][0], "%d.00" % (tags["FIC1.PV"][0] % 2)], rest[0]
 
 
+def nearly_full_is_a_warning(folder, program, settings):
+    """--status warns when a tag, or all tags together, have more than nine tenths of the records that they may have, and not before; also
+    after a restore. The test lowers the limits."""
+    trial = Trial(os.path.join(folder, "a"), program)
+    trial.write("inbox/x.csv", "".join("FIC1.PV,%d,%d\nLIC4.PV,%d,5\n" % (1000 * n, n % 2 * 100, 1000 * n) for n in range(100)))
+    trial.fed()
+    records = [int(count) for count in re.findall(r" records=(\d+) ", trial.by_hand("check", "base.toml"))]
+    tag, plant = (-(-10 * count // 9) for count in (max(records), sum(records)))  # the least limits that are not nearly reached
+    cases = (((tag, plant), 0, "FEED OK: turn 1, "),
+             ((tag - 1, plant), 1, "FEED WARNING: tag FIC1.PV is 90 % full: begin a new folder; turn 1, "),
+             ((tag, plant - 1), 1, "FEED WARNING: the plant is 90 % full: begin a new folder; turn 1, "))
+    for restored in (False, True):
+        if restored:
+            trial.fed("--restore", "nothing")
+        for (tag, plant), ends, said in cases:
+            with printed() as line, unittest.mock.patch.multiple(status, TAG_RECORDS=tag, PLANT_RECORDS=plant):
+                assert status.tell_status(trial.folder, program, 900) == ends, (tag, plant, restored, line.getvalue())
+            full = "full=%.1f%%\n" % max(100 * max(records) / tag, 100 * sum(records) / plant)
+            assert line.getvalue().startswith(said) and line.getvalue().endswith(full), (full, restored, line.getvalue())
+
+
 def rows_without_room_come_again(folder, program, settings):
     """Another plant takes the rows that went to refused/ for want of room, each with its value, whatever the scale and the decimal mark."""
     text = 'settle_seconds = 0\nseparator = ";"\ndecimal = ","\n[tag."FIC1.PV"]\nscale = 7\n'
@@ -264,5 +286,5 @@ def pictures(folder, program, settings):
     assert trial.tool("draw.py", "NOBODY", *times, "z.svg")[0] == 22 and not os.path.exists(trial.path("z.svg"))
 
 
-CASES = [found_by_seals, which_copy, log_is_sealed, run_by_hand, killed_by_hand, archive_is_full,
+CASES = [found_by_seals, which_copy, log_is_sealed, run_by_hand, killed_by_hand, archive_is_full, nearly_full_is_a_warning,
          rows_without_room_come_again, files_are_not_too_long, group_is_too_large, questions, pictures]
