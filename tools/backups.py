@@ -58,7 +58,7 @@ def copy_all(plant, part):
 
 def new_name(plant):
     """The name of the next copy: its number, and the time by the clock for people."""
-    last = max((int(COPY.fullmatch(os.path.basename(copy))[1] or 0) for copy in copies_of(plant)), default=0)
+    last = max((int(COPY.fullmatch(os.path.basename(copy))[1]) for copy in copies_of(plant)), default=0)
     return "%06d.%s" % (last + 1, time.strftime("%Y-%m-%dT%H%M%SZ", time.gmtime()))
 
 

@@ -41,8 +41,8 @@ class FedRows:
 
 
 def turns_since(plant, since):
-    """The numbers of the turns that were fed at a time or later, in milliseconds, in their order; and whether these are all. A turn of an
-    older feeder, which left no record of what it stored, is not among them."""
+    """The numbers of the turns that were fed at a time or later, in milliseconds, in their order; and whether these are all. A turn whose
+    record is gone is not among them."""
     folder = plant.path("done")
     turns = sorted((name for name in os.listdir(folder) if name.isdigit()), key=int) if os.path.isdir(folder) else []
     chosen = [int(name) for name in turns if os.path.getmtime(os.path.join(folder, name)) * 1000 >= since]

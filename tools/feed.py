@@ -177,7 +177,7 @@ def foreign(turn, name, what):
 
 def finish(plant, turn, state):
     """Stores what is not stored yet of a turn, and puts its files away. If its base is new, at least one run is made, for the groups."""
-    refusal, ran = None, not turn.notes.get("new_base", True)
+    refusal, ran = None, not turn.notes["new_base"]
     while True:
         part = next_part(plant, turn, state)
         if ran and not part:
@@ -235,10 +235,10 @@ def put_away(plant, turn, state):
 
 def counts_of(turn, state, without_room):
     """What feed.d/fed says of a turn."""
-    late = sum(state[name].late - before.get("late", state[name].late) for name, before in turn.tags.items())
-    refused = without_room + sum(file["refused"] + file.get("late", 0) for file in turn.files)
+    late = sum(state[name].late - before["late"] for name, before in turn.tags.items())
+    refused = without_room + sum(file["refused"] + file["late"] for file in turn.files)
     return {"files": len(turn.files), "values": turn.values.count - without_room, "refused": refused, "late": late,
-            "base": turn.notes.get("base", "")}
+            "base": turn.notes["base"]}
 
 
 def refuse_rest(plant, turn, state):

@@ -17,7 +17,7 @@ import stat
 import time
 
 from fields import BadField
-from files import UNREADABLE, Refusal, moved, removed, sha256_of, shown, sync_folder, write_whole
+from files import UNREADABLE, Refusal, moved, removed, shown, sync_folder, write_whole
 from rows import Reader
 from turns import Refused, Turn, record_of, write_record
 
@@ -27,7 +27,6 @@ BATCH = 2 * MOST_BYTES  # of the files that are taken at once
 NOT_FOLLOWED = os.O_RDONLY | os.O_NOFOLLOW | os.O_NONBLOCK | os.O_CLOEXEC
 PART = "its name ends in .part, so copying it was stopped. Copy it again, or take .part off its name if it is whole"
 GIVEN_UP = (errno.EACCES, errno.EPERM, errno.EIO, errno.EISDIR, errno.ENOTDIR, errno.ELOOP)  # faults of a file, not of the plant's disk
-OLD_LINE = re.compile(r"([0-9]{1,18}) ([0-9a-f]{64}) (.*)")  # of feed.d/fed, as older feeders wrote it
 NUMBER = re.compile(r"[0-9]{1,18}")
 
 
@@ -315,9 +314,8 @@ def lines_told(path):
     except FileNotFoundError:
         lines = []
     for line in lines:
-        old = OLD_LINE.fullmatch(line.decode("utf-8", "replace"))
         try:
-            told = {"turn": int(old[1]), "sha256": old[2], "file": old[3]} if old else json.loads(line)
+            told = json.loads(line)
         except ValueError:
             continue
         if type(told) is dict and type(told.get("turn")) is int and 0 <= told["turn"] < 10**18:
@@ -364,14 +362,13 @@ def note_fed(plant, told):
 def put_file(plant, turn, place, file):
     """Moves a file of a finished turn out of the inbox. Repeated after a stop it finds the file moved. One that cannot be moved is said,
     and no turn waits for it."""
-    source, folder = plant.path(plant.settings.inbox, file.get("as", file["name"])), turn.folder(file["goes"])
-    target = plant.path(folder, file["name"])
-    if not os.path.lexists(source) or "as" not in file and is_put(target, file):
+    source, folder = plant.path(plant.settings.inbox, file["as"]), turn.folder(file["goes"])
+    if not os.path.lexists(source):
         return
     os.makedirs(plant.path(folder), exist_ok=True)
     try:
         if put_changes(plant, turn, place, file, source):
-            moved(source, target)
+            moved(source, plant.path(folder, file["name"]))
     except OSError as why:
         if why.errno not in GIVEN_UP:
             raise
@@ -381,18 +378,13 @@ def put_file(plant, turn, place, file):
         sync_folder(plant.path(made))
 
 
-def is_put(target, file):
-    """Whether a file stands in its place already."""
-    return os.path.isfile(target) and sha256_of(target) == file["sha256"]
-
-
 def put_changes(plant, turn, place, file, source):
     """Looks whether a file was written to since it was read. What came later goes to refused/, because it is not stored; and so does the
     whole file if it has other bytes now. Answers whether the file is still to be moved."""
-    if stamp_of(os.lstat(source)) == file.get("stamp"):
+    if stamp_of(os.lstat(source)) == file["stamp"]:
         return True
     with open(os.open(source, NOT_FOLLOWED), "rb") as opened:
-        first, later = opened.read(file["bytes"]) if "bytes" in file else opened.read(), opened.read(MOST_BYTES)
+        first, later = opened.read(file["bytes"]), opened.read(MOST_BYTES)
     name, folder = shown(file["name"], 255), turn.folder("refused")
     if hashlib.sha256(first).hexdigest() == file["sha256"]:
         if later:

@@ -32,8 +32,8 @@ ADVICE = {
        " may write to historian.d, and `ulimit -n`. What is stored stays stored, and the next feed goes on from there.",
     8: "Copy that file away and put a good copy in its place (docs/RUNNING.md, Backup). Nothing is read or stored until then.",
     9: "That file belongs to a tag of another name or kind. Put the right file there, or give the tag the `step` it was made with.",
-    11: "A group was saved over more records than its tags have now. If tags were put back from a backup, put the group's file back"
-        " too, or move it away: its rows are made anew.",
+    11: "The file of a tag of a group is missing, emptied, damaged or an older one; or the program has a bug. Stop feeding, and compare"
+        " each `taken` of `check` with feed.d/seals: docs/PROMISE.md (\"Refusals\") says what is left, and what to do.",
     12: "The program stopped a worker.",
     13: "The program found no memory: free some, or set rows_a_run lower in feed.toml. What is stored stays stored.",
     16: "The base has no such group or calculation.",

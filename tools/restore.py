@@ -39,7 +39,7 @@ def find_copy(plant, asked):
         copies = copies_of(plant)
         parts = {copy: COPY.fullmatch(os.path.basename(copy)) for copy in copies}
         found = [copy for copy in copies if asked in ("last", *parts[copy].group(0, 2)) or
-                 NUMBER.fullmatch(asked) and parts[copy][1] and int(parts[copy][1]) == int(asked)]
+                 NUMBER.fullmatch(asked) and int(parts[copy][1]) == int(asked)]
     if not found:
         raise Refusal(UNREADABLE, "there is no copy %s, and nothing was done; there are %s" % (
             asked, ", ".join(map(os.path.basename, copies_of(plant))) or "none in " + plant.settings.backups))
@@ -55,7 +55,7 @@ def begin(plant, asked, until):
     if until is not None and until < last:
         raise Refusal(UNREADABLE, "%s has turn %d already, and nothing was done: choose an older copy" % (copy, last))
     settle_unfinished(plant)
-    turns = later_turns(plant, last)
+    turns = later_turns(plant, last, until)
     os.makedirs(plant.path("feed.d"), exist_ok=True)
     put_state(plant, {"copy": copy, "asked": asked, "last": last, "turns": turns, "until": until, "away": free_folder(plant), "phase": "away"})
 
@@ -76,21 +76,21 @@ def require_good_copy(copy):
         raise Refusal(CHANGED, "%s/feed.d/seals is damaged, and nothing was done: choose another copy" % copy)
 
 
-def later_turns(plant, last):
-    """The numbers of the turns that were made after the copy."""
+def later_turns(plant, last, until):
+    """The numbers of the turns that were made after the copy. Of those up to `until`, or of all, what they stored has to be there."""
     folder = plant.path("done")
     numbers = sorted(int(name) for name in os.listdir(folder) if NUMBER.fullmatch(name)) if os.path.isdir(folder) else []
-    turns = []
+    most, turns = max(numbers, default=0) if until is None else until, []
     for number in (number for number in numbers if number > last):
-        if record_of(plant, number) is not None:
+        if number > most or record_of(plant, number) is not None:
             turns.append(number)
         elif os.listdir(plant.path("done", "%06d" % number)):
-            raise Refusal(CHANGED, "done/%06d has no %s, because an older feeder made turn %d, and nothing was done. Make a backup now if"
-                          " feed.py --verify says that all is good. Otherwise restore with --until %d, and then feed the files of that"
-                          " folder and of the later ones, the lowest first" % (number, TOLD, number, number - 1))
+            raise Refusal(CHANGED, "done/%06d has no %s, so nobody can say what turn %d stored, and nothing was done. Put that file back, or"
+                          " restore with --until %d, and then feed the files of that turn and of the later ones, which are in undone/, the"
+                          " lowest first" % (number, TOLD, number, number - 1))
     others = {int(name) for place in ("refused", "undone") if os.path.isdir(plant.path(place)) for name in os.listdir(plant.path(place))
               if NUMBER.fullmatch(name)}
-    missing = [number for number in range(last + 1, max(turns, default=0)) if number not in turns and number not in others]
+    missing = [number for number in range(last + 1, min(most + 1, max(turns, default=0))) if number not in turns and number not in others]
     if missing:
         raise Refusal(CHANGED, "done/%06d is not there, so what turn %d stored cannot be stored again, and nothing was done. Choose a newer"
                       " copy" % (missing[0], missing[0]))
@@ -115,7 +115,7 @@ def settle_unfinished(plant):
                 if "grows" in file:
                     os.remove(put)
                 else:
-                    moved(put, plant.path(plant.settings.inbox, file.get("as", file["name"])))
+                    moved(put, plant.path(plant.settings.inbox, file["as"]))
     elif files:
         others = {file.get("as") for file in files}
         from inbox import note_taken, taken_before
@@ -241,8 +241,8 @@ def turn_again(plant, numbers, keeps_grown):
         turn.number = number
         after |= {name: known["after"] for name, known in record.tags.items()}
         for key in ("grown", "quality"):
-            turn.notes[key] |= record.notes.get(key) or {}
-        turn.notes |= {"base": record.notes.get("base", ""), "new_base": turn.notes.get("new_base", False) or is_new}
+            turn.notes[key] |= record.notes[key]
+        turn.notes |= {"base": record.notes["base"], "new_base": turn.notes.get("new_base", False) or is_new}
         told += told_of(record)
         scales = {name: known["scale"] for name, known in record.tags.items()}
         turn.tags |= {name: {"scale": scales[name]} for name in scales if stored[name]}
@@ -271,11 +271,11 @@ def told_of(record):
     """What feed.d/fed said of a turn."""
     files = [{"turn": record.number, "file": file["name"], "sha256": file["sha256"], "rows": file["rows"]} for file in record.files
              if file["rows"]]
-    refused = sum(file["refused"] + file.get("late", 0) for file in record.files) + sum(
+    refused = sum(file["refused"] + file["late"] for file in record.files) + sum(
         known["rows"] - known["stored"] for known in record.tags.values())
     values = sum(known["stored"] for known in record.tags.values())
     return files + [{"turn": record.number, "files": len(record.files), "values": values, "refused": refused, "late": 0,
-                     "base": record.notes.get("base", ""), "time": record.time}]
+                     "base": record.notes["base"], "time": record.time}]
 
 
 def compare(plant, turn, after):

@@ -20,7 +20,7 @@ CHANGED_SINCE = "is not as the last turn left it: a bit flipped, another program
 BY_NO_TURN = "was made by no turn: another program ran here"
 NO_DEVICE = "is missing or does not begin as a device"
 SHOWN = 20  # devices that a line tells of
-COPY = re.compile(r"(?:([0-9]{6,})\.)?([0-9]{4}-[0-9]{2}-[0-9]{2}T[0-9]{6}Z)")  # the name of a copy; older feeders gave none a number
+COPY = re.compile(r"([0-9]{6,})\.([0-9]{4}-[0-9]{2}-[0-9]{2}T[0-9]{6}Z)")  # the name of a copy: its number and time
 
 
 def devices(plant):
@@ -196,5 +196,5 @@ def copies_of(plant):
     """The whole copies of the plant that the feeder made, the newest first: by their numbers, because a clock may be wrong."""
     folder = plant.path(plant.settings.backups)
     found = [match for match in map(COPY.fullmatch, os.listdir(folder)) if match] if os.path.isdir(folder) else []
-    found.sort(key=lambda match: (int(match[1] or 0), match[2]), reverse=True)
+    found.sort(key=lambda match: (int(match[1]), match[2]), reverse=True)
     return [os.path.join(plant.settings.backups, match[0]) for match in found]

@@ -16,7 +16,7 @@ LATE_ROWS = "late-rows.csv"  # the file of the rows that came late beyond late_r
 def tell(plant, turn, state, without_room):
     """One line for the turn, and lines for each file of which something is not stored: a line for a cause."""
     name, count = without_room
-    refused = count + sum(file["refused"] + file.get("late", 0) for file in turn.files)
+    refused = count + sum(file["refused"] + file["late"] for file in turn.files)
     if not turn.files and not turn.values.count:
         return
     line = "turn %d: %d files, %d values of %d tags stored, %d refused%s" % (
@@ -38,41 +38,39 @@ def besides(turn, state):
 
     The program counts the late ones of each tag. What it has counted since the turn began is exact also after a stop, because turn.json
     has the numbers from before."""
-    late = sum(state[name].late - before.get("late", state[name].late) for name, before in turn.tags.items())
-    rounded = sum(file.get("rounded", 0) for file in turn.files)
-    bad = turn.notes.get("bad", 0)
+    late = sum(state[name].late - before["late"] for name, before in turn.tags.items())
+    rounded = sum(file["rounded"] for file in turn.files)
+    bad = turn.notes["bad"]
     return "".join(", %d %s" % (count, what) for count, what in ((late, "late"), (rounded, "rounded"), (bad, "bad")) if count)
 
 
 def lines_of(turn, file):
     """The lines about a file of which something is not stored, and what to do."""
     name, folder, lines = shown(file["name"], 255), turn.folder("refused"), []
-    if file.get("twice"):
+    if file["twice"]:
         lines.append("  %s has the bytes of %s: none of its rows is stored again, and it goes to %s" % (
             name, shown(file["twice"], 300), folder))
-    if file.get("spoilt"):
+    if file["spoilt"]:
         lines += ["  all %s rows of %s: %s" % (format(file["refused"], ","), name, file["spoilt"]),
                   "  it goes to %s; correct it there, or what the reason names, and move it to the inbox" % folder]
-    if file.get("nothing"):
+    if file["nothing"]:
         lines.append("  %s has %s: nothing of it is stored, and it goes to %s" % (name, file["nothing"], turn.folder(file["goes"])))
-    if file.get("causes"):
+    if file["causes"]:
         lines += causes_of(file, name) + ["  %s %s; correct them there and move that file to the inbox" % (
             where_refused(turn, file), os.path.join(folder, name))]
-    elif file["refused"] and not file.get("spoilt"):  # a turn of an older feeder
-        lines.append("  all %d are in %s" % (file["refused"], os.path.join(folder, name)))
-    if file.get("late"):
+    if file["late"]:
         lines.append("  %s: %s rows came late, more than late_rows of feed.toml lets a tag take in a turn. Each would cost a record for ever. They"
                      " are in %s; if they are right, raise late_rows, and move that file to the inbox" % (
                          name, format(file["late"], ","), os.path.join(folder, LATE_ROWS)))
     return lines
 
 
-
 def where_refused(turn, file):
     """How many of a file's refused rows are written down, as the begin of a line. So many may be refused that the list of them ends."""
-    if file.get("written", file["refused"]) == file["refused"]:
+    if file["written"] == file["refused"]:
         return "all %d are in" % file["refused"]
     return "all of them are in %s, and the first %d in" % (os.path.join(turn.folder(file["goes"]), shown(file["name"], 255)), file["written"])
+
 
 def causes_of(file, name):
     """A line for each cause for which rows of a file are refused, the most frequent ones first."""

@@ -20,7 +20,7 @@ from rows import REFUSED_HEADER, Values
 from settings import AGAIN
 
 WORK = "feed.d/turn"
-KNOWN = {"taken", "held", "rows"}  # what every feeder wrote down of a tag; later ones add "late" and "scale"
+KNOWN = {"taken", "late", "held", "rows", "scale"}  # what is written down of a tag of a turn
 COLLECTORS = 16  # of a plan, at most
 TAG_BYTES = 33_000_000  # of a tag's rows in a run: so each collector's file is shorter than the 67,108,864 bytes that the program takes
 REFUSED_BYTES = 67_108_864  # of the refused rows of a file that are written down: a longer file would not be taken again
@@ -142,7 +142,7 @@ def unfinished(plant):
     try:
         with open(plant.path("feed.d", TOLD)) as text:
             kept = json.load(text)
-        turn = Turn(kept["turn"], kept["files"], kept["tags"], read_rows(plant.path(WORK, "rows.csv")), kept.get("notes"))
+        turn = Turn(kept["turn"], kept["files"], kept["tags"], read_rows(plant.path(WORK, "rows.csv")), kept["notes"])
         whole = is_whole(turn)
     except (ValueError, KeyError, TypeError, AttributeError, FileNotFoundError):
         whole = False
@@ -218,7 +218,7 @@ def require_scales(plant, tags):
 
 def note_scales(plant, turn):
     """Notes with what scale the values of a turn were stored."""
-    scales = stored_scales(plant) | {name: wanted["scale"] for name, wanted in turn.tags.items() if "scale" in wanted}
+    scales = stored_scales(plant) | {name: wanted["scale"] for name, wanted in turn.tags.items()}
     write_whole(plant.path("feed.d", "scales"), json.dumps(scales, indent=1).encode())
 
 
@@ -254,10 +254,10 @@ def put_record(plant, turn, state, time):
     """Puts into done/ what the turn stored. The files are moved there apart."""
     folder = plant.path(turn.folder("done"))
     os.makedirs(folder, exist_ok=True)
-    tags = {name: {"rows": known["rows"], "stored": turn.stored(name, state), "scale": known.get("scale"), "taken": known["taken"],
+    tags = {name: {"rows": known["rows"], "stored": turn.stored(name, state), "scale": known["scale"], "taken": known["taken"],
                    "after": state[name].taken} for name, known in turn.tags.items()}
-    kept = {key: turn.notes[key] for key in ("base", "grown", "quality") if key in turn.notes}
-    if turn.notes.get("new_base"):
+    kept = {key: turn.notes[key] for key in ("base", "grown", "quality")}
+    if turn.notes["new_base"]:
         copied(plant.path("feed.d", "base.toml"), os.path.join(folder, "base.toml"))
     if turn.tags:
         linked(plant.path(WORK, "rows.csv"), os.path.join(folder, STORED))
@@ -284,7 +284,7 @@ def write_record(plant, record):
 
 
 def record_of(plant, number):
-    """What a turn left in done/ about itself, or None if that is not there: an older feeder made the turn, or it was pruned."""
+    """What a turn left in done/ about itself, or None if that is not there."""
     path = plant.path("done", "%06d" % number, TOLD)
     try:
         with open(path) as text:

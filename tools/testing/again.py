@@ -69,24 +69,30 @@ def put_back(folder, program, settings):
     assert len(os.listdir(trial.path("replaced"))) == 5
 
 
+def feed_undone(trial, turns):
+    """Feeds the files of undone turns, with the base that they had."""
+    trial.write("base.toml", base_text(comp_dev=4))
+    for turn in turns:
+        for name in os.listdir(trial.path("undone", turn)):
+            if name.endswith(".csv"):
+                shutil.copy(trial.path("undone", turn, name), trial.path("inbox", name))
+        assert "none of its rows" not in trial.fed()
+
+
 def put_back_until(folder, program, settings):
     """With --until later turns are not made again; they go to undone/, from where their files can be fed."""
     trial, wanted, copy = lived_in(folder, program)
     assert trial.feed("--restore", copy, "--until", "0")[0] == 22 and trial.feed("--until", "3")[0] == 2
     text = trial.fed("--restore", copy, "--until", "3")
     assert "2 turns up to turn 3 are made again" in text and sorted(os.listdir(trial.path("undone"))) == ["000004", "000005"], text
-    trial.write("base.toml", base_text(comp_dev=4))
-    for turn in ("000004", "000005"):
-        for name in os.listdir(trial.path("undone", turn)):
-            if name.endswith(".csv"):
-                shutil.copy(trial.path("undone", turn, name), trial.path("inbox", name))
-        assert "none of its rows" not in trial.fed()
+    feed_undone(trial, ("000004", "000005"))
     check_same(trial.answers(), wanted, "after the undone turns were fed")
     assert sorted(os.listdir(trial.path("done"))) == ["000001", "000002", "000003", "000006", "000007"]
 
 
 def refuses_to_put_back(folder, program, settings):
-    """A damaged copy, a missing turn, a turn of an older feeder, no such copy: said, and nothing is changed."""
+    """A damaged copy, a missing turn, a turn without its record, no such copy: said, and nothing is changed. What the line advises puts the
+    plant back."""
     trial, wanted, copy = lived_in(folder, program)
     state = trial.path("feed.d/restore.json")
     assert "there is no copy 7" in trial.feed("--restore", "7")[1] and trial.feed("--restore", "7")[0] == 22
@@ -104,9 +110,12 @@ def refuses_to_put_back(folder, program, settings):
     os.rename(trial.path("kept"), trial.path("done/000003"))
     os.rename(trial.path("done/000004/turn.json"), trial.path("kept"))
     status, text = trial.feed("--restore", copy)
-    assert status == 21 and "because an older feeder made turn 4, and nothing was done" in text, text
+    assert status == 21 and "so nobody can say what turn 4 stored, and nothing was done" in text and "restore with --until 3," in text, text
     assert not os.path.exists(state)
     check_same(trial.answers(), wanted, "after refused restores")
+    trial.fed("--restore", copy, "--until", "3")
+    feed_undone(trial, ("000004", "000005"))
+    check_same(trial.answers(), wanted, "after what the line advises")
 
 
 def put_back_elsewhere(folder, program, settings):

@@ -201,8 +201,8 @@ def tunings_of_all_kinds(folder, program, settings):
 
 
 def rows_as_they_were_stored(folder, program, settings):
-    """The rows that a turn left as stored are looked at: of each tag the first ones, whatever the files say. Without this record, as an
-    older feeder left it, a turn has no rows here, and nothing is said against what it stored."""
+    """The rows that a turn left as stored are looked at: of each tag the first ones, whatever the files say. Without this record
+    a turn has no rows here, and nothing is said against what it stored."""
     trial = Trial(os.path.join(folder, "a"), program)
     trial.write("inbox/1.csv", "LIC4.PV,1000,5\nLIC4.PV,2000,60\nLIC4.PV,3000,5\nFIC1.PV,7,1.50\n")
     trial.fed()

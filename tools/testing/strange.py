@@ -51,7 +51,7 @@ def names_forge_nothing(folder, program, settings):
 
 
 def fed_list_is_damaged(folder, program, settings):
-    """A line of feed.d/fed that is none, as an older feeder could write it, is passed over."""
+    """A line of feed.d/fed that is none is passed over."""
     trial = fresh(folder, program)
     trial.write("inbox/x.csv", GOOD)
     trial.fed()

@@ -1,6 +1,5 @@
 """told.py: tests of what the tools print of rare things: late and rounded values, files without values, backups within a second and
 backups that were stopped."""
-import json
 import os
 import re
 import shutil
@@ -46,20 +45,6 @@ def late_values_are_counted(folder, program, settings):
     two, _ = two_blocks(folder, program)
     before = late_by_program(two)
     assert turn_line(two.fed()).endswith(" refused, %d late" % (late_by_program(two) - before)) and late_by_program(two) > before
-
-
-def turn_of_an_older_feeder(folder, program, settings):
-    """A turn that an older feeder began, which noted no late values, is finished without a word of them."""
-    trial = Trial(os.path.join(folder, "a"), program)
-    trial.write("inbox/1.csv", "LIC4.PV,2000,5\nLIC4.PV,1000,60\n")
-    assert trial.feed(how="half")[0] == 137
-    turn = json.loads(trial.read("feed.d/turn.json"))
-    for tag in turn["tags"].values():
-        tag.pop("late")
-    for file in turn["files"]:
-        del file["rounded"], file["nothing"]
-    trial.write("feed.d/turn.json", json.dumps(turn))
-    assert turn_line(trial.fed()) == "turn 1: 1 files, 2 values of 1 tags stored, 0 refused" and late_by_program(trial) == 1
 
 
 def rounded_values_are_counted(folder, program, settings):
@@ -170,5 +155,5 @@ def backups_that_were_stopped(folder, program, settings):
     assert os.path.exists(trial.path(first, "feed.d/seals"))
 
 
-CASES = [late_values_are_counted, turn_of_an_older_feeder, rounded_values_are_counted, exact_or_rounded, files_without_values,
-         part_in_the_inbox, backups_within_a_second, backups_that_were_stopped]
+CASES = [late_values_are_counted, rounded_values_are_counted, exact_or_rounded, files_without_values, part_in_the_inbox,
+         backups_within_a_second, backups_that_were_stopped]
