@@ -4,7 +4,7 @@
 It copies main.rattle and the crates that it depends on into a repository of their own, builds that (`rt run`), and compiles plain.rs. It
 builds in FOLDER (an absolute path) and keeps it; without the word it builds in a temporary folder. It runs by hand, never as a test.
 
-It prints the load of the machine, and these figures with what was aimed at. A time is the median of seven runs. All runs of one program
+It prints the load of the machine, and these figures. A time is the median of seven runs. All runs of one program
 come before those of the next.
 - A million takes without a commit: nanoseconds a take of the cell, of plain code, and of plain code that posts each take too.
 - The bytes of memory that a take needs: the least peak of seven runs with a million takes, less the least peak with none.
@@ -53,8 +53,7 @@ def main():
         program, plain = build(sys.argv[1] if len(sys.argv) > 1 else scratch)
         print("load", os.getloadavg())
         ours, other = median(scratch, program, "takes", TAKES), median(scratch, plain, "takes", TAKES)
-        print("a take: ours %.1f ns  plain %.1f ns  %.2f times  aim 1.50 %s"
-              % (ours / TAKES, other / TAKES, ours / other, "met" if ours <= 1.5 * other else "MISSED"))
+        print("a take: ours %.1f ns  plain %.1f ns  %.2f times" % (ours / TAKES, other / TAKES, ours / other))
         posts = median(scratch, plain, "posts", TAKES)
         print("compared with a plain program that posts too: %.1f ns, %.2f times" % (posts / TAKES, ours / posts))
         for name, each in [("ours", program), ("plain", plain)]:
@@ -62,8 +61,8 @@ def main():
             base = min(run(scratch, [each, "nothing", str(64)])[1] for _ in range(RUNS))
             print("%s: %.1f bytes a take" % (name, (peak - base) * 1024 / TAKES))
         ours, other = median(scratch, program, "commits", COMMITTED), median(scratch, plain, "device", COMMITTED)
-        print("64 takes and a commit: ours %.1f us  bare device %.1f us  rate %.2f  aim 0.90 %s"
-              % (64e-3 * ours / COMMITTED, 64e-3 * other / COMMITTED, other / ours, "met" if other >= 0.9 * ours else "MISSED"))
+        print("64 takes and a commit: ours %.1f us  bare device %.1f us  rate %.2f"
+              % (64e-3 * ours / COMMITTED, 64e-3 * other / COMMITTED, other / ours))
         print("load", os.getloadavg())
 
 

@@ -5,7 +5,7 @@ It copies main.rattle and the crates that it depends on into a repository of the
 and keeps it; without the word it builds in a temporary folder. It runs by hand, never as a test.
 
 Each work runs in both ways in turn, three times. It prints the load of the machine, and for each work the medians: nanoseconds for one
-put or window in both ways, the ratio of the rates, what was aimed at, and milliseconds of taking memory beforehand. Last it prints the
+put or window in both ways, the ratio of the rates, and milliseconds of taking memory beforehand. Last it prints the
 bytes of memory that a point needs, from the highest peaks of three runs."""
 import os
 import statistics
@@ -20,9 +20,7 @@ from building import built, copied, needed  # noqa: E402
 
 LINE = "content_bench: anyhow trend_num late_insert weighted_total"  # of its crate, in crates.txt
 RUNS = 3
-# Each work, and what is aimed at: the rate of pages is at least so many times the plain rate.
-WORKS = [("in_order", 1 / 1.7), ("late", 50), ("whole_area", 5), ("whole_stair", 5), ("whole_low", 5),
-         ("small_area", 1), ("small_stair", 1), ("small_low", 1)]
+WORKS = ["in_order", "late", "whole_area", "whole_stair", "whole_low", "small_area", "small_stair", "small_low"]
 
 
 def build(folder):
@@ -37,7 +35,7 @@ def run(program, work, how):
     return [int(word) for word in child.stdout.split()], int(child.stderr)
 
 
-def measure(program, work, aim):
+def measure(program, work):
     """Prints the figures of a work. Ends the script if both ways did the same puts or windows with different checksums."""
     told = {"paged": [], "plain": []}
     for _ in range(RUNS):
@@ -46,9 +44,7 @@ def measure(program, work, aim):
     each = {how: statistics.median(words[1] / words[2] for words, _ in told[how]) for how in told}
     reserve = {how: statistics.median(words[0] for words, _ in told[how]) / 1e6 for how in told}
     ratio = each["plain"] / each["paged"]
-    verdict = "met" if ratio >= aim else "MISSED"
-    print("%-10s paged %12.1f ns  plain %12.1f ns  rate %8.2f times  aim %5.2f %s"
-          % (work, each["paged"], each["plain"], ratio, aim, verdict))
+    print("%-10s paged %12.1f ns  plain %12.1f ns  rate %8.2f times" % (work, each["paged"], each["plain"], ratio))
     print("%-10s memory before: paged %.3f ms  plain %.3f ms"
           % ("", reserve["paged"], reserve["plain"]), flush=True)
     if told["paged"][0][0][2] == told["plain"][0][0][2] and told["paged"][0][0][3] != told["plain"][0][0][3]:
@@ -59,8 +55,8 @@ def main():
     with tempfile.TemporaryDirectory() as scratch:
         program = build(sys.argv[1] if len(sys.argv) > 1 else scratch)
         print("load", os.getloadavg())
-        for work, aim in WORKS:
-            measure(program, work, aim)
+        for work in WORKS:
+            measure(program, work)
         for work, points in [("in_order", 1_000_000), ("late", 1_048_576)]:
             for how in ["paged", "plain"]:
                 peak = max(run(program, work, how)[1] for _ in range(RUNS))

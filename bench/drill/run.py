@@ -6,8 +6,8 @@ events for each of 64 tags, which have a collector each. 62,500 events are refus
 records of its tags, and 2,269,568 would be kept.
 
 It prints medians of three runs: seconds, million takes a second, and MB of memory at the peak. Then it prints how many times as fast
-four processors are as one; 2.5 is aimed at. Every run has to print the same bytes, and 57,500 takes for each tag. It runs by hand, never
-as a test, on a machine with four processors and nothing else at work."""
+four processors are as one. Every run has to print the same bytes, and 57,500 takes for each tag. It runs by hand, never as a test, on a
+machine with four processors and nothing else at work."""
 import os
 import statistics
 import subprocess
@@ -48,7 +48,7 @@ def main():
     if sum(" taken=%d " % EVENTS in line for line in lines) != TAGS:
         sys.exit("not each tag has taken %d values: %s" % (EVENTS, lines[:2]))
     one, more = medians[1], medians[max(medians)]
-    print("%.2f times as fast on %d processors (2.5 is aimed at on four)" % (one / more, max(medians)))
+    print("%.2f times as fast on %d processors" % (one / more, max(medians)))
 
 
 if __name__ == "__main__":

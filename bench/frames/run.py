@@ -6,8 +6,8 @@ and keeps it; without the word it builds in a temporary folder. It runs by hand,
 
 It runs over rows of 100,000 windows (or WINDOWS) and of ten times as many. The frames in them are short, long, or one as long as the row.
 Both ways run in turn, five times. It prints the load of the machine and medians: nanoseconds a change, how many times as fast that is as
-going over the row, and milliseconds of making the frames. 20 microseconds a change are aimed at, and with ten times the windows at most
-1.5 times the time."""
+going over the row, and milliseconds of making the frames. Then it divides the time of a change with ten times the windows by that with the
+fewer ones."""
 import os
 import statistics
 import subprocess
@@ -23,8 +23,6 @@ LINE = "frames_bench: anyhow trend_num event_frames"  # of its crate, in crates.
 RUNS = 5
 # One window in so many is not true: frames of a few windows, of thousands, and one frame.
 GAPS = [4, 5_000, 1_000_000_000]
-MOST_NANOSECONDS = 20_000
-MOST_RATIO = 1.5
 
 
 def build(folder):
@@ -62,8 +60,7 @@ def main():
         for gap in GAPS:
             one = measure(program, few, gap)
             ten = measure(program, 10 * few, gap)
-            print("  aims: %s at %d windows, %s at ten times as many (%.2f times)"
-                  % ("met" if one <= MOST_NANOSECONDS else "MISSED", few, "met" if ten <= MOST_RATIO * one else "MISSED", ten / one))
+            print("  a change in ten times as many windows takes %.2f times as long" % (ten / one))
         print("load", os.getloadavg())
 
 

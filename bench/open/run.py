@@ -4,8 +4,8 @@
 PROGRAM is a built historian (crates/historian/out/historian, after `rt run` there). `trend` opens the device and answers. It is compared
 with plain.c (`cc -O3`), which keeps the same records and tests nothing. Each runs in turn, seven times, with the file in the page cache.
 
-It prints the load of the machine, the answer, and medians: the seconds of each, and which part of the speed of plain.c the program has;
-0.80 is aimed at. Last it prints the highest peak of memory in bytes a record; 34 is aimed at. It runs by hand, never as a test."""
+It prints the load of the machine, the answer, and medians: the seconds of each, and which part of the speed of plain.c the program has.
+Last it prints the highest peak of memory in bytes a record. It runs by hand, never as a test."""
 import os
 import statistics
 import struct
@@ -93,9 +93,9 @@ def main():
         print(answers.pop().decode().strip())
         ours, plain = (statistics.median(took for took, _, _ in told[name]) for name in words)
         print("opened and asked: %.4f s" % ours)
-        print("the plain program: %.4f s, %.2f of its speed, aim 0.80" % (plain, plain / ours))
+        print("the plain program: %.4f s, %.2f of its speed" % (plain, plain / ours))
         peak = max(memory for _, memory, _ in told["trend"])
-        print("peak memory: %.1f bytes a record of %.1f bytes, aim 34" % (peak * 1024 / RECORDS, size / RECORDS))
+        print("peak memory: %.1f bytes a record of %.1f bytes" % (peak * 1024 / RECORDS, size / RECORDS))
 
 
 main()

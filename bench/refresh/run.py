@@ -6,8 +6,7 @@ builds in FOLDER and keeps it; without the word it builds in a temporary folder.
 
 A sheet gets 100,000 or 1,000,000 kept records at once, and then a thousand records one at a time, kept ones or late ones. Each of the
 four runs three times. It prints the load of the machine and medians: milliseconds of the sheet made anew, microseconds of one more
-record, and which part of the former that is. Then it divides the time of one more record in the larger sheet by that in the smaller one;
-at most 2 is aimed at."""
+record, and which part of the former that is. Then it divides the time of one more record in the larger sheet by that in the smaller one."""
 import os
 import statistics
 import subprocess
@@ -86,8 +85,7 @@ def main():
                       % (first, kind, anew[first] / 1e6, each[first] / 1e3, anew[first] / each[first], told[first][0][2],
                          told[first][0][3]))
             ratio = each[LARGE] / each[SMALL]
-            print("one more of the larger sheet takes %.2f times that of the smaller one, aim 2.00 %s"
-                  % (ratio, "met" if ratio <= 2 else "MISSED"))
+            print("one more of the larger sheet takes %.2f times that of the smaller one" % ratio)
         print("load", os.getloadavg())
 
 

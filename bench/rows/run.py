@@ -6,8 +6,7 @@ builds in FOLDER and keeps it; without the word it builds in a temporary folder.
 
 Both read 60 MB of rows of 200 tags in turn, seven times. They have to find as many rows with the same sum of values. It prints the load
 of the machine and medians: the seconds of both, and the part of the plain time that the proved reader takes. These are for bytes and rows
-together, of which at most 0.80 is aimed at, and for the rows alone. Last it prints the highest peak of memory of the proved reader in
-bytes a row, without the input; at most 32 are aimed at."""
+together, and for the rows alone. Last it prints the highest peak of memory of the proved reader in bytes a row, without the input."""
 import os
 import random
 import statistics
@@ -69,9 +68,9 @@ def main():
         whole = [statistics.median((w[0] + w[1]) / 1e9 for w, _ in runs) for runs in (proved, plain)]
         rows = [statistics.median(w[1] / 1e9 for w, _ in runs) for runs in (proved, plain)]
         count, peak = proved[0][0][2], max(memory for _, memory in proved)
-        print("reading and rows: proved %.3f s, plain %.3f s, %.2f times its time, aim 0.80" % (*whole, whole[0] / whole[1]))
+        print("reading and rows: proved %.3f s, plain %.3f s, %.2f times its time" % (*whole, whole[0] / whole[1]))
         print("rows alone:       proved %.3f s, plain %.3f s, %.2f" % (*rows, rows[0] / rows[1]))
-        print("peak memory besides the input: %.1f bytes a row, aim 32" % ((peak * 1024 - os.path.getsize(path)) / count))
+        print("peak memory besides the input: %.1f bytes a row" % ((peak * 1024 - os.path.getsize(path)) / count))
         print("load", os.getloadavg())
 
 

@@ -6,7 +6,7 @@ PROGRAM is a built historian (crates/historian/out/historian, after `rt run` the
 
 strace notes when the last worker's thread ends, and when the program writes its report. Between these the session compares all openings
 and tapes with the files, finds nothing that is missing, ends each device, and makes the text. It prints the median of that time in
-seconds, of three sessions; at most 1.0 is aimed at. It runs by hand, never as a test, with all processors free."""
+seconds, of three sessions. It runs by hand, never as a test, with all processors free."""
 import os
 import re
 import statistics
@@ -66,8 +66,7 @@ def main():
     with tempfile.TemporaryDirectory(dir="/dev/shm") as folder:
         lay(folder)
         took = statistics.median(after(program, folder) for _ in range(RUNS))
-        print("after the workers, %d rows, %d tags, %d collectors: %.2f s  aim at most 1.0 %s"
-              % (ROWS, TAGS, COLLECTORS, took, "met" if took <= 1 else "MISSED"))
+        print("after the workers, %d rows, %d tags, %d collectors: %.2f s" % (ROWS, TAGS, COLLECTORS, took))
 
 
 main()
