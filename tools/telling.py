@@ -45,20 +45,20 @@ def besides(turn, state):
 
 
 def lines_of(turn, file):
-    """The lines about a file of which something is not stored, and what to do."""
+    """The lines about a file of which something is not stored, and what to do. Of a file of a site less is known."""
     name, folder, lines = shown(file["name"], 255), turn.folder("refused"), []
     if file["twice"]:
         lines.append("  %s has the bytes of %s: none of its rows is stored again, and it goes to %s" % (
             name, shown(file["twice"], 300), folder))
-    if file["spoilt"]:
+    if file.get("spoilt"):
         lines += ["  all %s rows of %s: %s" % (format(file["refused"], ","), name, file["spoilt"]),
                   "  it goes to %s; correct it there, or what the reason names, and move it to the inbox" % folder]
-    if file["nothing"]:
+    if file.get("nothing"):
         lines.append("  %s has %s: nothing of it is stored, and it goes to %s" % (name, file["nothing"], turn.folder(file["goes"])))
     if file["causes"]:
         lines += causes_of(file, name) + ["  %s %s; correct them there and move that file to the inbox" % (
             where_refused(turn, file), os.path.join(folder, name))]
-    if file["late"]:
+    if file.get("late"):
         lines.append("  %s: %s rows came late, more than late_rows of feed.toml lets a tag take in a turn. Each would cost a record for ever. They"
                      " are in %s; if they are right, raise late_rows, and move that file to the inbox" % (
                          name, format(file["late"], ","), os.path.join(folder, LATE_ROWS)))
@@ -67,7 +67,7 @@ def lines_of(turn, file):
 
 def where_refused(turn, file):
     """How many of a file's refused rows are written down, as the begin of a line. So many may be refused that the list of them ends."""
-    if file["written"] == file["refused"]:
+    if file.get("written", file["refused"]) == file["refused"]:
         return "all %d are in" % file["refused"]
     return "all of them are in %s, and the first %d in" % (os.path.join(turn.folder(file["goes"]), shown(file["name"], 255)), file["written"])
 
