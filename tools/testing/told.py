@@ -137,21 +137,21 @@ def backups_that_were_stopped(folder, program, settings):
     """What stops left of two backups is removed, and that is said. A file of such a name is left alone, and the backup is made."""
     trial, _ = two_blocks(folder, program)
     first = trial.fed("--backup").strip()
-    for name in ("2020-01-01T000000Z.part", "2020-01-02T000000Z.part"):
+    for name in ("000001.2020-01-01T000000Z.part", "000002.2020-01-02T000000Z.part"):
         shutil.copytree(trial.path(first, "feed.d"), trial.path("backup", name, "feed.d"))
     os.makedirs(trial.path("backup/mine.part"))
-    for name in ("2020-01-03T000000Z.part", "mine.part/mine"):
+    for name in ("000003.2020-01-03T000000Z.part", "mine.part/mine"):
         trial.write("backup/" + name, "mine")
-    os.symlink(trial.path(first), trial.path("backup/2020-01-04T000000Z.part"))
+    os.symlink(trial.path(first), trial.path("backup/000004.2020-01-04T000000Z.part"))
     text = trial.fed("--backup")
-    for name in ("2020-01-01T000000Z.part", "2020-01-02T000000Z.part"):
+    for name in ("000001.2020-01-01T000000Z.part", "000002.2020-01-02T000000Z.part"):
         assert "backup/%s, a copy that was stopped, is removed\n" % name in text, text
-    for name in ("2020-01-03T000000Z.part", "2020-01-04T000000Z.part"):
+    for name in ("000003.2020-01-03T000000Z.part", "000004.2020-01-04T000000Z.part"):
         assert "backup/%s is no folder, so feed.py did not make it: it stays as it is\n" % name in text, text
     second = re.search(r"^backup/\S+Z$", text, re.M)[0]
     assert sorted(os.listdir(trial.path("backup"))) == sorted([os.path.basename(first), os.path.basename(second), "mine.part"] + [
-        "2020-01-03T000000Z.part", "2020-01-04T000000Z.part"]), os.listdir(trial.path("backup"))
-    assert trial.read("backup/2020-01-03T000000Z.part") == trial.read("backup/mine.part/mine") == "mine"
+        "000003.2020-01-03T000000Z.part", "000004.2020-01-04T000000Z.part"]), os.listdir(trial.path("backup"))
+    assert trial.read("backup/000003.2020-01-03T000000Z.part") == trial.read("backup/mine.part/mine") == "mine"
     assert os.path.exists(trial.path(first, "feed.d/seals"))
 
 
