@@ -66,8 +66,8 @@ def looked_at(plant, age):
     shares = shares_of(turns.get(last, {}))
     found += [(1, "%s is %d %% full: begin a new folder" % (what, share)) for what, share in shares.items() if share > FULL]
     note_told(plant, last)
-    figures = "turn=%d age=%ds refused=%d late=%d stays=%d full=%.1f%%" % (
-        last, turn_age or 0, refused, late, looked.get("stays", 0), max(shares.values(), default=0))
+    figures = "turn=%d age=%ds refused=%d late=%d stays=%d" % (last, turn_age or 0, refused, late, looked.get("stays", 0))
+    figures += " full=%.1f%%" % max(shares.values()) if shares else ""
     return found, figures, "turn %d, %s ago" % (last, in_words(turn_age)) if last else "nothing was fed yet"
 
 
