@@ -11,6 +11,7 @@ could not be written; 20 another process works on the plant, or a turn is unfini
 22 a text or a file cannot be read or written; 24 rows were refused, or a file of the inbox is not taken, and all other rows are stored;
 127 no program; above that, the program was killed. With --status: 0 good, 1 a warning, 2 critical, 3 unknown."""
 import argparse
+import contextlib
 import os
 import shlex
 import shutil
@@ -183,7 +184,7 @@ def finish(plant, turn, state):
             break
         plan, ran = write_plan(plant, turn, part), True
         due = {name: turn.stored(name, state) + part.get(name, (0, 0))[1] for name in turn.tags}
-        plant.progress("turn %d: storing %d values" % (turn.number, sum(count for _, count in part.values())))
+        plant.progress("turn %d: storing %d values" % (turn.number, sum(count for _, count in part.values())), is_new=True)
         try:
             state = plant.tags_of(plant.call("run", BASE, plan))
         except Refusal as why:
@@ -309,6 +310,23 @@ def show(plant):
         plant.say("the board: %s" % trouble)
 
 
+def note_refusal(plant, why):
+    """Notes as a trouble why nothing was done; not if another process works on the plant, which may take its time."""
+    if not isinstance(why, Refusal) or why.status != BUSY:
+        plant.troubles.append(" ".join((str(why) or type(why).__name__).split()))
+
+
+@contextlib.contextmanager
+def calling_for_help(plant):
+    """Calls on_trouble of feed.toml if what is done meanwhile is refused, or fails."""
+    try:
+        yield
+    except Exception as why:
+        note_refusal(plant, why)
+        call_for_help(plant)
+        raise
+
+
 def feed(plant, every, wait):
     """Turns until the inbox is empty; with `every` it then looks again and again, and outlasts another process that has the plant. Answers
     the exit status."""
@@ -319,11 +337,9 @@ def feed(plant, every, wait):
             faults = 0
         except Refusal as refusal:
             faults += refusal.status == DEVICE
-            if refusal.status != BUSY:
-                plant.troubles.append(refusal.text.splitlines()[0])
             if every is None or refusal.status != BUSY and not 0 < faults < FAULTS:
-                call_for_help(plant)
                 raise
+            note_refusal(plant, refusal)
             plant.say(refusal.text)
             made, waiting = False, False
         troubles = troubles or bool(plant.troubles)
@@ -413,6 +429,17 @@ def put_back(plant, asked, until, wait):
     return 0
 
 
+def done(plant, given):
+    """Does what the tool is asked for: the exit status."""
+    if given.restore is not None:
+        return put_back(plant, given.restore, given.until, given.wait)
+    for asked, do in ((given.verify, seals.verified), (given.backup, backups.back_up), (given.seal, accept.sealed_anew),
+                      (given.anew, lambda plant: accept.begun_anew(plant, given.anew))):
+        if asked:
+            return at_rest(plant, do, given.wait)
+    return feed(plant, given.every, given.wait)
+
+
 def main():
     parser = argparse.ArgumentParser(description=__doc__, formatter_class=argparse.RawDescriptionHelpFormatter)
     parser.add_argument("plant", nargs="?", default=".", help="the plant's folder, with base.toml and feed.toml (default: this one)")
@@ -441,13 +468,10 @@ def main():
     if given.restore is not None:
         restore.lay_texts(given.plant, given.restore)
     plant = Plant(given.plant, given.program)
-    if given.restore is not None:
-        return put_back(plant, given.restore, given.until, given.wait)
-    for asked, do in ((given.verify, seals.verified), (given.backup, backups.back_up), (given.seal, accept.sealed_anew),
-                      (given.anew, lambda plant: accept.begun_anew(plant, given.anew))):
-        if asked:
-            return at_rest(plant, do, given.wait)
-    return init(plant) if given.init else feed(plant, given.every, given.wait)
+    if given.init:
+        return init(plant)
+    with calling_for_help(plant):
+        return done(plant, given)
 
 
 if __name__ == "__main__":

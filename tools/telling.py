@@ -1,7 +1,8 @@
 """telling.py: what feed.py prints of a turn, and whom it calls when something is wrong."""
+import contextlib
 import json
 import os
-import shlex
+import signal
 import subprocess
 import time
 
@@ -67,12 +68,12 @@ def lines_of(turn, file):
     return lines
 
 
-
 def where_refused(turn, file):
     """How many of a file's refused rows are written down, as the begin of a line. So many may be refused that the list of them ends."""
     if file.get("written", file["refused"]) == file["refused"]:
         return "all %d are in" % file["refused"]
     return "all of them are in %s, and the first %d in" % (os.path.join(turn.folder(file["goes"]), shown(file["name"], 255)), file["written"])
+
 
 def causes_of(file, name):
     """A line for each cause for which rows of a file are refused, the most frequent ones first."""
@@ -91,22 +92,40 @@ def causes_of(file, name):
 
 
 def call_for_help(plant):
-    """Calls the command on_trouble of feed.toml with each line about a trouble; again only an hour later, if the trouble lasts."""
+    """Calls the command on_trouble of feed.toml with each line about a trouble; again only an hour later, if the trouble lasts. If the command
+    fails, it is called again a minute later."""
     if not plant.settings.on_trouble:
         return
-    path, now = plant.path("feed.d", "troubles"), time.time()
+    path, hangs = plant.path("feed.d", "troubles"), False
     try:
         with open(path) as text:
-            known = {line: at for line, at in json.load(text).items() if abs(now - at) < AGAIN}
+            known = {line: at for line, at in json.load(text).items() if abs(time.time() - at) < AGAIN}
     except (OSError, ValueError, AttributeError, TypeError):
         known = {}
     new = [line for line in dict.fromkeys(plant.troubles) if line not in known]
     for line in new:
-        try:
-            subprocess.run(shlex.split(plant.settings.on_trouble) + [line], cwd=plant.folder, stdin=subprocess.DEVNULL, timeout=PATIENCE)
-        except (OSError, ValueError, subprocess.TimeoutExpired) as why:
-            plant.say("on_trouble of feed.toml failed: %s" % shown(str(why), 200))
+        why = None
+        if not hangs:  # if it did not end, the feeder does not wait for each of the other lines too
+            why, hangs = called_with(plant, line)
+        if why is not None:
+            plant.say("on_trouble of feed.toml failed: %s" % why)
+        known[line] = time.time() - (AGAIN - PATIENCE if hangs or why is not None else 0)
     if new and os.path.isdir(plant.path("feed.d")):
-        write_whole(path, json.dumps(known | dict.fromkeys(new, now)).encode())
+        with contextlib.suppress(OSError):  # where the disk is full; then it is called again sooner
+            write_whole(path, json.dumps(known).encode())
 
 
+def called_with(plant, line):
+    """Calls on_trouble with a line: why that failed, or None; and whether the command did not end, so that it was ended, with all that it
+    started."""
+    try:
+        child = subprocess.Popen(plant.settings.on_trouble + [line], cwd=plant.folder, stdin=subprocess.DEVNULL, start_new_session=True)
+    except (OSError, ValueError) as why:
+        return shown(str(why), 200), False
+    try:
+        status = child.wait(PATIENCE)
+    except subprocess.TimeoutExpired:
+        os.killpg(child.pid, signal.SIGKILL)
+        child.wait()
+        return "the command did not end within %d seconds, and was ended" % PATIENCE, True
+    return "the command ended with status %d" % (status if status > 0 else 128 - status) if status else None, False

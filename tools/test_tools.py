@@ -40,6 +40,7 @@ import stops  # noqa: E402
 import strange  # noqa: E402
 import told  # noqa: E402
 import tuned  # noqa: E402
+import watched  # noqa: E402
 from plant import program_of  # noqa: E402
 
 
@@ -64,7 +65,7 @@ def main():
     parser.add_argument("--only", nargs="+", default=[], metavar="NAME", help="only the cases whose names begin so")
     settings = parser.parse_args()
     settings.kills = settings.kills or (300 if settings.long else 20)
-    modules = (kills, cuts, stops, strange, again, sources, daily, keeping, told, lost, pages, asked, drawn, tuned, audited, boarded,
+    modules = (kills, cuts, stops, strange, again, sources, daily, keeping, told, lost, watched, pages, asked, drawn, tuned, audited, boarded,
                site_kills, site_asks, site_daily, site_dask)
     cases = [case for module in modules for case in module.CASES]
     return run_cases(cases, settings)
