@@ -212,7 +212,7 @@ def read_taken(plant, file):
         raise Unfit("it cannot be read (%s)" % why.strerror) from None
     try:
         why = why_not_whole(handle)
-        data = b"" if why else bytes_behind(handle)
+        data = b"" if why else synced_bytes(handle)
         stamp = stamp_of(os.fstat(handle))
     except OSError as fault:
         raise Unfit("it cannot be read (%s)" % fault.strerror) from None
@@ -225,10 +225,13 @@ def read_taken(plant, file):
     return Piece(file["name"], data, plant.settings.source_of(file["name"]), {"as": file["as"], "stamp": stamp}, None)
 
 
-def bytes_behind(handle):
-    """All bytes of an open file, or a byte more than a file may have."""
+def synced_bytes(handle):
+    """All bytes of an open file, or a byte more than a file may have. They are on the disk then: who wrote them may not have seen to that, and
+    done/ is to have them after a power cut too."""
     with open(handle, "rb", buffering=0, closefd=False) as opened:
-        return opened.read(MOST_BYTES + 1)
+        data = opened.read(MOST_BYTES + 1)
+    os.fsync(handle)
+    return data
 
 
 def stamp_of(info):
