@@ -271,7 +271,7 @@ def read_piece(plant, turn, intake, piece, before):
         reader.read(piece.data, lambda done, size: plant.progress("%s: %d %% read" % (shown(piece.name), 100 * done // size)))
     except BadField as why:
         refused.drop()
-        file.update(goes="refused", spoilt=str(why), refused=lines_in(piece.data) - 1)
+        file.update(goes="refused", spoilt=str(why), refused=max(1, lines_in(piece.data) - 1))
     except MemoryError:
         values.cut(sizes)
         refused.drop()

@@ -1,4 +1,6 @@
 """samples.py: the values of tags in files that were fed, or are about to be: as feed.py reads them, for pictures and for tuning."""
+import os
+
 from fields import MOST_TIME
 from plant import UNREADABLE, Refusal
 from rows import Values, read_values
@@ -11,7 +13,7 @@ def values_in(plant, definitions, files):
     for name in files:
         try:
             with open(name, "rb") as data:
-                refused += read_values(data.read(), scales, plant.settings, MOST_TIME, values)
+                refused += read_values(data.read(), scales, plant.settings, MOST_TIME, values, os.path.basename(name))
         except OSError as why:
             raise Refusal(UNREADABLE, "%s cannot be read: %s" % (name, why.strerror)) from None
     return values, refused

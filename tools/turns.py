@@ -16,7 +16,7 @@ import shutil
 
 from fields import NUMBER
 from files import CHANGED, UNREADABLE, Refusal, bytes_of, copied, moved, removed, sync_folder, write_whole
-from rows import REFUSED_HEADER, Values
+from rows import REFUSED_HEADER, REFUSED_QUALITY, Values
 from settings import AGAIN
 
 WORK = "feed.d/turn"
@@ -54,7 +54,7 @@ class Refused:
         self.out = self.plain = self.quoted = None
         self.is_full = False
 
-    def add(self, tag, time, value, number, why):
+    def add(self, tag, time, value, number, why, quality=None):
         """A row that is not stored; in a form that can be corrected and put into the inbox again."""
         self.count += 1
         cause = why.cause if why.cause in self.found or len(self.found) < CAUSES else "other reasons"
@@ -64,13 +64,13 @@ class Refused:
             self.out = open(self.path, "w", newline="", encoding="utf-8", errors="surrogateescape")
             self.plain = csv.writer(self.out, delimiter=self.separator, lineterminator="\n")
             self.quoted = csv.writer(self.out, delimiter=self.separator, lineterminator="\n", quoting=csv.QUOTE_ALL)
-            self.plain.writerow(REFUSED_HEADER)
+            self.plain.writerow(REFUSED_HEADER if quality is None else REFUSED_QUALITY)
         if self.count % 1000 == 0:
             self.is_full = self.out.tell() >= REFUSED_BYTES
         if not self.is_full:
             self.written += 1
-            row = [harmless(field) for field in (tag, time, value)] + [number, str(why)]
-            (self.quoted if "\r" in "".join(row[:3]) else self.plain).writerow(row)
+            row = [harmless(field) for field in (tag, time, value, quality) if field is not None]
+            (self.quoted if "\r" in "".join(row) else self.plain).writerow(row + [number, str(why)])
 
     def causes(self):
         """Each cause: how many rows have it, and of the first one the number, the tag and the reason."""

@@ -44,6 +44,11 @@ def headers(folder, program, options):
                       ("A,time\n5,1000\n", "has the time in column 2")):
         values, refused = read(folder, "", text)
         assert values == {} and len(refused) == 1 and why in refused[0][1], (text, refused)
+    for text, why in (("A;1000;5\nB;1000;5\n", "1 fields, not 3: is `separator` in feed.toml right?"), ('A,1000,"5\n', "a quote is not closed"),
+                      ("time,A,B\n1000,5\n\n2000,5\n", "2 fields, and the header has 3")):
+        values, refused = read(folder, "", text)
+        assert values == {} and len(refused) == 1 and refused[0][1].startswith(why), (text, refused)
+    assert [number for number, _ in read(folder, "", "A,1000\nNOBODY,1000,5\n")[1]] == [1, 2]
     for quality_text in ("Bad", "", "0"):
         assert read(folder, "", "tag,time,value,quality\nA,1000,5,%s\n" % quality_text)[1][0][1].startswith("its quality is not good")
     assert "the base has no tag" in read(folder, "", "time,A,X\n1000,5,6\n")[1][0][1]

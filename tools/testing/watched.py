@@ -307,5 +307,33 @@ def silence_without_files(folder, program, settings):
     assert [line[4] for line in asked(trial, "points,TIC3.OK,0,now+1d")][:3] == ["1", "0", "1"], asked(trial, "points,TIC3.OK,0,now+1d")
 
 
-CASES = [trouble_calls_a_command, trouble_of_a_full_disk, command_fails, command_hangs, progress_on_a_terminal, steps_outlast_the_lock,
+# Settings that were forgotten
+
+def settings_are_corrected(folder, program, settings):
+    """Settings that were forgotten are set one after the other, and each time the refused file goes back to the inbox as it is. At last all
+    is stored as if they had been right from the first; a value of bad quality never is."""
+    lines = ["Stelle;Zeit;Wert;Status\n"] + ["LIC4.PV;29.03.2024 10:%02d:00;%d,0;%s\n" % (n, 5 * n, "Bad" if n == 7 else "Good") for n in range(30)]
+    source = '[[source]]\npattern = "lab*.csv"\ncolumns = {tag = "Stelle", time = "Zeit", value = "Wert", quality = "Status"}\n'
+    trial = Trial(os.path.join(folder, "a"), program)
+    trial.write("inbox/lab.csv", "".join(lines))
+    for turn, (key, why) in enumerate((("", "all 30 rows of lab.csv: 1 fields, not 3: is `separator` in feed.toml right?"),
+                                       ('separator = ";"\n', "no ISO time and no whole milliseconds (`time` of a source in feed.toml"),
+                                       ('time = "%d.%m.%Y %H:%M:%S"\n', "a time without an offset: set `zone` in feed.toml"),
+                                       ('zone = "Etc/GMT-1"\n', "no number: '0,0'"), ('decimal = ","\n', "its quality is not good: 'Bad'")), 1):
+        source += key
+        trial.write("feed.toml", feed_text() + source)
+        text = trial.fed(ends=REFUSED)
+        assert why in text and ("29 values of 1 tags stored, 1 refused" in text) == (turn == 5), text
+        assert ("its quality is not good: 'Bad'" in text) == (turn > 3), text
+        os.rename(trial.path("refused/%06d/lab.csv" % turn), trial.path("inbox/lab.csv"))
+    text = trial.fed(ends=REFUSED)
+    assert "0 values of 0 tags stored, 1 refused" in text and "lab.csv row 2: LIC4.PV: its quality is not good: 'Bad'" in text, text
+    assert trial.read("refused/000006/lab.csv") == ("tag;time;value;quality;row;reason\n"
+                                                    "LIC4.PV;29.03.2024 10:07:00;35,0;Bad;2;its quality is not good: 'Bad'\n")
+    assert "taken=29 " in trial.by_hand("check", "base.toml").split("LIC4.PV ")[1]
+    trial.write("inbox/lab.csv", trial.read("refused/000006/lab.csv").replace("35,0;Bad", "35,0;Good"))
+    assert "1 values of 1 tags stored, 0 refused, 1 late" in trial.fed()
+
+
+CASES = [settings_are_corrected, trouble_calls_a_command, trouble_of_a_full_disk, command_fails, command_hangs, progress_on_a_terminal, steps_outlast_the_lock,
          quality_through_feeds, silence_without_files]
