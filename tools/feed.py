@@ -69,7 +69,7 @@ def begin(plant, names, growing, edited, said):
     turn.notes["quality"] = add_quality(plant, intake, now)
     turn.notes["bad"] = sum(map(len, intake.bad.values()))
     turn.values.tags = {name: arrays for name, arrays in turn.values.tags.items() if len(arrays[0])}
-    if not turn.files and not turn.values.count and not edited:
+    if not turn.files and not turn.values.count and not turn.notes["grown"] and not edited:
         return None
     for name in (name for name in tags if name in turn.values.tags):
         turn.tags[name] = {"taken": state[name].taken, "late": state[name].late, "held": state[name].held,

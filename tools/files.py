@@ -59,9 +59,9 @@ def sha256_of(path):
         return hashlib.file_digest(data, "sha256").hexdigest()
 
 
-def sha256_of_next(opened, size):
-    """A sha256 that has the next bytes of an open file; None if there are not so many."""
-    sha = hashlib.sha256()
+def sha256_of_next(opened, size, sha=None):
+    """A sha256 that has the next bytes of an open file, behind those that it has already; None if there are not so many."""
+    sha = sha or hashlib.sha256()
     while size:
         part = opened.read(min(size, 1 << 20))
         if not part:

@@ -1,7 +1,10 @@
 """growing.py: files that stay where they are written, and of which each whole line is taken once: those of a source with `grows = true`.
 
 What was taken of each stands in feed.d/grown: how many bytes, their sha256, and what its next lines need of these (rows.Reader). A file
-that no longer begins with those bytes is refused in words: nobody can say which of its lines are new."""
+that no longer begins with those bytes is refused in words: nobody can say which of its lines are new. But if another file begins with them
+now, the file got that name, as a program does that begins a new one each day: then it goes on there, and under the old name is a new
+file."""
+import contextlib
 import hashlib
 import json
 import os
@@ -58,37 +61,81 @@ def not_taken(plant, said, path, why):
     say_hourly(plant, said, path, "%s: %s. Nothing more is taken of it" % (shown(path, 255), why))
 
 
+NEW = {"bytes": 0, "sha256": hashlib.sha256().hexdigest(), "place": None}  # what is known of a file of which nothing was taken
+
+
+def begins_as(path, grown):
+    """The files of which a file begins with what was taken, in the order of how much that is."""
+    found, sha, done = [], hashlib.sha256(), 0
+    with contextlib.suppress(OSError), open(os.open(path, NOT_FOLLOWED), "rb") as opened:
+        for name, known in sorted(grown.items(), key=lambda item: item[1]["bytes"]):
+            if not stat.S_ISREG(os.fstat(opened.fileno()).st_mode) or sha256_of_next(opened, known["bytes"] - done, sha) is None:
+                break
+            done = known["bytes"]
+            found += [name] if sha.hexdigest() == known["sha256"] else []
+    return found
+
+
+def has_rows(known):
+    """Whether more was taken of a file than its header, which other files have too."""
+    place = known.get("place") or {}
+    return place.get("lines", 0) > bool(place.get("header"))
+
+
+def renamed(plant, grown, files):
+    """The files that have the bytes which were taken under another name: their old names, by the new ones; and of those that are copies of a
+    file which is still there, the file's name. Without a file that is not known yet there are none, and no file is read for it."""
+    if all(path in grown for path, _ in files):
+        return {}, {}
+    present, begins, moves, copies = growing_files(plant), {path: begins_as(plant.path(path), grown) for path, _ in files}, {}, {}
+    gone = {name for name in grown if name not in present or name in begins and name not in begins[name]}
+    for path in (path for path in begins if path not in grown or path in gone):
+        old = [name for name in begins[path] if name != path and name not in moves.values() and has_rows(grown[name])]
+        old.sort(key=lambda name: name in gone)  # the longest of those that are gone is the last one
+        if old:
+            (moves if old[-1] in gone else copies)[path] = old[-1]
+    return moves, copies
+
+
 def read_growing(plant, turn, intake, files, said):
     """Reads the whole lines of growing files that were not taken yet. Answers what is known of the files then."""
-    grown, changed = grown_of(plant), {}
-    _, before = fed_before(plant)
-    for path, source in files:
+    grown, before = grown_of(plant), fed_before(plant)[1]
+    moves, copies = renamed(plant, grown, files)
+    changed = {old: NEW for old in moves.values()}
+    for path, old in moves.items():
+        plant.say("%s is the file that was %s: it goes on there" % (shown(path, 255), shown(old, 255)))
+        changed[path] = grown[old]
+    for path, source in sorted(files, key=lambda file: file[0] not in moves):
         if intake.values.count >= plant.settings.rows_a_run:
             break
-        known = grown.get(path, {"bytes": 0, "sha256": hashlib.sha256().hexdigest(), "place": None})
+        if path in copies:
+            not_taken(plant, said, path, "it begins with what was taken of %s, so its rows would be stored twice: remove it" % shown(
+                copies[path], 255))
+            continue
         try:
-            data, sha, seen = lines_behind(plant.path(path), known)
+            known = taken_of_next(plant, turn, intake, (path, source), changed.get(path) or grown.get(path, NEW), before)
         except Unfit as why:
             not_taken(plant, said, path, str(why))
             continue
-        if not data:
-            continue
-        place, size = len(turn.files), known["bytes"] + len(data)
-        more, name = {"grows": path, "from": known["bytes"], "to": size}, os.path.basename(path)
-        name = "%d.csv" % place if name in [file["name"] for file in turn.files] else name
-        try:
-            read_piece(plant, turn, intake, Piece(name, data, source, more, known["place"]), before)
-        except Unfit as why:
-            not_taken(plant, said, path, str(why))
-            continue
-        file = turn.files[place]
-        if file["spoilt"]:  # its header can not be read: nothing is taken, so that it can be corrected
-            turn.files.pop()
-            not_taken(plant, said, path, file["spoilt"])
-            continue
-        changed[path] = {"bytes": size, "sha256": sha, "place": file["place"], "seen": seen if size == seen[1] else None}
-        write_piece(plant, place, data)
+        if known:
+            changed[path] = known
     return changed
+
+
+def taken_of_next(plant, turn, intake, file, known, before):
+    """Reads the whole lines of a growing file behind those that are known. Answers what is known of it then; None if there are none."""
+    path, source = file
+    data, sha, seen = lines_behind(plant.path(path), known)
+    if not data:
+        return None
+    place, size = len(turn.files), known["bytes"] + len(data)
+    more, name = {"grows": path, "from": known["bytes"], "to": size}, os.path.basename(path)
+    name = "%d.csv" % place if name in [other["name"] for other in turn.files] else name
+    read_piece(plant, turn, intake, Piece(name, data, source, more, known["place"]), before)
+    if turn.files[place]["spoilt"]:  # its header can not be read: nothing is taken, so that it can be corrected
+        raise Unfit(turn.files.pop()["spoilt"])
+    write_piece(plant, place, data)
+    return {"bytes": size, "sha256": sha, "place": turn.files[place]["place"], "seen": seen if size == seen[1] else None}
 
 
 def lines_behind(path, known):

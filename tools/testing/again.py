@@ -248,6 +248,68 @@ def beginning_has_changed(folder, program, settings):
         assert ("turn 3: 1 files" in trial.fed()) == bool(text)
 
 
+def grown_files(trial, texts):
+    """Makes growing files be these, each with a new inode if it has other bytes now, and feeds them: what the feeder says."""
+    for name in [name for name in os.listdir(trial.path("inbox")) if name.startswith("log")]:
+        if name not in texts or trial.read("inbox/" + name) != texts[name]:
+            os.remove(trial.path("inbox", name))
+    for name, text in texts.items():
+        if not os.path.exists(trial.path("inbox", name)):
+            trial.write("inbox/" + name, text)
+    return trial.feed()[1]
+
+
+def files_that_get_other_names(folder, program, settings):
+    """A program begins a new file and gives the old one another name, once or in a chain, by renaming or by copying. Each line is stored once,
+    and in its order. A copy of a file that is still there is refused."""
+    lines = ["time,LIC4.PV\n"] + ["%d,%d\n" % (1000 * n, n % 9 * 10) for n in range(1, 100)]
+
+    def text(first, last):
+        return "".join(lines[:1] + lines[first:last])
+    for old in ("log0.csv", "log9.csv"):  # in the order of names before and behind the new one
+        trial = grown_plant(os.path.join(folder, old), program)
+        assert "19 values" in grown_files(trial, {"log5.csv": text(1, 20)})
+        said = grown_files(trial, {old: text(1, 30), "log5.csv": text(30, 40)})
+        assert "inbox/%s is the file that was inbox/log5.csv: it goes on there\n" % old in said and "20 values of 1 tags stored, 0 refused\n" in said, said
+        assert grown_files(trial, {old: text(1, 30), "log5.csv": text(30, 40)}) == ""
+    said = grown_files(trial, {"log7.csv": text(1, 30), "log9.csv": text(30, 45), "log5.csv": text(45, 60)})
+    assert said.count("it goes on there") == 2 and "20 values of 1 tags stored, 0 refused\n" in said, said
+    with open(trial.path("inbox/log8.csv"), "w") as out:  # the old file is copied, and then cut to nothing
+        out.write(text(45, 61))
+    with open(trial.path("inbox/log5.csv"), "r+") as log:
+        log.truncate(0)
+    said = trial.fed()
+    assert "inbox/log8.csv is the file that was inbox/log5.csv" in said and "1 values of 1 tags stored, 0 refused\n" in said, said
+    append(trial, text(61, 99), "inbox/log5.csv")
+    assert "38 values of 1 tags stored, 0 refused\n" in trial.fed() and trial.fed() == ""
+    shutil.copy(trial.path("inbox/log5.csv"), trial.path("inbox/log6.csv"))
+    said = trial.fed(ends=REFUSED)
+    assert "inbox/log6.csv: it begins with what was taken of inbox/log5.csv, so its rows would be stored twice: remove it" in said, said
+    trial.write("inbox/log4.csv", lines[0] + "500000,7\n")  # the same header alone is no sign
+    assert "1 values of 1 tags stored" in trial.fed(ends=REFUSED)
+    check_same(trial.by_hand("check", "base.toml").split("LIC4.PV ")[1].split(" held")[0].split(" ", 1)[0], "taken=99", "files with other names")
+    assert " late=0 " in trial.by_hand("check", "base.toml").split("LIC4.PV ")[1]
+
+
+def renamed_and_stopped(folder, program, settings):
+    """The feeder is killed at its calls in the turn that finds a growing file under another name, which has nothing new."""
+    if not shutil.which("strace"):
+        return "no strace here: not tried"
+    trial, kills = grown_plant(os.path.join(folder, "a"), program), 0
+    append(trial, "LIC4.PV,1000,5\n")
+    trial.fed()
+    os.rename(trial.path("inbox/log1.csv"), trial.path("inbox/log2.csv"))
+    wanted = trial.answers()
+
+    def goes_on():
+        append(trial, "LIC4.PV,2000,5\n")
+        append(trial, "LIC4.PV,3000,5\n", "inbox/log2.csv")
+        assert "2 values of 1 tags stored, 0 refused" in trial.fed() and trial.fed() == ""
+    for call, numbers in [(call, range(1, 1000)) for call in FEEDER_CALLS] if settings.long else [("fsync", [3]), ("rename", [2])]:
+        kills += stop_at_each(trial, wanted, numbers, lambda number: trial.feed(under=strace(call, number)), goes_on)
+    return "%d kills" % kills
+
+
 def long_growing(folder, program):
     """A plant with a growing file of rows of one value, of which a part was fed; and what it has to answer once the rest is."""
     trial, scales = grown_plant(folder, program), LINES | STEPS
@@ -291,6 +353,6 @@ def growing_is_put_back(folder, program, settings):
     assert json.loads(trial.read("feed.d/grown"))["inbox/log1.csv"]["bytes"] == os.path.getsize(trial.path("inbox/log1.csv"))
 
 
-CASES = [put_back, put_back_until, refuses_to_put_back, put_back_elsewhere, stopped_while_put_back, killed_while_put_back,
+CASES = [files_that_get_other_names, renamed_and_stopped, put_back, put_back_until, refuses_to_put_back, put_back_elsewhere, stopped_while_put_back, killed_while_put_back,
          backups_and_turns_are_pruned, grows, beginning_has_changed, growing_stopped_at_its_calls, growing_killed_at_random,
          growing_is_put_back]
