@@ -66,7 +66,7 @@ def begin(plant, names, growing, edited, said):
     turn = Turn(fed_before(plant)[0] + 1, [], {}, intake.values, base_notes(plant))
     read_files(plant, turn, intake, take(plant, names, said), said)
     turn.notes["grown"] = read_growing(plant, turn, intake, growing, said)
-    turn.notes["quality"] = add_quality(plant, intake, now)
+    turn.notes["quality"] = add_quality(plant, intake, now, newest)
     turn.notes["bad"] = sum(map(len, intake.bad.values()))
     turn.values.tags = {name: arrays for name, arrays in turn.values.tags.items() if len(arrays[0])}
     if not turn.files and not turn.values.count and not turn.notes["grown"] and not edited:

@@ -32,8 +32,9 @@ def shown(text, most=64):
 
 def nearest(name, names):
     """What a misspelt name may mean, as words for the end of a line; nothing if no name is near."""
-    found = difflib.get_close_matches(name, list(names), 1)
-    return "; did you mean %s?" % shown(found[0]) if found else ""
+    plain = {str(other).lower(): other for other in names}
+    found = difflib.get_close_matches(name.lower(), list(plain), 1)
+    return "; did you mean %s?" % shown(plain[found[0]]) if found else ""
 
 
 def read_toml(path):

@@ -111,12 +111,20 @@ def refuses_to_put_back(folder, program, settings):
 
 def put_back_elsewhere(folder, program, settings):
     """The plant's disk is lost but for done/. A copy on another disk and done/ make the plant again in an empty folder."""
-    trial, wanted, copy = lived_in(folder, program)
+    trial, wanted, _ = lived_in(folder, program)
+    trial.write("calendar.toml", "zone")
+    trial.write("feed.toml", 'calendar = "calendar.toml"\n' + trial.read("feed.toml"))
+    copy = os.path.basename(trial.fed("--backup").strip())
+    trial.write("inbox/x.csv", "LIC4.PV,2024-03-30T00:00:00Z,1\n")
+    trial.fed()
+    wanted = trial.answers()
     other = Trial(os.path.join(folder, "b"), program)
     for name in ("base.toml", "feed.toml"):
         os.remove(other.path(name))
+    os.rmdir(other.path("inbox"))
     shutil.copytree(trial.path("done"), other.path("done"))
-    assert "turns up to turn 5 are made again" in other.fed("--restore", trial.path("backup", copy))
+    assert "1 turns up to turn 6 are made again" in other.fed("--restore", trial.path("backup", copy))
+    assert other.read("calendar.toml") == "zone" and other.fed() == ""
     other.write("base.toml", base_text(comp_dev=4))
     check_same(other.answers(), wanted, "put back in another folder")
 

@@ -260,7 +260,7 @@ def quality_through_feeds(folder, program, settings):
     header = "tag,time,value,quality\n"
     for how in ("once", "turns", "grows", "half"):
         trial = quality_plant(os.path.join(folder, how), program)
-        cuts = [0, 81] if how in ("once", "half") else [0, 12, 13, 31, 48, 60, 81]
+        cuts = [0, 81] if how in ("once", "half") else [0, 13, 45, 81]
         if how == "grows":
             trial.write("feed.toml", trial.read("feed.toml") + '[[source]]\npattern = "log*.csv"\ngrows = true\n')
         texts = []
@@ -289,6 +289,23 @@ def quality_through_feeds(folder, program, settings):
     wanted = [(times.x(start), times.x(end) - times.x(start)) for start, end in ((10, 15), (30, 31), (50, 55), (90, 100))]
     assert len(hatched) == 4 and all(abs(a - b) < 0.2 for got, want in zip(hatched, wanted) for a, b in zip(got, want)), (hatched, wanted)
     assert "bad or silent" in [node.text for node in svg.iter(SVG + "text")]
+
+
+def quality_from_now_on(folder, program, settings):
+    """A tag that has values already gets a quality tag. Of the time before nothing is said, whatever rows come late; from the next value on
+    it is good."""
+    trial = quality_plant(os.path.join(folder, "a"), program)
+    text = trial.read("feed.toml")
+    trial.write("feed.toml", feed_text())
+    trial.write("inbox/1.csv", "tag,time,value,quality\n" + quality_rows(0, 20))
+    assert "15 values of 1 tags stored, 5 refused" in trial.fed(ends=REFUSED)
+    trial.write("feed.toml", text)
+    os.rename(trial.path("refused/000001/1.csv"), trial.path("inbox/2.csv"))
+    assert "0 values of 0 tags stored, 0 refused, 5 bad" in trial.fed()
+    trial.write("inbox/3.csv", "tag,time,value,quality\n" + quality_rows(20, 40))
+    trial.fed()
+    points = [(int(line[2][14:16]), line[4]) for line in asked(trial, "points,TIC3.OK,0,now")]
+    assert points == [(20, "1"), (30, "0"), (31, "1"), (49, "0")], points
 
 
 def silence_without_files(folder, program, settings):
@@ -335,5 +352,5 @@ def settings_are_corrected(folder, program, settings):
     assert "1 values of 1 tags stored, 0 refused, 1 late" in trial.fed()
 
 
-CASES = [settings_are_corrected, trouble_calls_a_command, trouble_of_a_full_disk, command_fails, command_hangs, progress_on_a_terminal, steps_outlast_the_lock,
-         quality_through_feeds, silence_without_files]
+CASES = [settings_are_corrected, trouble_calls_a_command, trouble_of_a_full_disk, command_fails, command_hangs, progress_on_a_terminal,
+         steps_outlast_the_lock, quality_through_feeds, quality_from_now_on, silence_without_files]
