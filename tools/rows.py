@@ -108,6 +108,9 @@ def layout_of(fields, source, tags):
         places = {word: place for place, word in enumerate(source.columns)}
         return Layout(len(source.columns), places["tag"], places["time"], places["value"], places.get("quality")), False
     found = {word: places_of(word, fields, source.columns) for word in ("tag", "time", "value", "quality")}
+    if not found["time"] and "time" in source.columns:
+        raise BadField("the header has no column '%s', which has the time by `columns` of its source in feed.toml; with the `separator` '%s' it"
+                       " has '%s'" % (shown(source.columns["time"]), source.separator, shown("', '".join(fields), 300)))
     if not found["time"]:
         return plain, False
     rest = [name for place, name in enumerate(fields) if place not in itertools.chain(*found.values())]
@@ -122,6 +125,9 @@ def layout_of(fields, source, tags):
         if strange:
             raise BadField("the header has a column whose meaning nothing says: '%s' (name it in `ignore` or `columns` of its source in"
                            " feed.toml)" % shown(strange[0]))
+        missing = [name for word, name in source.columns.items() if not found[word]]
+        if missing:
+            raise BadField("the header has no column '%s', which `columns` of its source in feed.toml names" % shown(missing[0]))
         return Layout(len(fields), first["tag"], first["time"], first["value"], first["quality"]), True
     half = [word for word in ("tag", "value", "quality") if found[word] and fields[first[word]] not in tags]
     if half:

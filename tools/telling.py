@@ -7,6 +7,7 @@ import subprocess
 import time
 
 from files import shown, write_whole
+from turns import refused_name
 
 SHOWN = 5  # causes of a file that are printed
 AGAIN = 3_600  # seconds after which on_trouble is called again for a trouble that lasts
@@ -58,7 +59,7 @@ def lines_of(turn, file):
         lines.append("  %s has %s: nothing of it is stored, and it goes to %s" % (name, file["nothing"], turn.folder(file["goes"])))
     if file.get("causes"):
         lines += causes_of(file, name) + ["  %s %s; correct them there and move that file to the inbox" % (
-            where_refused(turn, file), os.path.join(folder, name))]
+            where_refused(turn, file), os.path.join(folder, shown(refused_name(file), 255)))]
     elif file["refused"] and not file.get("spoilt"):  # a turn of an older feeder
         lines.append("  all %d are in %s" % (file["refused"], os.path.join(folder, name)))
     if file.get("late"):

@@ -233,12 +233,27 @@ def grows(folder, program, settings):
     append(trial, "0,1.5\nsoon,1,1\n3000,5,")
     text = trial.fed(ends=REFUSED)
     assert "turn 2: 1 files, 2 values of 2 tags stored, 2 refused" in text and "log1.csv: 2 rows, first row 4" in text, text
+    assert "all 2 are in refused/000002/again-log1.csv; correct them there" in text, text
     append(trial, "1.7\n")
     assert "turn 3: 1 files, 2 values" in trial.fed()
     assert os.listdir(trial.path("inbox")) == ["log1.csv"] and trial.read("done/000003/log1.csv") == "3000,5,1.7\n"
     os.rename(trial.path("refused/000002/again-log1.csv"), trial.path("inbox/again-log1.csv"))
     assert "turn 4: 1 files, 0 values of 0 tags stored, 2 refused" in trial.fed(ends=REFUSED)
     check_same(trial.by_hand("check", "base.toml").split("LIC4.PV ")[1][:8], "taken=3 ", "a growing file")
+
+
+def folder_is_missing(folder, program, settings):
+    """A growing file may stand elsewhere. If its folder is not there, the feeder says so each time, and feeds what there is."""
+    trial = Trial(os.path.join(folder, "a"), program)
+    trial.write("feed.toml", trial.read("feed.toml") + GROWS + 'folder = "%s/share"\n' % folder)
+    trial.write("inbox/x.csv", "LIC4.PV,1000,5\n")
+    for _ in range(2):
+        text = trial.fed(ends=REFUSED)
+        assert "there is no folder %s/share, so nothing is taken of log*.csv: mount its disk" % folder in text, text
+    assert "turn 1: 1 files, 1 values" not in text and "1 files stay in the inbox" in trial.feed("--status")[1]
+    os.mkdir(os.path.join(folder, "share"))
+    trial.write(os.path.join(folder, "share/log1.csv"), "LIC4.PV,2000,50\n")
+    assert trial.fed() == "turn 2: 1 files, 1 values of 1 tags stored, 0 refused\n"
 
 
 def beginning_has_changed(folder, program, settings):
@@ -361,6 +376,6 @@ def growing_is_put_back(folder, program, settings):
     assert json.loads(trial.read("feed.d/grown"))["inbox/log1.csv"]["bytes"] == os.path.getsize(trial.path("inbox/log1.csv"))
 
 
-CASES = [files_that_get_other_names, renamed_and_stopped, put_back, put_back_until, refuses_to_put_back, put_back_elsewhere, stopped_while_put_back, killed_while_put_back,
+CASES = [files_that_get_other_names, renamed_and_stopped, folder_is_missing, put_back, put_back_until, refuses_to_put_back, put_back_elsewhere, stopped_while_put_back, killed_while_put_back,
          backups_and_turns_are_pruned, grows, beginning_has_changed, growing_stopped_at_its_calls, growing_killed_at_random,
          growing_is_put_back]

@@ -73,6 +73,10 @@ def sources_are_read(folder, program, options):
     assert read(folder, toml, "A,1000,5\n", "no-room.csv") == ({"A": [(1000, 5)]}, [])
     wide = "a\nb\nZeit;TI-1 (degC);Notiz\n30.03.2024 10:00:00;86,95;hot\n"
     assert read(folder, toml, wide, "unit2.csv") == ({"B": [(1_711_789_200_000, 8695)]}, [])
+    for header, why in (("Zeitt;Stelle;Wert;Status", "no column 'Zeit', which has the time"), ("Zeit;Stelle;Wert", "no column 'Status', which `columns`"),
+                        ("Zeit;Stelle;Wertt;Status", "a column 'tag', but not all of tag, time and value")):
+        values, refused = read(folder, toml, "a\nb\n%s\n30.03.2024 10:00:00;A;7;gut\n" % header, "unit2.csv")
+        assert values == {} and len(refused) == 1 and why in refused[0][1], (header, refused)
     assert "no time of the form" in read(folder, toml, "a\nb\nZeit;A\n2024-03-30T10:00:00Z;1\n", "unit2.csv")[1][0][1]
 
 

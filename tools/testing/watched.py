@@ -333,7 +333,7 @@ def settings_are_corrected(folder, program, settings):
     source = '[[source]]\npattern = "lab*.csv"\ncolumns = {tag = "Stelle", time = "Zeit", value = "Wert", quality = "Status"}\n'
     trial = Trial(os.path.join(folder, "a"), program)
     trial.write("inbox/lab.csv", "".join(lines))
-    for turn, (key, why) in enumerate((("", "all 30 rows of lab.csv: 1 fields, not 3: is `separator` in feed.toml right?"),
+    for turn, (key, why) in enumerate((("", "; with the `separator` ',' it has 'Stelle;Zeit;Wert;Status'"),
                                        ('separator = ";"\n', "no ISO time and no whole milliseconds (`time` of a source in feed.toml"),
                                        ('time = "%d.%m.%Y %H:%M:%S"\n', "a time without an offset: set `zone` in feed.toml"),
                                        ('zone = "Etc/GMT-1"\n', "no number: '0,0'"), ('decimal = ","\n', "its quality is not good: 'Bad'")), 1):
