@@ -444,13 +444,13 @@ def settled_times(before, early, late, latest):
     return list(early) if not falls and late[-1] > latest else None
 
 
-def read_values(data, scales, settings, latest, values, name=""):
-    """Adds what the bytes of a file of this name hold to the values, and answers its refusals: tag, time, value, line number, reason."""
+def read_values(data, scales, settings, latest, values, source, place=None):
+    """Adds what the bytes of a file of a source hold to the values, and answers its refusals: tag, time, value, line number, reason."""
     intake, refused = Intake(settings, scales, latest), []
     intake.values = values
     refuse = lambda tag, time, value, number, why, quality=None: refused.append((tag, time, value, number, str(why)))  # noqa: E731
     try:
-        Reader(intake, settings.source_of(name), refuse).read(data)
+        Reader(intake, source, refuse, place).read(data)
     except BadField as why:
         refused = [("", "", "", 1, str(why))]
     return refused

@@ -26,7 +26,8 @@ def settings_of(folder, text):
 def read(folder, toml, text, name="x.csv", latest=LATEST):
     """The values of each tag, and the refusals as row number and reason, of a file with this text."""
     values = rows.Values()
-    refused = rows.read_values(text.encode(), TAGS, settings_of(folder, toml), latest, values, name)
+    known = settings_of(folder, toml)
+    refused = rows.read_values(text.encode(), TAGS, known, latest, values, known.source_of(name))
     return ({tag: list(zip(*arrays)) for tag, arrays in values.tags.items() if len(arrays[0])},
             [(number, reason) for _, _, _, number, reason in refused])
 
