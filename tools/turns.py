@@ -31,10 +31,11 @@ STORED, TOLD = "stored.rows", "turn.json"  # what a turn leaves in done/NUMBER b
 
 class Turn:
     """The files of a turn, their rows by tag, and how many events each tag had taken before. `notes` has what else has to be known after a
-    stop: the base's sha256, and what the feeder keeps of growing files and of the quality of tags."""
+    stop: the base's sha256, and what the feeder keeps of growing files and of the quality of tags. `spans` has where the rows of each tag
+    stand in rows.csv, if this process wrote them there."""
 
     def __init__(self, number, files, tags, values, notes=None):
-        self.number, self.files, self.tags, self.values, self.notes = number, files, tags, values, notes or {}
+        self.number, self.files, self.tags, self.values, self.notes, self.spans = number, files, tags, values, notes or {}, {}
 
     def folder(self, name):
         """Where its files go: done/000012 or refused/000012."""
@@ -105,9 +106,11 @@ def prepare(plant):
 
 def write_down(plant, turn):
     """Makes a turn durable. A stop before turn.json is there leaves the files as they were, and no turn."""
-    with open(plant.path(WORK, "rows.csv"), "w") as out:
+    with open(plant.path(WORK, "rows.csv"), "wb") as out:
         for name, wanted in turn.tags.items():
+            begin = out.tell()
             write_rows(out, name, turn.values, 0, wanted["rows"])
+            turn.spans[name] = begin, out.tell()
         out.flush()
         os.fsync(out.fileno())
     for folder in (os.path.join(WORK, "refused"), WORK):
@@ -121,7 +124,7 @@ def write_rows(out, name, values, first, count):
     times, numbers = values.of(name)
     for start in range(first, first + count, 100_000):
         end = min(first + count, start + 100_000)
-        out.write("".join([f"{name},{t},{v}\n" for t, v in zip(times[start:end], numbers[start:end])]))
+        out.write("".join([f"{name},{t},{v}\n" for t, v in zip(times[start:end], numbers[start:end])]).encode())
 
 
 def write_refused(plant, name, rows, separator):
@@ -187,9 +190,14 @@ def write_plan(plant, turn, part):
         shares[least].append(name)
         sums[least] += size[name]
     for number, share in enumerate(shares):
-        with open(plant.path(WORK, "%d.csv" % number), "w") as out:
+        with open(plant.path(WORK, "%d.csv" % number), "wb") as out, open(plant.path(WORK, "rows.csv"), "rb") as written:
             for name in share:
-                write_rows(out, name, turn.values, *part[name])
+                if name in turn.spans and part[name] == (0, turn.tags[name]["rows"]):
+                    begin, end = turn.spans[name]
+                    written.seek(begin)
+                    out.write(written.read(end - begin))
+                else:
+                    write_rows(out, name, turn.values, *part[name])
     with open(plant.path(WORK, "plan.toml"), "w") as out:
         out.writelines('[[collector]]\nfile = "%s/%d.csv"\n' % (WORK, number) for number in range(len(shares)))
     return WORK + "/plan.toml"
