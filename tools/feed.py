@@ -416,8 +416,7 @@ def at_rest(plant, do, wait):
 
 
 def put_back(plant, asked, until, wait):
-    """Puts a backup back, and makes the later turns again."""
-
+    """Puts a backup back, and makes the later turns again. The exit status says whether the archive is that from before."""
     with plant.locked("feed.py", wait):
         turn = plant.path("feed.d", turns.TOLD)
         if restore.is_unfinished(plant) and os.path.exists(turn):
@@ -426,7 +425,8 @@ def put_back(plant, asked, until, wait):
         elif not restore.is_unfinished(plant):
             restore.begin(plant, asked, until)
         plant.say(restore.go_on(plant, made_again))
-    return 0
+    call_for_help(plant)
+    return CHANGED if plant.troubles else 0
 
 
 def done(plant, given):

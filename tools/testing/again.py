@@ -129,6 +129,19 @@ def put_back_elsewhere(folder, program, settings):
     check_same(other.answers(), wanted, "put back in another folder")
 
 
+def by_hand_is_not_made_again(folder, program, settings):
+    """Values that were stored by hand and sealed are in no turn. A restore says which tag lacks them, and its exit status does."""
+    trial, _, copy = lived_in(folder, program)
+    trial.store_by_hand([(1_711_900_000_000, "LIC4.PV", 5), (1_711_900_001_000, "LIC4.PV", 50)])
+    trial.fed("--seal")
+    trial.write("inbox/x.csv", "LIC4.PV,2024-04-02T00:00:00Z,1\n")
+    trial.fed()
+    trial.write("feed.toml", 'on_trouble = "sh -c \'echo \\"$0\\" > called\'"\n' + trial.read("feed.toml"))
+    text, told = trial.fed("--restore", copy, ends=21), "after turn 6 LIC4.PV has "
+    assert told in text and "somebody stored values by hand then" in text and "the plant is put back from" in text, text
+    assert text.count("somebody stored") == 1 and trial.read("called").startswith(told), (text, trial.read("called"))
+
+
 def stopped_while_put_back(folder, program, settings):
     """The feeder is killed at its calls while it puts a plant back. The next feed goes on with it, and the archive is that from before."""
     trial, wanted, copy = lived_in(folder, program)
@@ -376,6 +389,6 @@ def growing_is_put_back(folder, program, settings):
     assert json.loads(trial.read("feed.d/grown"))["inbox/log1.csv"]["bytes"] == os.path.getsize(trial.path("inbox/log1.csv"))
 
 
-CASES = [files_that_get_other_names, renamed_and_stopped, folder_is_missing, put_back, put_back_until, refuses_to_put_back, put_back_elsewhere, stopped_while_put_back, killed_while_put_back,
+CASES = [files_that_get_other_names, renamed_and_stopped, folder_is_missing, put_back, put_back_until, refuses_to_put_back, put_back_elsewhere, by_hand_is_not_made_again, stopped_while_put_back, killed_while_put_back,
          backups_and_turns_are_pruned, grows, beginning_has_changed, growing_stopped_at_its_calls, growing_killed_at_random,
          growing_is_put_back]
