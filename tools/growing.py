@@ -45,8 +45,8 @@ def have_grown(plant, said):
     grown, found = grown_of(plant), []
     for source in plant.settings.source:
         if source.folder is not None and not os.path.isdir(plant.path(source.folder)):
-            say_hourly(plant, said, source.folder, "there is no folder %s, so nothing is taken of %s: mount its disk, or look at `folder` in feed.toml"
-                       % (shown(source.folder, 255), shown(source.pattern)))
+            say_hourly(plant, said, source.folder, "there is no folder %s, so nothing is taken of %s: mount its disk, or look at `folder` in"
+                       " feed.toml" % (shown(source.folder, 255), shown(source.pattern)))
     for path, source in growing_files(plant).items():
         try:
             info = os.lstat(plant.path(path))

@@ -172,9 +172,10 @@ def lines_of(data, begin, progress):
 class Reader:
     """Reads the lines of one file, and adds what they say to the values of a turn. A file of which no line has the right fields is spoilt.
 
-    `refuse(tag, time, value, number, why, quality)` takes each row that is not stored; a line without fields stands in place of its tag, and
-    the quality is None if the file has none. `place` has what the lines of a growing file said that were read before: how many there were, their header, and of tags whose last time the
-    clock shows twice which one it was. So its next lines are read as if all came at once."""
+    `refuse(tag, time, value, number, why, quality)` takes each row that is not stored; a line without fields stands in place of its tag,
+    and the quality is None if the file has none. `place` has what the lines of a growing file said that were read before: how many there
+    were, their header, and of tags whose last time the clock shows twice which one it was. So its next lines are read as if all came at
+    once."""
 
     def __init__(self, intake, source, refuse, place=None):
         self.intake, self.source, self.refuse = intake, source, refuse
@@ -182,7 +183,7 @@ class Reader:
         self.names, self.times, self.separator, self.good = known.names, known.times, source.separator, source.good
         self.lines, self.header, self.hours = place.get("lines", 0), place.get("header"), place.get("hours", {})
         self.layout, self.skip, self.pending = None, place.get("skip", source.skip), {}
-        self.fits, self.misfit = self.lines > 0, None  # whether a line had the right fields, and what was wrong with the first one that had not
+        self.fits, self.misfit = self.lines > 0, None  # whether a line had the right fields; what was wrong with the first that had not
         if self.header is not None:
             self.layout = layout_of(fields_of(self.header, self.separator) or [], source, intake.scales)[0]
 
