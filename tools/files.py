@@ -113,6 +113,15 @@ def removed(path):
         pass
 
 
+def sync_read(handle):
+    """Makes the bytes of a file that somebody else wrote durable, where its disk can do that."""
+    try:
+        os.fsync(handle)
+    except OSError as why:
+        if why.errno not in (errno.EINVAL, errno.EROFS, errno.ENOTSUP):
+            raise
+
+
 def sync_folder(folder):
     """Makes the names in a folder durable."""
     handle = os.open(folder, os.O_RDONLY)

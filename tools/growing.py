@@ -10,7 +10,7 @@ import json
 import os
 import stat
 
-from files import CHANGED, Refusal, sha256_of_next, shown
+from files import CHANGED, Refusal, sha256_of_next, shown, sync_read
 from inbox import MOST_BYTES, NOT_FOLLOWED, Piece, Unfit, fed_before, read_piece, say_hourly
 
 
@@ -159,7 +159,7 @@ def lines_behind(path, known):
                 raise Unfit("it no longer begins with the %d bytes that were taken of it. If it is a new file, give it a new name that fits its"
                             " pattern; if its lines were edited, undo that" % known["bytes"])
             data = opened.read(MOST_BYTES)
-            os.fsync(handle)  # or a power cut could take away what counts as taken, and the file would begin otherwise
+            sync_read(handle)  # or a power cut could take away what counts as taken, and the file would begin otherwise
         except OSError as why:
             raise Unfit("it cannot be read (%s)" % why.strerror) from None
     data = data[:data.rfind(b"\n") + 1]

@@ -17,7 +17,7 @@ import stat
 import time
 
 from fields import BadField
-from files import UNREADABLE, Refusal, moved, removed, sha256_of, shown, sync_folder, write_whole
+from files import UNREADABLE, Refusal, moved, removed, sha256_of, shown, sync_folder, sync_read, write_whole
 from rows import Reader
 from turns import Refused, Turn, record_of, write_record
 
@@ -230,7 +230,7 @@ def synced_bytes(handle):
     done/ is to have them after a power cut too."""
     with open(handle, "rb", buffering=0, closefd=False) as opened:
         data = opened.read(MOST_BYTES + 1)
-    os.fsync(handle)
+    sync_read(handle)
     return data
 
 

@@ -213,7 +213,7 @@ def power_cut_while_retuning(folder, program, settings):
 def cuts_of(trial, settings, *words):
     """Makes plants as cuts leave them while a feed, or what these words ask for, is done: gives the number of each, and what was done."""
     disk, draw = recorded(trial, *words), random.Random(settings.seed)
-    for place in range(settings.kills if settings.long else 4):
+    for place in range(max(4, settings.kills // 3)):
         shutil.rmtree(trial.folder)
         disk.build(trial.folder, draw)
         wait_for_orphans(trial)
