@@ -86,18 +86,33 @@ def has_rows(known):
     return place.get("lines", 0) > bool(place.get("header"))
 
 
+def has_all_of(path, other):
+    """Whether a file begins with all bytes of another one."""
+    with contextlib.suppress(OSError), open(os.open(path, NOT_FOLLOWED), "rb") as longer, open(os.open(other, NOT_FOLLOWED), "rb") as shorter:
+        while part := shorter.read(1 << 20):
+            if longer.read(len(part)) != part:
+                return False
+        return True
+    return False
+
+
 def renamed(plant, grown, files):
-    """The files that have the bytes which were taken under another name: their old names, by the new ones; and of those that are copies of a
-    file which is still there, the file's name. Without a file that is not known yet there are none, and no file is read for it."""
+    """The files that have the bytes which were taken under another name: their old names, by the new ones; and of those that are copies of
+    another file, or of its beginning, that file's name. Without a file that is not known yet there are none, and no file is read for it."""
     if all(path in grown for path, _ in files):
         return {}, {}
     present, begins, moves, copies = growing_files(plant), {path: begins_as(plant.path(path), grown) for path, _ in files}, {}, {}
     gone = {name for name in grown if name not in present or name in begins and name not in begins[name]}
     for path in (path for path in begins if path not in grown or path in gone):
-        old = [name for name in begins[path] if name != path and name not in moves.values() and has_rows(grown[name])]
-        old.sort(key=lambda name: name in gone)  # the longest of those that are gone is the last one
+        old = [name for name in begins[path] if name != path and has_rows(grown[name])]
+        free = [name for name in old if name in gone and name not in moves.values()]
+        if free:
+            moves[path] = free[-1]
+            continue
+        old += [name for name in grown if path not in grown and name in present and name not in gone and has_rows(grown[name])
+                and has_all_of(plant.path(name), plant.path(path))]
         if old:
-            (moves if old[-1] in gone else copies)[path] = old[-1]
+            copies[path] = old[-1]
     return moves, copies
 
 
@@ -113,8 +128,7 @@ def read_growing(plant, turn, intake, files, said):
         if intake.values.count >= plant.settings.rows_a_run:
             break
         if path in copies:
-            not_taken(plant, said, path, "it begins with what was taken of %s, so its rows would be stored twice: remove it" % shown(
-                copies[path], 255))
+            not_taken(plant, said, path, "it is a copy of %s, so its rows would be stored twice: remove it" % shown(copies[path], 255))
             continue
         try:
             known = taken_of_next(plant, turn, intake, (path, source), changed.get(path) or grown.get(path, NEW), before)

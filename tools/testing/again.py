@@ -320,11 +320,13 @@ def files_that_get_other_names(folder, program, settings):
     append(trial, text(61, 99), "inbox/log5.csv")
     assert "38 values of 1 tags stored, 0 refused\n" in trial.fed() and trial.fed() == ""
     shutil.copy(trial.path("inbox/log5.csv"), trial.path("inbox/log6.csv"))
-    said = trial.fed(ends=REFUSED)
-    assert "inbox/log6.csv: it begins with what was taken of inbox/log5.csv, so its rows would be stored twice: remove it" in said, said
+    for count in (0, 1):  # it stays a copy also when the file goes on
+        append(trial, "%d,7\n" % (400_000 + count) * count, "inbox/log5.csv")
+        said = trial.fed(ends=REFUSED)
+        assert "inbox/log6.csv: it is a copy of inbox/log5.csv, so its rows would be stored twice: remove it" in said, said
     trial.write("inbox/log4.csv", lines[0] + "500000,7\n")  # the same header alone is no sign
     assert "1 values of 1 tags stored" in trial.fed(ends=REFUSED)
-    check_same(trial.by_hand("check", "base.toml").split("LIC4.PV ")[1].split(" held")[0].split(" ", 1)[0], "taken=99", "files with other names")
+    check_same(trial.by_hand("check", "base.toml").split("LIC4.PV ")[1].split(" ", 1)[0], "taken=100", "files with other names")
     assert " late=0 " in trial.by_hand("check", "base.toml").split("LIC4.PV ")[1]
 
 
