@@ -2,7 +2,7 @@
 """test_tools.py [--program PATH] [--long] [--only NAME ..]: tests the tools with a built historian, mainly by killing.
 
 The short form takes two minutes at most. It kills twenty times at random moments, and at some calls of the program and of the feeder. It
-cuts the power 18 times. With --long it kills 300 times at random moments, and cuts the power 300 times. It kills at each write and sync
+cuts the power 30 times. With --long it kills 300 times at random moments, and cuts the power 500 times. It kills at each write and sync
 of the program too, and at each call by which the feeder syncs or cuts a file or changes a name. Kills at calls and power cuts need
 strace. Without it they are not tried, and count as passed.
 
@@ -58,7 +58,7 @@ def result_of(case, program, settings):
 def main():
     parser = argparse.ArgumentParser(description=__doc__, formatter_class=argparse.RawDescriptionHelpFormatter)
     parser.add_argument("--program", default="historian", help="the built historian (default: on the path)")
-    parser.add_argument("--long", action="store_true", help="300 kills and 300 power cuts, and a kill at each call")
+    parser.add_argument("--long", action="store_true", help="300 kills and 500 power cuts, and a kill at each call")
     parser.add_argument("--kills", type=int, help="another number of kills at random moments, and of power cuts")
     parser.add_argument("--seed", type=int, default=1, help="the seed of the random moments")
     parser.add_argument("--jobs", type=int, default=min(4, os.cpu_count() or 1), help="how many cases run at the same time")
