@@ -12,6 +12,7 @@ from turns import refused_name
 SHOWN = 5  # causes of a file that are printed
 AGAIN = 3_600  # seconds after which on_trouble is called again for a trouble that lasts
 PATIENCE = 60  # seconds that its command may take
+CALLS = 10  # of it in a turn: whoever may write to the inbox can put any number of files there
 LATE_ROWS = "late-rows.csv"  # the file of the rows that came late beyond late_rows
 
 
@@ -94,7 +95,7 @@ def causes_of(file, name):
 
 def call_for_help(plant):
     """Calls the command on_trouble of feed.toml with each line about a trouble; again only an hour later, if the trouble lasts. If the command
-    fails, it is called again a minute later."""
+    fails, it is called again a minute later. Of many lines it gets the first ones, and how many more there are."""
     if not plant.settings.on_trouble:
         return
     path, hangs = plant.path("feed.d", "troubles"), False
@@ -104,15 +105,17 @@ def call_for_help(plant):
     except (OSError, ValueError, AttributeError, TypeError):
         known = {}
     new = [line for line in dict.fromkeys(plant.troubles) if line not in known]
-    for line in new:
-        why = None
+    first, rest = (new, []) if len(new) <= CALLS else (new[:CALLS - 1], new[CALLS - 1:])
+    for lines in [[line] for line in first] + [rest] * bool(rest):
+        why, more = None, "" if len(lines) == 1 else "%d more troubles, which the log has; the first: " % len(lines)
         if not hangs:  # if it did not end, the feeder does not wait for each of the other lines too
-            why, hangs = called_with(plant, line)
+            why, hangs = called_with(plant, more + lines[0])
         if why is not None:
             plant.say("on_trouble of feed.toml failed: %s" % why)
-        known[line] = time.time() - (AGAIN - PATIENCE if hangs or why is not None else 0)
-    if new and os.path.isdir(plant.path("feed.d")):
+        known |= dict.fromkeys(lines, time.time() - (AGAIN - PATIENCE if hangs or why is not None else 0))
+    if new and os.path.isfile(plant.path("base.toml")):
         with contextlib.suppress(OSError):  # where the disk is full; then it is called again sooner
+            os.makedirs(plant.path("feed.d"), exist_ok=True)
             write_whole(path, json.dumps(known).encode())
 
 

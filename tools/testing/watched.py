@@ -86,6 +86,20 @@ def trouble_calls_a_command(folder, program, settings):
     assert len(told) == 1 and told[0][1].startswith("nothing was done: historian.d/LIC4.PV.tag is not as the last turn left it"), told
 
 
+def many_troubles(folder, program, settings):
+    """Of many troubles in a turn on_trouble gets the first ones, and then how many more there are. They count as told too."""
+    trial = alarmed(os.path.join(folder, "a"), program, "sh alarm.sh")
+    for number in range(30):
+        with open(trial.path("inbox/u%02d.csv" % number), "wb") as out:
+            out.write(UTF_16)
+    trial.fed(ends=REFUSED)
+    told = [line for line, in alarms(trial)]
+    assert len(told) == 10 and told[8].startswith("inbox/u08.csv stays in the inbox: it is UTF-16"), told
+    assert told[9].startswith("21 more troubles, which the log has; the first: inbox/u09.csv stays in the inbox: it is UTF-16"), told
+    trial.fed(ends=REFUSED)
+    assert alarms(trial) == []
+
+
 def trouble_of_a_full_disk(folder, program, settings):
     """on_trouble is called too if the feeder can write no file, as on a full disk, and cannot even note that it was called."""
     trial = alarmed(os.path.join(folder, "a"), program, "mkdir")
@@ -352,5 +366,5 @@ def settings_are_corrected(folder, program, settings):
     assert "1 values of 1 tags stored, 0 refused, 1 late" in trial.fed()
 
 
-CASES = [settings_are_corrected, trouble_calls_a_command, trouble_of_a_full_disk, command_fails, command_hangs, progress_on_a_terminal,
-         steps_outlast_the_lock, quality_through_feeds, quality_from_now_on, silence_without_files]
+CASES = [settings_are_corrected, trouble_calls_a_command, many_troubles, trouble_of_a_full_disk, command_fails, command_hangs,
+         progress_on_a_terminal, steps_outlast_the_lock, quality_through_feeds, quality_from_now_on, silence_without_files]
