@@ -80,10 +80,17 @@ def begins_as(path, grown):
     return found
 
 
-def has_rows(known):
-    """Whether more was taken of a file than its header, which other files have too."""
+def has_rows(known, source, lines=None):
+    """Whether more was taken of a file than its header, which other files have too; or whether so many lines are more."""
     place = known.get("place") or {}
-    return place.get("lines", 0) > bool(place.get("header"))
+    return (place.get("lines", 0) if lines is None else lines) > (source.skip + 1 if place.get("header") else 0)
+
+
+def lines_in(path):
+    """How many whole lines a file has."""
+    with contextlib.suppress(OSError), open(os.open(path, NOT_FOLLOWED), "rb") as opened:
+        return sum(part.count(b"\n") for part in iter(lambda: opened.read(1 << 20), b""))
+    return 0
 
 
 def has_all_of(path, other):
@@ -103,13 +110,14 @@ def renamed(plant, grown, files):
         return {}, {}
     present, begins, moves, copies = growing_files(plant), {path: begins_as(plant.path(path), grown) for path, _ in files}, {}, {}
     gone = {name for name in grown if name not in present or name in begins and name not in begins[name]}
-    for path in (path for path in begins if path not in grown or path in gone):
-        old = [name for name in begins[path] if name != path and has_rows(grown[name])]
+    for path, source in (file for file in files if file[0] not in grown or file[0] in gone):
+        old = [name for name in begins[path] if name != path and has_rows(grown[name], source)]
         free = [name for name in old if name in gone and name not in moves.values()]
         if free:
             moves[path] = free[-1]
             continue
-        old += [name for name in grown if path not in grown and name in present and name not in gone and has_rows(grown[name])
+        lines = lines_in(plant.path(path)) if path not in grown else 0
+        old += [name for name in grown if name in present and name not in gone and has_rows(grown[name], source, lines)
                 and has_all_of(plant.path(name), plant.path(path))]
         if old:
             copies[path] = old[-1]

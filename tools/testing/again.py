@@ -324,8 +324,13 @@ def files_that_get_other_names(folder, program, settings):
         append(trial, "%d,7\n" % (400_000 + count) * count, "inbox/log5.csv")
         said = trial.fed(ends=REFUSED)
         assert "inbox/log6.csv: it is a copy of inbox/log5.csv, so its rows would be stored twice: remove it" in said, said
-    trial.write("inbox/log4.csv", lines[0] + "500000,7\n")  # the same header alone is no sign
-    assert "1 values of 1 tags stored" in trial.fed(ends=REFUSED)
+    os.remove(trial.path("inbox/log6.csv"))
+    for name, begin in (("log3.csv", ""), ("log4.csv", lines[0])):  # no bytes, or the same header alone are no sign
+        trial.write("inbox/" + name, begin)
+        said = trial.fed()
+        assert "copy" not in said and "it goes on there" not in said, said
+    append(trial, "500000,7\n", "inbox/log4.csv")
+    assert "1 values of 1 tags stored" in trial.fed()
     check_same(trial.by_hand("check", "base.toml").split("LIC4.PV ")[1].split(" ", 1)[0], "taken=100", "files with other names")
     assert " late=0 " in trial.by_hand("check", "base.toml").split("LIC4.PV ")[1]
 
