@@ -43,7 +43,9 @@ def back_up(plant):
 def copy_all(plant, part):
     """Copies the plant, and compares the copies of the devices with the seals."""
     kept, log = sealed(plant), sealed_log(plant)
-    files = [file for file in TEXTS + list(kept) + [LOG] if os.path.isfile(plant.path(file))]
+    calendar = plant.settings.calendar or ""
+    texts = TEXTS + [calendar] * (calendar == os.path.basename(calendar))  # if it stands in the plant's folder
+    files = [file for file in texts + list(kept) + [LOG] if os.path.isfile(plant.path(file))]
     for number, file in enumerate(files, 1):
         target = os.path.join(part, file)
         plant.progress("%d of %d files are copied" % (number, len(files)))

@@ -2,12 +2,13 @@
 import datetime
 import json
 import os
+import re
 
 import audit
 import seals
 from inbox import fed_before
 from plant import Refusal
-from rows import REFUSED_HEADER
+from rows import REFUSED_HEADER, REFUSED_QUALITY
 
 
 def feed_state(plant, board):
@@ -39,12 +40,11 @@ def waiting(plant):
 
 def refused_rows(plant):
     """How many rows stand in refused/, and how many files that were refused whole."""
-    rows = files = 0
-    header = plant.settings.separator.join(REFUSED_HEADER).encode()
+    rows, files, headers = 0, 0, [[word.encode() for word in header] for header in (REFUSED_HEADER, REFUSED_QUALITY)]
     for folder, _, names in os.walk(plant.path("refused")):
         for name in names:
             with open(os.path.join(folder, name), "rb") as text:
-                if text.readline().rstrip(b"\r\n") == header:
+                if re.split(rb"[^a-z]", text.readline(100).rstrip()) in headers:  # with the separator of its source
                     rows += sum(chunk.count(b"\n") for chunk in iter(lambda: text.read(1 << 20), b""))
                 else:
                     files += 1

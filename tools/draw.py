@@ -24,7 +24,7 @@ from fields import BadField, whole_value
 from options import parsed, parser_of
 from picture import LEFT, RIGHT, WIDTH, Times, picture
 from plant import UNREADABLE, Plant, Refusal, ended
-from samples import late_times, values_in
+from samples import late_times, left_out, values_in
 
 COLUMNS = WIDTH - LEFT - RIGHT  # pixels of the picture between its axes
 DENSE = COLUMNS // 3            # more points than this are drawn pixel by pixel
@@ -37,7 +37,7 @@ class Trend:
         self.tag, self.step, self.scale = tag, archive.definition(tag).get("step", False), archive.scale(tag)
         self.title = ": ".join(filter(None, (tag, archive.descriptor(tag))))
         self.unit, self.held = archive.unit(tag), archive.held(tag)
-        self.raw, self.late = raw_values(archive, tag, given.raw)
+        self.raw, self.late, self.left_out = raw_values(archive, tag, given.raw)
         self.narrow = archive.definition(tag)["comp_dev"]
         self.wide = self.narrow + (1 if self.step else 2) * archive.definition(tag)["exc_dev"]
         self.limit = limit_of(given.limit, tag, self.scale)
@@ -110,9 +110,11 @@ def silent_spans(archive, quality, first, last):
 
 
 def raw_values(archive, tag, files):
-    """The raw values of a tag in the files that were fed, in the order in which they are given, and the times of those that came late."""
-    times, values = values_in(archive.plant, archive.tags, files)[0].of(tag)
-    return list(zip(times, values)), late_times(times)
+    """The raw values of a tag in the files that were fed, in the order in which they are given, the times of those that came late, and what is
+    to be said of rows that could not be read."""
+    found, refused = values_in(archive.plant, archive.tags, files)
+    times, values = found.of(tag)
+    return list(zip(times, values)), late_times(times), left_out(refused, tag)
 
 
 def calculation_bars(archive, times, group, calculation, least):
@@ -170,7 +172,7 @@ def draw(plant, given):
         trends = [Trend(archive, tag, first, last, given) for tag in given.tag]
         bars = calculation_bars(archive, times, *given.group, given.frames) if given.group else []
         bars += shift_bars(archive, times, given.tag, calendar) if calendar else []
-    return picture(times, trends, bars, plant.settings.zone), [trend.words for trend in trends if trend.words]
+    return picture(times, trends, bars, plant.settings.zone), [words for trend in trends for words in (trend.words, trend.left_out) if words]
 
 
 def write_png(text, path):

@@ -11,6 +11,7 @@ could not be written; 20 another process works on the plant, or a turn is unfini
 22 a text or a file cannot be read or written; 24 rows were refused, or a file of the inbox is not taken, and all other rows are stored;
 127 no program; above that, the program was killed. With --status: 0 good, 1 a warning, 2 critical, 3 unknown."""
 import argparse
+import contextlib
 import os
 import shlex
 import shutil
@@ -66,10 +67,10 @@ def begin(plant, names, growing, edited, said):
     turn = Turn(fed_before(plant)[0] + 1, [], {}, intake.values, base_notes(plant))
     read_files(plant, turn, intake, take(plant, names, said), said)
     turn.notes["grown"] = read_growing(plant, turn, intake, growing, said)
-    turn.notes["quality"] = add_quality(plant, intake, now)
+    turn.notes["quality"] = add_quality(plant, intake, now, newest)
     turn.notes["bad"] = sum(map(len, intake.bad.values()))
     turn.values.tags = {name: arrays for name, arrays in turn.values.tags.items() if len(arrays[0])}
-    if not turn.files and not turn.values.count and not edited:
+    if not turn.files and not turn.values.count and not turn.notes["grown"] and not edited:
         return None
     for name in (name for name in tags if name in turn.values.tags):
         turn.tags[name] = {"taken": state[name].taken, "late": state[name].late, "held": state[name].held,
@@ -184,7 +185,7 @@ def finish(plant, turn, state):
             break
         plan, ran = write_plan(plant, turn, part), True
         due = {name: turn.stored(name, state) + part.get(name, (0, 0))[1] for name in turn.tags}
-        plant.progress("turn %d: storing %d values" % (turn.number, sum(count for _, count in part.values())))
+        plant.progress("turn %d: storing %d values" % (turn.number, sum(count for _, count in part.values())), is_new=True)
         try:
             state = plant.tags_of(plant.call("run", BASE, plan))
         except Refusal as why:
@@ -311,6 +312,23 @@ def show(plant):
         plant.say("the board: %s" % trouble)
 
 
+def note_refusal(plant, why):
+    """Notes as a trouble why nothing was done; not if another process works on the plant, which may take its time."""
+    if not isinstance(why, Refusal) or why.status != BUSY:
+        plant.troubles.append(" ".join((str(why) or type(why).__name__).split()))
+
+
+@contextlib.contextmanager
+def calling_for_help(plant):
+    """Calls on_trouble of feed.toml if what is done meanwhile is refused, or fails."""
+    try:
+        yield
+    except Exception as why:
+        note_refusal(plant, why)
+        call_for_help(plant)
+        raise
+
+
 def feed(plant, every, wait):
     """Turns until the inbox is empty; with `every` it then looks again and again, and outlasts another process that has the plant. Answers
     the exit status."""
@@ -321,11 +339,9 @@ def feed(plant, every, wait):
             faults = 0
         except Refusal as refusal:
             faults += refusal.status == DEVICE
-            if refusal.status != BUSY:
-                plant.troubles.append(refusal.text.splitlines()[0])
             if every is None or refusal.status != BUSY and not 0 < faults < FAULTS:
-                call_for_help(plant)
                 raise
+            note_refusal(plant, refusal)
             plant.say(refusal.text)
             made, waiting = False, False
         troubles = troubles or bool(plant.troubles)
@@ -402,8 +418,7 @@ def at_rest(plant, do, wait):
 
 
 def put_back(plant, asked, until, wait):
-    """Puts a backup back, and makes the later turns again."""
-
+    """Puts a backup back, and makes the later turns again. The exit status says whether the archive is that from before."""
     with plant.locked("feed.py", wait):
         turn = plant.path("feed.d", turns.TOLD)
         if restore.is_unfinished(plant) and os.path.exists(turn):
@@ -412,7 +427,19 @@ def put_back(plant, asked, until, wait):
         elif not restore.is_unfinished(plant):
             restore.begin(plant, asked, until)
         plant.say(restore.go_on(plant, made_again))
-    return 0
+    call_for_help(plant)
+    return CHANGED if plant.troubles else 0
+
+
+def done(plant, given):
+    """Does what the tool is asked for: the exit status."""
+    if given.restore is not None:
+        return put_back(plant, given.restore, given.until, given.wait)
+    for asked, do in ((given.verify, seals.verified), (given.backup, backups.back_up), (given.seal, accept.sealed_anew),
+                      (given.anew, lambda plant: accept.begun_anew(plant, given.anew))):
+        if asked:
+            return at_rest(plant, do, given.wait)
+    return feed(plant, given.every, given.wait)
 
 
 def main():
@@ -443,13 +470,10 @@ def main():
     if given.restore is not None:
         restore.lay_texts(given.plant, given.restore)
     plant = Plant(given.plant, given.program)
-    if given.restore is not None:
-        return put_back(plant, given.restore, given.until, given.wait)
-    for asked, do in ((given.verify, seals.verified), (given.backup, backups.back_up), (given.seal, accept.sealed_anew),
-                      (given.anew, lambda plant: accept.begun_anew(plant, given.anew))):
-        if asked:
-            return at_rest(plant, do, given.wait)
-    return init(plant) if given.init else feed(plant, given.every, given.wait)
+    if given.init:
+        return init(plant)
+    with calling_for_help(plant):
+        return done(plant, given)
 
 
 if __name__ == "__main__":

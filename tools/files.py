@@ -32,8 +32,9 @@ def shown(text, most=64):
 
 def nearest(name, names):
     """What a misspelt name may mean, as words for the end of a line; nothing if no name is near."""
-    found = difflib.get_close_matches(name, list(names), 1)
-    return "; did you mean %s?" % shown(found[0]) if found else ""
+    plain = {str(other).lower(): other for other in names}
+    found = difflib.get_close_matches(name.lower(), list(plain), 1)
+    return "; did you mean %s?" % shown(plain[found[0]]) if found else ""
 
 
 def read_toml(path):
@@ -59,9 +60,9 @@ def sha256_of(path):
         return hashlib.file_digest(data, "sha256").hexdigest()
 
 
-def sha256_of_next(opened, size):
-    """A sha256 that has the next bytes of an open file; None if there are not so many."""
-    sha = hashlib.sha256()
+def sha256_of_next(opened, size, sha=None):
+    """A sha256 that has the next bytes of an open file, behind those that it has already; None if there are not so many."""
+    sha = sha or hashlib.sha256()
     while size:
         part = opened.read(min(size, 1 << 20))
         if not part:
@@ -110,6 +111,15 @@ def removed(path):
         os.remove(path)
     except FileNotFoundError:
         pass
+
+
+def sync_read(handle):
+    """Makes the bytes of a file that somebody else wrote durable, where its disk can do that."""
+    try:
+        os.fsync(handle)
+    except OSError as why:
+        if why.errno not in (errno.EINVAL, errno.EROFS, errno.ENOTSUP):
+            raise
 
 
 def sync_folder(folder):

@@ -17,7 +17,7 @@ import stat
 import time
 
 from fields import BadField
-from files import UNREADABLE, Refusal, moved, removed, shown, sync_folder, write_whole
+from files import UNREADABLE, Refusal, moved, removed, sha256_of, shown, sync_folder, sync_read, write_whole
 from rows import Reader
 from turns import Refused, Turn, record_of, write_record
 
@@ -211,7 +211,7 @@ def read_taken(plant, file):
         raise Unfit("it cannot be read (%s)" % why.strerror) from None
     try:
         why = why_not_whole(handle)
-        data = b"" if why else bytes_behind(handle)
+        data = b"" if why else synced_bytes(handle)
         stamp = stamp_of(os.fstat(handle))
     except OSError as fault:
         raise Unfit("it cannot be read (%s)" % fault.strerror) from None
@@ -224,10 +224,13 @@ def read_taken(plant, file):
     return Piece(file["name"], data, plant.settings.source_of(file["name"]), {"as": file["as"], "stamp": stamp}, None)
 
 
-def bytes_behind(handle):
-    """All bytes of an open file, or a byte more than a file may have."""
+def synced_bytes(handle):
+    """All bytes of an open file, or a byte more than a file may have. They are on the disk then: who wrote them may not have seen to that, and
+    done/ is to have them after a power cut too."""
     with open(handle, "rb", buffering=0, closefd=False) as opened:
-        return opened.read(MOST_BYTES + 1)
+        data = opened.read(MOST_BYTES + 1)
+    sync_read(handle)
+    return data
 
 
 def stamp_of(info):
@@ -267,7 +270,7 @@ def read_piece(plant, turn, intake, piece, before):
         reader.read(piece.data, lambda done, size: plant.progress("%s: %d %% read" % (shown(piece.name), 100 * done // size)))
     except BadField as why:
         refused.drop()
-        file.update(goes="refused", spoilt=str(why), refused=lines_in(piece.data) - 1)
+        file.update(goes="refused", spoilt=str(why), refused=max(1, lines_in(piece.data) - 1))
     except MemoryError:
         values.cut(sizes)
         refused.drop()

@@ -83,9 +83,9 @@ class Plant:
         self.troubles.append(text)
         self.say(text)
 
-    def progress(self, text):
-        """Shows on a terminal how far a long work is; nothing in a log."""
-        if sys.stderr.isatty() and (text or self.shown_progress) and (not text or time.monotonic() > self.shown_progress + 0.2):
+    def progress(self, text, is_new=False):
+        """Shows on a terminal how far a long work is, a few times a second, and each time at which a new one begins; nothing in a log."""
+        if sys.stderr.isatty() and (text or self.shown_progress) and (is_new or not text or time.monotonic() > self.shown_progress + 0.2):
             self.shown_progress = time.monotonic() if text else 0
             put_line(sys.stderr, "\r\x1b[K" + text, end="")
 

@@ -21,14 +21,15 @@ def known_quality(plant):
                       " quality tags go on with the next value.") from None
 
 
-def add_quality(plant, intake, now):
-    """Adds to what a turn read what its quality tags have to say; answers what is known then of the tags for which that changed."""
+def add_quality(plant, intake, now, newest):
+    """Adds to what a turn read what its quality tags have to say; answers what is known then of the tags for which that changed. `newest` has
+    the newest time of each tag before the turn: of a tag that gets a quality tag now nothing is said up to then."""
     known, changed = known_quality(plant), {}
     for name, table in plant.settings.tag.items():
         if table.get("quality_tag") is None:
             continue
         events = [(t, 1) for t in intake.values.of(name)[0]] + [(t, 0) for t in intake.bad.get(name, ())]
-        before = known.get(name, {"last": None, "good": None, "silent": None, "was": None})
+        before = known.get(name, {"last": newest.get(name), "good": None, "silent": None, "was": None})
         rows, after = quality_rows(before, sorted(events), table.get("silent_ms"), now)
         for t, v in rows:
             intake.values.add(table["quality_tag"], t, v)

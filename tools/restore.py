@@ -22,10 +22,10 @@ def is_unfinished(plant):
 
 
 def lay_texts(folder, asked):
-    """Puts base.toml and feed.toml of a copy into a plant's folder that has none, as after the loss of its disk."""
-    for name in ("base.toml", "feed.toml"):
+    """Puts base.toml, feed.toml and the calendar of a copy into a plant's folder that has none, as after the loss of its disk."""
+    for name in os.listdir(asked) if os.sep in asked and os.path.isdir(asked) else ():
         source, target = os.path.join(asked, name), os.path.join(folder, name)
-        if os.sep in asked and os.path.isfile(source) and not os.path.exists(target):
+        if name.endswith(".toml") and os.path.isfile(source) and not os.path.exists(target):
             copied(source, target)
 
 
@@ -57,6 +57,8 @@ def begin(plant, asked, until):
     settle_unfinished(plant)
     turns = later_turns(plant, last, until)
     os.makedirs(plant.path("feed.d"), exist_ok=True)
+    if not os.path.isabs(plant.settings.inbox):  # on a new disk it is not there
+        os.makedirs(plant.path(plant.settings.inbox), exist_ok=True)
     put_state(plant, {"copy": copy, "asked": asked, "last": last, "turns": turns, "until": until, "away": free_folder(plant), "phase": "away"})
 
 

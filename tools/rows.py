@@ -13,6 +13,7 @@ from files import nearest, shown
 
 TIME_WORDS = ("time", "timestamp")
 REFUSED_HEADER = ["tag", "time", "value", "row", "reason"]
+REFUSED_QUALITY = ["tag", "time", "value", "quality", "row", "reason"]  # of a file whose values have a quality: a bad one stays bad
 CHUNK = 1 << 20   # bytes whose lines are split at once
 KNOWN = 200_000   # texts that are remembered of a kind
 csv.field_size_limit(1 << 30)  # a line without separators in a file that is no CSV file
@@ -101,12 +102,15 @@ def layout_of(fields, source, tags):
     """The layout that a header line tells, and whether the line is a header. A header that can be read in two ways spoils its file: that
     is a BadField."""
     plain = Layout(3, 0, 1, 2)
-    if fields == REFUSED_HEADER:
-        return Layout(5, 0, 1, 2), True
+    if fields in (REFUSED_HEADER, REFUSED_QUALITY):
+        return Layout(len(fields), 0, 1, 2, fields.index("quality") if "quality" in fields else None), True
     if type(source.columns) is list:
         places = {word: place for place, word in enumerate(source.columns)}
         return Layout(len(source.columns), places["tag"], places["time"], places["value"], places.get("quality")), False
     found = {word: places_of(word, fields, source.columns) for word in ("tag", "time", "value", "quality")}
+    if not found["time"] and "time" in source.columns:
+        raise BadField("the header has no column '%s', which has the time by `columns` of its source in feed.toml; with the `separator` '%s' it"
+                       " has '%s'" % (shown(source.columns["time"]), source.separator, shown("', '".join(fields), 300)))
     if not found["time"]:
         return plain, False
     rest = [name for place, name in enumerate(fields) if place not in itertools.chain(*found.values())]
@@ -121,6 +125,9 @@ def layout_of(fields, source, tags):
         if strange:
             raise BadField("the header has a column whose meaning nothing says: '%s' (name it in `ignore` or `columns` of its source in"
                            " feed.toml)" % shown(strange[0]))
+        missing = [name for word, name in source.columns.items() if not found[word]]
+        if missing:
+            raise BadField("the header has no column '%s', which `columns` of its source in feed.toml names" % shown(missing[0]))
         return Layout(len(fields), first["tag"], first["time"], first["value"], first["quality"]), True
     half = [word for word in ("tag", "value", "quality") if found[word] and fields[first[word]] not in tags]
     if half:
@@ -163,11 +170,12 @@ def lines_of(data, begin, progress):
 
 
 class Reader:
-    """Reads the lines of one file, and adds what they say to the values of a turn.
+    """Reads the lines of one file, and adds what they say to the values of a turn. A file of which no line has the right fields is spoilt.
 
-    `refuse(tag, time, value, number, why)` takes each row that is not stored; a line without fields stands in place of its tag. `place`
-    has what the lines of a growing file said that were read before: how many there were, their header, and of tags whose last time the
-    clock shows twice which one it was. So its next lines are read as if all came at once."""
+    `refuse(tag, time, value, number, why, quality)` takes each row that is not stored; a line without fields stands in place of its tag,
+    and the quality is None if the file has none. `place` has what the lines of a growing file said that were read before: how many there
+    were, their header, and of tags whose last time the clock shows twice which one it was. So its next lines are read as if all came at
+    once."""
 
     def __init__(self, intake, source, refuse, place=None):
         self.intake, self.source, self.refuse = intake, source, refuse
@@ -175,6 +183,7 @@ class Reader:
         self.names, self.times, self.separator, self.good = known.names, known.times, source.separator, source.good
         self.lines, self.header, self.hours = place.get("lines", 0), place.get("header"), place.get("hours", {})
         self.layout, self.skip, self.pending = None, place.get("skip", source.skip), {}
+        self.fits, self.misfit = self.lines > 0, None  # whether a line had the right fields; what was wrong with the first that had not
         if self.header is not None:
             self.layout = layout_of(fields_of(self.header, self.separator) or [], source, intake.scales)[0]
 
@@ -188,6 +197,8 @@ class Reader:
                 number, lines = self.behind_header(number, lines)
             if lines:
                 (self.read_long if self.layout.names is None else self.read_wide)(number, lines)
+        if self.misfit and not self.fits and self.intake.values.count == sum(sizes.values()):
+            raise self.misfit
         self.settle_hours(sizes)
         self.limit_late(sizes)
 
@@ -199,7 +210,7 @@ class Reader:
         """The lines behind the header, and the number of their first one. The first line that is not blank tells the layout."""
         for place, line in enumerate(lines):
             fields = fields_of(line, self.separator)
-            if not line.strip() or fields != REFUSED_HEADER and self.skip:
+            if not line.strip() or fields not in (REFUSED_HEADER, REFUSED_QUALITY) and self.skip:
                 self.skip -= bool(line.strip())
                 continue
             self.layout, is_header = layout_of(fields or [], self.source, self.intake.scales)
@@ -230,28 +241,35 @@ class Reader:
         if not line.strip():
             return
         if fields is None:
-            return self.refuse(line, "", "", number, BadField("a quote is not closed"))
+            return self.refuse_line(line, number, "a quote is not closed")
         if len(fields) != layout.width:
             hint = ("" if layout.width > 3 or number > 1 else
                     ": is `separator` in feed.toml right? A wide file's header begins with `time`")
-            return self.refuse(line, "", "", number, BadField("%d fields, not %d%s" % (len(fields), layout.width, hint)))
+            return self.refuse_line(line, number, "%d fields, not %d%s" % (len(fields), layout.width, hint))
+        self.fits = True
         tag, time, value = fields[layout.tag], fields[layout.time], fields[layout.value]
+        quality = None if layout.quality is None else fields[layout.quality]
         plain = plain if '"' not in line else [""] * layout.width
         try:
             entry = self.entry(tag, plain[layout.tag])
             found = self.time(time, plain[layout.time])
-            if layout.quality is not None and fields[layout.quality].lower() not in self.good:
-                return self.bad_value(entry[4], found, BadField("its quality is not good", fields[layout.quality]), fields, number)
+            if quality is not None and quality.lower() not in self.good:
+                return self.bad_value(entry[4], found, (tag, time, value), number, quality)
             v = self.number(entry, value, plain[layout.value])
         except BadField as why:
-            return self.refuse(tag, time, value, number, why)
-        self.put(entry, found, v, number, tag, time, value)
+            return self.refuse(tag, time, value, number, why, quality)
+        self.put(entry, found, v, number, tag, time, value, quality)
 
-    def bad_value(self, name, found, why, fields, number):
+    def refuse_line(self, line, number, why):
+        """A line that has not the right fields: it stands in place of its tag."""
+        why = BadField(why)
+        self.misfit = self.misfit or why
+        self.refuse(line, "", "", number, why, None if self.layout.quality is None else "")
+
+    def bad_value(self, name, found, texts, number, quality):
         """A value of bad quality: it is refused; or, if the tag has a quality_tag, that tag shows it."""
         if self.intake.settings.of_tag(name)["quality_tag"] is None or len(found) > 1:
-            layout = self.layout
-            return self.refuse(fields[layout.tag], fields[layout.time], fields[layout.value], number, why)
+            return self.refuse(*texts, number, BadField("its quality is not good", quality), quality)
         self.intake.bad.setdefault(name, array.array("q")).append(found[0])
 
     def read_wide(self, number, lines):
@@ -287,7 +305,8 @@ class Reader:
             return
         if fields is None or len(fields) != self.layout.width:
             why = "a quote is not closed" if fields is None else "%d fields, and the header has %d" % (len(fields), self.layout.width)
-            return self.refuse(line, "", "", number, BadField(why))
+            return self.refuse_line(line, number, why)
+        self.fits = True
         plain = plain if '"' not in line else [""] * self.layout.width
         try:
             found = self.time(fields[time], plain[time])
@@ -347,11 +366,11 @@ class Reader:
         self.intake.values.rounded += 1
         return rounded[plain]
 
-    def put(self, entry, found, v, number, tag, time, value):
+    def put(self, entry, found, v, number, *texts):
         """Adds a value. If its time may be one of two, that is settled once the rows around it are known."""
         if len(found) > 1:
             place = len(self.intake.values.arrays(entry[4])[0])
-            self.pending.setdefault(entry[4], []).append((place, found[1], number, tag, time, value))
+            self.pending.setdefault(entry[4], []).append((place, found[1], number, texts))
         entry[0](found[0])
         entry[1](v)
 
@@ -367,7 +386,8 @@ class Reader:
                 before = times[place - 1] if place > first else self.hours.get(name)
                 settled = settled_times(before, times[place:place + len(rows)], [row[1] for row in rows], self.intake.latest)
                 for row in () if settled else rows:
-                    self.refuse(*row[3:], row[2], twice(row[4], self.source.zone))
+                    tag, time, value, *quality = row[3]
+                    self.refuse(tag, time, value, row[2], twice(time, self.source.zone), *quality)
                 times[place:place + len(rows)] = array.array("q", settled or ())
                 if not settled:
                     del values[place:place + len(rows)]
@@ -425,13 +445,13 @@ def settled_times(before, early, late, latest):
     return list(early) if not falls and late[-1] > latest else None
 
 
-def read_values(data, scales, settings, latest, values, name=""):
-    """Adds what the bytes of a file of this name hold to the values, and answers its refusals: tag, time, value, line number, reason."""
+def read_values(data, scales, settings, latest, values, source, place=None):
+    """Adds what the bytes of a file of a source hold to the values, and answers its refusals: tag, time, value, line number, reason."""
     intake, refused = Intake(settings, scales, latest), []
     intake.values = values
-    refuse = lambda tag, time, value, number, why: refused.append((tag, time, value, number, str(why)))  # noqa: E731
+    refuse = lambda tag, time, value, number, why, quality=None: refused.append((tag, time, value, number, str(why)))  # noqa: E731
     try:
-        Reader(intake, settings.source_of(name), refuse).read(data)
+        Reader(intake, source, refuse, place).read(data)
     except BadField as why:
-        refused.append(("", "", "", 1, str(why)))
+        refused = [("", "", "", 1, str(why))]
     return refused

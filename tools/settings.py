@@ -3,6 +3,7 @@ names it; nothing is guessed."""
 import copy
 import fnmatch
 import os
+import shlex
 import zoneinfo
 
 import fields
@@ -84,6 +85,7 @@ class Settings:
         self.require_numbers()
         if any(type(getattr(self, key)) is not str for key in ("inbox", "backups", "on_trouble")):
             raise wrong(path, "inbox and backups are names of folders, and on_trouble is a command")
+        self.on_trouble = words_of(path, self.on_trouble)
         if any(type(text) not in (str, type(None)) for text in (self.board, self.calendar)):
             raise wrong(path, "board is a folder, and calendar a file")
         if type(self.frames) is not list or not all(map(is_frame, self.frames)):
@@ -133,6 +135,14 @@ class Settings:
     def of_tag(self, name):
         """The settings of a tag: scale, quality_tag, silent_ms, low, high, stale_ms, each None if it is not given."""
         return TAG | self.tag.get(name, {})
+
+
+def words_of(path, command):
+    """The words of the command on_trouble, as a shell would have them; none if it is empty."""
+    try:
+        return shlex.split(command)
+    except ValueError as why:
+        raise wrong(path, "on_trouble: %s in %s" % (why, shown(command, 200))) from None
 
 
 def wrong(where, what):

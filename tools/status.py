@@ -37,7 +37,7 @@ def tell_status(folder, program, age):
         plant = Plant(folder, program)
         found, figures, line = looked_at(plant, age)
     except (Refusal, OSError) as why:
-        found, figures, line = [(3, str(why).splitlines()[0])], "", ""
+        found, figures, line = [(3, " ".join(str(why).split()))], "", ""
     worst = max((status for status, _ in found), default=0)
     told = "; ".join([text for status, text in sorted(found, reverse=True)] + [line] * bool(line))
     print("FEED %s: %s%s" % (WORDS[worst], shown(told, 1000), figures and " | " + figures))

@@ -1,15 +1,18 @@
 """telling.py: what feed.py prints of a turn, and whom it calls when something is wrong."""
+import contextlib
 import json
 import os
-import shlex
+import signal
 import subprocess
 import time
 
 from files import shown, write_whole
+from turns import refused_name
 
 SHOWN = 5  # causes of a file that are printed
 AGAIN = 3_600  # seconds after which on_trouble is called again for a trouble that lasts
 PATIENCE = 60  # seconds that its command may take
+CALLS = 10  # of it in a turn: whoever may write to the inbox can put any number of files there
 LATE_ROWS = "late-rows.csv"  # the file of the rows that came late beyond late_rows
 
 
@@ -57,7 +60,7 @@ def lines_of(turn, file):
         lines.append("  %s has %s: nothing of it is stored, and it goes to %s" % (name, file["nothing"], turn.folder(file["goes"])))
     if file["causes"]:
         lines += causes_of(file, name) + ["  %s %s; correct them there and move that file to the inbox" % (
-            where_refused(turn, file), os.path.join(folder, name))]
+            where_refused(turn, file), os.path.join(folder, shown(refused_name(file), 255)))]
     if file.get("late"):
         lines.append("  %s: %s rows came late, more than late_rows of feed.toml lets a tag take in a turn. Each would cost a record for ever. They"
                      " are in %s; if they are right, raise late_rows, and move that file to the inbox" % (
@@ -89,22 +92,42 @@ def causes_of(file, name):
 
 
 def call_for_help(plant):
-    """Calls the command on_trouble of feed.toml with each line about a trouble; again only an hour later, if the trouble lasts."""
+    """Calls the command on_trouble of feed.toml with each line about a trouble; again only an hour later, if the trouble lasts. If the command
+    fails, it is called again a minute later. Of many lines it gets the first ones, and how many more there are."""
     if not plant.settings.on_trouble:
         return
-    path, now = plant.path("feed.d", "troubles"), time.time()
+    path, hangs = plant.path("feed.d", "troubles"), False
     try:
         with open(path) as text:
-            known = {line: at for line, at in json.load(text).items() if abs(now - at) < AGAIN}
+            known = {line: at for line, at in json.load(text).items() if abs(time.time() - at) < AGAIN}
     except (OSError, ValueError, AttributeError, TypeError):
         known = {}
     new = [line for line in dict.fromkeys(plant.troubles) if line not in known]
-    for line in new:
-        try:
-            subprocess.run(shlex.split(plant.settings.on_trouble) + [line], cwd=plant.folder, stdin=subprocess.DEVNULL, timeout=PATIENCE)
-        except (OSError, ValueError, subprocess.TimeoutExpired) as why:
-            plant.say("on_trouble of feed.toml failed: %s" % shown(str(why), 200))
-    if new and os.path.isdir(plant.path("feed.d")):
-        write_whole(path, json.dumps(known | dict.fromkeys(new, now)).encode())
+    first, rest = (new, []) if len(new) <= CALLS else (new[:CALLS - 1], new[CALLS - 1:])
+    for lines in [[line] for line in first] + [rest] * bool(rest):
+        why, more = None, "" if len(lines) == 1 else "%d more troubles, which the log has; the first: " % len(lines)
+        if not hangs:  # if it did not end, the feeder does not wait for each of the other lines too
+            why, hangs = called_with(plant, more + lines[0])
+        if why is not None:
+            plant.say("on_trouble of feed.toml failed: %s" % why)
+        known |= dict.fromkeys(lines, time.time() - (AGAIN - PATIENCE if hangs or why is not None else 0))
+    if new and os.path.isfile(plant.path("base.toml")):
+        with contextlib.suppress(OSError):  # where the disk is full; then it is called again sooner
+            os.makedirs(plant.path("feed.d"), exist_ok=True)
+            write_whole(path, json.dumps(known).encode())
 
 
+def called_with(plant, line):
+    """Calls on_trouble with a line: why that failed, or None; and whether the command did not end, so that it was ended, with all that it
+    started."""
+    try:
+        child = subprocess.Popen(plant.settings.on_trouble + [line], cwd=plant.folder, stdin=subprocess.DEVNULL, start_new_session=True)
+    except (OSError, ValueError) as why:
+        return shown(str(why), 200), False
+    try:
+        status = child.wait(PATIENCE)
+    except subprocess.TimeoutExpired:
+        os.killpg(child.pid, signal.SIGKILL)
+        child.wait()
+        return "the command did not end within %d seconds, and was ended" % PATIENCE, True
+    return "the command ended with status %d" % (status if status > 0 else 128 - status) if status else None, False

@@ -2,7 +2,7 @@
 """test_tools.py [--program PATH] [--long] [--only NAME ..]: tests the tools with a built historian, mainly by killing.
 
 The short form takes two minutes at most. It kills twenty times at random moments, and at some calls of the program and of the feeder. It
-cuts the power 18 times. With --long it kills 300 times at random moments, and cuts the power 300 times. It kills at each write and sync
+cuts the power 30 times. With --long it kills 300 times at random moments, and cuts the power 500 times. It kills at each write and sync
 of the program too, and at each call by which the feeder syncs or cuts a file or changes a name. Kills at calls and power cuts need
 strace. Without it they are not tried, and count as passed.
 
@@ -40,6 +40,7 @@ import stops  # noqa: E402
 import strange  # noqa: E402
 import told  # noqa: E402
 import tuned  # noqa: E402
+import watched  # noqa: E402
 from plant import program_of  # noqa: E402
 
 
@@ -57,14 +58,14 @@ def result_of(case, program, settings):
 def main():
     parser = argparse.ArgumentParser(description=__doc__, formatter_class=argparse.RawDescriptionHelpFormatter)
     parser.add_argument("--program", default="historian", help="the built historian (default: on the path)")
-    parser.add_argument("--long", action="store_true", help="300 kills and 300 power cuts, and a kill at each call")
+    parser.add_argument("--long", action="store_true", help="300 kills and 500 power cuts, and a kill at each call")
     parser.add_argument("--kills", type=int, help="another number of kills at random moments, and of power cuts")
     parser.add_argument("--seed", type=int, default=1, help="the seed of the random moments")
     parser.add_argument("--jobs", type=int, default=min(4, os.cpu_count() or 1), help="how many cases run at the same time")
     parser.add_argument("--only", nargs="+", default=[], metavar="NAME", help="only the cases whose names begin so")
     settings = parser.parse_args()
     settings.kills = settings.kills or (300 if settings.long else 20)
-    modules = (kills, cuts, stops, strange, again, sources, daily, keeping, told, lost, pages, asked, drawn, tuned, audited, boarded,
+    modules = (kills, cuts, stops, strange, again, sources, daily, keeping, told, lost, watched, pages, asked, drawn, tuned, audited, boarded,
                site_kills, site_asks, site_daily, site_dask)
     cases = [case for module in modules for case in module.CASES]
     return run_cases(cases, settings)

@@ -26,7 +26,7 @@ from devices import TAG_RECORDS
 from fields import MOST_TIME, BadField, decimal_text, whole_value
 from options import parsed, parser_of
 from plant import UNREADABLE, Plant, Refusal, ended, step_of
-from samples import late_times, values_in
+from samples import late_times, left_out, values_in
 from tables import printed
 
 HEADER = ("comp_dev", "exc_dev", "x noise", "promised", "greatest", "unit", "records", "records a day", "values a record", "years", "")
@@ -135,9 +135,8 @@ def sample_of(plant, definitions, tag, files):
         raise Refusal(UNREADABLE, "base.toml has no tag %s; it has %s" % (tag, ", ".join(definitions)))
     values, refused = values_in(plant, definitions, files)
     times, numbers = values.of(tag)
-    own = [row for row in refused if row[0] in (tag, "")]
-    if own:
-        print("tune.py: %d rows cannot be read and are left out; row %s: %s" % (len(own), own[0][3], own[0][4]), file=sys.stderr)
+    if left_out(refused, tag):
+        print("tune.py: %s" % left_out(refused, tag), file=sys.stderr)
     if len(times) < LEAST or max(times) == min(times):
         raise Refusal(UNREADABLE, "the sample has %d values of %s: too few to say anything. A day of them is good" % (len(times), tag))
     return times, numbers

@@ -16,7 +16,7 @@ import shutil
 
 from fields import NUMBER
 from files import CHANGED, UNREADABLE, Refusal, bytes_of, copied, moved, removed, sync_folder, write_whole
-from rows import REFUSED_HEADER, Values
+from rows import REFUSED_HEADER, REFUSED_QUALITY, Values
 from settings import AGAIN
 
 WORK = "feed.d/turn"
@@ -31,10 +31,11 @@ STORED, TOLD = "stored.rows", "turn.json"  # what a turn leaves in done/NUMBER b
 
 class Turn:
     """The files of a turn, their rows by tag, and how many events each tag had taken before. `notes` has what else has to be known after a
-    stop: the base's sha256, and what the feeder keeps of growing files and of the quality of tags."""
+    stop: the base's sha256, and what the feeder keeps of growing files and of the quality of tags. `spans` has where the rows of each tag
+    stand in rows.csv, if this process wrote them there."""
 
     def __init__(self, number, files, tags, values, notes=None):
-        self.number, self.files, self.tags, self.values, self.notes = number, files, tags, values, notes or {}
+        self.number, self.files, self.tags, self.values, self.notes, self.spans = number, files, tags, values, notes or {}, {}
 
     def folder(self, name):
         """Where its files go: done/000012 or refused/000012."""
@@ -54,7 +55,7 @@ class Refused:
         self.out = self.plain = self.quoted = None
         self.is_full = False
 
-    def add(self, tag, time, value, number, why):
+    def add(self, tag, time, value, number, why, quality=None):
         """A row that is not stored; in a form that can be corrected and put into the inbox again."""
         self.count += 1
         cause = why.cause if why.cause in self.found or len(self.found) < CAUSES else "other reasons"
@@ -64,13 +65,13 @@ class Refused:
             self.out = open(self.path, "w", newline="", encoding="utf-8", errors="surrogateescape")
             self.plain = csv.writer(self.out, delimiter=self.separator, lineterminator="\n")
             self.quoted = csv.writer(self.out, delimiter=self.separator, lineterminator="\n", quoting=csv.QUOTE_ALL)
-            self.plain.writerow(REFUSED_HEADER)
+            self.plain.writerow(REFUSED_HEADER if quality is None else REFUSED_QUALITY)
         if self.count % 1000 == 0:
             self.is_full = self.out.tell() >= REFUSED_BYTES
         if not self.is_full:
             self.written += 1
-            row = [harmless(field) for field in (tag, time, value)] + [number, str(why)]
-            (self.quoted if "\r" in "".join(row[:3]) else self.plain).writerow(row)
+            row = [harmless(field) for field in (tag, time, value, quality) if field is not None]
+            (self.quoted if "\r" in "".join(row) else self.plain).writerow(row + [number, str(why)])
 
     def causes(self):
         """Each cause: how many rows have it, and of the first one the number, the tag and the reason."""
@@ -105,9 +106,11 @@ def prepare(plant):
 
 def write_down(plant, turn):
     """Makes a turn durable. A stop before turn.json is there leaves the files as they were, and no turn."""
-    with open(plant.path(WORK, "rows.csv"), "w") as out:
+    with open(plant.path(WORK, "rows.csv"), "wb") as out:
         for name, wanted in turn.tags.items():
+            begin = out.tell()
             write_rows(out, name, turn.values, 0, wanted["rows"])
+            turn.spans[name] = begin, out.tell()
         out.flush()
         os.fsync(out.fileno())
     for folder in (os.path.join(WORK, "refused"), WORK):
@@ -121,7 +124,7 @@ def write_rows(out, name, values, first, count):
     times, numbers = values.of(name)
     for start in range(first, first + count, 100_000):
         end = min(first + count, start + 100_000)
-        out.write("".join([f"{name},{t},{v}\n" for t, v in zip(times[start:end], numbers[start:end])]))
+        out.write("".join([f"{name},{t},{v}\n" for t, v in zip(times[start:end], numbers[start:end])]).encode())
 
 
 def write_refused(plant, name, rows, separator):
@@ -187,9 +190,14 @@ def write_plan(plant, turn, part):
         shares[least].append(name)
         sums[least] += size[name]
     for number, share in enumerate(shares):
-        with open(plant.path(WORK, "%d.csv" % number), "w") as out:
+        with open(plant.path(WORK, "%d.csv" % number), "wb") as out, open(plant.path(WORK, "rows.csv"), "rb") as written:
             for name in share:
-                write_rows(out, name, turn.values, *part[name])
+                if name in turn.spans and part[name] == (0, turn.tags[name]["rows"]):
+                    begin, end = turn.spans[name]
+                    written.seek(begin)
+                    out.write(written.read(end - begin))
+                else:
+                    write_rows(out, name, turn.values, *part[name])
     with open(plant.path(WORK, "plan.toml"), "w") as out:
         out.writelines('[[collector]]\nfile = "%s/%d.csv"\n' % (WORK, number) for number in range(len(shares)))
     return WORK + "/plan.toml"

@@ -1,5 +1,5 @@
 #!/usr/bin/env python3
-"""run.py [PROGRAM] [--values N] [--tags N] [--runs N]: what it costs to store a plant's values in order of time, and grouped by tag.
+"""run.py [PROGRAM] [--values N] [--tags N] [--runs N] [--only WAY]: what it costs to store a plant's values in order of time, and grouped by tag.
 
 PROGRAM is a built historian (crates/historian/out/historian, after `rt run` there). A million values of 1,000 tags, each tag once a
 second, are stored in five ways. The devices of the tags exist already and hold nothing.
@@ -9,15 +9,16 @@ second, are stored in five ways. The devices of the tags exist already and hold 
 - `log`, with the rows in order of time: one device for all tags.
 - SQLite, with the rows in order of time: commits of 64, with a write-ahead log and full synchronous.
 
-It prints for each: the median of the seconds (three runs), values a second, syncs and syncs a value, and bytes on disk a value. The last
-column is the bytes of the records alone, without the fixed part of each device. Syncs are counted by strace in one more run; without
-strace there is `-`. The files lie in a temporary folder in BENCH_DIR, or in /var/tmp. It runs by hand, never as a test, with all
-processors free."""
+It prints for each: the medians of the seconds and of the processor's seconds (three runs), values a second, syncs and syncs a value, and
+bytes on disk a value. The last column is the bytes of the records alone, without the fixed part of each device. Syncs are counted by strace
+in one more run; without strace there is `-`. The files lie in a temporary folder in BENCH_DIR, or in /var/tmp. It runs by hand, never as a
+test, with all processors free; while the machine has other work, the processor's seconds say more."""
 import argparse
 import datetime
 import os
 import random
 import re
+import resource
 import shutil
 import sqlite3
 import statistics
@@ -76,14 +77,20 @@ def lay(folder, values):
                                                for second in range(seconds) for tag in range(tags)))
 
 
+def processor():
+    """The seconds that the commands which have ended took of a processor."""
+    used = resource.getrusage(resource.RUSAGE_CHILDREN)
+    return used.ru_utime + used.ru_stime
+
+
 def timed(words, folder):
-    """The seconds of a command that has to end well."""
-    start = time.perf_counter()
+    """The seconds of a command that has to end well, and those of the processor."""
+    start, before = time.perf_counter(), processor()
     child = subprocess.run(words, cwd=folder, capture_output=True)
     took = time.perf_counter() - start
     if child.returncode:
         sys.exit("%s: %s" % (words, (child.stdout + child.stderr).decode()[-600:]))
-    return took
+    return took, processor() - before
 
 
 def fresh(program, folder):
@@ -137,22 +144,24 @@ def in_database(folder, under=()):
     return float(subprocess.run(words, cwd=folder, stdout=subprocess.PIPE, check=True).stdout)
 
 
-def show(name, count, took, calls, size, records):
+def show(name, count, took, used, calls, size, records):
     """Prints a line of the table."""
     shown = "%9s %7s" % ("-", "-") if calls is None else "%9d %7.3f" % (calls, calls / count)
-    print("%-34s %8.2f %9.0f %s %8.1f %8s" % (name, took, count / took, shown, size / count,
-                                              "-" if records is None else "%.1f" % (records / count)), flush=True)
+    print("%-34s %8.2f %9s %9.0f %s %8.1f %8s" % (name, took, "-" if used is None else "%.2f" % used, count / took, shown, size / count,
+                                                  "-" if records is None else "%.1f" % (records / count)), flush=True)
 
 
-def measure(program, folder, count, runs):
-    """Measures each way, and prints the table."""
+def measure(program, folder, count, runs, only):
+    """Measures each way whose name begins so, and prints the table."""
     feed = [sys.executable, os.path.join(ROOT, "tools", "feed.py"), "--program", program]
     ways = [("run, in order of time", [program, "run", "base.toml", "time.toml"]),
             ("run, grouped by tag", [program, "run", "base.toml", "tag.toml"]),
             ("feed.py, from ISO times to done/", feed),
             ("log, in order of time", [program, "log", "base.toml", "time.toml"])]
-    print("%-34s %8s %9s %9s %7s %8s %8s" % ("", "seconds", "values/s", "syncs", "a value", "bytes", "records"))
+    print("%-34s %8s %9s %9s %9s %7s %8s %8s" % ("", "seconds", "processor", "values/s", "syncs", "a value", "bytes", "records"))
     for name, words in ways:
+        if not name.startswith(only):
+            continue
         took = []
         for _ in range(runs):
             fresh(program, folder)
@@ -161,11 +170,18 @@ def measure(program, folder, count, runs):
         if words[1] == "log":
             total, records = os.path.getsize(os.path.join(folder, "historian.d", "plant.log")), None
         fresh(program, folder)
-        show(name, count, statistics.median(took), syncs(folder, lambda under: timed(under + words, folder)), total, records)
+        seconds, used = map(statistics.median, zip(*took))
+        show(name, count, seconds, used, syncs(folder, lambda under: timed(under + words, folder)), total, records)
+    if "SQLite".startswith(only):
+        measure_database(folder, count, runs)
+
+
+def measure_database(folder, count, runs):
+    """Measures SQLite, and prints its line."""
     took = statistics.median(in_database(folder) for _ in range(runs))
     size = sum(os.path.getsize(os.path.join(folder, name)) for name in os.listdir(folder) if name == "plain.db")
     calls = syncs(folder, lambda under: in_database(folder, under))
-    show("SQLite, commits of 64", count, took, calls, size, None)
+    show("SQLite, commits of 64", count, took, None, calls, size, None)
 
 
 def main():
@@ -176,6 +192,7 @@ def main():
     parser.add_argument("--values", type=int, default=1_000_000)
     parser.add_argument("--tags", type=int, default=1_000)
     parser.add_argument("--runs", type=int, default=3)
+    parser.add_argument("--only", default="", metavar="WAY", help="only the ways whose names in the table begin so")
     given = parser.parse_args()
     seconds = given.values // given.tags
     with tempfile.TemporaryDirectory(dir=os.environ.get("BENCH_DIR", "/var/tmp")) as folder:
@@ -183,7 +200,7 @@ def main():
         lay(plant, walks(given.tags, seconds))
         print("%d values of %d tags, %d collectors, medians of %d; load %.1f on %d processors" % (
             seconds * given.tags, given.tags, COLLECTORS, given.runs, os.getloadavg()[0], os.cpu_count()))
-        measure(os.path.abspath(given.program), plant, seconds * given.tags, given.runs)
+        measure(os.path.abspath(given.program), plant, seconds * given.tags, given.runs, given.only)
 
 
 if __name__ == "__main__":

@@ -120,12 +120,20 @@ def refuses_to_put_back(folder, program, settings):
 
 def put_back_elsewhere(folder, program, settings):
     """The plant's disk is lost but for done/. A copy on another disk and done/ make the plant again in an empty folder."""
-    trial, wanted, copy = lived_in(folder, program)
+    trial, wanted, _ = lived_in(folder, program)
+    trial.write("calendar.toml", "zone")
+    trial.write("feed.toml", 'calendar = "calendar.toml"\n' + trial.read("feed.toml"))
+    copy = os.path.basename(trial.fed("--backup").strip())
+    trial.write("inbox/x.csv", "LIC4.PV,2024-03-30T00:00:00Z,1\n")
+    trial.fed()
+    wanted = trial.answers()
     other = Trial(os.path.join(folder, "b"), program)
     for name in ("base.toml", "feed.toml"):
         os.remove(other.path(name))
+    os.rmdir(other.path("inbox"))
     shutil.copytree(trial.path("done"), other.path("done"))
-    assert "turns up to turn 5 are made again" in other.fed("--restore", trial.path("backup", copy))
+    assert "1 turns up to turn 6 are made again" in other.fed("--restore", trial.path("backup", copy))
+    assert other.read("calendar.toml") == "zone" and other.fed() == ""
     other.write("base.toml", base_text(comp_dev=4))
     check_same(other.answers(), wanted, "put back in another folder")
 
@@ -144,6 +152,19 @@ def verified_copy_is_put_back(folder, program, settings):
     with open(os.path.join(place, "historian.d/LIC4.PV.tag"), "ab") as device:
         device.write(b"Q")
     assert trial.tool("feed.py", "--verify", place)[0] == 21
+
+
+def by_hand_is_not_made_again(folder, program, settings):
+    """Values that were stored by hand and sealed are in no turn. A restore says which tag lacks them, and its exit status does."""
+    trial, _, copy = lived_in(folder, program)
+    trial.store_by_hand([(1_711_900_000_000, "LIC4.PV", 5), (1_711_900_001_000, "LIC4.PV", 50)])
+    trial.fed("--seal")
+    trial.write("inbox/x.csv", "LIC4.PV,2024-04-02T00:00:00Z,1\n")
+    trial.fed()
+    trial.write("feed.toml", 'on_trouble = "sh -c \'echo \\"$0\\" > called\'"\n' + trial.read("feed.toml"))
+    text, told = trial.fed("--restore", copy, ends=21), "after turn 6 LIC4.PV has "
+    assert told in text and "somebody stored values by hand then" in text and "the plant is put back from" in text, text
+    assert text.count("somebody stored") == 1 and trial.read("called").startswith(told), (text, trial.read("called"))
 
 
 def stopped_while_put_back(folder, program, settings):
@@ -250,12 +271,27 @@ def grows(folder, program, settings):
     append(trial, "0,1.5\nsoon,1,1\n3000,5,")
     text = trial.fed(ends=REFUSED)
     assert "turn 2: 1 files, 2 values of 2 tags stored, 2 refused" in text and "log1.csv: 2 rows, first row 4" in text, text
+    assert "all 2 are in refused/000002/again-log1.csv; correct them there" in text, text
     append(trial, "1.7\n")
     assert "turn 3: 1 files, 2 values" in trial.fed()
     assert os.listdir(trial.path("inbox")) == ["log1.csv"] and trial.read("done/000003/log1.csv") == "3000,5,1.7\n"
     os.rename(trial.path("refused/000002/again-log1.csv"), trial.path("inbox/again-log1.csv"))
     assert "turn 4: 1 files, 0 values of 0 tags stored, 2 refused" in trial.fed(ends=REFUSED)
     check_same(trial.by_hand("check", "base.toml").split("LIC4.PV ")[1][:8], "taken=3 ", "a growing file")
+
+
+def folder_is_missing(folder, program, settings):
+    """A growing file may stand elsewhere. If its folder is not there, the feeder says so each time, and feeds what there is."""
+    trial = Trial(os.path.join(folder, "a"), program)
+    trial.write("feed.toml", trial.read("feed.toml") + GROWS + 'folder = "%s/share"\n' % folder)
+    trial.write("inbox/x.csv", "LIC4.PV,1000,5\n")
+    for _ in range(2):
+        text = trial.fed(ends=REFUSED)
+        assert "there is no folder %s/share, so nothing is taken of log*.csv: mount its disk" % folder in text, text
+    assert "turn 1: 1 files, 1 values" not in text and "1 files stay in the inbox" in trial.feed("--status")[1]
+    os.mkdir(os.path.join(folder, "share"))
+    trial.write(os.path.join(folder, "share/log1.csv"), "LIC4.PV,2000,50\n")
+    assert trial.fed() == "turn 2: 1 files, 1 values of 1 tags stored, 0 refused\n"
 
 
 def beginning_has_changed(folder, program, settings):
@@ -271,6 +307,76 @@ def beginning_has_changed(folder, program, settings):
             assert "inbox/log1.csv: it no longer begins with the 31 bytes that were taken of it" in said, said
         os.rename(trial.path("inbox/log1.csv"), trial.path("inbox/log2.csv"))
         assert ("turn 3: 1 files" in trial.fed()) == bool(text)
+
+
+def grown_files(trial, texts):
+    """Makes growing files be these, each with a new inode if it has other bytes now, and feeds them: what the feeder says."""
+    for name in [name for name in os.listdir(trial.path("inbox")) if name.startswith("log")]:
+        if name not in texts or trial.read("inbox/" + name) != texts[name]:
+            os.remove(trial.path("inbox", name))
+    for name, text in texts.items():
+        if not os.path.exists(trial.path("inbox", name)):
+            trial.write("inbox/" + name, text)
+    return trial.feed()[1]
+
+
+def files_that_get_other_names(folder, program, settings):
+    """A program begins a new file and gives the old one another name, once or in a chain, by renaming or by copying. Each line is stored once,
+    and in its order. A copy of a file that is still there is refused."""
+    lines = ["time,LIC4.PV\n"] + ["%d,%d\n" % (1000 * n, n % 9 * 10) for n in range(1, 100)]
+
+    def text(first, last):
+        return "".join(lines[:1] + lines[first:last])
+    for old in ("log0.csv", "log9.csv"):  # in the order of names before and behind the new one
+        trial = grown_plant(os.path.join(folder, old), program)
+        assert "19 values" in grown_files(trial, {"log5.csv": text(1, 20)})
+        said = grown_files(trial, {old: text(1, 30), "log5.csv": text(30, 40)})
+        assert "inbox/%s is the file that was inbox/log5.csv: it goes on there\n" % old in said, said
+        assert "20 values of 1 tags stored, 0 refused\n" in said, said
+        assert grown_files(trial, {old: text(1, 30), "log5.csv": text(30, 40)}) == ""
+    said = grown_files(trial, {"log7.csv": text(1, 30), "log9.csv": text(30, 45), "log5.csv": text(45, 60)})
+    assert said.count("it goes on there") == 2 and "20 values of 1 tags stored, 0 refused\n" in said, said
+    with open(trial.path("inbox/log8.csv"), "w") as out:  # the old file is copied, and then cut to nothing
+        out.write(text(45, 61))
+    with open(trial.path("inbox/log5.csv"), "r+") as log:
+        log.truncate(0)
+    said = trial.fed()
+    assert "inbox/log8.csv is the file that was inbox/log5.csv" in said and "1 values of 1 tags stored, 0 refused\n" in said, said
+    append(trial, text(61, 99), "inbox/log5.csv")
+    assert "38 values of 1 tags stored, 0 refused\n" in trial.fed() and trial.fed() == ""
+    shutil.copy(trial.path("inbox/log5.csv"), trial.path("inbox/log6.csv"))
+    for count in (0, 1):  # it stays a copy also when the file goes on
+        append(trial, "%d,7\n" % (400_000 + count) * count, "inbox/log5.csv")
+        said = trial.fed(ends=REFUSED)
+        assert "inbox/log6.csv: it is a copy of inbox/log5.csv, so its rows would be stored twice: remove it" in said, said
+    os.remove(trial.path("inbox/log6.csv"))
+    for name, begin in (("log3.csv", ""), ("log4.csv", lines[0])):  # no bytes, or the same header alone are no sign
+        trial.write("inbox/" + name, begin)
+        said = trial.fed()
+        assert "copy" not in said and "it goes on there" not in said, said
+    append(trial, "500000,7\n", "inbox/log4.csv")
+    assert "1 values of 1 tags stored" in trial.fed()
+    check_same(trial.by_hand("check", "base.toml").split("LIC4.PV ")[1].split(" ", 1)[0], "taken=100", "files with other names")
+    assert " late=0 " in trial.by_hand("check", "base.toml").split("LIC4.PV ")[1]
+
+
+def renamed_and_stopped(folder, program, settings):
+    """The feeder is killed at its calls in the turn that finds a growing file under another name, which has nothing new."""
+    if not shutil.which("strace"):
+        return "no strace here: not tried"
+    trial, kills = grown_plant(os.path.join(folder, "a"), program), 0
+    append(trial, "LIC4.PV,1000,5\n")
+    trial.fed()
+    os.rename(trial.path("inbox/log1.csv"), trial.path("inbox/log2.csv"))
+    wanted = trial.answers()
+
+    def goes_on():
+        append(trial, "LIC4.PV,2000,5\n")
+        append(trial, "LIC4.PV,3000,5\n", "inbox/log2.csv")
+        assert "2 values of 1 tags stored, 0 refused" in trial.fed() and trial.fed() == ""
+    for call, numbers in [(call, range(1, 1000)) for call in FEEDER_CALLS] if settings.long else [("fsync", [3]), ("rename", [2])]:
+        kills += stop_at_each(trial, wanted, numbers, lambda number: trial.feed(under=strace(call, number)), goes_on)
+    return "%d kills" % kills
 
 
 def long_growing(folder, program):
@@ -316,6 +422,6 @@ def growing_is_put_back(folder, program, settings):
     assert json.loads(trial.read("feed.d/grown"))["inbox/log1.csv"]["bytes"] == os.path.getsize(trial.path("inbox/log1.csv"))
 
 
-CASES = [put_back, put_back_until, refuses_to_put_back, put_back_elsewhere, verified_copy_is_put_back, stopped_while_put_back,
-         killed_while_put_back, backups_and_turns_are_pruned, grows, beginning_has_changed, growing_stopped_at_its_calls,
-         growing_killed_at_random, growing_is_put_back]
+CASES = [put_back, put_back_until, refuses_to_put_back, put_back_elsewhere, verified_copy_is_put_back, by_hand_is_not_made_again,
+         stopped_while_put_back, killed_while_put_back, backups_and_turns_are_pruned, grows, folder_is_missing, beginning_has_changed,
+         files_that_get_other_names, renamed_and_stopped, growing_stopped_at_its_calls, growing_killed_at_random, growing_is_put_back]

@@ -192,11 +192,14 @@ def feed_on_the_board(folder, program, settings):
     trial.fed(ends=REFUSED)
     shutil.copy(trial.path("done/000001/00-a.csv"), trial.path("inbox/again.csv"))
     trial.fed()
+    trial.write("feed.toml", trial.read("feed.toml") + '[[source]]\npattern = "lab*.csv"\nseparator = ";"\n')
+    trial.write("inbox/lab.csv", "tag;time;value;quality\nLIC4.PV;1000;5;Bad\nFIC1.PV;2000;5;Bad\n")
+    trial.fed(ends=REFUSED)
     backup = trial.fed("--backup").strip()
     assert trial.tool("audit.py")[0] == 0
     written(trial)
     feed = data_of(trial.path("board/data/plant.js"))["feed"]
-    assert feed["refused"] == {"rows": 2, "files": 1} and feed["folder"] == "../refused" and feed["turn"]["number"] == 2, feed
+    assert feed["refused"] == {"rows": 4, "files": 1} and feed["folder"] == "../refused" and feed["turn"]["number"] == 3, feed
     assert feed["seals"]["good"] and feed["unfinished"] is None and feed["waiting"] == 0
     assert backup.endswith(re.sub(r"[:.]000|:", "", iso(feed["backup"] - 3_600_000)[:19]) + "Z"), (backup, feed["backup"])
     assert {each["tag"] for each in data_of(trial.path("board/data/audit.js"))} >= set(LINES)

@@ -5,15 +5,18 @@ moment may leave them, and feeds each to the end. It has to be the plant of an u
 
 A file has all that was synced by that moment. A later write is missing, whole, in part, or zeros. Names are made, moved and
 removed in the order of the calls: all those before the last sync of their folder, and some of the later ones."""
+import json
 import os
 import random
 import re
 import shutil
 
+from again import lived_in, long_growing
 from kills import edited_blocks
+from plant import bytes_of
 from trial import Trial, check_put_away, check_same, expected, two_blocks, wait_for_orphans
 
-NAMES = ("rename", "unlink", "unlinkat", "rmdir", "mkdir")
+NAMES = ("rename", "link", "unlink", "unlinkat", "rmdir", "mkdir")
 TRACED = "openat,write,pwrite64,sendfile,ftruncate,fsync,fdatasync," + ",".join(NAMES)
 LINE = re.compile(r"(\d+\.\d+) (\w+)\((.*)\) += (\d+)(?:<(.*?)>)? <([\d.]+)>$")
 HEXES = re.compile(r'[<"]((?:\\x..)*)[>"]')
@@ -93,7 +96,7 @@ class Disk:
         elif kind == "openat" and "O_TRUNC" in given:
             file.writes.append((begin, end, 0, None))
         elif kind in NAMES:
-            self.move(begin, kind, names[0], names[1] if kind == "rename" else None)
+            self.move(begin, kind, names[0], names[1] if kind in ("rename", "link") else None)
         elif kind in ("fsync", "fdatasync"):
             (self.syncs if file is None else file.syncs).append((begin, end) if file else (names[0], begin, end))
         elif kind in ("write", "pwrite64"):
@@ -127,30 +130,36 @@ class Disk:
         tree, least = dict(self.first), min(begun, self.synced_moves(moment))
         for _, kind, name, what in self.moves[:draw.choice((least, begun, draw.randint(least, begun)))]:
             change(tree, kind, name, what)
+        images = {}  # by the file: one with two names has the same bytes under both
         for name in sorted(tree):
-            if tree[name] is None:
+            file = tree[name]
+            if file is None:
                 os.makedirs(os.path.join(folder, name), exist_ok=True)
-            else:
-                with open(os.path.join(folder, name), "wb") as out:
-                    out.write(tree[name].image(moment, draw))
+                continue
+            if id(file) not in images:
+                images[id(file)] = file.image(moment, draw)
+            with open(os.path.join(folder, name), "wb") as out:
+                out.write(images[id(file)])
 
 
 def change(tree, kind, name, what):
     """Makes a change of names: `what` is a new file, None for a new folder, or the name that another one gets."""
     if kind == "rename":
         tree[what] = tree.pop(name)
+    elif kind == "link":
+        tree[what] = tree[name]
     elif kind in ("make", "mkdir"):
         tree[name] = what
     else:
         del tree[name]
 
 
-def recorded(trial):
-    """Runs a feed under strace, which has to end well: all that it did."""
+def recorded(trial, *words):
+    """Runs a feed, or what these words ask for, under strace; it has to end well: all that it did."""
     disk, trace = Disk(trial.folder), trial.folder + ".trace"
     os.makedirs(trace)
     under = ["strace", "-ff", "-ttt", "-T", "-y", "-xx", "-s", "10000000", "-e", "trace=" + TRACED, "-o", os.path.join(trace, "of")]
-    status, text = trial.feed(under=under)
+    status, text = trial.feed(*words, under=under)
     assert status == 0, (status, text)
     calls = []
     for name in os.listdir(trace):
@@ -201,4 +210,51 @@ def power_cut_while_retuning(folder, program, settings):
     return cut(folder, program, settings, edited_blocks)
 
 
-CASES = [power_cut, power_cut_on_new_plant, power_cut_while_retuning]
+def cuts_of(trial, settings, *words):
+    """Makes plants as cuts leave them while a feed, or what these words ask for, is done: gives the number of each, and what was done."""
+    disk, draw = recorded(trial, *words), random.Random(settings.seed)
+    for place in range(max(4, settings.kills // 3)):
+        shutil.rmtree(trial.folder)
+        disk.build(trial.folder, draw)
+        wait_for_orphans(trial)
+        yield place + 1, disk
+
+
+def power_cut_while_put_back(folder, program, settings):
+    """The power is cut while a plant is put back. The next feed goes on with it, the archive is that from before, and what stood there is
+    still there."""
+    if not shutil.which("strace"):
+        return "no strace here: not tried"
+    trial, wanted, copy = lived_in(folder, program)
+    old = {name: bytes_of(trial.path("historian.d", name)) for name in os.listdir(trial.path("historian.d")) if name != "feed.lock"}
+    begun = 0
+    for number, disk in cuts_of(trial, settings, "--restore", copy):
+        what = "cut %d (seed %d)" % (number, settings.seed)
+        begun += os.path.exists(trial.path("feed.d/restore.json"))
+        trial.fed()
+        check_same(trial.answers("feed.d/base.toml"), wanted, what)
+        assert "each as the last turn left it" in trial.fed("--verify") and not os.path.exists(trial.path("feed.d/restore.json")), what
+        place = "replaced/000001/historian.d" if os.path.exists(trial.path("replaced/000001/historian.d/FIC1.PV.tag")) else "historian.d"
+        assert {name: bytes_of(trial.path(place, name)) for name in old} == old, what
+    assert begun, "no cut met the restore"
+    return "%d cuts of a restore with %d calls, %d left it unfinished" % (number, disk.calls, begun)
+
+
+def power_cut_while_it_grows(folder, program, settings):
+    """The power is cut while the new lines of a growing file are fed. Each line is stored once, and what is taken of the file is synced before
+    it counts as taken: so the file still begins with it."""
+    if not shutil.which("strace"):
+        return "no strace here: not tried"
+    trial, wanted = long_growing(folder, program)
+    name, size = "inbox/log1.csv", os.path.getsize(trial.path("inbox/log1.csv"))
+    for number, disk in cuts_of(trial, settings):
+        what = "cut %d (seed %d)" % (number, settings.seed)
+        trial.fed()
+        check_same(trial.answers(), wanted, what)
+        assert trial.fed() == "" and json.loads(trial.read("feed.d/grown"))[name]["bytes"] == os.path.getsize(trial.path(name)) == size, what
+    begins = min(begin for begin, kind, _, target in disk.moves if kind == "rename" and target == "feed.d/turn.json")
+    assert [end for _, end in disk.first[name].syncs if end < begins], "the growing file was not synced"
+    return "%d cuts of a feed with %d calls" % (number, disk.calls)
+
+
+CASES = [power_cut, power_cut_on_new_plant, power_cut_while_retuning, power_cut_while_put_back, power_cut_while_it_grows]

@@ -264,14 +264,17 @@ def said_each_time(folder, program, settings):
 
 
 def no_csv_at_all(folder, program, settings):
-    """Bytes that are no text, other separators and another header are refused row by row, and a hint says why."""
+    """Bytes that are no text are refused row by row. A file with another separator or another header goes to refused/ as it is. A hint says
+    why."""
     trial = Trial(os.path.join(folder, "a"), program)
     with open(trial.path("inbox/a.csv"), "wb") as out:
         out.write(b"\0\xff" + b"x" * 300_000 + b'\n"' + b"y" * 300_000 + b'"\nLIC4.PV,1000,5\n')
-    trial.write("inbox/b.csv", "tag;time;value\nLIC4.PV;2000;5\n")
-    trial.write("inbox/c.csv", "DateTime,LIC4.PV\n2024-03-29T00:00:00Z,5\n")
+    whole = {"b.csv": "tag;time;value\nLIC4.PV;2000;5\n", "c.csv": "DateTime,LIC4.PV\n2024-03-29T00:00:00Z,5\n"}
+    for name, rows in whole.items():
+        trial.write("inbox/" + name, rows)
     text = trial.fed(ends=REFUSED)
-    assert "1 values of 1 tags stored, 6 refused" in text, text
+    assert "1 values of 1 tags stored, 4 refused" in text and "all 1 rows of b.csv" in text, text
+    assert {name: trial.read("refused/000001/" + name) for name in whole} == whole
     assert "1 fields, not 3: is `separator` in feed.toml right?" in text and "A wide file's header begins with `time`" in text, text
     assert max(map(len, text.splitlines())) < 400, text
 

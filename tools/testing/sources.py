@@ -26,7 +26,8 @@ def settings_of(folder, text):
 def read(folder, toml, text, name="x.csv", latest=LATEST):
     """The values of each tag, and the refusals as row number and reason, of a file with this text."""
     values = rows.Values()
-    refused = rows.read_values(text.encode(), TAGS, settings_of(folder, toml), latest, values, name)
+    known = settings_of(folder, toml)
+    refused = rows.read_values(text.encode(), TAGS, known, latest, values, known.source_of(name))
     return ({tag: list(zip(*arrays)) for tag, arrays in values.tags.items() if len(arrays[0])},
             [(number, reason) for _, _, _, number, reason in refused])
 
@@ -44,6 +45,11 @@ def headers(folder, program, options):
                       ("A,time\n5,1000\n", "has the time in column 2")):
         values, refused = read(folder, "", text)
         assert values == {} and len(refused) == 1 and why in refused[0][1], (text, refused)
+    for text, why in (("A;1000;5\nB;1000;5\n", "1 fields, not 3: is `separator` in feed.toml right?"), ('A,1000,"5\n', "a quote is not closed"),
+                      ("time,A,B\n1000,5\n\n2000,5\n", "2 fields, and the header has 3")):
+        values, refused = read(folder, "", text)
+        assert values == {} and len(refused) == 1 and refused[0][1].startswith(why), (text, refused)
+    assert [number for number, _ in read(folder, "", "A,1000\nNOBODY,1000,5\n")[1]] == [1, 2]
     for quality_text in ("Bad", "", "0"):
         assert read(folder, "", "tag,time,value,quality\nA,1000,5,%s\n" % quality_text)[1][0][1].startswith("its quality is not good")
     assert "the base has no tag" in read(folder, "", "time,A,X\n1000,5,6\n")[1][0][1]
@@ -68,6 +74,10 @@ def sources_are_read(folder, program, options):
     assert read(folder, toml, "A,1000,5\n", "no-room.csv") == ({"A": [(1000, 5)]}, [])
     wide = "a\nb\nZeit;TI-1 (degC);Notiz\n30.03.2024 10:00:00;86,95;hot\n"
     assert read(folder, toml, wide, "unit2.csv") == ({"B": [(1_711_789_200_000, 8695)]}, [])
+    for header, why in (("Zeitt;Stelle;Wert;Status", "no column 'Zeit', which has the time"), ("Zeit;Stelle;Wert", "no column 'Status', which `columns`"),
+                        ("Zeit;Stelle;Wertt;Status", "a column 'tag', but not all of tag, time and value")):
+        values, refused = read(folder, toml, "a\nb\n%s\n30.03.2024 10:00:00;A;7;gut\n" % header, "unit2.csv")
+        assert values == {} and len(refused) == 1 and why in refused[0][1], (header, refused)
     assert "no time of the form" in read(folder, toml, "a\nb\nZeit;A\n2024-03-30T10:00:00Z;1\n", "unit2.csv")[1][0][1]
 
 

@@ -110,7 +110,7 @@ def many_refused_rows(folder, program, settings):
     file's refused rows has a bound."""
     trial = fresh(folder, program)
     rows = 1_000_000 if settings.long else 100_000
-    trial.write("inbox/a.csv", "x\n" * rows)
+    trial.write("inbox/a.csv", "x\n" * rows + "NOBODY,1000,1\n")
     trial.write("inbox/b.csv", "time," + ",".join("N%d" % n for n in range(100)) + ",LIC4.PV\n" + ("1000" + ",1" * 101 + "\n") * 2_000)
     trial.write("inbox/z.csv", "PIC5.PV,1000,5\n")
     limit = "import os, resource, sys; resource.setrlimit(resource.RLIMIT_AS, (400_000_000, -1)); os.execv(sys.argv[1], sys.argv[1:])"
@@ -119,7 +119,7 @@ def many_refused_rows(folder, program, settings):
     assert "b.csv: 2,000 rows, first row 2: N0: the base has no tag 'N0'" in text and len(text.splitlines()) < 20, text
     assert "2001 values of 2 tags stored" in text, text
     small = fresh(folder, program, "b")
-    small.write("inbox/a.csv", "x\n" * 50_000)
+    small.write("inbox/a.csv", "NOBODY,1000,1\n" + "x\n" * 50_000)
     with printed() as said, unittest_patch(turns, "REFUSED_BYTES", 10_000):
         import feed
         assert feed.feed(Plant(small.folder, program), None, 5) == REFUSED

@@ -78,6 +78,27 @@ def tunings_of_a_stair(folder, program, settings):
     assert " records=%s " % lines[30, 10]["records"] in line, (line, lines[30, 10])
 
 
+def samples_of_sources(folder, program, settings):
+    """A sample is read as its source says: also one that a turn left in done/ of a growing file, without a header. Rows that cannot be read are
+    left out, and draw.py says so too."""
+    trial = sample_plant(folder, program, "FIC1.PV", [])
+    trial.write("feed.toml", trial.read("feed.toml") + '[[source]]\npattern = "day*.csv"\nseparator = ";"\ndecimal = ","\n'
+                '[[source]]\npattern = "log*.csv"\nseparator = ";"\nfolder = "logs"\ngrows = true\n')
+    os.mkdir(trial.path("logs"))
+    for first in (0, 40):
+        with open(trial.path("logs/log.csv"), "a") as out:
+            out.write("time;FIC1.PV;LIC4.PV\n" * (first == 0) + "".join("%d;%d.5;7\n" % (1000 * n, n % 5) for n in range(first, first + 40)))
+        trial.fed()
+    trial.write("day1.csv", "".join("FIC1.PV;%d;%d,5\n" % (1000 * n, n % 5) for n in range(80)) + "FIC1.PV;soon;1\n")
+    lines = trial.tool("tune.py", "FIC1.PV", "day1.csv")[1].replace("day1.csv: ", "log.csv: ").splitlines()
+    assert [line for line in lines if line.startswith("tune.py: 1 rows cannot be read and are left out; row 81: no ISO time")], lines
+    status, text = trial.tool("tune.py", "FIC1.PV", "done/000001/log.csv", "done/000002/log.csv")
+    assert status == 0 and text.splitlines() == [line for line in lines if not line.startswith("tune.py")] and "80 values in 1min 19s" in text, text
+    status, text = trial.tool("draw.py", "FIC1.PV", "0", "79000", "x.svg", "--raw", "day1.csv")
+    assert status == 0 and text.startswith("draw.py: 1 rows cannot be read and are left out; row 81: no ISO time"), text
+    assert "raw values" in trial.read("x.svg")
+
+
 def tuning_in_words(folder, program, settings):
     """tune.py says in a line what is wrong with its words or its sample, and how many rows it cannot read."""
     trial = sample_plant(folder, program, "FIC1.PV", [1, 2, 3])
@@ -130,4 +151,4 @@ def package_feeds_the_example(folder, program, settings):
     assert status.returncode == 22 and "there is no program /nowhere" in status.stderr, status.stderr
 
 
-CASES = [tunings_of_a_sample, tunings_of_a_stair, tuning_in_words, package_feeds_the_example]
+CASES = [tunings_of_a_sample, tunings_of_a_stair, samples_of_sources, tuning_in_words, package_feeds_the_example]
