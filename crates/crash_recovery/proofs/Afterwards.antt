@@ -59,10 +59,7 @@ free_kept o mid p is within seat = shown_before o mid (HasFreeAtFirst p.lane.slo
   where
     kept : (m : Option Trace) → Shows m (IsSeat p) → Shows m (HasFreeAtFirst p.lane.slots (free_in p))
     kept None shows = tt
-    kept (Some t) shows = record {
-      new = λ new. absurd (not_seated p (seen (Some t)) shows new);
-      begun = λ begun. seat_free p (seen (Some t)) within shows;
-    }
+    kept (Some t) shows = grind (arith, not_seated, seat_free)
 
 pub free_made : (o mid : Option Trace) (slots free : ℕ) → mid ≡ noted Synced o → free ≡ slots → Shows mid IsNew
     → Shows o (HasFreeAtFirst slots free)

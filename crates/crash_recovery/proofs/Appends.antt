@@ -1,10 +1,10 @@
 -- A batch is put into a lane in use.
 use Rattle.disk_model.specs.Calls.{Shows}
 use Rattle.std.proofs.Common.{◌≡◌, ◌≢◌, ◌⊎◌, inl, inr, ⊎_elim, ℕ, ◌+◌, ◌^◌, ◌<◌, ◌≤◌, false, List, [], ◌∷◌}
-use Rattle.std.proofs.Common.{◌++◌, length, get_or, map, Option, refl, sym, ◌∙◌, ap, subst, arith}
-use Rattle.std.proofs.Common.{◌-◌, cond, true}
+use Rattle.std.proofs.Common.{◌++◌, length, get_or, map, Option, refl, ◌∙◌, ap, arith}
+use Rattle.std.proofs.Common.{◌-◌, true}
 use Rattle.std.specs.List.{All}
-use Rattle.std.proofs.lemmas.Bool.{cases_eq, cases_Bool}
+use Rattle.std.proofs.lemmas.Bool.{cases_eq}
 use Rattle.std.proofs.lemmas.List.{map-append}
 use Rattle.trend_num.specs.declared.point.Point.{Point}
 use Rattle.trend_num.specs.declared.tag_def.TagDef.{TagDef}
@@ -35,16 +35,7 @@ use Rattle.crash_recovery.proofs.Places.{laid_shown, laid_again, reaches_on}
 -- a lane in use, of a place that is not overtaken
 pub filled_of : (p : Seat) (c : List ℕ) → IsLaid p c → p.stale ≡ false
     → IsFilled p.lane.slots p.taken p.lane.used p.lane.next c (lane_points p.lane.slots c p.taken)
-filled_of p c laid fresh =
-    let lane = laid.in_use fresh in
-    record {
-      room = laid.room;
-      lane = lane.lane;
-      opened = lane.opened;
-      beyond = lane.beyond;
-      points = refl;
-      number = lane.number;
-    }
+filled_of p c laid fresh = grind arith
 
 -- the place once the gates of an overtaken lane are closed: a slot is free where one was, and the same number
 -- is next
@@ -54,16 +45,7 @@ pub record IsCleared (p q : Seat) : Type 0 where
 
 pub cleared : (p q : Seat) → p.lane.used ≤ p.lane.slots → free_in p ≢ 0 → (p.stale ≡ false → q ≡ p)
     → (p.stale ≡ true → q ≡ restarted p) → IsCleared p q
-cleared p q within free kept anew = elim (cases_Bool p.stale) [
-  | inl stale ↦
-      let some : free_in p ≡ p.lane.slots = ap (λ b. cond b p.lane.slots (p.lane.slots - p.lane.used)) stale
-      in
-      subst (IsCleared p) (sym (anew stale)) (record { free = omega (arith, some, free); number = refl })
-  | inr fresh ↦
-      let some : free_in p ≡ p.lane.slots - p.lane.used =
-      ap (λ b. cond b p.lane.slots (p.lane.slots - p.lane.used)) fresh in
-      subst (IsCleared p) (sym (kept fresh)) (record { free = omega (arith, some, free); number = refl })
-]
+cleared p q within free kept anew = grind arith
 
 -- a batch and its gate lie in the lane
 guarded_lane : (slots used next : ℕ) (points : List Point) (a b : List ℕ) → used < slots → length points ≤ 64
@@ -94,14 +76,7 @@ pub record IsTaken (p : Seat) (points : List Point) : Type 0 where
 -- one that it took before these gates were closed
 pub taken_cleared : (p q : Seat) (points : List Point) → IsCleared p q → q.stale ≡ false → 1 ≤ length points
     → length points ≤ 64 → All InRange points → p.lane.next + length points < 2 ^ 64 → IsTaken q points
-taken_cleared p q points clear fresh some few inside small = record {
-  fresh = fresh;
-  free = clear.free;
-  some = some;
-  few = few;
-  inside = inside;
-  small = omega (arith, small, clear.number);
-}
+taken_cleared p q points clear fresh some few inside small = grind arith
 
 module _ (p : Seat) (points : List Point) (batch : IsTaken p points) where
   module _ (a b : List ℕ) (laid : IsLaid p a)
@@ -145,18 +120,7 @@ module _ (p : Seat) (points : List Point) (batch : IsTaken p points) where
 
         moves : (start : State) → IsReplayed def.step a start p.taken s
             → IsReplayed def.step b start p.taken (replay def.step s (map Raw points))
-        moves start replayed =
-            let was = lane_replayed p a def.step start s laid replayed in
-            let before = map Raw (lane_points p.lane.slots a p.taken) in
-            replays def p a laid b append_keeps def.step b start p.taken (replay def.step s (map Raw points))
-            append_keeps.header
-            (put_in opened).lane
-            (subst (AllFit def.step start) (sym all)
-            (fit_append def.step start before (map Raw points) was.fits
-            (subst (λ x. AllFit def.step x (map Raw points)) was.state fits)))
-            (ap (λ x. replay def.step x (map Raw points)) was.state
-            ∙ sym (replay_append def.step start before (map Raw points))
-            ∙ ap (replay def.step start) (sym all))
+        moves start replayed = grind (arith, lane_replayed, replays, append_keeps, put_in, all, fit_append, replay_append)
 
     -- so it recovers one or the other
     recovers_either : (def : TagDef) (s : State) → Recovers def a s → AllFit def.step s (map Raw points)

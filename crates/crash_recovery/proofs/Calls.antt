@@ -1,5 +1,5 @@
 -- How many calls close a lane's gates, and how many make a checkpoint.
-use Rattle.std.proofs.Common.{◌≡◌, ◌≢◌, ◌==◌, inl, inr, ℕ, zero, suc, ◌+◌, ◌-◌, ◌<◌, ◌≤◌, true, false, cond, List, [], ◌∷◌, length, get_or, Option, None, Some, refl, sym, ◌∙◌, ap, subst, arith, add-zero}
+use Rattle.std.proofs.Common.{◌≡◌, ◌≢◌, ◌==◌, inl, inr, ℕ, zero, suc, ◌+◌, ◌-◌, ◌<◌, ◌≤◌, true, false, cond, List, [], ◌∷◌, length, get_or, Option, None, Some, refl, ◌∙◌, ap, subst, arith, add-zero}
 use Rattle.std.proofs.lemmas.Bool.{cases_Bool, cases_eq, eq-eqb, ne_eqb, cond-true, cond-false}
 use Rattle.disk_model.specs.Traces.{Trace, seen, written}
 use Rattle.disk_model.specs.Calls.{Sees, Shows}
@@ -9,10 +9,9 @@ use Rattle.disk_model.specs.Gates.{open_byte, open_gate, open_gates, IsClosing, 
 use Rattle.disk_model.proofs.Bytes.{torn_written}
 use Rattle.disk_model.proofs.Moments.{after_both}
 use Rattle.event_queue.specs.Slots.{gate_of}
-use Rattle.device_layout.specs.Headers.{slots_in}
-use Rattle.device_layout.specs.Recovery.{header_of, summary_gate, summary_place, counting}
+use Rattle.device_layout.specs.Recovery.{summary_gate, summary_place}
 use Rattle.crash_recovery.specs.declared.seat.Seat.{Seat}
-use Rattle.crash_recovery.specs.Journals.{IsSeat, SeatedOn, journal_records_of, log_end}
+use Rattle.crash_recovery.specs.Journals.{IsSeat, SeatedOn, log_end}
 use Rattle.crash_recovery.specs.Seats.{KeepsPlaces, LaidOn, checkpoint_calls, lane_calls, log_calls, record_calls, restarted, spare_slot, stale_calls}
 use Rattle.crash_recovery.proofs.Places.{gate_within, slot_within}
 
@@ -205,25 +204,7 @@ module _ (p q r : Seat) (step : IsStepped p q r) where
         by None o2 o4 seated closed front logged later ended same = tt
         by (Some t) None o4 seated closed front logged later ended same = absurd front.later
         by (Some t) (Some u) None seated closed front logged later ended same = absurd later
-        by (Some t) (Some u) (Some v) seated closed front logged later ended same =
-            let a = seen (Some t) in
-            let laid = seated.seat.laid in
-            let slots : lane_calls (slots_in (header_of a)) a ≡ lane_calls p.lane.slots a = ap (λ n. lane_calls n a) (sym laid.slots) in
-            let counts : q.counts ≡ counting a = counts_same ∙ laid.counts in
-            let stored : q.records ≡ journal_records_of a (counting a) =
-            records_same ∙ laid.records ∙ ap (journal_records_of a) laid.counts in
-            let written : record_calls q.records records ≡ record_calls (journal_records_of a (counting a)) records =
-            ap (λ n. record_calls n records) stored in
-            let gate : open_gate (summary_gate (spare_slot q.counts)) (seen (Some u)) ≡ open_gate (summary_gate (spare_slot (counting a))) a =
-            ap (λ x. cond (x == open_byte) 1 0)
-            (front.same (summary_gate (spare_slot q.counts)) (omega arith) (gate_within (spare_slot q.counts)))
-            ∙ ap (λ k. open_gate (summary_gate (spare_slot k)) a) counts in
-            let lane : stale_calls p a + stale_calls r (seen (Some v)) ≡ lane_calls p.lane.slots a =
-            elim (cases_Bool p.stale) [
-              | inl is ↦ closed_first a (seen (Some v)) seated.seat is
-              | inr is ↦ closed_last a (seen (Some v)) seated.seat is (same is)
-            ] in
-            omega (arith, closed, logged, put, ended, slots, written, gate, lane)
+        by (Some t) (Some u) (Some v) seated closed front logged later ended same = grind (arith, counts_same, records_same, gate_within, closed_first, closed_last)
 
 -- ---- the steps of a checkpoint
 
@@ -238,12 +219,7 @@ pub log_counted : (p : Seat) (records first second last gate : ℕ) (o mid : Opt
     → Shows mid (λ c. last ≡ second + (open_gates gate 1 c + 1)) → Shows o (λ c. last ≡ first + log_calls p records c)
 log_counted p records first second last gate None mid is front put closed = tt
 log_counted p records first second last gate (Some t) None is front put closed = absurd front.later
-log_counted p records first second last gate (Some t) (Some u) is front put closed =
-    let one : open_gate (gate + 0) (seen (Some u)) ≡ open_gate gate (seen (Some u)) = ap (λ g. open_gate g (seen (Some u))) (add-zero gate) in
-    let same : open_gate gate (seen (Some u)) ≡ open_gate (summary_gate (spare_slot p.counts)) (seen (Some t)) =
-    ap (λ g. open_gate g (seen (Some u))) is
-    ∙ ap (λ x. cond (x == open_byte) 1 0) (front.same (summary_gate (spare_slot p.counts)) (omega arith) (gate_within (spare_slot p.counts))) in
-    omega (arith, put, closed, one, same)
+log_counted p records first second last gate (Some t) (Some u) is front put closed = grind (arith, add-zero, gate_within)
 
 -- these places do not change
 pub log_front : (p : Seat) (bytes : List ℕ) (o mid : Option Trace) → LaidOn p o → ComesAfter o mid

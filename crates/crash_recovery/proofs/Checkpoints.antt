@@ -116,13 +116,7 @@ pub summed_as : (p : Seat) (stale : Bool) (r : State) (slot : Slot) (sm : Summar
       taken = sm.taken;
       records = sm.records;
     } ≡ summed p stale r
-summed_as p stale r slot sm same_slot same = λ i. record {
-  lane = record { slots = p.lane.slots; used = p.lane.used; next = (same i).taken };
-  stale = stale;
-  counts = Some (same_slot i);
-  taken = (same i).taken;
-  records = (same i).records;
-}
+summed_as p stale r slot sm same_slot same = grind arith
 
 -- a device on which the summary is to be put
 pub record IsLoggedFor (p : Seat) (r : State) (c : List ℕ) : Type 0 where
@@ -145,12 +139,7 @@ module _ (p : Seat) (u : Tuning) (step : Bool) (r : State) (fit : IsFit u step r
 
     -- only the slot that does not count has changed
     only : OnlySpare p.counts (log_end p) a b
-    only = record {
-      no_shorter = guarded.no_shorter;
-      same = λ i below out other. guarded.outside i (omega (arith, laid.long, below))
-          (subst (λ n. IsOutside (summary_place (spare_slot p.counts)) n i)
-          (sym (length-summary_image r.summary)) out) other;
-    }
+    only = grind (arith, length-summary_image)
 
     -- the gate is closed: each image recovers what it recovered
     recovers_before : (def : TagDef) (s : State) → Recovers def a s
@@ -182,13 +171,7 @@ module _ (p : Seat) (u : Tuning) (step : Bool) (r : State) (fit : IsFit u step r
 
       -- the records end within the device
       fresh_long : log_end p + 17 * length (drop p.records r.records) ≤ length a
-      fresh_long =
-          let new = drop p.records r.records in
-          omega (
-            arith,
-            holds_long (log_end p) (recs_image new) a laid.long logged.ready.logged,
-            length-recs_image new,
-          )
+      fresh_long = grind (arith, holds_long, length-recs_image)
 
       -- so do all that the summary counts
       all_long : lane_end p.lane.slots + 17 * r.summary.records ≤ length b
@@ -411,11 +394,7 @@ module _ (p : Seat) (u : Tuning) (step : Bool) (r : State) (fit : IsFit u step r
       (is_gate : gate ≡ summary_gate (spare_slot p.counts))
       (is_bytes : bytes ≡ summary_image r.summary) where
     logged_shown : Shows o (IsLoggedFor p r)
-    logged_shown =
-        let gate_of_it = summary_gate (spare_slot p.counts) in
-        shown_so o (λ c. IsLaid p c × IsReady p gate_of_it r.records c) (IsLoggedFor p r)
-        (λ c q. record { laid = q.0; ready = q.1 })
-        (shown_both o (IsLaid p) (IsReady p gate_of_it r.records) (laid_shown p o laid) ready)
+    logged_shown = grind (arith, shown_so, laid, shown_both, laid_shown)
 
     -- and what it recovered
     known : (def : TagDef) (s : State) → AllRecover def o s → Shows o (λ c. IsLoggedFor p r c
@@ -433,10 +412,7 @@ module _ (p : Seat) (u : Tuning) (step : Bool) (r : State) (fit : IsFit u step r
     as_guarded : (a b : List ℕ) → IsGuarded at bytes gate a b
         → IsGuarded (summary_place (spare_slot p.counts)) (summary_image r.summary)
         (summary_gate (spare_slot p.counts)) a b
-    as_guarded a b guarded =
-        subst (λ x. IsGuarded x (summary_image r.summary) (summary_gate (spare_slot p.counts)) a b) is_at
-        (subst (λ x. IsGuarded at x (summary_gate (spare_slot p.counts)) a b) is_bytes
-        (subst (λ x. IsGuarded at bytes x a b) is_gate guarded))
+    as_guarded a b guarded = grind arith
 
     module _ (during : During o new (FromOld o (IsGuarded at bytes gate))) where
       -- each image recovers what it recovered, or the state of the core

@@ -96,12 +96,7 @@ module _ (def : TagDef) (slots : ℕ) (x : Stored) (c : List ℕ) (read : IsRead
       (subst (λ n. lane_end n ≤ length c) (sym read.slots_are) read.stored.long) untold
 
   in_use : s.stale ≡ false → IsInUse slots x.summary.taken s.lane.used s.lane.next c
-  in_use fresh = let f = filled fresh in record {
-    lane = f.lane;
-    opened = f.opened;
-    beyond = f.beyond;
-    number = f.number ∙ ap (λ l. x.summary.taken + length l) (sym f.points);
-  }
+  in_use fresh = grind (arith, filled)
 
   pub seated : IsSeat (seat_of x s) c
   seated =

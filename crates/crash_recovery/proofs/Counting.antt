@@ -34,10 +34,7 @@ second_open false false z is = absurd (cc (is))
 -- the other gate is closed, or as it was
 none_stays : (x y z x' y' z' : Bool) → chosen x y z ≡ None → y' ≡ y → (x' ≡ false) ⊎ (x' ≡ x)
     → chosen x' y' z' ≡ None
-none_stays x y z x' y' z' is same_y gate =
-    let shut = none_open x y z is in
-    let x_shut : x' ≡ false = ⊎_elim (λ is_shut. is_shut) (λ same. same ∙ shut.0) gate in
-    ap (λ v. chosen v y' z') x_shut ∙ ap (λ v. chosen false v z') (same_y ∙ shut.1)
+none_stays x y z x' y' z' is same_y gate = grind (arith, none_open)
 
 -- the first one counts still
 first_stays : (x y z x' y' z' : Bool) → chosen x y z ≡ Some First → x' ≡ x → (y' ≡ false)

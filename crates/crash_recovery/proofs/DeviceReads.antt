@@ -1,6 +1,6 @@
 -- What a read returns of a settled device that records its calls, before some calls and after them.
 use Rattle.disk_model.specs.Calls.{Shows}
-use Rattle.std.proofs.Common.{ℕ, ◌≤◌, List, [], ◌∷◌, length, get_or, Option, None, Some, sym, ◌∙◌, ap}
+use Rattle.std.proofs.Common.{ℕ, List, [], ◌∷◌, Option, None, Some, sym}
 use Rattle.std.proofs.Common.{subst, arith}
 use Rattle.disk_model.specs.Traces.{Trace, seen}
 use Rattle.disk_model.specs.Images.{Now, FromOld, IsSettled}
@@ -64,7 +64,4 @@ pub opened_after : (o new : Option Trace) (P : List ℕ → Type 0) (at : ℕ) (
 opened_after None None P at bytes gate room there during sees = tt
 opened_after None (Some u) P at bytes gate room there during sees = absurd during.later
 opened_after (Some t) None P at bytes gate room there during sees = tt
-opened_after (Some t) (Some u) P at bytes gate room there during sees =
-    let s = seen (Some t) in
-    let le : gate ≤ length (written s at bytes) = omega (arith, there, length-written s at bytes room) in
-    ap (λ l. get_or l gate 0) sees ∙ byte_written (written s at bytes) gate open_byte le
+opened_after (Some t) (Some u) P at bytes gate room there during sees = grind (arith, length-written, byte_written)

@@ -1,5 +1,5 @@
 -- The places of the values of a lane.
-use Rattle.std.proofs.Common.{◌≡◌, ℕ, ◌+◌, ◌-◌, ◌*◌, ◌<◌, ◌≤◌, min, List, ◌++◌, length}
+use Rattle.std.proofs.Common.{◌≡◌, ℕ, ◌+◌, ◌-◌, ◌*◌, ◌<◌, ◌≤◌, min, List, length}
 use Rattle.std.proofs.Common.{take, drop}
 use Rattle.std.proofs.Common.{get_or, Option, None, Some, sym, ◌∙◌, ap, subst, arith, length-append}
 use Rattle.std.specs.Int.{w16, from_be_bytes}
@@ -51,23 +51,13 @@ module _ (slots taken used n : ℕ) (c : List ℕ) (holds : HoldsValue slots tak
   -- value n is after them
   pub counted_more : (rest : ℕ) → IsCountedTo slots taken n j rest c → m ≤ rest → IsCountedTo slots taken n
       (j + 1) (rest - m) c
-  counted_more rest so_far behind =
-      let next = ap length (points_more slots taken c j ∙ ap (λ l. points_before slots c taken j ++ l)
-      (points_open slots taken c j (holds.filled.opened j below))) in
-      let both = length-append (points_before slots c taken j) (points_beyond taken (batch_at slots c j)) in
-      record { counted = omega (arith, so_far.counted, next, both, held_there, behind) }
+  counted_more rest so_far behind = grind (arith, points_more, points_open, length-append, held_there)
 
   -- or it is among them
   pub value_here : (rest a : ℕ) → IsCountedTo slots taken n j rest c → rest < m
       → a ≡ place_of slots j + (10 + 16 * rest)
       → IsValuePlace slots c taken n a j rest
-  value_here rest a so_far among at = record {
-    slot = omega (arith, below, within);
-    number = so_far.counted;
-    within = omega (arith, among, held_there);
-    opened = holds.filled.opened j below;
-    place = at;
-  }
+  value_here rest a so_far among at = grind (arith, held_there)
 
 -- all values are counted once the used slots are
 counted_all : (slots taken used n rest : ℕ) (c : List ℕ) → HoldsValue slots taken used n c → used ≤ slots

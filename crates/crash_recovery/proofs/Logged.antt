@@ -2,7 +2,6 @@
 use Rattle.disk_model.specs.Calls.{Shows}
 use Rattle.std.proofs.Common.{◌≡◌, ◌≢◌, inl, inr, ⊎_elim, ℕ, ◌+◌, ◌-◌, ◌<◌, ◌≤◌, min, List, length, get_or}
 use Rattle.std.proofs.Common.{take, drop, Option, None, Some, Result, sym, ◌∙◌, ap, subst, arith, length-drop}
-use Rattle.std.proofs.lemmas.Bool.{cases_eq}
 use Rattle.std.proofs.lemmas.List.{take_all, drop_min}
 use Rattle.trend_num.specs.declared.archive.Rec.{Rec}
 use Rattle.trend_num.specs.declared.tag_def.TagDef.{TagDef}
@@ -11,13 +10,12 @@ use Rattle.disk_model.specs.Traces.{Wrote, WroteInPart, Trace, seen, written}
 use Rattle.disk_model.specs.Images.{IsOutside, IsTorn, Now, FromOld, IsSettled}
 use Rattle.disk_model.specs.Moments.{During}
 use Rattle.disk_model.specs.Calls.{IsNoted, Sees}
-use Rattle.disk_model.specs.Gates.{open_byte, IsShut, HasGatesOf, AreShut, IsClosing, Holds}
+use Rattle.disk_model.specs.Gates.{IsShut, HasGatesOf, AreShut, IsClosing, Holds}
 use Rattle.disk_model.proofs.Bytes.{torn_self, length-written, holds_written}
 use Rattle.disk_model.proofs.Images.{present, wrote_now}
 use Rattle.disk_model.proofs.Moments.{started, during_now, weaker, in_turn, goes_on}
 use Rattle.disk_model.proofs.Closings.{closing_self}
 use Rattle.archive_file.specs.Records.{recs_image}
-use Rattle.event_queue.specs.Slots.{gate_of}
 use Rattle.event_queue.specs.Places.{HasRoom}
 use Rattle.event_queue.proofs.SameLanes.{HasSameSlots, same_bytes, same_lane, same_points, same_beyond}
 use Rattle.crash_recovery.specs.declared.seat.Seat.{Seat}
@@ -60,14 +58,7 @@ beside_gate gate i other = grind arith
 -- a write after the log, and then the gate closed
 logged_of : (at n gate : ℕ) (a m b : List ℕ) → at ≤ length a → gate < at → IsTorn at n a m
     → IsClosing gate 1 m b → IsLogged at gate a b
-logged_of at n gate a m b long before torn closing = record {
-  no_shorter = omega (arith, torn.no_shorter, closing.same_length);
-  same = λ i below other. closing.same i (inl (beside_gate gate i other))
-      ∙ torn.outside i (omega (arith, long, below)) (inl below);
-  gate_same = ⊎_elim (λ was. ⊎_elim (λ now. inr (now ∙ sym was ∙ as_before)) (λ shut. inl shut)
-      (cases_eq (get_or b gate 0) open_byte))
-      (λ was. inr (closing.same gate (inr was) ∙ as_before)) (cases_eq (get_or m gate 0) open_byte);
-}
+logged_of at n gate a m b long before torn closing = grind (arith, beside_gate, as_before)
   where
     as_before : get_or m gate 0 ≡ get_or a gate 0
     as_before = torn.outside gate (omega (arith, long, before)) (inl before)
@@ -86,18 +77,11 @@ module _ (p : Seat) (a b : List ℕ) (laid : IsLaid p a) (only : OnlySpare p.cou
 
   -- it keeps the layout, and holds the same points
   pub lane_kept : KeepsLane p.lane.slots p.taken a b
-  lane_kept = record {
-    lane = λ lane. same_lane p.lane.slots p.taken p.lane.slots a b same_slots p.lane.slots (omega arith) lane;
-    points = λ lane. same_points p.lane.slots p.taken p.lane.slots a b same_slots p.lane.slots (omega arith);
-  }
+  lane_kept = grind (arith, same_lane, same_slots, same_points)
 
   -- no gate after it was opened
   pub room_kept : HasRoom p.lane.slots p.lane.used b
-  room_kept = record {
-    long = omega (arith, laid.long, only.no_shorter);
-    shut = λ k low below opened. laid.room.shut k low below
-        (sym (behind_kept p a b laid only (gate_of k) (omega arith) (omega (arith, below))) ∙ opened);
-  }
+  room_kept = grind (arith, behind_kept)
 
   -- it is in use as it was
   pub in_use_kept : p.lane.used ≤ p.lane.slots → IsInUse p.lane.slots p.taken p.lane.used p.lane.next a
@@ -115,11 +99,7 @@ module _ (p : Seat) (a b : List ℕ) (laid : IsLaid p a) (logged : IsLogged (log
     (summary_gate (spare_slot p.counts)) a b) where
   -- only the gate of the slot that does not count has changed
   logged_only : OnlySpare p.counts (log_end p) a b
-  logged_only = record {
-    no_shorter = logged.no_shorter;
-    same = λ i below out other. logged.same i below
-        other;
-  }
+  logged_only = grind arith
 
   -- what is stored was kept
   logged_keeps : KeepsStored p a b
@@ -193,20 +173,7 @@ module _ (p : Seat) (n gate : ℕ) (is_gate : gate ≡ summary_gate (spare_slot 
       same_gate : (u : Trace) (c : List ℕ) → FromOld o (IsTorn (log_end p) n) c
           → FromOld o (IsTorn (log_end p) n) (seen (Some u))
           → HasGatesOf (seen (Some u)) gate 1 c
-      same_gate u c from here =
-          let a = each_laid.each from.0 from.1 in
-          let b = each_laid.each here.0 here.1 in
-          let one : from.0 ≡ here.0 = (settled_on p o laid).each from.0 from.1
-          ∙ sym ((settled_on p o laid).each here.0 here.1) in
-          record {
-            there = omega (arith, low_gate, a.long, from.2.no_shorter);
-            same = λ i low below.
-                from.2.outside i (omega (arith, low_gate, a.long, below))
-                (inl (omega (arith, low_gate, below)))
-                ∙ ap (λ d. get_or d i 0) one
-                ∙ sym (here.2.outside i (omega (arith, low_gate, b.long, below))
-                (inl (omega (arith, low_gate, below))));
-          }
+      same_gate u c from here = grind (arith, settled_on, low_gate)
 
       has : (mid : Option Trace) → During o mid (FromOld o (IsTorn (log_end p) n))
           → Now mid (HasGatesOf (seen mid) gate 1)

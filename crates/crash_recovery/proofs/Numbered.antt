@@ -1,6 +1,5 @@
 -- Where each lane slot is free, the lane holds nothing that the summary does not count.
-use Rattle.std.proofs.Common.{◌≡◌, inl, inr, ℕ, ◌-◌, ◌≤◌, cond, length, Option, sym, ◌∙◌, ap, arith}
-use Rattle.std.proofs.lemmas.Bool.{cases_Bool}
+use Rattle.std.proofs.Common.{ℕ, ◌≤◌, Option, arith}
 use Rattle.event_queue.specs.declared.reader.Scanned.{Scanned}
 use Rattle.event_queue.specs.Scans.{IsWithin}
 use Rattle.device_layout.specs.declared.slot.Slot.{Slot}
@@ -16,10 +15,4 @@ pub numbered_read : (slots taken records : ℕ) (s : Scanned) (counts : Option S
       taken = taken;
       records = records;
     })
-numbered_read slots taken records s counts some within = λ free. elim (cases_Bool s.stale) [
-  | inl stale ↦ omega (arith, within.number, ap length (within.none_stale stale))
-  | inr fresh ↦
-      let rest : s.lane.slots - s.lane.used ≡ s.lane.slots =
-      ap (λ b. cond b s.lane.slots (s.lane.slots - s.lane.used)) (sym fresh) ∙ free in
-      omega (arith, rest, some, within.slots_same, within.used, within.few, within.number)
-]
+numbered_read slots taken records s counts some within = grind arith

@@ -260,9 +260,4 @@ image_stands def o h before c image (s, r, recovered, opened, inr later) =
     (opened_stands def o h before s r image recovered opened)
   where
     stood : (l : List Event) → Stands o l r → ImageStands def o l c
-    stood l stands = record {
-      state = r;
-      same_step = image.same_step;
-      recovered = later;
-      stands = stands;
-    }
+    stood l stands = grind arith

@@ -1,7 +1,7 @@
 -- The place of a journal, where only the lane has changed, or only what no summary counts.
 use Rattle.disk_model.specs.Calls.{Shows}
 use Rattle.std.proofs.Common.{◌≡◌, ◌≢◌, ◌⊎◌, inl, inr, ℕ, ◌+◌, ◌*◌, ◌<◌, ◌≤◌, Bool, true, false, List, length}
-use Rattle.std.proofs.Common.{get_or, take, drop, Option, None, Some, refl, sym, ◌∙◌, ap, subst, arith}
+use Rattle.std.proofs.Common.{get_or, take, drop, Option, None, Some, refl, sym, ◌∙◌, arith}
 use Rattle.disk_model.specs.Traces.{Trace}
 use Rattle.disk_model.specs.Images.{IsOutside, IsSettled}
 use Rattle.disk_model.specs.Calls.{Reaches}
@@ -11,7 +11,6 @@ use Rattle.event_queue.specs.Places.{HasRoom}
 use Rattle.crash_recovery.specs.declared.seat.Seat.{Seat}
 use Rattle.device_layout.specs.declared.slot.Slot.{Slot}
 use Rattle.device_layout.specs.declared.slot.Slot.TheVariants.{First, Second}
-use Rattle.device_layout.specs.Headers.{slots_in, IsHeader}
 use Rattle.device_layout.specs.Recovery.{summary_place, summary_gate, slot_bytes}
 use Rattle.crash_recovery.specs.Journals.{log_end, IsInUse, IsLaid, SeatedOn}
 use Rattle.crash_recovery.specs.Seats.{spare_slot, LaidOn, OverrunOn}
@@ -62,11 +61,7 @@ apart_slot : (j i : Slot) → j ≢ i → (k : ℕ) → summary_place i ≤ k �
     → IsOutside (summary_place j) 128 k × (k ≢ summary_gate j)
 apart_slot First First apart k low below = absurd (apart refl)
 apart_slot First Second apart k low below = (inr (omega (arith, low)), λ e. absurd (omega (arith, e, below)))
-apart_slot Second First apart k low below = (
-  inl (omega (arith, below)),
-  λ e. absurd
-      (omega (arith, e, below)),
-)
+apart_slot Second First apart k low below = grind arith
 apart_slot Second Second apart k low below = absurd (apart refl)
 
 -- a gate is no part of a slot, nor the other gate
@@ -166,18 +161,7 @@ moved p stale used next = record p { stale = stale; lane = record p.lane { used 
 pub laid_moved : (p : Seat) (stale : Bool) (used next : ℕ) (a b : List ℕ) → IsLaid p a → KeepsStored p a b
     → HasRoom p.lane.slots used b → (stale ≡ false → IsInUse p.lane.slots p.taken used next b)
     → (stale ≡ true → next ≡ p.taken) → IsLaid (moved p stale used next) b
-laid_moved p stale used next a b laid keeps room in_use number = record {
-  opened = keeps.first ∙ laid.opened;
-  header = subst IsHeader (sym keeps.header) laid.header;
-  slots = laid.slots ∙ ap slots_in (sym keeps.header);
-  room = room;
-  counts = laid.counts ∙ sym keeps.counts;
-  taken = laid.taken ∙ sym (taken_kept a b p.counts keeps.summary);
-  records = laid.records ∙ sym (records_kept a b p.counts keeps.summary);
-  long = omega (arith, laid.long, keeps.no_shorter);
-  in_use = in_use;
-  number = number;
-}
+laid_moved p stale used next a b laid keeps room in_use number = grind (arith, taken_kept, records_kept)
 
 -- what a journal keeps is more
 pub laid_on : (p : Seat) (o : Option Trace) → SeatedOn p o → LaidOn p o
@@ -187,10 +171,7 @@ laid_on p (Some t) seated = record { settled = seated.settled; laid = seated.sea
 -- a place that is not overtaken
 pub seated_on : (p : Seat) (o : Option Trace) → p.stale ≡ false → LaidOn p o → SeatedOn p o
 seated_on p None fresh laid = tt
-seated_on p (Some t) fresh laid = record {
-  settled = laid.settled;
-  seat = record { laid = laid.laid; overrun = λ stale. absurd (cc (fresh, stale)); some = λ stale. absurd (cc (fresh, stale)) };
-}
+seated_on p (Some t) fresh laid = grind arith
 
 -- an overtaken one
 pub overrun_on : (p : Seat) (o : Option Trace) → SeatedOn p o → p.stale ≡ true → OverrunOn p o

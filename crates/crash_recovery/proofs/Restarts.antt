@@ -1,6 +1,6 @@
 -- The gates of an overtaken lane are closed.
 use Rattle.disk_model.specs.Calls.{Shows}
-use Rattle.std.proofs.Common.{◌≡◌, ◌⊎◌, inl, inr, ℕ, ◌<◌, ◌≤◌, true, false, List, length, Option, sym, ◌∙◌}
+use Rattle.std.proofs.Common.{◌≡◌, ◌⊎◌, inl, inr, ℕ, ◌<◌, ◌≤◌, true, false, List, length, Option}
 use Rattle.std.proofs.Common.{ap, arith}
 use Rattle.trend_num.specs.declared.tag_def.TagDef.{TagDef}
 use Rattle.trend_model.specs.State.{State}
@@ -24,10 +24,7 @@ use Rattle.crash_recovery.proofs.Places.{OnlyLane, only_lane, laid_moved, settle
 -- only the lane has changed
 closing_lane : (slots used : ℕ) (a b : List ℕ) → used ≤ slots → IsClosing (gate_of 0) used a b
     → OnlyLane slots a b
-closing_lane slots used a b le closing = record {
-  no_shorter = omega (arith, closing.same_length);
-  same = λ i there out. closing.same i (inl (outside i out));
-}
+closing_lane slots used a b le closing = grind (arith, outside)
   where
     outside : (i : ℕ) → (i < 400) ⊎ (lane_end slots ≤ i) → IsOutside (gate_of 0) used i
     outside i (inl below) = inl (omega (arith, below))
@@ -44,13 +41,7 @@ module _ (p : Seat) (le : p.lane.used ≤ p.lane.slots) (a b : List ℕ)
 
   -- it holds nothing, before and after
   closing_keeps : IsOverrun p a → KeepsLane p.lane.slots p.taken a b
-  closing_keeps over = record {
-    lane = λ lane. (overtaken_after over lane).lane;
-    points = λ lane. overtaken_none p.lane.slots p.taken b (overtaken_after over lane) p.lane.slots
-        (omega arith)
-        ∙ sym (overtaken_none p.lane.slots p.taken a (record { lane = lane; stale = over.stale })
-        p.lane.slots (omega arith));
-  }
+  closing_keeps over = grind (arith, overtaken_after, overtaken_none)
 
 -- a lane with no open gate is in use up to its first slot
 pub in_use_fresh : (slots taken next : ℕ) (c : List ℕ) → HasRoom slots 0 c → next ≡ taken

@@ -13,7 +13,7 @@ use Rattle.event_queue.specs.Slots.{lane_end}
 use Rattle.event_queue.specs.Lanes.{lane_points, IsLane}
 use Rattle.crash_recovery.specs.declared.seat.Seat.{Seat}
 use Rattle.device_layout.specs.declared.slot.Slot.{Slot}
-use Rattle.device_layout.specs.Headers.{name_in, tuning_in, slots_in, is_step_in, IsHeader}
+use Rattle.device_layout.specs.Headers.{tuning_in, slots_in}
 use Rattle.disk_model.specs.Gates.{IsNew}
 use Rattle.device_layout.specs.Recovery.{header_of, log_place, slot_bytes, counting}
 use Rattle.device_layout.specs.Recovery.{HasSummary, recovered_tuning, state_of, start_of, AllFit, IsOfTag, IsStored}
@@ -88,12 +88,7 @@ module _ (def : TagDef) (p : Seat) (a : List ℕ) (laid : IsLaid p a) where
 
     -- the device is the same tag's
     pub tag_kept : IsOfTag def a → IsOfTag def b
-    tag_kept tag = record {
-      opened = keeps.first ∙ tag.opened;
-      header = subst IsHeader (sym keeps.header) tag.header;
-      same_name = ap name_in keeps.header ∙ tag.same_name;
-      same_step = ap is_step_in keeps.header ∙ tag.same_step;
-    }
+    tag_kept tag = grind arith
 
     -- the layout is whole
     pub long_kept : log_place a ≤ length a → log_place b ≤ length b
@@ -120,11 +115,7 @@ module _ (def : TagDef) (p : Seat) (a : List ℕ) (laid : IsLaid p a) where
 
         bytes_same : take (17 * s.records) (drop (log_place b) b) ≡ take (17 * s.records)
             (drop (log_place a) a)
-        bytes_same =
-            ap (λ n. take (17 * n) (drop (log_place b) b)) count
-            ∙ ap (λ n. take (17 * p.records) (drop n b)) (place_same ∙ place_known) ∙ keeps.log
-            ∙ ap (λ n. take (17 * p.records) (drop n a)) (sym place_known)
-            ∙ ap (λ n. take (17 * n) (drop (log_place a) a)) (sym count)
+        bytes_same = grind (arith, count, place_same, place_known)
 
     -- the lane continues from the same state
     start_kept : (rs : List Rec) (s : Summary) → start_of b rs s ≡ start_of a rs s
@@ -136,13 +127,7 @@ module _ (def : TagDef) (p : Seat) (a : List ℕ) (laid : IsLaid p a) where
         → IsLane p.lane.slots c taken p.lane.slots
         → AllFit step start (map Raw (lane_points p.lane.slots c taken))
         → s ≡ replay step start (map Raw (lane_points p.lane.slots c taken)) → IsReplayed step c start taken s
-    replays step c start taken s same lane fits state =
-        let slots : p.lane.slots ≡ slots_in (header_of c) = laid.slots ∙ ap slots_in (sym same) in
-        record {
-          lane = subst (λ n. IsLane n c taken n) slots lane;
-          fits = subst (λ n. AllFit step start (map Raw (lane_points n c taken))) slots fits;
-          state = subst (λ n. s ≡ replay step start (map Raw (lane_points n c taken))) slots state;
-        }
+    replays step c start taken s same lane fits state = grind arith
 
     -- what it recovers, where the lane's part is shown
     pub recovers_kept : (s r : State)
@@ -179,13 +164,7 @@ pub record IsLaneReplayed (slots : ℕ) (step : Bool) (c : List ℕ) (start : St
 -- that of a place is that of its image
 pub lane_replayed : (p : Seat) (a : List ℕ) (step : Bool) (start : State) (s : State) → IsLaid p a
     → IsReplayed step a start p.taken s → IsLaneReplayed p.lane.slots step a start p.taken s
-lane_replayed p a step start s laid was =
-    let back = sym laid.slots in
-    record {
-      lane = subst (λ n. IsLane n a p.taken n) back was.lane;
-      fits = subst (λ n. AllFit step start (map Raw (lane_points n a p.taken))) back was.fits;
-      state = subst (λ n. s ≡ replay step start (map Raw (lane_points n a p.taken))) back was.state;
-    }
+lane_replayed p a step start s laid was = grind arith
 
 -- then it recovers what it recovered
 pub recovers_same : (def : TagDef) (p : Seat) (a b : List ℕ) (s : State) → IsLaid p a → KeepsStored p a b
@@ -193,9 +172,4 @@ pub recovers_same : (def : TagDef) (p : Seat) (a b : List ℕ) (s : State) → I
 recovers_same def p a b s laid keeps same recovers = recovers_kept def p a laid b keeps s s moves recovers
   where
     moves : (start : State) → IsReplayed def.step a start p.taken s → IsReplayed def.step b start p.taken s
-    moves start replayed =
-        let was = lane_replayed p a def.step start s laid replayed in
-        let points = sym (same.points was.lane) in
-        replays def p a laid b keeps def.step b start p.taken s keeps.header (same.lane was.lane)
-        (subst (λ ps. AllFit def.step start (map Raw ps)) points was.fits)
-        (subst (λ ps. s ≡ replay def.step start (map Raw ps)) points was.state)
+    moves start replayed = grind (arith, lane_replayed, replays)

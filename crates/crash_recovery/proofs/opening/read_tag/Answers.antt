@@ -1,6 +1,6 @@
-use Rattle.std.proofs.Common.{◌≡◌, ◌≤◌, ◌∙◌, ap, false, sym, subst}
+use Rattle.std.proofs.Common.{◌≡◌, ◌+◌, ◌≤◌, ◌∙◌, ap, false, sym, subst, arith}
 use Rattle.trend_model.specs.State.{State, nothing_taken}
-use Rattle.disk_model.specs.Gates.{IsNew}
+use Rattle.disk_model.specs.Gates.{IsNew, layout_calls}
 use Rattle.device_layout.specs.Recovery.{IsRecovered}
 use Rattle.disk_model.specs.Calls.{Shows}
 use Rattle.device_layout.specs.Readings.{IsCause}
@@ -14,6 +14,7 @@ use Rattle.device_layout.specs.Layouts.{IsMade}
 use Rattle.crash_recovery.specs.Opening.{HasFreeAtFirst}
 use Rattle.crash_recovery.specs.Journals.{free_in}
 use Rattle.crash_recovery.proofs.Afterwards.{free_kept, free_made, begun_before, new_before, shown_always}
+use Rattle.crash_recovery.proofs.DeviceReads.{shown_so}
 use Rattle.crash_recovery.proofs.Turns.{on_ok, ok_always}
 use Rattle.crash_recovery.proofs.opening.read_tag.Goals as goal
 
@@ -145,3 +146,18 @@ returns-in-Ok-false-clause-synced g c =
     let new = g.D.Disk.trace c.read_back.new.dev in
     let is = c.read_back.ensures.same ∙ c.in-Ok-false.ensures.same ∙ c.in-Ok.ensures.noted in
     ok_always c.read_back.result (shown_always o (λ x. IsNew x → ⊥) (new ≡ noted Synced o) is)
+
+pub returns-in-Ok-false-clause-new_calls : goal.returns-in-Ok-false-clause-new_calls
+returns-in-Ok-false-clause-new_calls g c =
+    let o = g.D.Disk.trace c.args.dev.now in
+    let mid = g.D.Disk.trace c.is_new.new.dev in
+    let same = c.in-Ok-false.ensures.same in
+    let begun = shows_after _ _ IsBegun same (c.in-Ok-false.ensures.begun c.in-Ok-false.field-0-test) in
+    ok_always c.read_back.result (shown_so o (λ x. IsNew x → ⊥)
+    (λ x. IsNew x → g.D.Disk.ticks c.read_back.new.dev ≡ g.D.Disk.ticks c.args.dev.now + (layout_calls x + 1))
+    (λ x no new. absurd (no new)) (begun_before o mid ⊥ (same ∙ c.in-Ok.ensures.noted) begun))
+
+pub returns-in-Ok-false-clause-calls : goal.returns-in-Ok-false-clause-calls
+returns-in-Ok-false-clause-calls g c =
+    ok_always c.read_back.result (shown_always (g.D.Disk.trace c.args.dev.now) (λ x. IsNew x → ⊥)
+    (g.D.Disk.ticks c.read_back.new.dev ≡ g.D.Disk.ticks c.args.dev.now + 1) (grind arith))
