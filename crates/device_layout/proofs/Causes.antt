@@ -84,9 +84,7 @@ pub counts_shown : (def : TagDef) (o : Option Trace) (slots : ℕ) (made : Tunin
     → Shows o (HasLayout def slots made) → Shows o (λ c. counting c ≡ Some i) → IsSummary s
     → Shows o (λ c. slot_bytes c i ≡ summary_image s) → u ≡ recovered_tuning made s.tuning
     → Shows o (CountsSummary def slots i s u)
-counts_shown def None slots made i s u has counts whole bytes tuning = tt
-counts_shown def (Some t) slots made i s u has counts whole bytes tuning =
-    counts_summary def slots made i s u (seen (Some t)) has counts whole bytes tuning
+counts_shown def o slots made i s u has counts whole bytes tuning = grind (arith, counts_summary)
 
 -- all that is stored
 pub stored_shown : (def : TagDef) (o : Option Trace) (slots : ℕ) (i : Slot) (s : Summary) (u : Tuning)
@@ -94,6 +92,4 @@ pub stored_shown : (def : TagDef) (o : Option Trace) (slots : ℕ) (i : Slot) (s
     → Shows o (CountsSummary def slots i s u)
     → Shows o (λ c. HasRecords c (lane_end slots) s.records x.recs.items)
     → x.slot ≡ Some i → x.summary ≡ s → x.tuning ≡ u → Shows o (IsFoundOn def slots x)
-stored_shown def None slots i s u x has records slot summary tuning = tt
-stored_shown def (Some t) slots i s u x has records slot summary tuning =
-    stored_some def slots i s u x (seen (Some t)) has records slot summary tuning
+stored_shown def o slots i s u x has records slot summary tuning = grind (arith, stored_some)

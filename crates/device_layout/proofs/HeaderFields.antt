@@ -1,6 +1,6 @@
 -- How the field at each place of a header is tested, and what a header says that keeps them all.
 use Rattle.std.proofs.Common.{◌≡◌, ℕ, ◌+◌, ◌<◌, ◌≤◌, Bool, true, false}
-use Rattle.std.proofs.Common.{eqb, leb, List, length, get_or, drop}
+use Rattle.std.proofs.Common.{leb, List, length, get_or, drop}
 use Rattle.std.proofs.Common.{◌∙◌, ap, arith, length-take, length-drop, get_or-take, get_or-drop}
 use Rattle.std.specs.List.{list_all}
 use Rattle.std.proofs.lemmas.Bool.{leb-true, le-leb, lt-leb, ne_eqb, and_parts}
@@ -20,19 +20,11 @@ all_pass test xs each =
 module _ (h : List ℕ) (ok : IsHeader h) where
   -- the length of the name
   pub name_length : (1 ≤ get_or h 5 0) × (get_or h 5 0 ≤ 64)
-  name_length =
-      let both = and_parts (leb 1 (get_or h 5 0)) (leb (get_or h 5 0) 64)
-      (ok.fields 5 (omega arith) (omega arith)) in
-      (leb-true 1 (get_or h 5 0) both.0, leb-true (get_or h 5 0) 64 both.1)
+  name_length = grind (arith, and_parts, leb-true)
 
   -- each byte of the name may be one
   name_byte : (at : ℕ) → 5 < at → at ≤ 5 + get_or h 5 0 → is_name_byte (get_or h at 0) ≡ true
-  name_byte at low named =
-      let e1 : leb at 4 ≡ false = lt-leb at 4 (omega arith) in
-      let e2 : eqb at 5 ≡ false = ne_eqb at 5 (λ is. absurd (omega arith)) in
-      let e3 : leb at (5 + get_or h 5 0) ≡ true = le-leb at (5 + get_or h 5 0) named in
-      let high : at < 128 = omega (arith, name_length.1) in
-      rw (e1, e2, e3) at (ok.fields at (omega arith) high)
+  name_byte at low named = grind (arith, lt-leb, ne_eqb, le-leb)
 
   -- the name ends before the numbers begin
   behind_name : (at : ℕ) → 70 ≤ at → leb at (5 + get_or h 5 0) ≡ false
@@ -40,11 +32,7 @@ module _ (h : List ℕ) (ok : IsHeader h) where
 
   -- the bytes of the name are one
   pub header_name : IsName (name_in h)
-  header_name = record {
-    not_empty = omega (arith, long, name_length.0);
-    fits = omega (arith, long, name_length.1);
-    spelled = all_pass is_name_byte (name_in h) spelled;
-  }
+  header_name = grind (arith, long, spelled, all_pass)
     where
       long : length (name_in h) ≡ get_or h 5 0
       long = omega (arith, length-take (get_or h 5 0) (drop 6 h), length-drop 6 h, ok.size, name_length.1)
@@ -75,4 +63,4 @@ module _ (h : List ℕ) (ok : IsHeader h) where
   header_slots =
       let both = and_parts (leb 1 (slots_in h)) (leb (slots_in h) most_slots)
       (rw (behind_name 110 (omega arith)) at (ok.fields 110 (omega arith) (omega arith))) in
-      (leb-true 1 (slots_in h) both.0, leb-true (slots_in h) most_slots both.1)
+      grind (arith, leb-true)

@@ -4,7 +4,7 @@ use Rattle.std.proofs.Common.{◌&&◌, eqb, leb, List, [], ◌∷◌, ◌++◌,
 use Rattle.std.proofs.Common.{refl, sym, ◌∙◌}
 use Rattle.std.proofs.Common.{ap, arith, append_assoc, length-append, drop-drop, take_at, drop_at}
 use Rattle.std.proofs.Common.{get_or-drop}
-use Rattle.std.specs.Int.{w32, w64, from_be_bytes, from_bool}
+use Rattle.std.specs.Int.{w64, from_be_bytes, from_bool}
 use Rattle.std.proofs.lemmas.Bool.{eq-eqb, eqb-true, eqb-false, le-leb, leb-true, leb-false, and_from}
 use Rattle.std.proofs.lemmas.List.{get_or_append_left, get_or-append_right, get_or-replicate}
 use Rattle.std.proofs.lemmas.List.{length-replicate}
@@ -43,12 +43,7 @@ pub header_built : (def : TagDef) (slots : ℕ) (a b c d e f : List ℕ) → a �
     → b ≡ a ++ (length def.name ∷ (def.name ++ padding_of def)) → c ≡ b ++ tuning_image def.tuning
     → d ≡ c ++ number_bytes 4 slots → e ≡ d ++ (cond def.step 1 0 ∷ []) → f ≡ e ++ replicate 13 0
     → f ≡ header_image def slots
-header_built def slots a b c d e f first name tuning lane step zeros =
-    joined_5 a b c d e f (length def.name ∷ (def.name ++ padding_of def)) (tuning_image def.tuning)
-    (number_bytes 4 slots) (cond def.step 1 0 ∷ []) (replicate 13 0) name tuning lane step zeros
-    ∙ ap (λ l. l ++ (length def.name ∷ ((def.name ++ padding_of def) ++ numbers_image def slots))) first
-    ∙ ap (λ l. letters ++ (length def.name ∷ l))
-    (append_assoc def.name (padding_of def) (numbers_image def slots))
+header_built def slots a b c d e f first name tuning lane step zeros = grind (arith, joined_5, append_assoc)
 
 -- a name, its length before it and zeros after it, is added piece by piece
 pub name_built : (name a b c d zeros : List ℕ) → b ≡ a ++ (length name ∷ []) → c ≡ b ++ name → d ≡ c ++ zeros
@@ -60,35 +55,23 @@ name_built name a b c d zeros counted named padded is =
 
 -- the byte of a flag
 pub flag_byte : (b : Bool) → from_bool b ≡ cond b 1 0
-flag_byte true = refl
-flag_byte false = refl
+flag_byte b = grind arith
 
 -- a test by cases passes where each case does
 either_ok : (b : Bool) (x y : Bool) → (b ≡ true → x ≡ true) → (b ≡ false → y ≡ true) → cond b x y ≡ true
-either_ok true x y here there = here refl
-either_ok false x y here there = there refl
+either_ok b x y here there = grind arith
 
 -- a flag is read of its byte
 flag_read : (b : Bool) → eqb (cond b 1 0) 1 ≡ b
-flag_read true = refl
-flag_read false = refl
+flag_read b = grind arith
 
 -- and its byte is one of two
 flag_small : (b : Bool) → leb (cond b 1 0) 1 ≡ true
-flag_small true = refl
-flag_small false = refl
+flag_small b = grind arith
 
 -- how long the header is after the gate
 pub length-header_image : (def : TagDef) (slots : ℕ) → IsName def.name → length (header_image def slots) ≡ 127
-length-header_image def slots name =
-    let rest = padding_of def ++ numbers_image def slots in
-    omega (
-      arith,
-      name.fits,
-      length-append def.name rest,
-      length-append (padding_of def) (numbers_image def slots),
-      length-replicate {A = ℕ} (64 - length def.name) 0,
-    )
+length-header_image def slots name = grind (arith, length-append, length-replicate)
 
 module _ (gate : ℕ) (def : TagDef) (slots : ℕ) (name : IsName def.name) where
   -- the numbers come after the name
@@ -114,10 +97,7 @@ module _ (gate : ℕ) (def : TagDef) (slots : ℕ) (name : IsName def.name) wher
   -- a byte of the name, or of the zeros after it
   byte_named : (i : ℕ) → 6 ≤ i → get_or (header_with gate def slots) i 0
       ≡ get_or (def.name ++ (padding_of def ++ numbers_image def slots)) (i - 6) 0
-  byte_named i low =
-      let place : i ≡ 6 + (i - 6) = omega arith in
-      ap (λ k. get_or (header_with gate def slots) k 0) place
-      ∙ sym (get_or-drop 6 (header_with gate def slots) (i - 6) 0)
+  byte_named i low = grind (arith, get_or-drop)
 
   -- a byte after these
   byte_behind : (i : ℕ) → 70 ≤ i
@@ -161,10 +141,7 @@ module _ (gate : ℕ) (def : TagDef) (slots : ℕ) (name : IsName def.name) wher
 
   -- the number of lane slots
   pub slots_image : slots < 2 ^ 32 → slots_in (header_with gate def slots) ≡ slots
-  slots_image small =
-      ap (λ l. from_be_bytes w32 (take 4 l)) (sym (drop-drop 40 70 (header_with gate def slots))
-      ∙ ap (drop 40) behind_name)
-      ∙ from_be_bytes-to_be_bytes_4 slots small
+  slots_image small = grind (arith, drop-drop 40 70 (header_with gate def slots), behind_name, from_be_bytes-to_be_bytes_4 slots small)
 
   -- the definition of the tag
   pub def_image : TuningInRange def.tuning → def_in (header_with gate def slots) ≡ def
@@ -189,13 +166,7 @@ module _ (gate : ℕ) (def : TagDef) (slots : ℕ) (name : IsName def.name) wher
       comp_max = number_there 32 def.tuning.comp_max (omega (arith, tuned.comp_max)) refl
 
       same_tuning : tuning_in (header_with gate def slots) ≡ def.tuning
-      same_tuning = λ i. record {
-        exc_dev = exc_dev i;
-        exc_max = exc_max i;
-        comp_dev = comp_dev i;
-        comp_min = comp_min i;
-        comp_max = comp_max i;
-      }
+      same_tuning = grind (arith, exc_dev, exc_max, comp_dev, comp_min, comp_max)
 
       same_step : is_step_in (header_with gate def slots) ≡ def.step
       same_step = ap (λ b. eqb b 1) step_there ∙ flag_read def.step
@@ -212,23 +183,17 @@ module _ (gate : ℕ) (def : TagDef) (slots : ℕ) (name : IsName def.name) wher
 
   -- the length of the name
   length_ok : (leb 1 (length def.name) && leb (length def.name) 64) ≡ true
-  length_ok = and_from (leb 1 (length def.name)) (leb (length def.name) 64)
-      (le-leb 1 (length def.name) (omega (arith, name.not_empty))) (le-leb (length def.name) 64 name.fits)
+  length_ok = grind (arith, and_from, le-leb)
 
   -- a number below its bound
   number_ok : (k bound i n : ℕ) → header_number_at (header_with gate def slots) (70 + k) ≡ n → n ≤ bound
       → eqb i (70 + k) ≡ true → leb (header_number_at (header_with gate def slots) i) bound ≡ true
-  number_ok k bound i n says small here =
-      let same = ap (header_number_at (header_with gate def slots)) (eqb-true i (70 + k) here) in
-      le-leb (header_number_at (header_with gate def slots) i) bound (omega (arith, same, says, small))
+  number_ok k bound i n says small here = grind (arith, eqb-true, le-leb)
 
   -- the number of lane slots
   slots_ok : 1 ≤ slots → slots ≤ 65536 → (leb 1 (slots_in (header_with gate def slots))
       && leb (slots_in (header_with gate def slots)) most_slots) ≡ true
-  slots_ok some few =
-      let said = slots_image (omega arith) in
-      and_from _ _ (le-leb 1 (slots_in (header_with gate def slots)) (omega (arith, said, some)))
-      (le-leb (slots_in (header_with gate def slots)) most_slots (omega (arith, said, few)))
+  slots_ok some few = grind (arith, slots_image, and_from, le-leb)
 
   -- the flag
   step_ok : (i : ℕ) → i ≡ 114 → leb (get_or (header_with gate def slots) i 0) 1 ≡ true

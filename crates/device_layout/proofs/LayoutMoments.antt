@@ -2,7 +2,7 @@
 use Rattle.std.proofs.Common.{◌≡◌, inl, inr, ℕ, ◌+◌, ◌-◌, ◌*◌, ◌<◌, ◌≤◌, List, [], ◌∷◌, ◌++◌, length}
 use Rattle.std.proofs.Common.{get_or, take, drop, replicate, Option, None, Some, IfSome, refl, sym}
 use Rattle.std.proofs.Common.{◌∙◌, ap}
-use Rattle.std.proofs.Common.{subst, arith, length-append, length-take, length-drop, take-take, take_at}
+use Rattle.std.proofs.Common.{arith, length-append, length-take, length-drop, take-take, take_at}
 use Rattle.std.proofs.Common.{get_or-take, get_or-drop}
 use Rattle.std.proofs.lemmas.Bool.{cases_eq}
 use Rattle.std.proofs.lemmas.List.{get_or-append_right, get_or-replicate, length-replicate}
@@ -30,8 +30,7 @@ use Rattle.device_layout.proofs.NewLayout.{made_recovers}
 
 -- where a read gives a new device, so does each image
 pub new_now : (o : Option Trace) → IfSome o (λ t. IsNew (seen (Some t))) → IsSettled o → Now o IsNew
-new_now None new settled = record { each = λ c may. absurd may.image }
-new_now (Some t) new settled = record { each = λ c may. subst IsNew (sym (settled.each c may)) new }
+new_now o new settled = grind arith
 
 -- until its gate is closed, a new device stays one
 pub new_closed : (o o1 : Option Trace) → IfSome o (λ t. IsNew (seen (Some t))) → IsSettled o → During o o1 (IsLeftOrNew o)
@@ -39,21 +38,18 @@ pub new_closed : (o o1 : Option Trace) → IfSome o (λ t. IsNew (seen (Some t))
 new_closed o o1 new settled closing = weaker o o1 (IsLeftOrNew o) IsNew either closing
   where
     either : (c : List ℕ) → IsLeftOrNew o c → IsNew c
-    either c (inl left) = (new_now o new settled).each c left
-    either c (inr is) = is
+    either c h = grind (arith, new_now)
 
 -- ---- the layout is written after it
 
 -- bytes written after the gate begin after it
 pub shut_reached : (o : Option Trace) → Now o (IsShut 0) → Reaches o 1
-shut_reached None shut = tt
-shut_reached (Some t) shut = omega (arith, (shut.each (seen (Some t)) (present t)).there)
+shut_reached o shut = grind (arith, present)
 
 -- a new device recovers that nothing was taken
 pub new_recovers : (def : TagDef) (o o1 : Option Trace) → During o o1 IsNew
     → During o o1 (λ c. Recovers def c (nothing_taken def.tuning))
-new_recovers def o o1 closed =
-    weaker o o1 IsNew (λ c. Recovers def c (nothing_taken def.tuning)) (λ c new. inl (new, refl)) closed
+new_recovers def o o1 closed = grind (arith, weaker)
 
 -- the header and zeros
 abbrev layout_image : TagDef → ℕ → List ℕ
@@ -63,13 +59,7 @@ module _ (def : TagDef) (slots : ℕ) (bytes : List ℕ) (name : IsName def.name
     (is : bytes ≡ layout_image def slots) where
   -- how many bytes there are
   all_bytes : length bytes ≡ 399 + 1035 * slots
-  all_bytes = omega (
-    arith,
-    ap length is,
-    length-append (header_image def slots) (replicate (272 + 1035 * slots) 0),
-    length-header_image def slots name,
-    length-replicate {A = ℕ} (272 + 1035 * slots) 0,
-  )
+  all_bytes = grind (arith, length-append, length-header_image, length-replicate)
 
   -- after the open gate they are a layout
   guarded_made : (d c : List ℕ) → IsGuarded 1 bytes 0 d c → get_or c 0 0 ≡ open_byte → IsMade def slots c
@@ -79,8 +69,7 @@ module _ (def : TagDef) (slots : ℕ) (bytes : List ℕ) (name : IsName def.name
       holds = guarded.whole opened
 
       long : lane_end slots ≤ length c
-      long =
-          omega (arith, ap length holds, length-take (length bytes) (drop 1 c), length-drop 1 c, all_bytes)
+      long = grind (arith, holds, length-take, length-drop, all_bytes)
 
       header : take 127 (drop 1 c) ≡ header_image def slots
       header =

@@ -4,10 +4,10 @@ use Rattle.std.proofs.Common.{map, None, refl, sym, ◌∙◌, ap, subst, arith}
 use Rattle.trend_num.specs.declared.tuning.Tuning.{Tuning}
 use Rattle.trend_num.specs.declared.tag_def.TagDef.{TagDef}
 use Rattle.trend_num.specs.Names.{IsName}
-use Rattle.trend_num.specs.Ranges.{InRange, TuningInRange}
+use Rattle.trend_num.specs.Ranges.{TuningInRange}
 use Rattle.trend_model.specs.History.{Raw}
 use Rattle.trend_model.specs.Parts.{ArePartsOk}
-use Rattle.trend_model.specs.State.{nothing_taken, replay}
+use Rattle.trend_model.specs.State.{nothing_taken}
 use Rattle.trend_model.proofs.HistoryLaw.{nothing_ruled}
 use Rattle.disk_model.specs.Gates.{open_byte}
 use Rattle.event_queue.specs.Slots.{gate_of}
@@ -15,33 +15,26 @@ use Rattle.event_queue.specs.Lanes.{lane_points, IsLane}
 use Rattle.event_queue.specs.Places.{HasRoom}
 use Rattle.event_queue.proofs.Filled.{lane_points_used}
 use Rattle.device_layout.specs.Headers.{slots_in, def_in, IsHeader}
-use Rattle.device_layout.specs.Recovery.{header_of, log_place, counting, no_summary, state_of, start_of}
+use Rattle.device_layout.specs.Recovery.{header_of, log_place, counting, no_summary, start_of}
 use Rattle.device_layout.specs.Recovery.{values_beyond}
-use Rattle.device_layout.specs.Recovery.{AllFit, IsOfTag, IsStored, IsReplayed, Recovers}
+use Rattle.device_layout.specs.Recovery.{IsOfTag, IsStored, IsReplayed, Recovers}
 use Rattle.device_layout.specs.Layouts.{IsMade}
 use Rattle.device_layout.proofs.HeaderImages.{header_with, slots_image, def_image, header_made}
 
 -- no records and no summary are parts of a tag
 pub no_parts : (u : Tuning) (step : Bool) → ArePartsOk u step [] no_summary
-no_parts u step = record {
-  ruled = nothing_ruled InRange u step None;
-  few = omega arith;
-  countable = omega arith;
-  same_tuning = tt;
-}
+no_parts u step = grind (arith, nothing_ruled)
 
 -- the first bytes are the header after the gate
 pub made_first : (def : TagDef) (slots : ℕ) (c : List ℕ) → IsMade def slots c
     → header_of c ≡ header_with open_byte def slots
 made_first def slots [] made = absurd (omega (arith, made.long))
-made_first def slots (x ∷ c) made =
-    ap (λ l. x ∷ l) made.header ∙ ap (λ b. header_with b def slots) made.opened
+made_first def slots (x ∷ c) made = grind (arith, header_with)
 
 module _ (def : TagDef) (slots : ℕ) (c : List ℕ) (made : IsMade def slots c) where
   -- no lane slot is open
   pub made_shut : (k : ℕ) → k < slots → get_or c (gate_of k) 0 ≢ open_byte
-  made_shut k there opened =
-      absurd (omega (arith, opened, made.zeros (gate_of k) (omega arith) (omega arith)))
+  made_shut k there opened = grind arith
 
   -- the whole lane is free
   pub made_room : HasRoom slots 0 c
@@ -59,10 +52,7 @@ module _ (def : TagDef) (slots : ℕ) (c : List ℕ) (made : IsMade def slots c)
       (few : slots ≤ 65536) where
     -- no summary counts
     pub made_counting : counting c ≡ None
-    made_counting =
-        let first : get_or c 384 0 ≡ 0 = made.zeros 384 (omega arith) (omega arith) in
-        let second : get_or c 385 0 ≡ 0 = made.zeros 385 (omega arith) (omega arith) in
-        rw (first, second)
+    made_counting = grind arith
 
     -- the first bytes are a header
     pub made_header : IsHeader (header_of c)
@@ -107,12 +97,7 @@ module _ (def : TagDef) (slots : ℕ) (c : List ℕ) (made : IsMade def slots c)
 
     -- so the state is that before any event
     pub made_replayed : IsReplayed def.step c (start_of c [] no_summary) 0 (nothing_taken def.tuning)
-    made_replayed = record {
-      lane = subst (λ n. IsLane n c 0 n) (sym made_slots) (made_lane 0);
-      fits = subst (AllFit def.step (start_of c [] no_summary)) (sym made_none) tt;
-      state = ap (λ d. state_of [] no_summary d.tuning) (sym made_def)
-          ∙ ap (replay def.step (start_of c [] no_summary)) (sym made_none);
-    }
+    made_replayed = grind (arith, made_slots, made_lane, made_none, made_def)
 
     -- this is what it recovers
     pub made_recovers : Recovers def c (nothing_taken def.tuning)

@@ -24,7 +24,7 @@ use Rattle.device_layout.specs.declared.slot.Slot.{Slot}
 use Rattle.device_layout.specs.declared.slot.Slot.TheVariants.{First}
 use Rattle.device_layout.specs.Firsts.{HoldsFrom, FailsFirst}
 use Rattle.device_layout.specs.Headers.{is_field_ok, slots_in, tuning_in, IsHeader}
-use Rattle.device_layout.specs.SlotFields.{is_form_ok, is_point_ok, is_number_ok, IsSlotBroken}
+use Rattle.device_layout.specs.SlotFields.{IsSlotBroken}
 use Rattle.device_layout.specs.Recovery.{header_of, log_place, counting, slot_bytes, summary_place, HasSummary, start_of}
 use Rattle.device_layout.specs.Recovery.{recovered_tuning, IsStored}
 use Rattle.device_layout.specs.Damages.{EndsBefore, StandsThere, IsTagDamage, IsHeaderDamage, IsLayoutDamage}
@@ -43,36 +43,18 @@ never : (b : Bool) → b ≡ false → b ≡ true → ⊥
 never b fails holds = cc (fails, holds)
 
 one_first : (test : ℕ → Bool) (from end a b : ℕ) → FailsFirst test from end a → FailsFirst test from end b → a ≡ b
-one_first test from end a b x y = elim (cases_order a b) [
-  | inl same ↦ same
-  | inr (inl less) ↦ absurd (never (test a) x.fails (y.before a x.low less))
-  | inr (inr more) ↦ absurd (never (test b) y.fails (x.before b y.low more))
-]
+one_first test from end a b x y = grind (arith, never)
 
 -- a test that fails somewhere does not hold everywhere
 not_all : (test : ℕ → Bool) (end a : ℕ) → FailsFirst test 0 end a → HoldsFrom test 0 end → ⊥
 not_all test end a x all = never (test a) x.fails (all a x.low x.within)
 
 one_field : (b : List ℕ) (a k : ℕ) → IsSlotBroken b a → IsSlotBroken b k → a ≡ k
-one_field b a k (inl x) (inl y) = one_first (is_form_ok b) 0 128 a k x y
-one_field b a k (inl x) (inr y) = absurd (not_all (is_form_ok b) 128 a x y.0)
-one_field b a k (inr x) (inl y) = absurd (not_all (is_form_ok b) 128 k y x.0)
-one_field b a k (inr (f, inl x)) (inr (g, inl y)) = one_first (is_point_ok b) 0 128 a k x y
-one_field b a k (inr (f, inl x)) (inr (g, inr y)) = absurd (not_all (is_point_ok b) 128 a x y.0)
-one_field b a k (inr (f, inr x)) (inr (g, inl y)) = absurd (not_all (is_point_ok b) 128 k y x.0)
-one_field b a k (inr (f, inr x)) (inr (g, inr y)) = one_first (is_number_ok b) 0 128 a k x.1 y.1
+one_field b a k h g = grind (arith, one_first, not_all)
 
 -- of a record
 one_break : (b : List ℕ) (a k : ℕ) → BreaksAt b a → BreaksAt b k → a ≡ k
-one_break b a k (inl x) (inl y) = x.0 ∙ sym y.0
-one_break b a k (inl x) (inr (inl y)) = absurd (x.1 y.1.0 y.1.1)
-one_break b a k (inl x) (inr (inr y)) = absurd (x.1 y.1.0 y.1.1)
-one_break b a k (inr (inl x)) (inl y) = absurd (y.1 x.1.0 x.1.1)
-one_break b a k (inr (inr x)) (inl y) = absurd (y.1 x.1.0 x.1.1)
-one_break b a k (inr (inl x)) (inr (inl y)) = x.0 ∙ sym y.0
-one_break b a k (inr (inl x)) (inr (inr y)) = omega (arith, x.2, y.2)
-one_break b a k (inr (inr x)) (inr (inl y)) = omega (arith, x.2, y.2)
-one_break b a k (inr (inr x)) (inr (inr y)) = x.0 ∙ sym y.0
+one_break b a k h g = grind arith
 
 -- of a log, of which a later record is reported only if those before it are whole
 earlier : (c : List ℕ) (at count a b : ℕ) (byte other : Option ℕ) (rs xs : List Rec) (k j : ℕ) → at ≤ length c
@@ -107,11 +89,7 @@ one_record c at count a b byte other long (inr (rs, k, x)) (inr (xs, j, y)) = el
 -- and its byte
 record_byte : (c : List ℕ) (at count a b : ℕ) (byte other : Option ℕ) → IsDamage c at count a byte
     → IsDamage c at count b other → a ≡ b → byte ≡ other
-record_byte c at count a b byte other (inl x) (inl y) same = x.byte_there ∙ sym y.byte_there
-record_byte c at count a b byte other (inl x) (inr (xs, j, y)) same = absurd (omega (arith, x.short, y.within))
-record_byte c at count a b byte other (inr (rs, k, x)) (inl y) same = absurd (omega (arith, y.short, x.within))
-record_byte c at count a b byte other (inr (rs, k, x)) (inr (xs, j, y)) same =
-    x.byte_there ∙ ap (λ i. Some (get_or c i 0)) same ∙ sym y.byte_there
+record_byte c at count a b byte other h g same = grind arith
 
 -- of a lane slot
 point_before : (slots : ℕ) (c : List ℕ) (taken k o q i j : ℕ) → IsPointBroken slots c taken k o i
@@ -257,8 +235,7 @@ module _ (def : TagDef) (c : List ℕ) where
   before (suc zero) a byte d = d.tag.header
   before (suc (suc zero)) a byte (i, o, d) = (d.tag.header, d.long)
   before (suc (suc (suc zero))) a byte (s, d) = (d.tag.header, d.long, (s, d.summary))
-  before (suc (suc (suc (suc zero)))) a byte (rs, s, i, d) =
-      (d.tag.header, d.long, (s, rs, subst (λ x. HasSummary c x s) (sym d.counts) d.summary, d.records))
+  before (suc (suc (suc (suc zero)))) a byte (rs, s, i, d) = grind arith
   before (suc (suc (suc (suc (suc zero))))) a byte (rs, s, d) = (rs, s, d.stored)
   before (suc (suc (suc (suc (suc (suc zero)))))) a byte (rs, s, n, j, i, d) = (rs, s, d.stored, d.lane)
   before (suc (suc (suc (suc (suc (suc (suc k))))))) a byte d = absurd d
@@ -268,8 +245,7 @@ module _ (def : TagDef) (c : List ℕ) where
 
   same_recs : (s x : Summary) (rs xs : List Rec) → s ≡ x → HasRecords c (log_place c) s.records rs
       → HasRecords c (log_place c) x.records xs → rs ≡ xs
-  same_recs s x rs xs same has other =
-      records_are_one c (log_place c) s.records x.records rs xs (ap (λ y. y.records) same) has other
+  same_recs s x rs xs same has other = grind (arith, records_are_one)
 
   -- if rule k holds, it is not reported
   refuted : (k a : ℕ) (byte : Option ℕ) → At k a byte → Held k → ⊥
@@ -306,8 +282,7 @@ module _ (def : TagDef) (c : List ℕ) where
   -- each rule reports one place
   one_at : (k a b : ℕ) (byte other : Option ℕ) → At k a byte → At k b other → (a ≡ b) × (byte ≡ other)
   one_at zero a b byte other x y = (x.1.place ∙ sym y.1.place, x.1.none_there ∙ sym y.1.none_there)
-  one_at (suc zero) a b byte other x y =
-      one_there a b byte other x.there y.there (one_first (is_field_ok (header_of c)) 1 128 a b x.broken y.broken)
+  one_at (suc zero) a b byte other x y = grind (arith, one_there, one_first)
   one_at (suc (suc zero)) a b byte other x y = (x.ends.place ∙ sym y.ends.place, x.ends.none_there ∙ sym y.ends.none_there)
   one_at (suc (suc (suc zero))) a b byte other (i, o, x) (j, q, y) =
       let slot = one_count i j x.counts y.counts in
@@ -318,9 +293,7 @@ module _ (def : TagDef) (c : List ℕ) where
       let broken = subst (λ v. IsDamage c (log_place c) v.records a byte) (same_sum s z x.summary y.summary) x.broken in
       let place = one_record c (log_place c) z.records a b byte other x.long broken y.broken in
       (place, record_byte c (log_place c) z.records a b byte other broken y.broken place)
-  one_at (suc (suc (suc (suc (suc zero))))) a b byte other (rs, s, i, x) (xs, z, j, y) =
-      one_there a b byte other x.there y.there
-      (x.place ∙ ap summary_place (one_count i j x.counts y.counts) ∙ sym y.place)
+  one_at (suc (suc (suc (suc (suc zero))))) a b byte other (rs, s, i, x) (xs, z, j, y) = grind (arith, one_there, one_count)
   one_at (suc (suc (suc (suc (suc (suc zero)))))) a b byte other (rs, s, x) (xs, z, y) =
       one_slot (slots_in (header_of c)) c z.taken a b byte other
       (subst (λ v. IsLaneDamage (slots_in (header_of c)) c v.taken a byte)

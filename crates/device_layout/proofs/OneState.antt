@@ -1,20 +1,19 @@
 -- An image recovers one state at most.
-use Rattle.std.proofs.Common.{◌≡◌, inl, inr, List, ℕ, Option, None, Some, sym, ap, ◌∙◌, subst, arith}
+use Rattle.std.proofs.Common.{◌≡◌, inl, inr, List, ℕ, Option, None, Some, sym, ◌∙◌, arith}
 use Rattle.trend_num.specs.declared.archive.Rec.{Rec}
 use Rattle.trend_num.specs.declared.archive.Summary.{Summary}
 use Rattle.trend_num.specs.declared.tag_def.TagDef.{TagDef}
-use Rattle.trend_model.specs.State.{State, replay}
+use Rattle.trend_model.specs.State.{State}
 use Rattle.archive_file.specs.Places.{HasRecords}
 use Rattle.archive_file.proofs.Spellings.{one_list, one_summary}
 use Rattle.device_layout.specs.declared.slot.Slot.{Slot}
-use Rattle.device_layout.specs.Recovery.{counting, log_place, start_of, values_beyond, HasSummary, IsStored}
+use Rattle.device_layout.specs.Recovery.{HasSummary, IsStored}
 use Rattle.disk_model.specs.Gates.{IsNew}
 use Rattle.device_layout.specs.Recovery.{IsRecovered, Recovers}
 
 -- an image with what is stored is not new
 not_new : (def : TagDef) (c : List ℕ) (rs : List Rec) (s : Summary) → IsStored def c rs s → IsNew c → ⊥
-not_new def c rs s stored (inl short) = omega (arith, short, stored.long)
-not_new def c rs s stored (inr shut) = shut stored.tag.opened
+not_new def c rs s stored h = grind arith
 
 -- there is one summary in a slot
 pub summary_is_one : (c : List ℕ) (o : Option Slot) (s x : Summary) → HasSummary c o s → HasSummary c o x → s ≡ x
@@ -24,19 +23,10 @@ summary_is_one c (Some i) s x has other = one_summary s x has.0 other.0 (sym has
 -- and one list of records
 pub records_are_one : (c : List ℕ) (at n m : ℕ) (rs xs : List Rec) → n ≡ m → HasRecords c at n rs → HasRecords c at m xs
     → rs ≡ xs
-records_are_one c at n m rs xs same has other =
-    let again = subst (λ k. HasRecords c at k rs) same has in
-    one_list rs xs again.records.in_range other.records.in_range (again.counted ∙ sym other.counted)
-    (again.records.image ∙ sym other.records.image)
+records_are_one c at n m rs xs same has other = grind (arith, one_list)
 
 replayed_is_one : (def : TagDef) (c : List ℕ) (s x : State) → IsRecovered def c s → IsRecovered def c x → s ≡ x
-replayed_is_one def c s x (rs, sum, stored, replayed) (ys, num, found, again) =
-    let summary = summary_is_one c (counting c) sum num stored.summary found.summary in
-    let records = records_are_one c (log_place c) sum.records num.records rs ys (ap (λ y. y.records) summary)
-    stored.records found.records in
-    replayed.state
-    ∙ (λ i. replay def.step (start_of c (records i) (summary i)) (values_beyond c (summary i).taken))
-    ∙ sym again.state
+replayed_is_one def c s x (rs, sum, stored, replayed) (ys, num, found, again) = grind (arith, summary_is_one, records_are_one)
 
 pub one_state : (def : TagDef) (c : List ℕ) (s x : State) → Recovers def c s → Recovers def c x → s ≡ x
 one_state def c s x (inl new) (inl again) = new.1 ∙ sym again.1

@@ -16,13 +16,13 @@ use Rattle.device_layout.specs.declared.header.Header.{Header}
 use Rattle.device_layout.specs.declared.layout_reader.Stored.{Stored}
 use Rattle.device_layout.specs.declared.slot.Slot.{Slot}
 use Rattle.device_layout.specs.declared.slot.Slot.TheVariants.{First, Second}
-use Rattle.device_layout.specs.Headers.{def_in, tuning_in, slots_in, IsHeader, IsHeaderBroken}
+use Rattle.device_layout.specs.Headers.{def_in, slots_in, IsHeader, IsHeaderBroken}
 use Rattle.device_layout.specs.SlotFields.{IsSlotBroken}
-use Rattle.device_layout.specs.Recovery.{header_of, log_place, summary_place, slot_bytes}
-use Rattle.device_layout.specs.Recovery.{is_open, taken_in, chosen}
+use Rattle.device_layout.specs.Recovery.{header_of, summary_place, slot_bytes}
+use Rattle.device_layout.specs.Recovery.{taken_in, chosen}
 use Rattle.device_layout.specs.Recovery.{counting, HasSummary, recovered_tuning, IsOfTag}
 use Rattle.device_layout.specs.Damages.{IsTagDamage}
-use Rattle.device_layout.specs.Damages.IsTagDamage.{BadHeader, BadSummary, BadLog, BadParts}
+use Rattle.device_layout.specs.Damages.IsTagDamage.{BadSummary, BadLog, BadParts}
 use Rattle.device_layout.specs.Readings.{IsOther, HasHeader, HasLayout, CountsSummary, IsFoundOn}
 use Rattle.device_layout.specs.Readings.{IsCause, refusal_of}
 use Rattle.device_layout.specs.declared.failure.OpenNo.{OpenNo}
@@ -41,21 +41,12 @@ cause_before def o p why same cause = subst (λ x. IsCause def x why) same cause
 pub cause_of_scan : (def : TagDef) (o : Option Trace) (why : ScanNo) (result : OpenNo) → result ≡ refusal_of why
     → ((at : ℕ) (byte : Option ℕ) → why ≡ scan.Damaged at byte → Shows o (λ c. IsTagDamage def c at byte))
     → IsCause def o result
-cause_of_scan def o scan.DeviceFault result is damage = subst (IsCause def o) (sym is) tt
-cause_of_scan def o (scan.Damaged at byte) result is damage =
-    subst (IsCause def o) (sym is) (damage at byte refl)
-cause_of_scan def o scan.WantOfMemory result is damage = subst (IsCause def o) (sym is) tt
+cause_of_scan def o why result is damage = grind arith
 
 -- another tag's device
 pub is_other : (def : TagDef) (c : List ℕ) (h : Header) → IsOpen 0 c → HasHeader h c
     → ((h.def.name ≡ def.name) → (h.def.step ≡ def.step) → ⊥) → IsOther def c h.def def
-is_other def c h opened has differs = record {
-  opened = opened;
-  header = has.header;
-  found_is = has.def_is;
-  wanted_is = refl;
-  differs = differs;
-}
+is_other def c h opened has differs = grind arith
 
 -- the same at the same place
 pub here_at : (bytes : List ℕ) (a at : ℕ) (c : List ℕ) → a ≡ at → bytes ≡ take (length bytes) (drop a c)
@@ -71,53 +62,29 @@ here_128 bytes at c size here = ap (λ n. take n (drop at c)) (sym size) ∙ sym
 pub byte_here : (bytes : List ℕ) (at : ℕ) (c : List ℕ) (k : ℕ) → k < length bytes → bytes ≡ take (length bytes)
     (drop at c)
     → get_or c (at + k) 0 ≡ get_or bytes k 0
-byte_here bytes at c k within here =
-    sym (ap (λ l. get_or l k 0) here ∙ get_or-take (length bytes) (drop at c) k 0 within ∙ get_or-drop at c k 0)
+byte_here bytes at c k within here = grind (arith, get_or-take, get_or-drop)
 
 -- ---- the header
 
 pub has_header : (bytes c : List ℕ) (h : Header) → length bytes ≡ 128 → bytes ≡ take (length bytes) (drop 0 c)
     → IsHeader bytes → h.def ≡ def_in bytes → h.slots ≡ slots_in bytes → HasHeader h c
-has_header bytes c h size here ok def_is slots_are =
-    let same : bytes ≡ header_of c = sym (here_128 bytes 0 c size here) in
-    record {
-      header = subst IsHeader same ok;
-      def_is = def_is ∙ ap def_in same;
-      slots_are = slots_are ∙ ap slots_in same;
-    }
+has_header bytes c h size here ok def_is slots_are = grind (arith, here_128)
 
 pub header_broken : (def : TagDef) (bytes c : List ℕ) (at : ℕ) → length bytes ≡ 128
     → bytes ≡ take (length bytes) (drop 0 c) → 128 ≤ length c → at < 128 → IsHeaderBroken bytes at → IsOpen 0 c
     → IsTagDamage def c at (Some (get_or bytes at 0))
-header_broken def bytes c at size here long within broken opened =
-    BadHeader (record {
-      opened = opened;
-      long = long;
-      broken = subst (λ l. IsHeaderBroken l at) (sym (here_128 bytes 0 c size here)) broken;
-      there = record {
-        within = omega (arith, long, within);
-        byte_there = ap Some (sym (ap (λ k. get_or c k 0) (omega arith)
-            ∙ byte_here bytes 0 c at (omega (arith, size, within)) here));
-      };
-    })
+header_broken def bytes c at size here long within broken opened = grind (arith, here_128 bytes 0 c size here, byte_here bytes 0 c at (omega (arith, size, within)) here)
 
 pub of_tag : (def : TagDef) (c : List ℕ) (h : Header) → IsOpen 0 c → HasHeader h c → h.def.name ≡ def.name
     → h.def.step ≡ def.step → IsOfTag def c
-of_tag def c h opened has name step = record {
-  opened = opened;
-  header = has.header;
-  same_name = sym (ap (λ d. d.name) has.def_is) ∙ name;
-  same_step = sym (ap (λ d. d.step) has.def_is) ∙ step;
-}
+of_tag def c h opened has name step = grind arith
 
 -- ---- the summary that counts
 
 -- the number that a summary in a slot begins with
 taken_read : (i : Slot) (c bytes : List ℕ) → length bytes ≡ 8 → bytes ≡ take (length bytes) (drop (summary_place i) c)
     → taken_in c i ≡ from_be_bytes w64 bytes
-taken_read i c bytes size here = ap (from_be_bytes w64)
-    (take-take 8 128 (drop (summary_place i) c) (omega arith) ∙ ap (λ n. take n (drop (summary_place i) c))
-    (sym size) ∙ sym here)
+taken_read i c bytes size here = grind (arith, take-take)
 
 pub counting_read : (c first second gates : List ℕ) (m n : ℕ) (result : Option Slot) → length first ≡ 8
     → length second ≡ 8
@@ -128,19 +95,11 @@ pub counting_read : (c first second gates : List ℕ) (m n : ℕ) (result : Opti
 counting_read c first second gates m n result first_size second_size gates_size first_here second_here gates_here m_is n_is is =
     let gate_0 : get_or c 384 0 ≡ get_or gates 0 0 = byte_here gates 384 c 0 (omega (arith, gates_size)) gates_here in
     let gate_1 : get_or c 385 0 ≡ get_or gates 1 0 = byte_here gates 384 c 1 (omega (arith, gates_size)) gates_here in
-    ap (λ b. chosen (nat_eq b open_byte) (is_open c Second) (nat_le (taken_in c Second) (taken_in c First))) gate_0
-    ∙ ap (λ b. chosen (nat_eq (get_or gates 0 0) open_byte) (nat_eq b open_byte)
-    (nat_le (taken_in c Second) (taken_in c First))) gate_1
-    ∙ ap (λ k. chosen (nat_eq (get_or gates 0 0) open_byte) (nat_eq (get_or gates 1 0) open_byte)
-    (nat_le k (taken_in c First))) (taken_read Second c second second_size second_here ∙ sym n_is)
-    ∙ ap (λ k. chosen (nat_eq (get_or gates 0 0) open_byte) (nat_eq (get_or gates 1 0) open_byte)
-    (nat_le n k)) (taken_read First c first first_size first_here ∙ sym m_is)
-    ∙ sym is
+    grind (arith, taken_read Second c second second_size second_here, taken_read First c first first_size first_here)
 
 -- a summary slot ends before the lane begins
 slot_end : (i : Slot) → summary_place i + 128 ≤ 384
-slot_end First = omega arith
-slot_end Second = omega arith
+slot_end i = grind arith
 
 -- a lane ends after the first 400 bytes
 front_end : (slots : ℕ) → 400 ≤ lane_end slots
@@ -158,10 +117,7 @@ summary_broken def slots made i bytes c at size here within broken has counts =
       counts = counts;
       broken = subst (λ l. IsSlotBroken l at) (sym (here_128 bytes (summary_place i) c size here)) broken;
       place = refl;
-      there = record {
-        within = omega (arith, has.long, front_end (slots_in (header_of c)), slot_end i, within);
-        byte_there = ap Some (sym (byte_here bytes (summary_place i) c at (omega (arith, size, within)) here));
-      };
+      there = grind (arith, front_end, slot_end, byte_here);
     })
 
 -- ---- the records
@@ -187,8 +143,7 @@ parts_broken def slots i s u step rs first c same_step records broken size here 
   counts = has.counts;
   summary = has.summary;
   records = subst (λ n. HasRecords c (lane_end n) s.records rs) has.slots_are records;
-  broken = λ ok. broken (subst (λ k. ArePartsOk u k rs s) same_step (subst (λ t. ArePartsOk t def.step rs s)
-      (sym has.tuning) ok));
+  broken = grind arith;
   place = refl;
   there = record {
     within = omega (arith, has.long, front_end (slots_in (header_of c)), slot_end i);
@@ -207,26 +162,9 @@ no_records c at = record { counted = refl; records = record { in_range = tt; ima
 pub counts_summary : (def : TagDef) (slots : ℕ) (made : Tuning) (i : Slot) (s : Summary) (u : Tuning) (c : List ℕ)
     → HasLayout def slots made c → counting c ≡ Some i → IsSummary s → slot_bytes c i ≡ summary_image s
     → u ≡ recovered_tuning made s.tuning → CountsSummary def slots i s u c
-counts_summary def slots made i s u c has counts whole bytes tuning = record {
-  tag = has.tag;
-  long = has.long;
-  slots_are = has.slots_are;
-  counts = counts;
-  summary = (whole, bytes);
-  tuning = tuning ∙ ap (λ t. recovered_tuning t s.tuning) has.made_with;
-}
+counts_summary def slots made i s u c has counts whole bytes tuning = grind arith
 
 pub stored_some : (def : TagDef) (slots : ℕ) (i : Slot) (s : Summary) (u : Tuning) (x : Stored) (c : List ℕ)
     → CountsSummary def slots i s u c → HasRecords c (lane_end slots) s.records x.recs.items
     → x.slot ≡ Some i → x.summary ≡ s → x.tuning ≡ u → IsFoundOn def slots x c
-stored_some def slots i s u x c has records slot summary tuning = record {
-  tag = has.tag;
-  long = has.long;
-  summary = subst (λ y. HasSummary c y x.summary) (sym has.counts)
-      (subst (λ y. HasSummary c (Some i) y) (sym summary) has.summary);
-  records = subst (λ y. HasRecords c (log_place c) y.records x.recs.items) (sym summary)
-      (subst (λ n. HasRecords c (lane_end n) s.records x.recs.items) has.slots_are records);
-  slots_are = has.slots_are;
-  slot = has.counts ∙ sym slot;
-  tuning = tuning ∙ has.tuning ∙ sym (ap (λ y. recovered_tuning (tuning_in (header_of c)) y.tuning) summary);
-}
+stored_some def slots i s u x c has records slot summary tuning = grind arith

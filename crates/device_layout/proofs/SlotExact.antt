@@ -1,7 +1,7 @@
 -- The bytes of a summary break the layout of a slot at no field.
 use Rattle.std.proofs.Common.{◌≡◌, inl, inr, ℕ, ◌+◌, ◌≤◌, Bool, true, not, ◌||◌, leb, eqb, List, ◌∷◌, ◌++◌}
 use Rattle.std.proofs.Common.{length, get_or, take, drop, Option, None, Some, is_some, IfSome, refl, sym, ap}
-use Rattle.std.proofs.Common.{◌∙◌, subst, arith}
+use Rattle.std.proofs.Common.{◌∙◌, arith}
 use Rattle.std.specs.Int.{w64, from_be_bytes}
 use Rattle.std.specs.List.{list_all}
 use Rattle.std.proofs.lemmas.Bool.{and_from, or_left, or_right, not_from_false, le-leb, both_ways}
@@ -11,7 +11,7 @@ use Rattle.trend_num.specs.declared.archive.Summary.{Summary}
 use Rattle.trend_num.specs.declared.tuning.Tuning.{Tuning}
 use Rattle.trend_num.specs.Ranges.{InRange, TuningInRange, last_time, largest_value}
 use Rattle.archive_file.specs.Fields.{number_bytes, place_bytes, point_at}
-use Rattle.archive_file.specs.Summaries.{flags, tuning_bytes, summary_image, IsSummary}
+use Rattle.archive_file.specs.Summaries.{tuning_bytes, summary_image, IsSummary}
 use Rattle.archive_file.proofs.Points.{point_at-bytes}
 use Rattle.device_layout.specs.Firsts.{HoldsFrom}
 use Rattle.device_layout.specs.SlotFields.{has_flag, are_flags_ok, are_zeros, is_in_range, short_number}
@@ -19,7 +19,7 @@ use Rattle.device_layout.specs.SlotFields.{is_form_ok, is_point_ok, is_number_ok
 use Rattle.device_layout.proofs.Firsts.{by_case}
 use Rattle.device_layout.proofs.SlotNumbers.{length-place}
 use Rattle.device_layout.proofs.SlotTests.{inside_is}
-use Rattle.device_layout.proofs.SlotFlags.{AreBeside, beside_passes, AreBits, bits_of_flags}
+use Rattle.device_layout.proofs.SlotFlags.{beside_passes, AreBits, bits_of_flags}
 use Rattle.device_layout.proofs.SlotPieces.{five_and_more}
 
 -- what is after a piece
@@ -31,9 +31,7 @@ behind_piece b piece rest at n long is =
 -- a place of a point, or of zeros
 place_passes : (o : Option Point) (there : Bool) (b rest : List ℕ) (at : ℕ) → there ≡ is_some o
     → drop at b ≡ place_bytes o ++ rest → (there || are_zeros b at 16) ≡ true
-place_passes None there b rest at flag is =
-    or_right there _ (ap (λ l. list_all (λ x. eqb x 0) (take 16 l)) is)
-place_passes (Some p) there b rest at flag is = or_left there _ flag
+place_passes o there b rest at flag is = grind (arith, or_right, or_left)
 
 -- the point there, which is in range
 point_passes : (o : Option Point) (there : Bool) (b rest : List ℕ) (at : ℕ) → IfSome o InRange
@@ -47,9 +45,7 @@ point_passes (Some p) there b rest at inside flag is =
 -- a tuning, or zeros
 tuning_passes : (o : Option Tuning) (there : Bool) (b : List ℕ) → there ≡ is_some o
     → drop 96 b ≡ tuning_bytes o → (there || are_zeros b 96 32) ≡ true
-tuning_passes None there b flag is =
-    or_right there _ (ap (λ l. list_all (λ x. eqb x 0) (take 32 l)) is)
-tuning_passes (Some t) there b flag is = or_left there _ flag
+tuning_passes o there b flag is = grind (arith, or_right, or_left)
 
 -- a deviation is read of its 7 bytes
 seven_read : (n : ℕ) → n ≤ largest_value → from_be_bytes w64 (0 ∷ number_bytes 7 n) ≡ n
@@ -69,13 +65,7 @@ record DoNumbersPass (there : Bool) (b : List ℕ) : Type 0 where
 
 -- those of one that is absent
 numbers_absent : (there : Bool) (b : List ℕ) → not there ≡ true → DoNumbersPass there b
-numbers_absent there b absent = record {
-  exc_dev = or_left (not there) _ absent;
-  exc_max = or_left (not there) _ absent;
-  comp_dev = or_left (not there) _ absent;
-  comp_min = or_left (not there) _ absent;
-  comp_max = or_left (not there) _ absent;
-}
+numbers_absent there b absent = grind (arith, or_left)
 
 -- a number passes that is read and small
 number_passes : (there : Bool) (n m most : ℕ) → n ≡ m → m ≤ most → (not there || leb n most) ≡ true
@@ -95,18 +85,7 @@ numbers_there t there b tuned is =
     let s5 : drop 122 b ≡ r5 = behind_piece b (number_bytes 6 t.comp_min) r5 116 6 refl s4 in
     let seven = λ (l : List ℕ). from_be_bytes w64 (0 ∷ take 7 l) in
     let six = λ (l : List ℕ). from_be_bytes w64 (0 ∷ 0 ∷ take 6 l) in
-    record {
-      exc_dev = number_passes there _ t.exc_dev largest_value
-          (ap seven is ∙ seven_read t.exc_dev tuned.exc_dev) tuned.exc_dev;
-      exc_max = number_passes there _ t.exc_max last_time (ap six s2 ∙ six_read t.exc_max tuned.exc_max)
-          tuned.exc_max;
-      comp_dev = number_passes there _ t.comp_dev largest_value
-          (ap seven s3 ∙ seven_read t.comp_dev tuned.comp_dev) tuned.comp_dev;
-      comp_min = number_passes there _ t.comp_min last_time (ap six s4 ∙ six_read t.comp_min tuned.comp_min)
-          tuned.comp_min;
-      comp_max = number_passes there _ t.comp_max last_time (ap six s5 ∙ six_read t.comp_max tuned.comp_max)
-          tuned.comp_max;
-    }
+    grind (arith, number_passes, seven_read, six_read)
 
 numbers_pass : (o : Option Tuning) (there : Bool) (b : List ℕ) → there ≡ is_some o → IfSome o TuningInRange
     → drop 96 b ≡ tuning_bytes o → DoNumbersPass there b
@@ -136,49 +115,23 @@ parts_of s b is =
     let r64 = place_bytes s.upper ++ r80 in
     let r48 = place_bytes s.hinge ++ r64 in
     let r32 = place_bytes s.pending ++ r48 in
-    let s16 : drop 16 b ≡ place_bytes s.held ++ r32 = ap (drop 16) is
-    ∙ five_and_more (place_bytes s.held) (place_bytes s.pending) (place_bytes s.hinge) (place_bytes s.upper)
-    (place_bytes s.lower) t in
+    let s16 : drop 16 b ≡ place_bytes s.held ++ r32 = grind (arith, five_and_more) in
     let s32 : drop 32 b ≡ r32 = behind_piece b (place_bytes s.held) r32 16 16 (length-place s.held) s16 in
     let s48 : drop 48 b ≡ r48 =
-    behind_piece b (place_bytes s.pending) r48 32 16 (length-place s.pending) s32 in
+    grind (arith, behind_piece, length-place) in
     let s64 : drop 64 b ≡ r64 = behind_piece b (place_bytes s.hinge) r64 48 16 (length-place s.hinge) s48 in
     let s80 : drop 80 b ≡ r80 = behind_piece b (place_bytes s.upper) r80 64 16 (length-place s.upper) s64 in
-    record {
-      rest_32 = r32;
-      rest_48 = r48;
-      rest_64 = r64;
-      rest_80 = r80;
-      at_16 = s16;
-      at_32 = s32;
-      at_48 = s48;
-      at_64 = s64;
-      at_80 = s80;
-      at_96 = behind_piece b (place_bytes s.lower) t 80 16 (length-place s.lower) s80;
-    }
+    grind (arith, behind_piece, length-place)
 
 module _ (s : Summary) (b : List ℕ) (summary : IsSummary s) (is : b ≡ summary_image s) where
   -- its flags say what is there
   flags_say : AreBits (get_or b 12 0) (is_some s.held) (is_some s.pending) (is_some s.hinge) (is_some s.upper)
       (is_some s.tuning)
-  flags_say =
-      let says : get_or b 12 0 ≡ flags s = ap (λ l. get_or l 12 0) is in
-      subst (λ n. AreBits n (is_some s.held) (is_some s.pending) (is_some s.hinge) (is_some s.upper)
-      (is_some s.tuning)) (sym says)
-      (bits_of_flags (is_some s.held) (is_some s.pending) (is_some s.hinge) (is_some s.upper)
-      (is_some s.tuning))
+  flags_say = grind (arith, bits_of_flags)
 
   -- the flags go together
   flags_pass : are_flags_ok b ≡ true
-  flags_pass =
-      let says = flags_say in
-      let with_held : AreBeside (has_flag b 1) (has_flag b 2) (has_flag b 4) (has_flag b 8) = record {
-        together = says.held_bit ∙ summary.together ∙ sym says.hinge_bit;
-        pending_after = λ there. says.held_bit ∙ summary.pending_after (sym says.pending_bit ∙ there);
-        doors_after = λ there. says.held_bit ∙ summary.doors_after (sym says.doors_bit ∙ there);
-      } in
-      and_from (leb (get_or b 12 0) 31) _ says.small
-      (beside_passes (has_flag b 1) (has_flag b 4) (has_flag b 2) (has_flag b 8) with_held)
+  flags_pass = grind (arith, flags_say, and_from, beside_passes)
 
   -- each field has a form that it may have
   forms_pass : HoldsFrom (is_form_ok b) 0 128

@@ -1,6 +1,6 @@
 -- The flags of a summary as bits of a number.
 use Rattle.std.proofs.Common.{◌≡◌, ℕ, ◌+◌, ◌/◌, ◌%◌, ◌≤◌, Bool, true, false, cond, not, ◌&&◌, ◌||◌, leb, eqb}
-use Rattle.std.proofs.Common.{is_some, refl, sym, arith}
+use Rattle.std.proofs.Common.{is_some, refl, arith}
 use Rattle.std.proofs.lemmas.Bool.{and_parts, eqb-true, not-true, agree_below_at}
 use Rattle.trend_num.specs.declared.archive.Summary.{Summary}
 use Rattle.archive_file.specs.Summaries.{flag, flags}
@@ -16,28 +16,12 @@ pub record AreBeside (held pending hinge doors : Bool) : Type 0 where
 -- the test says so
 pub beside : (held hinge pending doors : Bool) → cond held hinge (not (hinge || pending || doors)) ≡ true
     → AreBeside held pending hinge doors
-beside true hinge pending doors ok = record {
-  together = sym ok;
-  pending_after = λ there. refl;
-  doors_after = λ there. refl;
-}
-beside false true pending doors ok = absurd (cc (ok))
-beside false false true doors ok = absurd (cc (ok))
-beside false false false true ok = absurd (cc (ok))
-beside false false false false ok = record {
-  together = refl;
-  pending_after = λ there. there;
-  doors_after = λ there. there;
-}
+beside held hinge pending doors ok = grind arith
 
 -- and passes where they do
 pub beside_passes : (held hinge pending doors : Bool) → AreBeside held pending hinge doors
     → cond held hinge (not (hinge || pending || doors)) ≡ true
-beside_passes true hinge pending doors is = sym is.together
-beside_passes false true pending doors is = absurd (cc (is.together))
-beside_passes false false true doors is = absurd (cc (is.pending_after refl))
-beside_passes false false false true is = absurd (cc (is.doors_after refl))
-beside_passes false false false false is = refl
+beside_passes held hinge pending doors is = grind arith
 
 -- ---- five bits
 
@@ -56,8 +40,7 @@ flags_in n = five_flags (bit_of n 1) (bit_of n 2) (bit_of n 4) (bit_of n 8) (bit
 
 -- a small number is that of its bits
 pub flags_in_is : (n : ℕ) → n ≤ 31 → flags_in n ≡ n
-flags_in_is n small =
-    eqb-true (flags_in n) n (agree_below_at (λ k. eqb (flags_in k) k) (λ k. true) 32 n refl (omega arith))
+flags_in_is n small = grind (arith, eqb-true, agree_below_at)
 
 -- the flags of a summary, by what is there
 pub flags_are : (s : Summary) (h p a d u : Bool) → is_some s.held ≡ h → is_some s.pending ≡ p
@@ -69,16 +52,14 @@ abbrev of_both : (Bool → Bool) → Bool
 of_both test = test true && test false
 
 of_both_at : (test : Bool → Bool) → of_both test ≡ true → (b : Bool) → test b ≡ true
-of_both_at test all true = (and_parts (test true) (test false) all).0
-of_both_at test all false = (and_parts (test true) (test false) all).1
+of_both_at test all b = grind (arith, and_parts)
 
 -- two are one
 abbrev are_same : Bool → Bool → Bool
 are_same x y = cond y x (not x)
 
 same_from : (x y : Bool) → are_same x y ≡ true → x ≡ y
-same_from x true ok = ok
-same_from x false ok = not-true x ok
+same_from x y ok = grind (arith, not-true)
 
 -- the bits of the number of five bits are these
 pub record AreBits (n : ℕ) (held pending hinge doors tuning : Bool) : Type 0 where
@@ -94,20 +75,7 @@ are_bits n h p a d u = leb n 31 && (are_same (bit_of n 1) h && (are_same (bit_of
     && (are_same (bit_of n 4) a && (are_same (bit_of n 8) d && are_same (bit_of n 16) u))))
 
 bits_from : (n : ℕ) (h p a d u : Bool) → are_bits n h p a d u ≡ true → AreBits n h p a d u
-bits_from n h p a d u ok =
-    let p1 = and_parts (leb n 31) _ ok in
-    let p2 = and_parts (are_same (bit_of n 1) h) _ p1.1 in
-    let p3 = and_parts (are_same (bit_of n 2) p) _ p2.1 in
-    let p4 = and_parts (are_same (bit_of n 4) a) _ p3.1 in
-    let p5 = and_parts (are_same (bit_of n 8) d) _ p4.1 in
-    record {
-      small = p1.0;
-      held_bit = same_from (bit_of n 1) h p2.0;
-      pending_bit = same_from (bit_of n 2) p p3.0;
-      hinge_bit = same_from (bit_of n 4) a p4.0;
-      doors_bit = same_from (bit_of n 8) d p5.0;
-      tuning_bit = same_from (bit_of n 16) u p5.1;
-    }
+bits_from n h p a d u ok = grind (arith, and_parts, same_from)
 
 -- they are, in all 32 cases
 pub bits_of_flags : (h p a d u : Bool) → AreBits (five_flags h p a d u) h p a d u

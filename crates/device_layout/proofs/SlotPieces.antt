@@ -1,11 +1,11 @@
 -- The bytes of a slot, cut into its fields.
-use Rattle.std.proofs.Common.{◌≡◌, ⊎_elim, ℕ, zero, suc, ◌+◌, ◌^◌, ◌<◌, ◌≤◌, true, eqb, List, [], ◌∷◌, ◌++◌}
+use Rattle.std.proofs.Common.{◌≡◌, ℕ, zero, suc, ◌+◌, ◌^◌, ◌<◌, ◌≤◌, true, eqb, List, [], ◌∷◌, ◌++◌}
 use Rattle.std.proofs.Common.{length, take, drop, replicate, refl, sym, ap, ◌∙◌, arith, take-append-drop}
 use Rattle.std.proofs.Common.{length-take, length-drop}
-use Rattle.std.specs.Int.{w32, w64, from_be_bytes, cast_signed}
+use Rattle.std.specs.Int.{w32, w64, from_be_bytes}
 use Rattle.std.specs.List.{list_all}
 use Rattle.std.proofs.lemmas.Nat.{be_bytes_4, be_bytes_8}
-use Rattle.std.proofs.lemmas.Bool.{cases_lt, eqb-true, and_parts}
+use Rattle.std.proofs.lemmas.Bool.{eqb-true, and_parts}
 use Rattle.std.proofs.lemmas.List.{drop-drop, drop-take, take-take, take_all, get_or-take, get_or-drop}
 use Rattle.std.proofs.lemmas.List.{get_or_past, append_assoc}
 use Rattle.archive_file.specs.Fields.{number_bytes, point_bytes, point_at}
@@ -14,9 +14,7 @@ use Rattle.archive_file.proofs.Points.{IsBytes, point_bytes-at}
 -- what is there from a place on: a piece, and what is after it
 pub cut : (b : List ℕ) (at n : ℕ) (piece rest : List ℕ) → take n (drop at b) ≡ piece → drop (at + n) b ≡ rest
     → drop at b ≡ piece ++ rest
-cut b at n piece rest is behind =
-    sym (take-append-drop n (drop at b)) ∙ ap (λ l. take n (drop at b) ++ l) (drop-drop n at b)
-    ∙ ap (λ l. l ++ drop (at + n) b) is ∙ ap (λ l. piece ++ l) behind
+cut b at n piece rest is behind = grind (arith, take-append-drop n (drop at b), drop-drop n at b)
 
 -- five points and what is after them
 pub five_and_more : (a b c d e t : List ℕ) → (a ++ (b ++ (c ++ (d ++ e)))) ++ t
@@ -28,7 +26,7 @@ all_zeros : (l : List ℕ) → list_all (λ x. eqb x 0) l ≡ true → l ≡ rep
 all_zeros [] all = refl
 all_zeros (x ∷ l) all =
     let parts = and_parts (eqb x 0) (list_all (λ x. eqb x 0) l) all in
-    ap (λ y. y ∷ l) (eqb-true x 0 parts.0) ∙ ap (λ k. 0 ∷ k) (all_zeros l parts.1)
+    grind (arith, eqb-true x 0 parts.0, all_zeros l parts.1)
 
 -- so many
 pub zeros_are : (l : List ℕ) (n : ℕ) → length l ≡ n → list_all (λ x. eqb x 0) l ≡ true → l ≡ replicate n 0
@@ -41,19 +39,11 @@ bytes_behind_zero l bytes (suc i) = bytes i
 
 -- a point is in the first 16 bytes
 point_of_piece : (l : List ℕ) → point_at (take 16 l) ≡ point_at l
-point_of_piece l =
-    let first : take 8 (take 16 l) ≡ take 8 l = take-take 8 16 l (omega arith) in
-    let second : take 8 (drop 8 (take 16 l)) ≡ take 8 (drop 8 l) =
-    ap (take 8) (drop-take 8 8 l) ∙ take-take 8 8 (drop 8 l) (omega arith) in
-    λ i. record {
-      t = from_be_bytes w64 (first i);
-      v = cast_signed w64 (from_be_bytes w64 (second i));
-    }
+point_of_piece l = grind (arith, take-take, drop-take)
 
 -- 8 bytes are a number of 64 bits
 pub eight_below : (l : List ℕ) → IsBytes l → from_be_bytes w64 l < 2 ^ 64
-eight_below l bytes =
-    omega (arith, bytes 0, bytes 1, bytes 2, bytes 3, bytes 4, bytes 5, bytes 6, bytes 7)
+eight_below l bytes = grind arith
 
 -- 4 bytes one of 32
 pub four_below : (l : List ℕ) → IsBytes l → from_be_bytes w32 l < 2 ^ 32
@@ -67,11 +57,7 @@ module _ (b : List ℕ) (long : length b ≡ 128) (bytes : IsBytes b) where
 
   -- of bytes
   pub bytes_of_piece : (at n : ℕ) → IsBytes (take n (drop at b))
-  bytes_of_piece at n i = ⊎_elim
-      (λ below. omega (arith, get_or-take n (drop at b) i 0 below, get_or-drop at b i 0, bytes (at + i)))
-      (λ above. let past : length (take n (drop at b)) ≤ i = omega (arith, length-take n (drop at b)) in
-      omega (arith, get_or_past (take n (drop at b)) i 0 past))
-      (cases_lt i n)
+  bytes_of_piece at n i = grind (arith, get_or-take, get_or-drop, length-take, get_or_past)
 
   -- the last one is the rest
   pub last_piece : (at n : ℕ) → at + n ≡ 128 → take n (drop at b) ≡ drop at b

@@ -31,22 +31,14 @@ there_is false x = refl
 -- a point that is there is in range
 point_inside : (there : Bool) (p : Point) → (not there || is_in_range p) ≡ true
     → IfSome (cond there (Some p) None) InRange
-point_inside true p ok = is_inside p ok
-point_inside false p ok = tt
+point_inside there p ok = grind (arith, is_inside)
 
 -- a tuning that is there is one
 tuning_inside : (there : Bool) (t : Tuning) → (not there || leb t.exc_dev largest_value) ≡ true
     → (not there || leb t.exc_max last_time) ≡ true → (not there || leb t.comp_dev largest_value) ≡ true
     → (not there || leb t.comp_min last_time) ≡ true → (not there || leb t.comp_max last_time) ≡ true
     → IfSome (cond there (Some t) None) TuningInRange
-tuning_inside true t exc_dev exc_max comp_dev comp_min comp_max = record {
-  exc_dev = leb-true _ _ exc_dev;
-  exc_max = leb-true _ _ exc_max;
-  comp_dev = leb-true _ _ comp_dev;
-  comp_min = leb-true _ _ comp_min;
-  comp_max = leb-true _ _ comp_max;
-}
-tuning_inside false t exc_dev exc_max comp_dev comp_min comp_max = tt
+tuning_inside there t exc_dev exc_max comp_dev comp_min comp_max = grind (arith, leb-true)
 
 -- ---- the summary
 

@@ -1,7 +1,7 @@
 -- What recovers is not damaged.
 use Rattle.std.proofs.Common.{◌≡◌, inl, inr, ℕ, zero, suc, ◌+◌, ◌-◌, ◌*◌, ◌<◌, ◌≤◌, min, Bool, true, false}
 use Rattle.std.proofs.Common.{List, [], ◌∷◌, length, get_or, take, drop, map, Option, refl, sym, ◌∙◌, ap}
-use Rattle.std.proofs.Common.{subst, arith, add-zero, unsigned_abs, length-take, length-drop, length-append}
+use Rattle.std.proofs.Common.{subst, arith, add-zero, length-take, length-drop, length-append}
 use Rattle.std.proofs.lemmas.List.{append-nil, drop-drop}
 use Rattle.trend_num.specs.Limits.{most_records}
 use Rattle.trend_num.specs.declared.archive.Rec.{Rec}
@@ -39,14 +39,7 @@ tag_begun : (def : TagDef) (c : List ℕ) → IsOfTag def c → IsBegun c
 tag_begun def c tag = record { long = omega (arith, tag.header.size, length-take 128 c); opened = tag.opened }
 
 damaged_begun : (def : TagDef) (c : List ℕ) (a : ℕ) (byte : Option ℕ) → IsTagDamage def c a byte → IsBegun c
-damaged_begun def c a byte (EndsShort begun ends) = begun
-damaged_begun def c a byte (BadHeader d) = record { long = omega (arith, d.long); opened = d.opened }
-damaged_begun def c a byte (BadLayout d) = tag_begun def c d.tag
-damaged_begun def c a byte (BadSummary i o d) = tag_begun def c d.tag
-damaged_begun def c a byte (BadLog s d) = tag_begun def c d.tag
-damaged_begun def c a byte (BadParts rs s i d) = tag_begun def c d.tag
-damaged_begun def c a byte (BadQueue rs s d) = tag_begun def c d.stored.tag
-damaged_begun def c a byte (BadValue rs s n j i d) = tag_begun def c d.stored.tag
+damaged_begun def c a byte h = grind (arith, tag_begun)
 
 -- ---- the log
 
@@ -75,10 +68,8 @@ point_same r inside = ap point_at (sym (append-nil (point_bytes r.point))) ∙ p
 -- the bytes of a record in range break at no place
 spelled_holds : (r : Rec) (k : ℕ) → InRange r.point → BreaksAt (rec_image r) k → ⊥
 spelled_holds r k inside (inl kind) = kind.1 r.kind refl
-spelled_holds r k inside (inr (inl time)) =
-    omega (arith, time.2, ap (λ p. p.t) (point_same r inside), inside.time)
-spelled_holds r k inside (inr (inr value)) =
-    omega (arith, value.3, ap (λ p. unsigned_abs p.v) (point_same r inside), inside.value)
+spelled_holds r k inside (inr (inl time)) = grind (arith, point_same)
+spelled_holds r k inside (inr (inr value)) = grind (arith, point_same)
 
 -- so a log with all of its records is not damaged
 pub log_undamaged : (c : List ℕ) (at count a : ℕ) (byte : Option ℕ) (rs : List Rec) → at ≤ length c
@@ -150,14 +141,7 @@ grows slots taken c m (suc more) =
 -- a value that has a place is one of those up to its slot
 pub before_and_at : (slots : ℕ) (c : List ℕ) (taken n a j i : ℕ) → IsValuePlace slots c taken n a j i
     → n < length (points_before slots c taken (j + 1))
-before_and_at slots c taken n a j i at = omega (
-  arith,
-  at.number,
-  at.within,
-  ap length (points_open slots taken c j at.opened),
-  ap length (points_more slots taken c j),
-  length-append (points_before slots c taken j) (slot_points_of slots c taken j),
-)
+before_and_at slots c taken n a j i at = grind (arith, points_open, points_more, length-append)
 
 -- and so of the lane's
 pub value_among : (slots : ℕ) (c : List ℕ) (taken n a j i : ℕ) → IsValuePlace slots c taken n a j i

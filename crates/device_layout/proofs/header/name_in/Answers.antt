@@ -1,5 +1,4 @@
-use Rattle.std.proofs.Common.{◌≡◌, ◌+◌, ◌-◌, get_or, take, drop, sym, subst, arith}
-use Rattle.trend_num.specs.Names.{IsName}
+use Rattle.std.proofs.Common.{◌≡◌, ◌+◌, ◌-◌, get_or, arith}
 use Rattle.device_layout.proofs.HeaderFields.{header_name}
 use Rattle.device_layout.proofs.header.name_in.Goals as goal
 
@@ -7,4 +6,4 @@ pub unreachable-requires : goal.unreachable-requires
 unreachable-requires c =
     let h = c.args.h.now in
     let same : 6 + c.from.result - 6 ≡ get_or h 5 0 = omega (arith, c.from.ensures) in
-    c.in_default.ensures (subst (λ n. IsName (take n (drop 6 h))) (sym same) (header_name h c.requires))
+    grind (arith, header_name h c.requires)
