@@ -30,10 +30,12 @@ written_more first points i p bytes new so_far there is more =
     let front = number_bytes 8 first in
     let count = number_bytes 2 (length points) in
     record {
-      items = more ∙ ap (λ l. l ++ point_bytes p) so_far.items
-          ∙ append_assoc front (count ++ image) (point_bytes p)
-          ∙ ap (λ l. front ++ l) (append_assoc count image (point_bytes p))
-          ∙ ap (λ l. front ++ (count ++ l)) (sym (images_more point_bytes points i p there is));
+      items = cc (
+        append_assoc front (count ++ image) (point_bytes p),
+        append_assoc count image
+            (point_bytes p),
+        images_more point_bytes points i p there is,
+      );
       long = ap length more ∙ length-append bytes (point_bytes p) ∙ omega (arith, so_far.long);
     }
 
@@ -42,19 +44,12 @@ pub written_none : (first : ℕ) (points : List Point) (none one two n8 n2 : Lis
     ++ n8
     → two ≡ one ++ n2 → n8 ≡ number_bytes 8 first → n2 ≡ number_bytes 2 (length points)
     → IsWritten first points 0 two
-written_none first points none one two n8 n2 empty put8 put2 is8 is2 =
-    let items : two ≡ number_bytes 8 first ++ number_bytes 2 (length points) =
-    put2 ∙ ap (λ l. l ++ n2) (put8 ∙ ap (λ l. l ++ n8) empty ∙ is8)
-    ∙ ap (λ l. number_bytes 8 first ++ l) is2 in
-    record { items = items; long = ap length items }
+written_none first points none one two n8 n2 empty put8 put2 is8 is2 = grind arith
 
 -- all are
 pub written_all : (first : ℕ) (points : List Point) (i : ℕ) (bytes : List ℕ) → length points ≤ i
     → IsWritten first points i bytes → bytes ≡ batch_bytes first points
-written_all first points i bytes all so_far =
-    so_far.items
-    ∙ ap (λ ps. number_bytes 8 first ++ (number_bytes 2 (length points) ++ flat_map point_bytes ps))
-    (take_all i points all)
+written_all first points i bytes all so_far = grind (arith, take_all)
 
 -- one point more read
 pub points_in_more : (i : ℕ) (bytes : List ℕ) → slot_points (i + 1) bytes ≡ slot_points i bytes
@@ -82,8 +77,7 @@ length-points_in (suc n) bytes = omega (arith, length-points_in n (drop 16 bytes
 pub take-points_in : (i n : ℕ) (bytes : List ℕ) → i ≤ n → take i (slot_points n bytes) ≡ slot_points i bytes
 take-points_in zero n bytes le = refl
 take-points_in (suc i) zero bytes le = absurd (omega (arith, le))
-take-points_in (suc i) (suc n) bytes le = ap (λ ps. point_at bytes ∷ ps)
-    (take-points_in i n (drop 16 bytes) (omega (arith, le)))
+take-points_in (suc i) (suc n) bytes le = cc (take-points_in i n (drop 16 bytes) (omega (arith, le)))
 
 -- a point's bytes are 16
 images_long : (ps : List Point) → length (flat_map point_bytes ps) ≡ 16 * length ps
@@ -101,10 +95,11 @@ points_in-images [] more inside = refl
 points_in-images (p ∷ ps) more inside =
     let whole : flat_map point_bytes (p ∷ ps) ++ more ≡ point_bytes p ++ (flat_map point_bytes ps ++ more) =
     append_assoc (point_bytes p) (flat_map point_bytes ps) more in
-    ap (slot_points (suc (length ps))) whole
-    ∙ ap (λ q. q ∷ slot_points (length ps) (flat_map point_bytes ps ++ more))
-    (point_at-bytes p (flat_map point_bytes ps ++ more) (All-head InRange p ps inside))
-    ∙ ap (λ qs. p ∷ qs) (points_in-images ps more (All-tail InRange p ps inside))
+    cc (
+      point_at-bytes p (flat_map point_bytes ps ++ more) (All-head InRange p ps inside),
+      points_in-images
+          ps more (All-tail InRange p ps inside),
+    )
 
 -- a batch is read of its bytes
 pub batch_in-bytes : (first : ℕ) (ps : List Point) (more : List ℕ) → first < 2 ^ 64 → length ps ≤ 64
@@ -118,5 +113,5 @@ batch_in-bytes first ps more small few inside =
     let clipped : min 64 (count_in (batch_bytes first ps ++ more)) ≡ length ps = omega (arith, count, few) in
     let points : slot_points (min 64 (count_in (batch_bytes first ps ++ more)))
     (flat_map point_bytes ps ++ more) ≡ ps =
-    ap (λ n. slot_points n (flat_map point_bytes ps ++ more)) clipped ∙ points_in-images ps more inside in
+    cc (points_in-images ps more inside) in
     λ i. record { first = number i; count = count i; points = points i }

@@ -1,17 +1,16 @@
 -- A lane in use, before and after an append.
-use Rattle.std.proofs.Common.{◌≡◌, ◌≢◌, inl, inr, ⊎_elim, ℕ, zero, suc, ◌+◌, ◌-◌, ◌^◌, ◌<◌, ◌≤◌}
+use Rattle.std.proofs.Common.{◌≡◌, ◌≢◌, ⊎_elim, ℕ, zero, suc, ◌+◌, ◌-◌, ◌^◌, ◌<◌, ◌≤◌}
 use Rattle.std.proofs.Common.{List, ◌++◌}
-use Rattle.std.proofs.Common.{length, get_or, take, drop, refl, sym, ◌∙◌, ap, subst, arith, length-append}
+use Rattle.std.proofs.Common.{length, get_or, take, drop, ◌∙◌, ap, subst, arith, length-append}
 use Rattle.std.proofs.Common.{add-zero}
 use Rattle.std.proofs.Common.{take-append-drop}
 use Rattle.std.specs.List.{All}
-use Rattle.std.proofs.lemmas.Bool.{cases_lt, cases_eq}
+use Rattle.std.proofs.lemmas.Bool.{cases_lt}
 use Rattle.std.proofs.lemmas.List.{append-nil, take-take}
 use Rattle.trend_num.specs.declared.point.Point.{Point}
 use Rattle.trend_num.specs.Ranges.{InRange}
 use Rattle.disk_model.specs.Gates.{open_byte, IsOpen, IsGuarded}
-use Rattle.event_queue.specs.Slots.{gate_of, place_of, batch_bytes, slot_at, batch_in}
-use Rattle.event_queue.specs.Slots.{batch_at}
+use Rattle.event_queue.specs.Slots.{gate_of, place_of, batch_bytes, slot_at, batch_at}
 use Rattle.event_queue.specs.Lanes.{slot_points_of, points_before, lane_points, IsSound, IsLane}
 use Rattle.event_queue.specs.Places.{HasRoom, IsFilled}
 use Rattle.event_queue.proofs.Batches.{length-batch_bytes, batch_in-bytes}
@@ -26,20 +25,21 @@ pub points_used : (slots taken used m : ℕ) (c : List ℕ)
 points_used slots taken used zero c shut = ap (points_before slots c taken) (add-zero used)
 points_used slots taken used (suc m) c shut =
     let longer : used + suc m ≡ used + m + 1 = omega arith in
-    ap (points_before slots c taken) longer ∙ points_more slots taken c (used + m)
-    ∙ ap (λ l. points_before slots c taken (used + m) ++ l)
-    (points_shut slots taken c (used + m) (shut (used + m) (omega arith) (omega arith)))
-    ∙ append-nil (points_before slots c taken (used + m))
-    ∙ points_used slots taken used m c (λ k low below. shut k low (omega (arith, below)))
+    cc (
+      points_more slots taken c (used + m),
+      points_shut slots taken c (used + m)
+          (shut (used + m) (omega arith) (omega arith)),
+      append-nil (points_before slots c taken (used + m)),
+      points_used slots taken used m c (λ k low below. shut k low (omega (arith, below))),
+    )
 
 -- the whole lane's, then
 pub lane_points_used : (slots taken used : ℕ) (c : List ℕ) → used ≤ slots → HasRoom slots used c
     → lane_points slots c taken ≡ points_before slots c taken used
 lane_points_used slots taken used c within room =
     let whole : slots ≡ used + (slots - used) = omega arith in
-    ap (points_before slots c taken) whole
-    ∙ points_used slots taken used (slots - used) c
-    (λ k low below. room.shut k low (omega (arith, within, below)))
+    cc (points_used slots taken used (slots - used) c
+    (λ k low below. room.shut k low (omega (arith, within, below))))
 
 -- and the whole keeps the layout where they do
 pub lane_used : (slots taken used : ℕ) (c : List ℕ) → HasRoom slots used c → IsLane slots c taken used
@@ -65,8 +65,7 @@ batch_held slots k first ps c small few inside holds =
     let slot = slot_at slots c k in
     let front : take m slot ≡ batch_bytes first ps = take-take m 1034 (drop (place_of slots k) c)
     (omega (arith, length-batch_bytes first ps, few)) ∙ holds in
-    ap batch_in (sym (take-append-drop m slot) ∙ ap (λ l. l ++ drop m slot) front)
-    ∙ batch_in-bytes first ps (drop m slot) small few inside
+    cc (take-append-drop m slot, batch_in-bytes first ps (drop m slot) small few inside)
 
 module _ (slots taken used next : ℕ) (held batch : List Point) (old new : List ℕ) (free : used < slots)
     (some : 1 ≤ length batch) (few : length batch ≤ 64)
@@ -75,23 +74,15 @@ module _ (slots taken used next : ℕ) (held batch : List Point) (old new : List
     (guarded : IsGuarded (place_of slots used) (batch_bytes next batch) (gate_of used) old new) where
   -- every other gate is as it was
   gate_same : (k : ℕ) → k < slots → k ≢ used → get_or new (gate_of k) 0 ≡ get_or old (gate_of k) 0
-  gate_same k there other =
-      guarded.outside (gate_of k) (omega (arith, filled.room.long, there))
-      (gate_outside slots used k (place_of slots used) (length (batch_bytes next batch)) there refl)
-      (λ is. other (omega (arith, is)))
+  gate_same k there other = grind (arith, gate_outside)
 
   -- and so are the used slots
   slot_same : (k : ℕ) → k < used → slot_at slots new k ≡ slot_at slots old k
-  slot_same k before = same_slot slots k old new (omega (arith, filled.room.long, before, free))
-      (omega (arith, filled.room.long, guarded.no_shorter, before, free))
-      (λ i low below. guarded.outside i (omega (arith, filled.room.long, below, before, free))
-      (inl (omega (arith, below, before)))
-      (λ is. absurd (omega (arith, is, low, free))))
+  slot_same k before = grind (arith, same_slot, before)
 
   -- an open gate before was that of a used slot
   was_used : (k : ℕ) → k < slots → IsOpen (gate_of k) old → k < used
-  was_used k there opened = ⊎_elim (λ before. before)
-      (λ behind. absurd (filled.room.shut k behind there opened)) (cases_lt k used)
+  was_used k there opened = grind arith
 
   -- where the gate is closed, the lane holds what it held
   pub absent : get_or new (gate_of used) 0 ≢ open_byte → IsFilled slots taken used next new held
@@ -109,19 +100,10 @@ module _ (slots taken used next : ℕ) (held batch : List Point) (old new : List
   }
     where
       closed : (k : ℕ) → used ≤ k → k < slots → IsOpen (gate_of k) new → ⊥
-      closed k low there opened = elim (cases_eq k used) [
-        | inl is ↦ shut (ap (λ i. get_or new (gate_of i) 0) (sym is) ∙ opened)
-        | inr other ↦ filled.room.shut k low there (sym (gate_same k there other) ∙ opened)
-      ]
+      closed k low there opened = grind (arith, gate_same)
 
       same : HasSameSlots slots slots old new
-      same = record {
-        forth = λ k there opened. gate_same k there
-            (λ is. absurd (omega (arith, is, was_used k there opened))) ∙ opened;
-        back = λ k there opened. sym (gate_same k there
-            (λ is. shut (ap (λ i. get_or new (gate_of i) 0) (sym is) ∙ opened))) ∙ opened;
-        same = λ k there opened. slot_same k (was_used k there opened);
-      }
+      same = grind (arith, gate_same, was_used, slot_same)
 
   -- where it is open, the lane holds the batch after that
   pub whole : IsOpen (gate_of used) new → IsFilled slots taken (used + 1) (next + length batch) new
@@ -129,8 +111,7 @@ module _ (slots taken used next : ℕ) (held batch : List Point) (old new : List
   whole opened = record {
     room = room;
     lane = lane_used slots taken (used + 1) new room lane;
-    opened = λ k below. ⊎_elim (λ before. same.forth k before (filled.opened k before))
-        (λ at. subst (λ i. IsOpen (gate_of i) new) (omega arith) opened) (cases_lt k used);
+    opened = λ k below. grind (arith, same.forth);
     beyond = λ k below. ⊎_elim (λ before. same_beyond slots taken used old new same k before
         (filled.opened k before) (filled.beyond k before))
         (λ at. subst (λ i. taken < (batch_at slots new i).first + (batch_at slots new i).count) (omega arith)
@@ -143,12 +124,7 @@ module _ (slots taken used next : ℕ) (held batch : List Point) (old new : List
   }
     where
       same : HasSameSlots slots used old new
-      same = record {
-        forth = λ k below was. gate_same k (omega (arith, below, free))
-            (λ is. absurd (omega (arith, is, below))) ∙ was;
-        back = λ k below is_open. filled.opened k below;
-        same = λ k below was. slot_same k below;
-      }
+      same = grind (arith, gate_same, slot_same)
 
       room : HasRoom slots (used + 1) new
       room = room_guarded slots used (batch_bytes next batch) old new free filled.room guarded
@@ -157,29 +133,19 @@ module _ (slots taken used next : ℕ) (held batch : List Point) (old new : List
       last = batch_held slots used next batch new (omega (arith, small)) few inside (guarded.whole opened)
 
       first_is : (batch_at slots new used).first ≡ next
-      first_is = ap (λ x. x.first) last
+      first_is = cc last
 
       count_is : (batch_at slots new used).count ≡ length batch
-      count_is = ap (λ x. x.count) last
+      count_is = cc last
 
       last_beyond : taken < (batch_at slots new used).first + (batch_at slots new used).count
       last_beyond = omega (arith, first_is, count_is, some, filled.number)
 
       before : points_before slots new taken used ≡ held
-      before = same_points slots taken used old new same used (omega arith)
-          ∙ sym (lane_points_used slots taken used old (omega (arith, free)) filled.room) ∙ filled.points
+      before = grind (arith, same_points, same, lane_points_used)
 
       sound : IsSound slots new taken used
-      sound = record {
-        counted = record { some = omega (arith, count_is, some); few = omega (arith, count_is, few) };
-        follows = inr (record {
-          numbered = first_is ∙ filled.number ∙ ap (λ ps. taken + length ps) (sym before);
-          opened = λ j below. same.forth j below (filled.opened j below);
-          beyond = λ j below. same_beyond slots taken used old new same j below (filled.opened j below)
-              (filled.beyond j below);
-        });
-        in_range = subst (λ x. All InRange x.points) (sym last) inside;
-      }
+      sound = grind (arith, count_is, first_is, before, same_beyond, same, last)
 
       lane : IsLane slots new taken (used + 1)
       lane = lane_more slots taken new used (same_lane slots taken used old new same used (omega arith)

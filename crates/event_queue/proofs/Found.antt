@@ -1,8 +1,8 @@
 -- A lane that keeps the layout is in use, or overtaken.
 use Rattle.std.proofs.Common.{◌≡◌, ◌≢◌, ◌⊎◌, inl, inr, ⊎_elim, ℕ, zero, suc, ◌+◌, ◌-◌, ◌<◌, ◌≤◌, true}
 use Rattle.std.proofs.Common.{false, List, length, get_or}
-use Rattle.std.proofs.Common.{refl, sym, subst, arith}
-use Rattle.std.proofs.lemmas.Bool.{cases_lt, cases_eq}
+use Rattle.std.proofs.Common.{refl, sym, arith}
+use Rattle.std.proofs.lemmas.Bool.{cases_eq}
 use Rattle.trend_num.specs.declared.point.Point.{Point}
 use Rattle.disk_model.specs.Gates.{open_byte, IsOpen}
 use Rattle.event_queue.specs.declared.reader.Scanned.{Scanned}
@@ -26,19 +26,10 @@ module _ (slots taken : ℕ) (c : List ℕ) where
 
   -- a closed slot more
   stale_shut : (n : ℕ) → get_or c (gate_of n) 0 ≢ open_byte → AreStale n → AreStale (suc n)
-  stale_shut n shut are = record {
-    stale = λ k below opened. ⊎_elim (λ before. are.stale k before opened)
-        (λ at. absurd (shut (subst (λ i. IsOpen (gate_of i) c) (omega arith) opened))) (cases_lt k n);
-  }
+  stale_shut n shut are = grind arith
 
   used_shut : (n used : ℕ) → get_or c (gate_of n) 0 ≢ open_byte → AreUsed n used → AreUsed (suc n) used
-  used_shut n used shut are = record {
-    within = omega (arith, are.within);
-    opened = are.opened;
-    beyond = are.beyond;
-    shut = λ k low below. ⊎_elim (λ before. are.shut k low before)
-        (λ at. subst (λ i. get_or c (gate_of i) 0 ≢ open_byte) (omega arith) shut) (cases_lt k n);
-  }
+  used_shut n used shut are = grind arith
 
   -- one or the other
   stale_or_used : IsLane slots c taken slots → (n : ℕ) → n ≤ slots → AreStale n
@@ -55,19 +46,14 @@ module _ (slots taken : ℕ) (c : List ℕ) where
   stale_or_used lane (suc n) within = ⊎_elim
       (λ opened. let sound = lane.sound n (omega (arith, within)) opened in ⊎_elim
       (λ behind. inl (record {
-        stale = λ k below k_open. ⊎_elim (λ before. behind.before k before k_open)
-            (λ at. subst (λ i. IsStale taken (batch_at slots c i)) (omega arith) behind.stale)
-            (cases_lt k n);
+        stale = λ k below k_open. grind (arith, behind.before);
       }))
       (λ next. inr (
         suc n,
         record {
           within = omega arith;
-          opened = λ k below. ⊎_elim (λ before. next.opened k before)
-              (λ at. subst (λ i. IsOpen (gate_of i) c) (omega arith) opened) (cases_lt k n);
-          beyond = λ k below. ⊎_elim (λ before. next.beyond k before)
-              (λ at. subst (λ i. taken < (batch_at slots c i).first + (batch_at slots c i).count)
-              (omega arith) (next_beyond slots taken c n next sound.counted)) (cases_lt k n);
+          opened = λ k below. grind (arith, next.opened);
+          beyond = λ k below. grind (arith, next.beyond, next_beyond slots taken c n next sound.counted);
           shut = λ k low below. absurd (omega (arith, low, below));
         },
       )) sound.follows)
@@ -96,11 +82,7 @@ module _ (slots taken : ℕ) (c : List ℕ) where
   module _ (s : Scanned) (read : IsRead slots taken c slots s) (within : IsWithin slots taken slots s) where
     -- what a scan returns
     pub scanned_overtaken : s.stale ≡ true → IsOvertaken slots taken c
-    scanned_overtaken told = record {
-      lane = read.lane;
-      stale = told_stale slots taken c slots s read within
-          told;
-    }
+    scanned_overtaken told = grind (arith, told_stale)
 
     -- the slots before the last used one number on up to it
     last_one : s.stale ≡ false → (k : ℕ) → k < s.lane.used → IsNextBehind slots c taken (s.lane.used - 1)
@@ -111,18 +93,12 @@ module _ (slots taken : ℕ) (c : List ℕ) where
     scanned_filled long untold = record {
       room = record { long = long; shut = read.none_behind };
       lane = read.lane;
-      opened = λ k below. ⊎_elim (λ before. (last_one untold k below).opened k before)
-          (λ at. subst (λ i. IsOpen (gate_of i) c) (omega (arith, below, at))
-          (read.last (omega (arith, below)))) (cases_lt k (s.lane.used - 1));
-      beyond = λ k below. ⊎_elim (λ before. (last_one untold k below).beyond k before)
-          (λ at. subst (λ i. taken < (batch_at slots c i).first + (batch_at slots c i).count)
-          (omega (arith, below, at)) (last_beyond k below)) (cases_lt k (s.lane.used - 1));
+      opened = λ k below. grind (arith, (last_one untold k below).opened k, read.last (omega (arith, below)));
+      beyond = λ k below. grind (arith, (last_one untold k below).beyond k, last_beyond k below);
       points = sym read.points;
       number = within.number;
     }
       where
         last_beyond : (k : ℕ) → k < s.lane.used → taken < (batch_at slots c (s.lane.used - 1)).first +
             (batch_at slots c (s.lane.used - 1)).count
-        last_beyond k below = next_beyond slots taken c (s.lane.used - 1) (last_one untold k below)
-            (read.lane.sound (s.lane.used - 1) (omega (arith, below, within.used))
-            (read.last (omega (arith, below)))).counted
+        last_beyond k below = grind (arith, next_beyond, last_one)

@@ -1,15 +1,13 @@
 -- A lane that a summary has overtaken.
-use Rattle.std.proofs.Common.{◌≡◌, inl, inr, ⊎_elim, ℕ, zero, suc, ◌<◌, ◌≤◌, List, [], ◌++◌}
-use Rattle.std.proofs.Common.{get_or}
+use Rattle.std.proofs.Common.{◌≡◌, inl, ℕ, zero, suc, ◌<◌, ◌≤◌, List, [], ◌++◌}
 use Rattle.std.proofs.Common.{refl, sym, ◌∙◌, ap, subst, arith}
 use Rattle.std.specs.List.{All}
-use Rattle.std.proofs.lemmas.Bool.{cases_eq}
 use Rattle.trend_num.specs.Ranges.{InRange}
-use Rattle.disk_model.specs.Gates.{open_byte, IsOpen, IsClosing}
-use Rattle.event_queue.specs.Slots.{gate_of, batch_in, batch_at}
-use Rattle.event_queue.specs.Lanes.{IsStale, slot_points_of, points_before, IsCounted}
+use Rattle.disk_model.specs.Gates.{IsOpen, IsClosing}
+use Rattle.event_queue.specs.Slots.{gate_of, batch_at}
+use Rattle.event_queue.specs.Lanes.{IsStale, slot_points_of, points_before}
 use Rattle.event_queue.specs.Places.{IsOvertaken}
-use Rattle.event_queue.proofs.Steps.{points_shut, points_open, beyond_stale}
+use Rattle.event_queue.proofs.Steps.{points_open}
 use Rattle.event_queue.proofs.SameLanes.{same_behind}
 
 -- it holds nothing beyond the summary
@@ -18,9 +16,7 @@ pub overtaken_none : (slots taken : ℕ) (c : List ℕ) → IsOvertaken slots ta
 overtaken_none slots taken c over zero within = refl
 overtaken_none slots taken c over (suc n) within =
     ap (λ l. l ++ slot_points_of slots c taken n) (overtaken_none slots taken c over n (omega (arith, within)))
-    ∙ ⊎_elim (λ opened. points_open slots taken c n opened
-    ∙ beyond_stale taken (batch_at slots c n) (over.stale n (omega (arith, within)) opened))
-    (λ shut. points_shut slots taken c n shut) (cases_eq (get_or c (gate_of n) 0) open_byte)
+    ∙ grind (arith, points_open)
 
 -- it stays overtaken where some of its gates are closed or torn
 pub overtaken_closing : (slots taken used : ℕ) (old new : List ℕ) → used ≤ slots → IsOvertaken slots taken old
@@ -31,7 +27,7 @@ overtaken_closing slots taken used old new le over closing = record {
         let was = was_open k opened in
         let sound = over.lane.sound k below was in
         record {
-          counted = subst IsCounted (sym (batch_same k)) sound.counted;
+          counted = rw (batch_same k) sound.counted;
           follows = inl (record {
             stale = stale k below opened;
             before = λ j j_below j_open. stale j (omega (arith, below, j_below)) j_open;
@@ -43,13 +39,10 @@ overtaken_closing slots taken used old new le over closing = record {
 }
   where
     was_open : (k : ℕ) → IsOpen (gate_of k) new → IsOpen (gate_of k) old
-    was_open k opened = ⊎_elim (λ was. was)
-        (λ shut. absurd (shut (sym (closing.same (gate_of k) (inr shut)) ∙ opened)))
-        (cases_eq (get_or old (gate_of k) 0) open_byte)
+    was_open k opened = grind arith
 
     batch_same : (k : ℕ) → batch_at slots new k ≡ batch_at slots old k
-    batch_same k = ap batch_in (same_behind slots k old new closing.same_length
-        (λ i behind. closing.same i (inl (inr (omega (arith, behind, le))))))
+    batch_same k = grind (arith, same_behind)
 
     stale : (k : ℕ) → k < slots → IsOpen (gate_of k) new → IsStale taken (batch_at slots new k)
     stale k below opened = subst (IsStale taken) (sym (batch_same k)) (over.stale k below (was_open k opened))

@@ -15,13 +15,13 @@ pub handed_on : {T U E : Type 0} (r : Result T E) (q : Result U E) (e x : E) →
     ≡ Err e → r ≡ Err x
     → q ≡ Err x
 handed_on (Ok v) q e x given was told = absurd given
-handed_on (Err y) q e x given was told = let same : y ≡ x = cc (told) in was ∙ ap Err (sym given ∙ same)
+handed_on (Err y) q e x given was told = let same : y ≡ x = cc (told) in cc
 
 module _ (slots : ℕ) (bytes gates : List ℕ) (from : ℕ) (piece : List ℕ)
     (at_piece : IsPiece slots bytes gates from piece) where
   -- a gate
   pub gate_in : (k : ℕ) → k < slots → get_or gates k 0 ≡ get_or bytes (gate_of k) 0
-  gate_in k there = ap (λ l. get_or l k 0) at_piece.gates_here ∙ byte_of bytes 400 slots k there
+  gate_in k there = cc (byte_of bytes 400 slots k there)
 
   -- an open slot
   pub slot_in : (i : ℕ) (slot : List ℕ) → from + i < slots → get_or gates (from + i) 0 ≡ open_byte
@@ -37,14 +37,7 @@ module _ (slots : ℕ) (bytes gates : List ℕ) (from : ℕ) (piece : List ℕ)
 -- what holds of the first n slots holds of more
 pub within_wider : (slots taken n m : ℕ) (s : Scanned) → n ≤ m → IsWithin slots taken n s
     → IsWithin slots taken m s
-within_wider slots taken n m s wider within = record {
-  slots_same = within.slots_same;
-  used = omega (arith, wider, within.used);
-  number = within.number;
-  few = within.few;
-  in_range = within.in_range;
-  none_stale = within.none_stale;
-}
+within_wider slots taken n m s wider within = grind arith
 
 -- so many slots of a piece were taken in
 pub record IsTakenTo (slots taken : ℕ) (gates : List ℕ) (from : ℕ) (piece : List ℕ) (start : Scanned) (i : ℕ)
@@ -58,11 +51,7 @@ module _ (slots taken : ℕ) (gates : List ℕ) (from : ℕ) (piece : List ℕ) 
   -- none were
   pub taken_none : (slots ≡ start.lane.slots) → IsWithin slots taken from start
       → IsTakenTo slots taken gates from piece start 0 start
-  taken_none same within = record {
-    slots_same = sym same;
-    within = within_wider slots taken from (from + 0) start (omega arith) within;
-    read = λ bytes at_piece read. subst (λ n. IsRead slots taken bytes n start) (sym (add-zero from)) read;
-  }
+  taken_none same within = grind (arith, same, within_wider, add-zero)
 
   module _ (i : ℕ) (s now : Scanned) (so_far : IsTakenTo slots taken gates from piece start i s)
       (there : from + i < slots) where
@@ -88,15 +77,15 @@ module _ (slots taken : ℕ) (gates : List ℕ) (from : ℕ) (piece : List ℕ) 
         → IsRead s.lane.slots taken bytes (from + i + 1) new)
         → now ≡ new → IsTakenTo slots taken gates from piece start (i + 1) now
     taken_open slot new opened fits here within goes_on is =
-        subst (IsTakenTo slots taken gates from piece start (i + 1)) (sym is) (record {
+        rw is (record {
           slots_same = within.slots_same ∙ same;
           within = within_wider slots taken (from + i + 1) (from + (i + 1)) new (omega arith)
-              (subst (λ n. IsWithin n taken (from + i + 1) new) same within);
+              (rw same at within);
           read = λ bytes at_piece read.
               let at_slot = slot_in slots bytes gates from piece at_piece i slot there opened fits here in
               subst (λ n. IsRead slots taken bytes n new) (omega arith)
-              (subst (λ n. IsRead n taken bytes (from + i + 1) new) same
-              (goes_on bytes (subst (λ n. IsOpenSlot n bytes (from + i) slot) (sym same) at_slot)
+              (rw same at
+              (goes_on bytes (rw same at_slot)
               (subst (λ n. IsRead n taken bytes (from + i) s) (sym same) (so_far.read bytes at_piece read))));
         })
       where

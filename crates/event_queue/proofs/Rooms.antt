@@ -1,7 +1,7 @@
 -- The room that a lane needs: what it gives a call, and what calls leave of it.
-use Rattle.std.proofs.Common.{◌≡◌, inl, inr, ⊎_elim, ℕ, ◌+◌, ◌<◌, ◌≤◌, List, length, Option}
+use Rattle.std.proofs.Common.{◌≡◌, inl, inr, ⊎_elim, ℕ, ◌+◌, ◌<◌, ◌≤◌, List, Option}
 use Rattle.std.proofs.Common.{None, Some}
-use Rattle.std.proofs.Common.{refl, sym, ◌∙◌, subst, arith}
+use Rattle.std.proofs.Common.{sym, ◌∙◌, subst, arith}
 use Rattle.std.proofs.lemmas.Bool.{cases_lt}
 use Rattle.disk_model.specs.Traces.{Trace, seen}
 use Rattle.disk_model.specs.Images.{IsOutside, Now, FromOld}
@@ -23,14 +23,7 @@ reaches_lane (Some t) slots used n room le = omega (arith, (room.each (seen (Som
 pub next_shut : (o : Option Trace) (slots used gate : ℕ) → Now o (HasRoom slots used) → used < slots → gate
     ≡ gate_of used
     → Now o (IsShut gate)
-next_shut o slots used gate room free is = record {
-  each = λ c may.
-      let has = room.each c may in
-      subst (λ g. IsShut g c) (sym is) (record {
-        there = omega (arith, has.long);
-        closed = has.shut used (omega arith) free;
-      });
-}
+next_shut o slots used gate room free is = grind arith
 
 -- a gate lies before all slots
 pub gate_outside : (slots used k at n : ℕ) → k < slots → at ≡ place_of slots used → IsOutside at n (gate_of k)
@@ -39,14 +32,7 @@ gate_outside slots used k at n there is = inl (omega arith)
 -- a batch was written after the next gate
 pub room_guarded : (slots used : ℕ) (bytes d c : List ℕ) → used < slots → HasRoom slots used d
     → IsGuarded (place_of slots used) bytes (gate_of used) d c → HasRoom slots (used + 1) c
-room_guarded slots used bytes d c free has guarded = record {
-  long = omega (arith, has.long, guarded.no_shorter);
-  shut = λ k low there opened.
-      let same = guarded.outside (gate_of k) (omega (arith, has.long))
-      (gate_outside slots used k (place_of slots used) (length bytes) there refl)
-      (λ is. absurd (omega (arith, is))) in
-      has.shut k (omega arith) there (sym same ∙ opened);
-}
+room_guarded slots used bytes d c free has guarded = grind (arith, gate_outside)
 
 -- so each image has room after it
 pub room_behind : (o new : Option Trace) (slots used at gate : ℕ) (bytes : List ℕ) → used < slots
@@ -57,7 +43,7 @@ room_behind o new slots used at gate bytes free room is_at is_gate during = reco
       let from = (during_now o new (FromOld o (IsGuarded at bytes gate)) during).each c may in
       let guarded = subst (λ a. IsGuarded a bytes gate from.0 c) is_at from.2 in
       room_guarded slots used bytes from.0 c free (room.each from.0 from.1)
-      (subst (λ x. IsGuarded (place_of slots used) bytes x from.0 c) is_gate guarded);
+      (rw (← is_gate) guarded);
 }
 
 -- gates were closed, and those of the used slots are

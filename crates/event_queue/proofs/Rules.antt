@@ -1,13 +1,11 @@
 -- The rule on first numbers, as it is defined and as it is tested.
 use Rattle.std.proofs.Common.{◌≡◌, ◌↔◌, inl, inr, ⊎_elim, ℕ, ◌+◌, ◌-◌, ◌<◌, Bool, true, false}
-use Rattle.std.proofs.Common.{length}
-use Rattle.std.proofs.Common.{List, refl, sym, ◌∙◌, ap, subst, arith}
+use Rattle.std.proofs.Common.{List, refl, sym, ◌∙◌, arith}
 use Rattle.std.proofs.lemmas.Bool.{cases_lt, cases_order, cases_Bool, true≢false}
 use Rattle.disk_model.specs.Gates.{IsOpen}
 use Rattle.event_queue.specs.declared.reader.Scanned.{Scanned}
 use Rattle.event_queue.specs.Slots.{gate_of, batch_at}
-use Rattle.event_queue.specs.Lanes.{IsStale, IsStaleBehind, IsNextBehind, FollowsOn, IsCounted}
-use Rattle.event_queue.specs.Lanes.{IsLane}
+use Rattle.event_queue.specs.Lanes.{IsStale, IsStaleBehind, IsNextBehind, FollowsOn, IsCounted, IsLane}
 use Rattle.event_queue.specs.Scans.{IsWithin, IsRead, FitsSlot}
 
 module _ (slots taken : ℕ) (bytes : List ℕ) where
@@ -20,23 +18,14 @@ module _ (slots taken : ℕ) (bytes : List ℕ) where
   pub all_stale : (n i j : ℕ) → IsLane slots bytes taken n → i < n → j < n → IsOpen (gate_of i) bytes
       → IsOpen (gate_of j) bytes
       → IsStale taken (batch_at slots bytes i) → IsStale taken (batch_at slots bytes j)
-  all_stale n i j lane i_in j_in i_open j_open stale = elim (cases_order i j) [
-    | inl same ↦ subst (λ k. IsStale taken (batch_at slots bytes k)) same stale
-    | inr (inl before) ↦ ⊎_elim (λ behind. behind.stale)
-        (λ next. absurd (omega (arith, stale, next.beyond i before))) (lane.sound j j_in j_open).follows
-    | inr (inr behind) ↦ ⊎_elim (λ all. all.before j behind j_open)
-        (λ next. absurd (omega (arith, stale, next_beyond i next (lane.sound i i_in i_open).counted)))
-        (lane.sound i i_in i_open).follows
-  ]
+  all_stale n i j lane i_in j_in i_open j_open stale = grind (arith, cases_order, next_beyond)
 
   module _ (k : ℕ) (s : Scanned) (read : IsRead slots taken bytes k s) (within : IsWithin slots taken k s)
     where
       -- if the scan found stale slots, all open slots are stale
       pub told_stale : s.stale ≡ true → (j : ℕ) → j < k → IsOpen (gate_of j) bytes
           → IsStale taken (batch_at slots bytes j)
-      told_stale told j j_in j_open =
-          let one = read.stale.0 told in
-          all_stale k one.0 j read.lane one.1 j_in one.2 j_open one.3
+      told_stale told j j_in j_open = grind (arith, all_stale)
 
       -- if it found none, no open slot is stale
       not_stale : s.stale ≡ false → (j : ℕ) → j < k → IsOpen (gate_of j) bytes
@@ -45,12 +34,7 @@ module _ (slots taken : ℕ) (bytes : List ℕ) where
 
       -- where slots were used and none is stale, the open ones number on up to the last
       pub last_next : s.stale ≡ false → 0 < s.lane.used → IsNextBehind slots bytes taken (s.lane.used - 1)
-      last_next untold some =
-          let last = s.lane.used - 1 in
-          let in_k : last < k = omega (arith, some, within.used) in
-          let open_last = read.last some in
-          ⊎_elim (λ behind. absurd (not_stale untold last in_k open_last behind.stale)) (λ next. next)
-          (read.lane.sound last in_k open_last).follows
+      last_next untold some = grind (arith, not_stale)
 
       module _ (counted : IsCounted (batch_at slots bytes k)) where
         -- the test is right if it answers yes
@@ -65,40 +49,35 @@ module _ (slots taken : ℕ) (bytes : List ℕ) where
                   (read.none_behind j (omega (arith, none)) j_in j_open);
             })
         fits_follow false tested fits = inr (record {
-          numbered = sym fits.2 ∙ within.number ∙ ap (λ ps. taken + length ps) read.points;
-          opened = λ j below. ⊎_elim (λ before. (last_next fits.0 (omega (arith, fits.1))).opened j before)
-              (λ at. subst (λ i. IsOpen (gate_of i) bytes) (omega (arith, fits.1))
-              (read.last (omega (arith, fits.1)))) (cases_lt j (s.lane.used - 1));
-          beyond = λ j below. ⊎_elim (λ before. (last_next fits.0 (omega (arith, fits.1))).beyond j before)
-              (λ at. subst (λ i. taken < (batch_at slots bytes i).first + (batch_at slots bytes i).count)
-              (omega (arith, fits.1))
-              (last_beyond fits.0 (omega (arith, fits.1)))) (cases_lt j (s.lane.used - 1));
+          numbered = cc;
+          opened = λ j below. grind (
+            arith,
+            (last_next fits.0 (omega (arith, fits.1))).opened j,
+            read.last
+                (omega (arith, fits.1)),
+          );
+          beyond = λ j below. grind (
+            arith,
+            (last_next fits.0 (omega (arith, fits.1))).beyond j,
+            last_beyond
+                fits.0 (omega (arith, fits.1)),
+          );
         })
           where
             last_beyond : s.stale ≡ false → 0 < s.lane.used
                 → taken < (batch_at slots bytes (s.lane.used - 1)).first +
                 (batch_at slots bytes (s.lane.used - 1)).count
-            last_beyond untold some =
-                next_beyond (s.lane.used - 1) (last_next untold some)
-                (read.lane.sound (s.lane.used - 1) (omega (arith, some, within.used)) (read.last some)).counted
+            last_beyond untold some = grind (arith, next_beyond, last_next)
 
         -- and if it answers no: a stale batch comes after one that is not
         misfit_stale : IsStale taken (batch_at slots bytes k)
             → (FitsSlot s k (batch_at slots bytes k).first true → ⊥)
             → IsStaleBehind slots bytes taken k → ⊥
-        misfit_stale stale unfit behind = elim (cases_Bool s.stale) [
-          | inl told ↦ unfit (inl told)
-          | inr untold ↦ elim (cases_lt 0 s.lane.used) [
-            | inl some ↦
-                let last = s.lane.used - 1 in
-                let in_k : last < k = omega (arith, some, within.used) in
-                not_stale untold last in_k (read.last some) (behind.before last in_k (read.last some))
-            | inr none ↦ unfit (inr (omega (arith, none)))
-          ]
-        ]
+        misfit_stale stale unfit behind = grind (arith, not_stale)
 
         -- or one that is not stale does not number on
-        misfit_next : (FitsSlot s k (batch_at slots bytes k).first false → ⊥) → IsNextBehind slots bytes taken k → ⊥
+        misfit_next : (FitsSlot s k (batch_at slots bytes k).first false → ⊥) → IsNextBehind slots bytes
+            taken k → ⊥
         misfit_next unfit next = elim (cases_Bool s.stale) [
           | inl told ↦
               let one = read.stale.0 told in
@@ -107,7 +86,7 @@ module _ (slots taken : ℕ) (bytes : List ℕ) where
             untold,
             used_all,
             sym
-                (next.numbered ∙ ap (λ ps. taken + length ps) (sym read.points) ∙ sym within.number),
+                (cc),
           )
         ]
           where

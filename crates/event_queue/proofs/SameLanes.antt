@@ -1,17 +1,14 @@
 -- What a lane holds depends only on which gates are open, and on the slots that these gates guard.
-use Rattle.std.proofs.Common.{◌≡◌, inl, inr, ⊎_elim, ℕ, zero, suc, ◌+◌, ◌<◌, ◌≤◌, List, ◌++◌, length}
+use Rattle.std.proofs.Common.{◌≡◌, inl, inr, ⊎_elim, ℕ, zero, suc, ◌+◌, ◌<◌, ◌≤◌, List, length}
 use Rattle.std.proofs.Common.{get_or}
 use Rattle.std.proofs.Common.{take, drop, refl, sym, ◌∙◌, ap, subst, arith, length-take, length-drop}
-use Rattle.std.specs.List.{All}
 use Rattle.std.proofs.lemmas.Bool.{cases_eq}
 use Rattle.std.proofs.lemmas.List.{get_or-drop, ext_get_or}
-use Rattle.trend_num.specs.Ranges.{InRange}
 use Rattle.disk_model.specs.Gates.{open_byte, IsOpen}
 use Rattle.disk_model.proofs.Bytes.{holds_same}
 use Rattle.event_queue.specs.Slots.{gate_of, place_of, lane_end, slot_at, batch_in, batch_at}
-use Rattle.event_queue.specs.Lanes.{IsStale, points_beyond, slot_points_of, points_before}
-use Rattle.event_queue.specs.Lanes.{FollowsOn}
-use Rattle.event_queue.specs.Lanes.{IsCounted, IsSound, IsLane}
+use Rattle.event_queue.specs.Lanes.{IsStale, points_beyond, slot_points_of, points_before, FollowsOn}
+use Rattle.event_queue.specs.Lanes.{IsSound, IsLane}
 use Rattle.event_queue.proofs.Steps.{points_shut, points_open}
 
 -- of the first n slots the same are open, and hold the same bytes
@@ -25,9 +22,8 @@ pub same_behind : (slots k : ℕ) (a b : List ℕ) → length b ≡ length a
     → ((i : ℕ) → place_of slots k ≤ i → get_or b i 0 ≡ get_or a i 0) → slot_at slots b k ≡ slot_at slots a k
 same_behind slots k a b size same =
     let at = place_of slots k in
-    ap (take 1034) (ext_get_or 0 (drop at b) (drop at a)
-    (omega (arith, length-drop at b, length-drop at a, size)) (λ i below.
-    get_or-drop at b i 0 ∙ same (at + i) (omega arith) ∙ sym (get_or-drop at a i 0)))
+    cc (ext_get_or 0 (drop at b) (drop at a) (omega (arith, length-drop at b, length-drop at a, size))
+    (λ i below. get_or-drop at b i 0 ∙ same (at + i) (omega arith) ∙ sym (get_or-drop at a i 0)))
 
 -- bytes that agree in slot k, which is whole in both
 pub same_slot : (slots k : ℕ) (a b : List ℕ) → place_of slots k + 1034 ≤ length a
@@ -38,9 +34,8 @@ same_slot slots k a b a_long b_long same =
     let at = place_of slots k in
     let a_size : length (take 1034 (drop at a))
     ≡ 1034 = omega (arith, length-take 1034 (drop at a), length-drop at a) in
-    ap (λ n. take n (drop at b)) (sym a_size)
-    ∙ holds_same at (take 1034 (drop at a)) b a (omega (arith, a_size)) (omega (arith, a_size))
-    (λ i low below. same i low (omega (arith, a_size, below))) (ap (λ n. take n (drop at a)) a_size)
+    cc (holds_same at (take 1034 (drop at a)) b a (omega (arith, a_size)) (omega (arith, a_size))
+    (λ i low below. same i low (omega (arith, a_size, below))) (ap (λ n. take n (drop at a)) a_size))
 
 module _ (slots taken n : ℕ) (a b : List ℕ) (is : HasSameSlots slots n a b) where
   -- the same batches
@@ -59,8 +54,7 @@ module _ (slots taken n : ℕ) (a b : List ℕ) (is : HasSameSlots slots n a b) 
   pub same_points : (m : ℕ) → m ≤ n → points_before slots b taken m ≡ points_before slots a taken m
   same_points zero within = refl
   same_points (suc m) within =
-      ap (λ l. l ++ slot_points_of slots b taken m) (same_points m (omega (arith, within)))
-      ∙ ap (λ l. points_before slots a taken m ++ l) (same_points_of m (omega (arith, within)))
+      cc (same_points m (omega (arith, within)), same_points_of m (omega (arith, within)))
 
   -- the same batches are stale
   pub same_stale : (k : ℕ) → k < n → IsOpen (gate_of k) a → IsStale taken (batch_at slots a k)
@@ -70,8 +64,7 @@ module _ (slots taken n : ℕ) (a b : List ℕ) (is : HasSameSlots slots n a b) 
   pub same_beyond : (k : ℕ) → k < n → IsOpen (gate_of k) a
       → taken < (batch_at slots a k).first + (batch_at slots a k).count
       → taken < (batch_at slots b k).first + (batch_at slots b k).count
-  same_beyond k there opened beyond = subst (λ x. taken < x.first + x.count) (sym (same_batch k there opened))
-      beyond
+  same_beyond k there opened beyond = grind (arith, same_batch)
 
   -- the same slots keep the layout
   same_follows : (k : ℕ) → k < n → IsOpen (gate_of k) a → FollowsOn slots a taken k
@@ -83,27 +76,17 @@ module _ (slots taken n : ℕ) (a b : List ℕ) (is : HasSameSlots slots n a b) 
             let was = is.back j j_in j_open in same_stale j j_in was (behind.before j below was);
       }))
       (λ next. inr (record {
-        numbered = ap (λ x. x.first) (same_batch k there opened) ∙ next.numbered
-            ∙ ap (λ ps. taken + length ps) (sym (same_points k (omega (arith, there))));
+        numbered = cc (same_batch k there opened, same_points k (omega (arith, there)));
         opened = λ j below. is.forth j (omega (arith, there, below)) (next.opened j below);
         beyond = λ j below. same_beyond j (omega (arith, there, below)) (next.opened j below)
             (next.beyond j below);
       })) follows
 
   pub same_sound : (k : ℕ) → k < n → IsOpen (gate_of k) a → IsSound slots a taken k → IsSound slots b taken k
-  same_sound k there opened sound = record {
-    counted = subst IsCounted (sym (same_batch k there opened)) sound.counted;
-    follows = same_follows k there opened sound.follows;
-    in_range = subst (λ x. All InRange x.points) (sym (same_batch k there opened)) sound.in_range;
-  }
+  same_sound k there opened sound = grind (arith, same_batch, same_follows)
 
   pub same_lane : (m : ℕ) → m ≤ n → IsLane slots a taken m → IsLane slots b taken m
-  same_lane m within lane = record {
-    sound = λ k below opened.
-        let there : k < n = omega (arith, below, within) in
-        let was = is.back k there opened in
-        same_sound k there was (lane.sound k below was);
-  }
+  same_lane m within lane = grind (arith, same_sound)
 
 -- two images with the same bytes from the first gate to the last slot hold the same lane
 pub same_bytes : (slots : ℕ) (a b : List ℕ) → lane_end slots ≤ length a → lane_end slots ≤ length b

@@ -16,16 +16,12 @@ use Rattle.event_queue.proofs.Steps.{read_shut}
 piece_there : (t : Trace) (slots from : ℕ) (gates piece : List ℕ) → length gates ≡ slots
     → Reads (Some t) (gate_of 0) gates
     → Reads (Some t) (place_of slots from) piece → IsPiece slots (seen (Some t)) gates from piece
-piece_there t slots from gates piece all gates_read slots_read = record {
-  gates_here = gates_read ∙ ap (λ n. take n (drop (gate_of 0) (seen (Some t)))) all;
-  slots_here = slots_read;
-}
+piece_there t slots from gates piece all gates_read slots_read = grind arith
 
 -- what was read of an equal device at an equal place
 pub moved : (now o : Option Trace) (at to : ℕ) (bytes : List ℕ) → now ≡ o → at ≡ to → Reads now at bytes
     → Reads o to bytes
-moved now o at to bytes same place reads = subst (λ x. Reads x to bytes) same
-    (subst (λ n. Reads now n bytes) place reads)
+moved now o at to bytes same place reads = grind arith
 
 -- so what follows for any bytes that hold the gates and a piece, and of which the slots before it were read,
 -- follows for
@@ -44,19 +40,18 @@ with_piece (Some t) slots taken n from gates piece lent_gates lent_piece s P is 
     slots_read lent_p read follows =
     let bytes = seen (Some t) in
     let at_piece = subst (λ l. IsPiece slots bytes lent_gates from l) (sym lent_p)
-    (subst (λ l. IsPiece slots bytes l from piece) (sym lent_g)
+    (rw lent_g
     (piece_there t slots from gates piece all gates_read slots_read)) in
-    subst (λ m. P m bytes) same (follows bytes
-    (subst (λ m. IsPiece m bytes lent_gates from lent_piece) (sym same) at_piece)
+    rw same at (follows bytes
+    (rw same at_piece)
     (subst (λ m. IsRead m taken bytes from s) (sym same)
-    (subst (λ m. IsRead slots taken bytes m s) is read)))
+    (rw (← is) read)))
 
 -- closed slots at the end
 read_on : (slots taken : ℕ) (bytes : List ℕ) (used m : ℕ) (s : Scanned) → IsRead slots taken bytes used s
     → ((k : ℕ) → used ≤ k → k < used + m → get_or bytes (gate_of k) 0 ≢ open_byte)
     → IsRead slots taken bytes (used + m) s
-read_on slots taken bytes used zero s read shut = subst (λ n. IsRead slots taken bytes n s)
-    (sym (add-zero used)) read
+read_on slots taken bytes used zero s read shut = rw (add-zero used) read
 read_on slots taken bytes used (suc m) s read shut =
     subst (λ n. IsRead slots taken bytes n s) (omega arith)
     (read_shut slots taken bytes (used + m) s (shut (used + m) (omega arith) (omega arith))
@@ -76,7 +71,7 @@ read_all (Some t) slots taken n used gates lent s is within all gates_read lent_
     λ k there. ap (λ l. get_or l k 0) (lent_is ∙ gates_read ∙ ap (λ m. take m (drop 400 bytes)) all)
     ∙ byte_of bytes 400 slots k there in
     subst (λ m. IsRead slots taken bytes m s) (omega (arith, within))
-    (read_on slots taken bytes used (slots - used) s (subst (λ m. IsRead slots taken bytes m s) is read)
+    (read_on slots taken bytes used (slots - used) s (rw is at read)
     (λ k low below opened. shut k low (omega (arith, within, ap length lent_is, all))
     (gate k (omega (arith, within)) ∙ opened)))
 
@@ -85,5 +80,5 @@ pub read_first : (o : Option Trace) (slots taken n : ℕ) (s : Scanned) → 0 �
     → ((bytes : List ℕ) → IsRead slots taken bytes 0 s)
     → IfSome o (λ t. IsRead slots taken (seen (Some t)) n s)
 read_first None slots taken n s is read = tt
-read_first (Some t) slots taken n s is read = subst (λ m. IsRead slots taken (seen (Some t)) m s) is
+read_first (Some t) slots taken n s is read = rw is at
     (read (seen (Some t)))

@@ -1,6 +1,5 @@
 -- What was read of the first slots extends to one slot more.
 use Rattle.std.proofs.Common.{◌≡◌, ◌≢◌, ◌↔◌, ⊎_elim, ℕ, ◌+◌, ◌<◌, ◌≤◌, Bool, true}
-use Rattle.std.proofs.Common.{min}
 use Rattle.std.proofs.Common.{List, [], ◌++◌, get_or, take, drop, sym, ◌∙◌, ap, subst, arith}
 use Rattle.std.proofs.Common.{add-one}
 use Rattle.std.proofs.Common.{Option, Some}
@@ -12,10 +11,8 @@ use Rattle.archive_file.specs.declared.failure.ScanNo.{ScanNo}
 use Rattle.archive_file.specs.declared.failure.ScanNo.TheVariants.{Damaged}
 use Rattle.archive_file.proofs.Logs.{byte_of}
 use Rattle.event_queue.specs.declared.reader.Scanned.{Scanned}
-use Rattle.event_queue.specs.Slots.{Batch, gate_of, place_of, count_in, slot_points, batch_in}
-use Rattle.event_queue.specs.Slots.{batch_at}
-use Rattle.event_queue.specs.Lanes.{IsStale, points_beyond, slot_points_of, points_before}
-use Rattle.event_queue.specs.Lanes.{IsSound, IsLane}
+use Rattle.event_queue.specs.Slots.{Batch, gate_of, place_of, count_in, slot_points, batch_in, batch_at}
+use Rattle.event_queue.specs.Lanes.{IsStale, points_beyond, slot_points_of, points_before, IsSound, IsLane}
 use Rattle.event_queue.specs.Damages.{BreaksSlotAt, IsLaneDamage}
 use Rattle.event_queue.specs.Scans.{IsRead}
 use Rattle.event_queue.specs.Pieces.{IsOpenSlot}
@@ -36,21 +33,19 @@ lane_more slots taken bytes k lane last =
     record {
       sound = λ j below opened. ⊎_elim (λ before. lane.sound j before opened)
           (λ at. let is : j ≡ k = omega arith in
-          subst (IsSound slots bytes taken) (sym is) (last (subst (λ i. IsOpen (gate_of i) bytes) is opened)))
+          rw is (last (rw is at opened)))
           (cases_lt j k);
     }
 
 module _ (slots taken : ℕ) (bytes : List ℕ) (k : ℕ) where
   -- a closed slot holds nothing
   pub points_shut : get_or bytes (gate_of k) 0 ≢ open_byte → slot_points_of slots bytes taken k ≡ []
-  points_shut shut = cond-false _ (points_beyond taken (batch_at slots bytes k)) []
-      (ne_eqb (get_or bytes (gate_of k) 0) open_byte shut)
+  points_shut shut = grind (arith, cond-false, ne_eqb)
 
   -- an open one what its batch does
   pub points_open : IsOpen (gate_of k) bytes → slot_points_of slots bytes taken k
       ≡ points_beyond taken (batch_at slots bytes k)
-  points_open opened = cond-true _ (points_beyond taken (batch_at slots bytes k)) []
-      (eq-eqb (get_or bytes (gate_of k) 0) open_byte opened)
+  points_open opened = grind (arith, cond-true, eq-eqb)
 
   -- one slot more
   pub points_more : points_before slots bytes taken (k + 1) ≡ points_before slots bytes taken k
@@ -62,19 +57,19 @@ module _ (slots taken : ℕ) (bytes : List ℕ) (k : ℕ) where
       → IsRead slots taken bytes (k + 1) s
   read_shut s shut read = record {
     lane = lane_more slots taken bytes k read.lane (λ opened. absurd (shut opened));
-    points = read.points ∙ sym (points_more ∙ ap (λ l. points_before slots bytes taken k ++ l)
-        (points_shut shut)
-        ∙ append-nil (points_before slots bytes taken k));
+    points = read.points ∙ sym (cc (
+      points_more,
+      points_shut shut,
+      append-nil
+          (points_before slots bytes taken k),
+    ));
     last = read.last;
-    none_behind = λ j low below. ⊎_elim (λ before. read.none_behind j low before)
-        (λ at. subst (λ i. get_or bytes (gate_of i) 0 ≢ open_byte) (omega arith) shut) (cases_lt j k);
+    none_behind = λ j low below. grind (arith, read.none_behind);
     stale = (
       λ told. let one = read.stale.0 told in (one.0, omega (arith, one.1), one.2, one.3),
       λ one. read.stale.1 (
         one.0,
-        ⊎_elim (λ before. before)
-            (λ at. absurd (shut (subst (λ i. IsOpen (gate_of i) bytes) (omega (arith, one.1)) one.2)))
-            (cases_lt one.0 k),
+        grind (arith, one.2),
         one.2,
         one.3,
       ),
@@ -89,8 +84,7 @@ module _ (slots taken : ℕ) (bytes : List ℕ) (k : ℕ) where
       → IsRead slots taken bytes (k + 1) new
   read_open s new stale read opened sound tested points used told = record {
     lane = lane;
-    points = points ∙ ap (λ l. l ++ points_beyond taken (batch_at slots bytes k)) read.points
-        ∙ ap (λ l. points_before slots bytes taken k ++ l) (sym (points_open opened)) ∙ sym points_more;
+    points = cc (points, read.points, points_open opened, points_more);
     last = λ some. subst (λ i. IsOpen (gate_of i) bytes) (omega (arith, used)) opened;
     none_behind = λ j low below. absurd (omega (arith, used));
     stale = (
@@ -113,9 +107,7 @@ pub record HasFields (slot : List ℕ) (first count : ℕ) (rest : List ℕ) : T
 pub points_counted : (slot : List ℕ) (first count : ℕ) (rest : List ℕ) → HasFields slot first count rest
     → count ≤ 64
     → (batch_in slot).points ≡ slot_points count rest
-points_counted slot first count rest fields few =
-    let clipped : min 64 (count_in slot) ≡ count = omega (arith, fields.count_is) in
-    ap (λ n. slot_points n (drop 10 slot)) clipped ∙ ap (slot_points count) (sym fields.rest_is)
+points_counted slot first count rest fields few = grind arith
 
 -- the first damage, where an open slot breaks the layout and those before it keep it
 pub damage_here : (slots taken : ℕ) (bytes : List ℕ) (k : ℕ) (slot : List ℕ) (o a : ℕ) (byte : Option ℕ)
@@ -134,7 +126,6 @@ damage_here slots taken bytes k slot o a byte why there lane at_slot breaks with
         opened = at_slot.opened;
         breaks = breaks;
         place = place;
-        byte_there = byte_said ∙ ap Some (ap (λ l. get_or l o 0) at_slot.here
-            ∙ byte_of bytes (place_of slots k) 1034 o within ∙ ap (λ i. get_or bytes i 0) (sym place));
+        byte_there = cc (byte_of bytes (place_of slots k) 1034 o within);
       },
     )

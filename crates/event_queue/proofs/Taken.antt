@@ -1,16 +1,16 @@
 -- One open slot: what its fields decide.
 use Rattle.std.proofs.Common.{◌≡◌, ◌⊎◌, ◌↔◌, inl, inr, ⊎_elim, ℕ, ◌+◌, ◌*◌, ◌<◌, ◌≤◌, Bool, true, false, cond}
 use Rattle.std.proofs.Common.{List, [], ◌∷◌}
-use Rattle.std.proofs.Common.{◌++◌, length, take, drop, refl, sym, ◌∙◌, ap, subst, arith, length-append}
+use Rattle.std.proofs.Common.{◌++◌, length, take, drop, refl, sym, ◌∙◌, ap, arith, length-append}
 use Rattle.std.specs.Int.{w16, w64, from_be_bytes}
 use Rattle.std.specs.List.{All}
-use Rattle.std.proofs.lemmas.Bool.{cases_lt, cases_Bool, true≢false}
+use Rattle.std.proofs.lemmas.Bool.{cases_Bool, true≢false}
 use Rattle.std.proofs.lemmas.List.{drop-drop, append-nil}
 use Rattle.std.proofs.lemmas.List.Elements.{All-append}
 use Rattle.trend_num.specs.Ranges.{InRange}
 use Rattle.archive_file.specs.Fields.{point_at}
 use Rattle.event_queue.specs.declared.reader.Scanned.{Scanned}
-use Rattle.event_queue.specs.Slots.{count_in, slot_points, slot_at, batch_in, batch_at}
+use Rattle.event_queue.specs.Slots.{slot_points, slot_at, batch_at}
 use Rattle.event_queue.specs.Lanes.{IsStale, points_beyond, FollowsOn, IsCounted}
 use Rattle.event_queue.specs.Damages.{IsCountBroken, IsFirstBroken, IsPointBroken}
 use Rattle.event_queue.specs.Scans.{IsWithin, IsRead, FitsSlot}
@@ -23,11 +23,7 @@ use Rattle.event_queue.proofs.Steps.{HasFields, points_counted, beyond_stale, be
 pub fields_read : (slot behind rest : List ℕ) (first count : ℕ) → first ≡ from_be_bytes w64 (take 8 slot)
     → behind ≡ drop 8 slot
     → count ≡ from_be_bytes w16 (take 2 behind) → rest ≡ drop 2 behind → HasFields slot first count rest
-fields_read slot behind rest first count number is counted left = record {
-  first_is = number;
-  count_is = counted ∙ ap (λ l. from_be_bytes w16 (take 2 l)) is;
-  rest_is = left ∙ ap (drop 2) is ∙ drop-drop 2 8 slot;
-}
+fields_read slot behind rest first count number is counted left = grind (arith, counted, left, drop-drop)
 
 -- a list of no length has no elements
 none_there : {X : Type 0} (xs : List X) → length xs ≤ 0 → xs ≡ []
@@ -37,7 +33,8 @@ none_there (x ∷ xs) none = absurd (omega (arith, none))
 -- what holds of the whole, whatever the device, extends to one open slot more
 pub within_more : (slots taken k first count : ℕ) (rest : List ℕ) (s new : Scanned) (stale : Bool)
     → IsWithin slots taken k s
-    → FitsSlot s k first stale → count ≤ 64 → All InRange (slot_points count rest) → new.lane.slots ≡ s.lane.slots
+    → FitsSlot s k first stale → count ≤ 64 → All InRange (slot_points count rest) → new.lane.slots ≡
+    s.lane.slots
     → new.lane.used ≡ k + 1 → new.lane.next ≡ s.lane.next + cond stale 0 count
     → new.points.items ≡ s.points.items ++ slot_points (cond stale 0 count) rest → new.stale ≡ stale
     → IsWithin slots taken (k + 1) new
@@ -47,7 +44,7 @@ within_more slots taken k first count rest s new true within fits few inside sam
       used = omega (arith, used);
       number = next ∙ omega (arith, within.number, ap length left);
       few = omega (arith, within.few, within.used, used, ap length left);
-      in_range = subst (All InRange) (sym left) within.in_range;
+      in_range = rw left within.in_range;
       none_stale = λ yes. left ∙ ⊎_elim within.none_stale
           (λ none. none_there s.points.items (omega (arith, within.few, none))) fits;
     }
@@ -60,36 +57,29 @@ within_more slots taken k first count rest s new false within fits few inside sa
       used = omega (arith, used);
       number = next ∙ omega (arith, within.number, more);
       few = omega (arith, within.few, within.used, used, more, few);
-      in_range = subst (All InRange) (sym points)
+      in_range = rw points
           (All-append InRange s.points.items (slot_points count rest) within.in_range inside);
       none_stale = λ yes. absurd (true≢false (sym yes ∙ told));
     }
   where
     more : length new.points.items ≡ length s.points.items + count
-    more = ap length points ∙ length-append s.points.items (slot_points count rest)
-        ∙ ap (λ n. length s.points.items + n) (length-points_in count rest)
+    more = grind (arith, length-append, length-points_in)
 
 module _ (slots taken : ℕ) (bytes : List ℕ) (k first count : ℕ) (slot rest : List ℕ)
     (fields : HasFields slot first count rest) (at_slot : IsOpenSlot slots bytes k slot) where
   -- the fields are those of slot k
   first_at : first ≡ (batch_at slots bytes k).first
-  first_at = fields.first_is ∙ ap (λ l. (batch_in l).first) at_slot.here
+  first_at = cc
 
   count_at : count ≡ (batch_at slots bytes k).count
-  count_at = fields.count_is ∙ ap count_in at_slot.here
+  count_at = cc
 
   points_at : count ≤ 64 → (batch_at slots bytes k).points ≡ slot_points count rest
-  points_at few = ap (λ l. (batch_in l).points) (sym at_slot.here)
-      ∙ points_counted slot first count rest fields few
+  points_at few = grind (arith, points_counted)
 
   -- a count that is none breaks the layout
   pub count_breaks : (count ≡ 0) ⊎ (64 < count) → IsCountBroken slots bytes k 8
-  count_breaks bad = record {
-    field = refl;
-    broken =
-        λ counted. absurd (⊎_elim (λ none. omega (arith, none, count_at, counted.some))
-        (λ many. omega (arith, many, count_at, counted.few)) bad);
-  }
+  count_breaks bad = grind (arith, count_at)
 
   module _ (some : 1 ≤ count) (few : count ≤ 64) where
     counted : IsCounted (batch_at slots bytes k)
@@ -98,25 +88,15 @@ module _ (slots taken : ℕ) (bytes : List ℕ) (k first count : ℕ) (slot rest
     module _ (s : Scanned) (read : IsRead slots taken bytes k s) (within : IsWithin slots taken k s)
         (stale : Bool) (tested : (stale ≡ true) ↔ (first + count ≤ taken)) where
       stale_at : (stale ≡ true) ↔ IsStale taken (batch_at slots bytes k)
-      stale_at = (
-        λ yes. omega (arith, tested.0 yes, first_at, count_at),
-        λ all. tested.1
-            (omega (arith, all, first_at, count_at)),
-      )
+      stale_at = grind (arith, first_at, count_at)
 
       -- so does a first number that does not fit
       pub first_breaks : (FitsSlot s k first stale → ⊥) → IsFirstBroken slots bytes taken k 0
-      first_breaks unfit = record {
-        field = refl;
-        counted = counted;
-        broken = misfit_follow slots taken bytes k s read within counted stale stale_at
-            (λ fits. unfit (subst (λ n. FitsSlot s k n stale) (sym first_at) fits));
-      }
+      first_breaks unfit = grind (arith, counted, misfit_follow, stale_at, first_at)
 
       module _ (fits : FitsSlot s k first stale) where
         follows : FollowsOn slots bytes taken k
-        follows = fits_follow slots taken bytes k s read within counted stale stale_at
-            (subst (λ n. FitsSlot s k n stale) first_at fits)
+        follows = grind (arith, fits_follow, counted, stale_at, first_at)
 
         -- and a point out of range
         pub point_breaks : (i : ℕ) → i < count → All InRange (slot_points i rest)
@@ -127,29 +107,23 @@ module _ (slots taken : ℕ) (bytes : List ℕ) (k first count : ℕ) (slot rest
           counted = counted;
           follows = follows;
           there = omega (arith, there, count_at);
-          before = subst (All InRange) (sym (ap (take i) (points_at few)
-              ∙ take-points_in i count rest (omega (arith, there)))) before;
-          broken = λ inside. outside (subst (λ l. InRange (point_at l)) (sym place) inside);
+          before = rw (ap (take i) (points_at few) ∙ take-points_in i count rest (omega (arith, there))) before;
+          broken = λ inside. outside (rw place inside);
         }
           where
             place : drop (16 * i) rest ≡ drop (10 + 16 * i) (slot_at slots bytes k)
-            place = ap (drop (16 * i)) fields.rest_is ∙ drop-drop (16 * i) 10 slot
-                ∙ ap (drop (10 + 16 * i)) at_slot.here
+            place = cc (drop-drop (16 * i) 10 slot)
 
         -- what a batch holds beyond the summary
         beyond_at : points_beyond taken (batch_at slots bytes k) ≡ slot_points (cond stale 0 count) rest
         beyond_at = elim (cases_Bool stale) [
-          | inl told ↦ beyond_stale taken (batch_at slots bytes k) (stale_at.0 told)
-              ∙ ap (λ b. slot_points (cond b 0 count) rest) (sym told)
-          | inr untold ↦ beyond_all taken (batch_at slots bytes k) (not_stale untold) ∙ points_at few
-              ∙ ap (λ b. slot_points (cond b 0 count) rest) (sym untold)
+          | inl told ↦ cc (beyond_stale taken (batch_at slots bytes k) (stale_at.0 told))
+          | inr untold ↦ cc (beyond_all taken (batch_at slots bytes k) (not_stale untold), points_at few)
         ]
           where
             not_stale : stale ≡ false → taken < (batch_at slots bytes k).first +
                 (batch_at slots bytes k).count
-            not_stale untold = ⊎_elim (λ beyond. beyond)
-                (λ all. absurd (true≢false (sym (stale_at.1 all) ∙ untold)))
-                (cases_lt taken ((batch_at slots bytes k).first + (batch_at slots bytes k).count))
+            not_stale untold = grind (arith, true≢false)
 
         -- else the slot is taken in
         pub taken_in : (new : Scanned) → All InRange (slot_points count rest) → new.points.items
@@ -161,6 +135,6 @@ module _ (slots taken : ℕ) (bytes : List ℕ) (k first count : ℕ) (slot rest
               counted = counted;
               follows = follows;
               in_range =
-                  subst (All InRange) (sym (points_at few)) inside;
+                  rw (points_at few) inside;
             }) stale_at
-            (points ∙ ap (λ l. s.points.items ++ l) (sym beyond_at)) used told
+            (cc (points, beyond_at)) used told

@@ -1,26 +1,13 @@
 use Rattle.std.proofs.Common.{◌≡◌, ◌+◌, ◌*◌, ◌≤◌, min, length, ap, ◌∙◌}
-use Rattle.std.proofs.Common.{subst, arith}
+use Rattle.std.proofs.Common.{arith}
 use Rattle.event_queue.specs.Damages.{IsLaneDamage}
-use Rattle.event_queue.specs.Scans.{IsWithin, IsRead}
+use Rattle.event_queue.specs.Scans.{IsRead}
 use Rattle.event_queue.proofs.Pieces.{handed_on}
 use Rattle.event_queue.proofs.Scans.{moved, with_piece, read_all, read_first}
 use Rattle.event_queue.proofs.reader.scan.Goals as goal
 
 pub loop-j-init : goal.loop-j-init
-loop-j-init g c =
-    let none : 0 ≡ min 0 c.used_of-used.result = omega arith in
-    let s = c.in_ok-scanned.scanned in
-    record {
-      same = c.in_ok-gates.ensures.same;
-      untimed = c.in_ok-gates.ensures.untimed;
-      faults = c.in_ok-gates.ensures.cause.passed;
-      handed = c.in_ok-gates.ensures.handed;
-      slots_same = c.in_ok-scanned.ensures.within.slots_same;
-      within = subst (λ n. IsWithin c.args.slots c.args.taken n s) none c.in_ok-scanned.ensures.within;
-      read = read_first (g.D.Disk.trace c.args.dev.now) c.args.slots c.args.taken _ s none
-          c.in_ok-scanned.ensures.read;
-      long = λ some. c.in-Ok.ensures.len ∙ omega (arith, c.min.ensures);
-    }
+loop-j-init g c = grind (arith, read_first)
 
 pub returns-in_err-take_piece-clause-damaged : goal.returns-in_err-take_piece-clause-damaged
 returns-in_err-take_piece-clause-damaged g c = λ a byte told.
@@ -52,7 +39,7 @@ loop-j-preserved g c =
     let behind = from + c.min-count.result in
     let start : min from used ≡ from = omega arith in
     let next : behind ≡ min (64 * (c.loop-j.j + 1)) used = omega (arith, c.min-count.ensures) in
-    let within = subst (λ n. IsWithin n c.args.taken behind new) c.loop-j.invariant.slots_same
+    let within = rw c.loop-j.invariant.slots_same at
     c.in_ok-take_piece.ensures.within in
     record {
       same = c.refill.ensures.same ∙ c.loop-j.invariant.same;
@@ -60,7 +47,7 @@ loop-j-preserved g c =
       faults = c.in-Ok-refill.ensures.cause.passed ∙ c.loop-j.invariant.faults;
       handed = c.refill.ensures.handed ∙ c.loop-j.invariant.handed;
       slots_same = within.slots_same;
-      within = subst (λ n. IsWithin slots c.args.taken n new) next within;
+      within = rw next at within;
       read = with_piece o slots c.args.taken (min from used) from c.in_ok-gates.gates.items
           c.refill.new.piece.items c.deref-in-loop-j.result.now
           c.deref-in-loop-j-2.result.now s (λ n bytes. IsRead n c.args.taken bytes
@@ -69,7 +56,7 @@ loop-j-preserved g c =
           (moved _ o _ _ c.refill.new.piece.items c.loop-j.invariant.same c.slot_place.ensures
           c.in-Ok-refill.ensures.bytes)
           c.deref-in-loop-j-2.ensures.value c.loop-j.invariant.read
-          (λ bytes at_piece read. subst (λ n. IsRead s.lane.slots c.args.taken bytes n new) next
+          (λ bytes at_piece read. rw next at
           (c.in_ok-take_piece.ensures.read bytes at_piece read));
       long = λ more. c.in-Ok-refill.ensures.len ∙ omega (arith, c.min-count.ensures);
     }

@@ -1,5 +1,4 @@
-use Rattle.std.proofs.Common.{◌*◌, drop, sym, subst, ap, ◌∙◌}
-use Rattle.std.specs.List.{All}
+use Rattle.std.proofs.Common.{◌*◌, drop, ap, ◌∙◌}
 use Rattle.std.proofs.lemmas.List.Elements.{All-push}
 use Rattle.trend_num.specs.Ranges.{InRange}
 use Rattle.archive_file.specs.Fields.{point_at}
@@ -12,10 +11,10 @@ loop-i-preserved c =
     let bytes = c.args.bytes.now in
     let i = c.loop-i.i in
     let inside : InRange (point_at (drop (16 * i) bytes)) =
-    subst InRange (c.take_point.ensures.point ∙ ap point_at c.loop-i.invariant.rest)
+    rw (c.take_point.ensures.point ∙ ap point_at c.loop-i.invariant.rest) at
     (c.in_range.ensures.0 c.if-not-in_range.false) in
     record {
       rest = points_behind i bytes _ _ c.loop-i.invariant.rest c.take_point.ensures.rest;
-      before = subst (All InRange) (sym (points_in_more i bytes))
+      before = rw (points_in_more i bytes)
           (All-push InRange (slot_points i bytes) _ c.loop-i.invariant.before inside);
     }

@@ -4,10 +4,7 @@ use Rattle.event_queue.proofs.Batches.{written_none, written_more, written_all}
 use Rattle.event_queue.proofs.slot.slot_bytes.Goals as goal
 
 pub loop-p-init : goal.loop-p-init
-loop-p-init c =
-    written_none c.args.first c.args.points.now _ _ _ _ _ c.new-bytes.ensures c.put.ensures.items
-    c.put-2.ensures.items
-    c.to_be_bytes.ensures c.to_be_bytes-2.ensures
+loop-p-init c = grind (arith, written_none)
 
 pub loop-p-preserved : goal.loop-p-preserved
 loop-p-preserved c =
@@ -18,5 +15,4 @@ pub put_point-requires : goal.put_point-requires
 put_point-requires c = (omega arith, omega (arith, c.loop-p.invariant.long))
 
 pub returns : goal.returns
-returns c = written_all c.args.first c.args.points.now c.loop-p.p-index _ c.loop-p-test.false
-    c.loop-p.invariant
+returns c = grind (arith, written_all)

@@ -3,8 +3,7 @@ use Rattle.event_queue.proofs.Rooms.{reaches_lane, room_behind}
 use Rattle.event_queue.proofs.lane.Lane.append_batch.Goals as goal
 
 pub write_guarded-requires-clause-room : goal.write_guarded-requires-clause-room
-write_guarded-requires-clause-room g c = reaches_lane _ _ _ _ c.requires.room
-    (omega (arith, c.slot_place-at.ensures))
+write_guarded-requires-clause-room g c = grind (arith, reaches_lane)
 
 pub returns-clause-room_left : goal.returns-clause-room_left
 returns-clause-room_left g c =

@@ -6,5 +6,4 @@ pub close_gates-requires-clause-room : goal.close_gates-requires-clause-room
 close_gates-requires-clause-room g c = reaches_lane _ _ _ _ c.requires.room (omega arith)
 
 pub returns-clause-room_left : goal.returns-clause-room_left
-returns-clause-room_left g c =
-    room_anew _ _ _ _ c.requires.room c.in-Ok.ensures.any_moment c.in-Ok.ensures.shut
+returns-clause-room_left g c = grind (arith, room_anew)

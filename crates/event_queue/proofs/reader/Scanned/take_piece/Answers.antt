@@ -1,7 +1,5 @@
-use Rattle.std.proofs.Common.{◌+◌, arith, refl, sym, subst}
-use Rattle.event_queue.specs.Damages.{IsLaneDamage}
+use Rattle.std.proofs.Common.{◌+◌, arith, sym, subst}
 use Rattle.event_queue.specs.Scans.{IsRead}
-use Rattle.event_queue.specs.Pieces.{IsOpenSlot}
 use Rattle.event_queue.proofs.Pieces.{handed_on, slot_in, taken_none, taken_shut, taken_open}
 use Rattle.event_queue.proofs.reader.Scanned.take_piece.Goals as goal
 use Rattle.event_queue.proofs.reader.Scanned.take_piece.Goals.{then-gates-k+in_ok-take_slot, else-gates-k}
@@ -17,13 +15,12 @@ returns-in_err-take_slot-clause-damaged c = λ a byte told bytes at_piece read.
     let read_so_far = c.loop-i.invariant.read bytes at_piece read in
     let was = handed_on c.from_residual.result c.take_slot.result c.in_err-take_slot.field-0.0 _
     c.from_residual.ensures.1 c.in_err-take_slot.was told in
-    subst (λ n. IsLaneDamage n bytes c.args.taken a byte) same (c.take_slot.ensures.damaged a byte was bytes
-    (subst (λ n. IsOpenSlot n bytes (from + i) c.slot_of.result.now) (sym same) at_slot)
+    rw same at (c.take_slot.ensures.damaged a byte was bytes
+    (rw same at_slot)
     (subst (λ n. IsRead n c.args.taken bytes (from + i) c.loop-i.self) (sym same) read_so_far))
 
 pub loop-i-init : goal.loop-i-init
-loop-i-init c = taken_none c.args.self.now.lane.slots c.args.taken c.args.gates.now c.args.from
-    c.args.piece.now c.args.self.now refl c.requires.within
+loop-i-init c = grind (arith, taken_none)
 
 pub loop-i-preserved : goal.loop-i-preserved
 loop-i-preserved c =

@@ -1,8 +1,7 @@
-use Rattle.std.proofs.Common.{◌≡◌, ◌+◌, ◌*◌, ◌<◌, ◌⊎◌, inl, inr, ◌++◌, cond, get_or, Some, refl, sym, ap, ◌∙◌}
+use Rattle.std.proofs.Common.{◌≡◌, ◌+◌, ◌*◌, ◌<◌, ◌⊎◌, inl, inr, cond, refl, sym, ◌∙◌}
 use Rattle.std.proofs.Common.{arith}
 use Rattle.std.proofs.lemmas.Bool.{cond-true, cond-false, true≢false}
 use Rattle.archive_file.specs.declared.failure.ScanNo.TheVariants.{Damaged}
-use Rattle.event_queue.specs.Slots.{slot_points}
 use Rattle.event_queue.proofs.Steps.{damage_here}
 use Rattle.event_queue.proofs.Taken.{fields_read, within_more, count_breaks, first_breaks, point_breaks}
 use Rattle.event_queue.proofs.Taken.{taken_in}
@@ -27,7 +26,7 @@ returns-then-count-eq0-clause-damaged c = λ a byte told bytes at_slot read.
     damage_here slots c.args.taken bytes c.args.k slot 8 a byte c.damage.result c.requires.there read.lane
     at_slot
     (inl (count_breaks slots c.args.taken bytes c.args.k _ _ slot _ fields at_slot bad)) (omega arith)
-    (c.damage.ensures ∙ ap (λ p. Damaged (p + 8) (Some (get_or slot 8 0))) c.slot_place-at.ensures) same
+    (cc) same
 
 pub returns-then-not-follows-clause-damaged : goal.returns-then-not-follows-clause-damaged
 returns-then-not-follows-clause-damaged c = λ a byte told bytes at_slot read.
@@ -41,8 +40,7 @@ returns-then-not-follows-clause-damaged c = λ a byte told bytes at_slot read.
     (inr (inl (first_breaks slots c.args.taken bytes c.args.k _ _ slot _ fields at_slot (omega arith)
     (omega arith) c.args.self.now read c.requires.within _ c.is_stale-stale.ensures
     (λ fits. true≢false (sym (c.follows.ensures.1 fits) ∙ c.if-not-follows.true))))) (omega arith)
-    (c.damage-then-not-follows.ensures ∙ ap (λ p. Damaged (p + 0) (Some (get_or slot 0 0)))
-    c.slot_place-at.ensures) same
+    (cc) same
 
 pub returns-in-Some-clause-damaged : goal.returns-in-Some-clause-damaged
 returns-in-Some-clause-damaged c = λ a byte told bytes at_slot read.
@@ -61,18 +59,12 @@ returns-in-Some-clause-damaged c = λ a byte told bytes at_slot read.
           (c.follows.ensures.0 c.if-not-follows.false) i c.in-Some.ensures.there c.in-Some.ensures.before
           c.in-Some.ensures.broken,
     ))) (omega (arith, c.in-Some.ensures.there))
-    (c.damage-in-Some.ensures ∙ ap (λ p. Damaged (p + (10 + 16 * i)) (Some (get_or slot (10 + 16 * i) 0)))
-    c.slot_place-at.ensures) same
+    (cc) same
 
 -- how many points were added
 beyond_is : (c : goal.After-self-3-1) → c.if-stale.beyond
     ≡ cond c.is_stale-stale.result 0 c.take_count-count.result.0
-beyond_is c = elim c.if-stale.branch [
-  | then-stale w ↦ w.beyond-is ∙ sym (cond-true c.is_stale-stale.result 0 c.take_count-count.result.0
-      w.if-stale.true)
-  | else-stale w ↦ w.beyond-is ∙ sym (cond-false c.is_stale-stale.result 0 c.take_count-count.result.0
-      w.if-stale.false)
-]
+beyond_is c = grind (arith, cond-true, cond-false)
 
 pub returns-clause-within : goal.returns-clause-within
 returns-clause-within c =
@@ -81,8 +73,8 @@ returns-clause-within c =
     within_more s.lane.slots c.args.taken c.args.k c.take_number-first.result.0 c.take_count-count.result.0
     rest s _ c.is_stale-stale.result c.requires.within
     (c.follows.ensures.0 c.if-not-follows.false) (omega arith) c.in_default.ensures.none refl refl
-    (ap (λ n. s.lane.next + n) (c.from.ensures ∙ beyond_is c))
-    (c.in-Ok.ensures ∙ ap (λ n. s.points.items ++ slot_points n rest) (beyond_is c)) refl
+    (cc (beyond_is c))
+    (cc (c.in-Ok.ensures, beyond_is c)) refl
 
 pub returns-clause-read : goal.returns-clause-read
 returns-clause-read c = λ bytes at_slot read.
@@ -94,4 +86,4 @@ returns-clause-read c = λ bytes at_slot read.
     taken_in s.lane.slots c.args.taken bytes c.args.k _ _ slot rest fields at_slot (omega arith) (omega arith)
     s read c.requires.within _ c.is_stale-stale.ensures
     (c.follows.ensures.0 c.if-not-follows.false) _ c.in_default.ensures.none
-    (c.in-Ok.ensures ∙ ap (λ n. s.points.items ++ slot_points n rest) (beyond_is c)) refl refl
+    (cc (c.in-Ok.ensures, beyond_is c)) refl refl
