@@ -33,7 +33,7 @@ from version import version_text
 PAGES = os.path.join(os.path.dirname(os.path.abspath(__file__)), "pages")
 DYGRAPHS = "/usr/share/javascript/dygraphs"
 LIBRARY = ("dygraph.min.js", "dygraph.min.css")
-OWN = ("board.css", "common.js", "index.js", "tag.js", "index.html")
+OWN = ("board.css", "common.js", "plot.js", "index.js", "tag.js", "index.html")
 
 
 def put_file(path, data):

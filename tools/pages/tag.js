@@ -5,9 +5,9 @@
 const MOST_DRAWN = 3000;     // points that are drawn one by one
 const MOST_LOADED = 200000;  // points that are loaded for one view
 const NEAR = 12;             // how near to a point the pointer is, in pixels, to mean that point
-const WIDE = 0, NARROW = 1, LINE = 2, KEPT = 3, LATE = 4, HELD = 5; // the series
+const WIDE = 0, NARROW = 1, LINE = 2; // the series
 const SPANS = [["hour", HOUR], ["day", DAY], ["week", 7 * DAY], ["month", 30 * DAY], ["year", 365 * DAY], ["all", Infinity]];
-const COLOURS = ["#b9cfe4", "#6f9fca", "#a3271b", "#a3271b", "#a3271b", "#a3271b"];
+const COLOURS = ["#b9cfe4", "#6f9fca", "#a3271b"];
 const page = {name: document.body.dataset.tag, head: null, parts: new Map(), graph: null, drawn: null, bars: [], from: 0, to: 0, busy: false};
 
 const find = id => document.getElementById(id);
@@ -57,18 +57,25 @@ function placeOf(times, t) {
   return low - 1;
 }
 
+// The points of a file between two times and one more on each side; whether these are its last ones.
+function pointsOf(key, from, to, found) {
+  const {times, values, late} = page.parts.get(key) || {times: [], values: [], late: []}, last = placeOf(times, to);
+  const end = Math.min(times.length - 1, times[last] === to ? last : last + 1);
+  for (let place = Math.max(0, placeOf(times, from)); place <= end; place += 1) {
+    found.push({t: times[place], v: values[place], late: late[place] === 1});
+  }
+  return end === times.length - 1;
+}
+
 // The points between two times and one more on each side; the held one too, unless a point stands at its time.
 function pointsIn(keys, from, to) {
-  const found = [], parts = page.head.parts, places = keys.map(key => parts.findIndex(part => part[0] === key));
-  const before = parts[places[0] - 1], after = parts[places[places.length - 1] + 1], held = page.head.held;
+  const found = [], parts = page.head.parts, places = keys.map(key => parts.findIndex(part => part[0] === key)), held = page.head.held;
+  const before = parts[places[0] - 1], after = parts[places[places.length - 1] + 1];
   if (before) found.push({t: before[4], v: before[5], late: before[6] === 1});
-  for (const key of keys) {
-    const {times, values, late} = page.parts.get(key) || {times: [], values: [], late: []};
-    for (let place = 0; place < times.length; place += 1) found.push({t: times[place], v: values[place], late: late[place] === 1});
-  }
-  if (after) found.push({t: after[2], v: after[3], late: false, beyond: true});
-  else if (held && (!found.length || found[found.length - 1].t < held[0])) found.push({t: held[0], v: held[1], late: false, held: true});
-  else if (held && found[found.length - 1].t === held[0] && !found[found.length - 1].late) found[found.length - 1].held = true;
+  const toEnd = keys.map(key => pointsOf(key, from, to, found)).pop(), newest = found[found.length - 1];
+  if (toEnd && after) found.push({t: after[2], v: after[3], late: false, beyond: true});
+  else if (toEnd && held && (!newest || newest.t < held[0])) found.push({t: held[0], v: held[1], late: false, held: true});
+  else if (toEnd && held && newest.t === held[0] && !newest.late) newest.held = true;
   let first = 0, last = found.length - 1;
   while (first < last && found[first + 1].t <= from) first += 1;
   while (last > first && found[last - 1].t >= to) last -= 1;
@@ -80,16 +87,16 @@ function isClean(left, right) {
   return !left.late && !right.late && promiseAt(right.t).is;
 }
 
-// ---- rows for the picture: [time, wide band, narrow band, line, kept, late, held], each of the lowest, the drawn and the highest value
+// ---- rows for the picture: [time, wide band, narrow band, line], each of the lowest, the drawn and the highest value
 
 function around(value, by) {
   return [value - by, value, value + by];
 }
 
 function pointRow(point, band, scale) {
-  const exact = [point.v / scale, point.v / scale, point.v / scale], is = kind => kind ? exact : null;
+  const exact = [point.v / scale, point.v / scale, point.v / scale];
   const bands = band ? [around(point.v, band.wide), around(point.v, band.narrow)].map(all => all.map(v => v / scale)) : [null, null];
-  return [point.t, ...bands, exact, is(!point.late && !point.held && !point.beyond), is(point.late), is(point.held)];
+  return [point.t, ...bands, exact];
 }
 
 // A row between two points that ends or begins a band; the line goes through it.
@@ -124,7 +131,7 @@ function windowRows(windows, from, to, scale) {
     const t = (first + place + (page.head.step ? 0 : 0.5)) * width, promise = promiseAt(t);
     const all = by => [(low[place] - by) / scale, mean[place] / scale, (high[place] + by) / scale];
     const clean = promise.is && !late(first + place);
-    rows.push([t, clean ? all(promise.wide) : null, clean ? all(promise.narrow) : null, all(0), null, null, null]);
+    rows.push([t, clean ? all(promise.wide) : null, clean ? all(promise.narrow) : null, all(0)]);
   }
   return rows;
 }
@@ -144,37 +151,41 @@ function keptWindows() {
   return page.windows;
 }
 
-// Windows of many points: the lowest, the highest and the mean value of the line in each.
-function windowsOf(points, from, to) {
-  const width = (to - from) / MOST_DRAWN * 2, count = Math.ceil((to - from) / width), first = Math.floor(from / width);
-  const low = new Array(count + 1).fill(null), high = low.slice(), mean = low.slice(), late = new Set(), area = new Float64Array(count + 1);
-  const covered = new Float64Array(count + 1);
-  const put = (place, t, until, v, w) => {
-    if (low[place] === null || Math.min(v, w) < low[place]) low[place] = Math.min(v, w);
-    if (high[place] === null || Math.max(v, w) > high[place]) high[place] = Math.max(v, w);
+// Adds the line between two points to the windows that it goes through between two times.
+function addLine(made, left, right, from, to) {
+  const {first, width, low, high, area, covered, late} = made, {step} = page.head, rise = step ? 0 : right.v - left.v, run = right.t - left.t;
+  const end = Math.min(right.t, to), clean = isClean(left, right);
+  let t = Math.max(left.t, from), v = left.v + rise * (t - left.t) / run;
+  while (t < end) {
+    const place = Math.floor(t / width) - first, until = Math.min((first + place + 1) * width, end), w = left.v + rise * (until - left.t) / run;
+    if (until <= t) return;
+    if (low[place] === null || v < low[place]) low[place] = v;
+    if (high[place] === null || v > high[place]) high[place] = v;
+    if (w < low[place]) low[place] = w;
+    if (w > high[place]) high[place] = w;
     area[place] += (until - t) * (v + w) / 2;
     covered[place] += until - t;
-  };
-  for (let at = 0; at + 1 < points.length; at += 1) {
-    const left = points[at], right = points[at + 1], clean = isClean(left, right);
-    const value = t => page.head.step ? left.v : left.v + (right.v - left.v) * (t - left.t) / (right.t - left.t);
-    let t = Math.max(left.t, from);
-    while (t < Math.min(right.t, to)) {
-      const place = Math.floor(t / width) - first, until = Math.min((first + place + 1) * width, right.t, to);
-      if (place >= 0 && place <= count) { put(place, t, until, value(t), page.head.step ? left.v : value(until)); if (!clean) late.add(first + place); }
-      if (until <= t) break;
-      t = until;
-    }
+    if (!clean) late.add(first + place);
+    t = until;
+    v = w;
   }
-  let start = 0, end = count;
+}
+
+// Windows of many points: the lowest, the highest and the mean value of the line in each.
+function windowsOf(points, from, to) {
+  const width = (to - from) / MOST_DRAWN * 2, first = Math.floor(from / width), count = Math.floor(to / width) - first + 1;
+  const low = new Array(count).fill(null), high = low.slice(), mean = low.slice();
+  const made = {first, width, low, high, late: new Set(), area: new Float64Array(count), covered: new Float64Array(count)};
+  for (let at = 0; at + 1 < points.length; at += 1) addLine(made, points[at], points[at + 1], from, to);
+  let start = 0, end = count - 1;
   while (start < end && low[start] === null) start += 1;
   while (end > start && low[end] === null) end -= 1;
   for (let place = start; place <= end; place += 1) {
     if (low[place] === null) { low[place] = low[place - 1]; high[place] = high[place - 1]; mean[place] = mean[place - 1]; continue; }
-    mean[place] = covered[place] ? area[place] / covered[place] : low[place];
+    mean[place] = made.covered[place] ? made.area[place] / made.covered[place] : low[place];
   }
   return {low: low.slice(start, end + 1), high: high.slice(start, end + 1), mean: mean.slice(start, end + 1), first: first + start, width,
-    late: number => late.has(number)};
+    late: number => made.late.has(number)};
 }
 
 // The points of a span of time as rows: one by one, or in windows if they are many.
@@ -230,25 +241,16 @@ function tick(t, shown, step) {
 
 // ---- the picture
 
-function dot(draw) {
-  return (graph, name, context, x, y, colour, size) => {
-    context.beginPath();
-    context.lineWidth = 1.5;
-    context.strokeStyle = context.fillStyle = colour;
-    draw(context, x, y, size);
-  };
+// The dots of the points that are drawn one by one. Where kept ones are too near together, these have none.
+function paintPoints({drawingContext: context, plotArea: area, dygraph}) {
+  const found = {kept: [], late: [], held: []}, [from, to] = dygraph.xAxisRange(), {scale} = page.head;
+  for (const point of page.drawn.points || []) {
+    if (point.beyond || point.t < from || point.t > to) continue;
+    found[point.late ? "late" : point.held ? "held" : "kept"].push([dygraph.toDomXCoord(point.t), dygraph.toDomYCoord(point.v / scale)]);
+  }
+  if (found.kept.length * DOT_EVERY > area.w) found.kept = [];
+  for (const kind in found) paintDots(context, kind, found[kind], COLOURS[LINE]);
 }
-
-const DOTS = {
-  kept: dot((context, x, y, size) => { context.arc(x, y, size, 0, 2 * Math.PI); context.fill(); }),
-  late: dot((context, x, y, size) => {
-    context.arc(x, y, size + 1, 0, 2 * Math.PI);
-    context.fillStyle = "#fff";
-    context.fill();
-    context.stroke();
-  }),
-  held: dot((context, x, y, size) => { context.rect(x - size - 0.5, y - size - 0.5, 2 * size + 1, 2 * size + 1); context.fill(); }),
-};
 
 function drawLimits(context, area, graph) {
   for (const limit of [page.head.low, page.head.high]) {
@@ -267,15 +269,14 @@ function drawLimits(context, area, graph) {
 }
 
 function options() {
-  const series = {wide: {fillAlpha: 0.45, strokeWidth: 0}, narrow: {fillAlpha: 0.45, strokeWidth: 0}, line: {strokeWidth: 1.8, fillAlpha: 0.25},
-    kept: {}, late: {}, held: {}};
-  for (const name of ["kept", "late", "held"]) {
-    Object.assign(series[name], {strokeWidth: 0, drawPoints: true, pointSize: 3, drawPointCallback: DOTS[name], fillAlpha: 0,
-      showInRangeSelector: false});
-  }
-  series.line.showInRangeSelector = true;
+  const band = bandPlotter(0.45), spread = bandPlotter(0.25), series = {wide: {plotter: band}, narrow: {plotter: band}, line: {}};
+  series.line = {strokeWidth: 1.8, showInRangeSelector: true, plotter: about => {
+    if (!page.drawn.points) spread(about);
+    paintLine(about);
+    paintPoints(about);
+  }};
   return {
-    labels: ["time", "wide", "narrow", "line", "kept", "late", "held"], colors: COLOURS, series, customBars: true, legend: "never",
+    labels: ["time", "wide", "narrow", "line"], colors: COLOURS, series, customBars: true, legend: "never",
     stepPlot: page.head.step, showRangeSelector: true, rangeSelectorHeight: 44, rangeSelectorPlotStrokeColor: "#7b8794",
     interactionModel: Dygraph.defaultInteractionModel, // a drag zooms; beside a range selector it would pan
     rangeSelectorPlotFillColor: "#dfe5ec", highlightCircleSize: 0, gridLineColor: "#e3e8ed", axisLineColor: "#8a96a3", axisLabelFontSize: 12,
@@ -289,7 +290,7 @@ function yText(value) {
   return Math.abs(value) >= 1e7 || value && Math.abs(value) < 1e-4 ? value.toPrecision(4) : String(Number(value.toFixed(6)));
 }
 
-// Shows a span of time. `done` is called once it is drawn.
+// Shows a span of time. `done` is called once it is on the screen.
 function show(from, to, done) {
   const start = performance.now();
   page.from = from;
@@ -301,8 +302,10 @@ function show(from, to, done) {
     else page.graph = new Dygraph(find("chart"), rows, Object.assign(options(), {dateWindow: [from, to]}));
     page.busy = false;
     settle();
-    page.took = performance.now() - start;
-    if (done) done();
+    requestAnimationFrame(() => setTimeout(() => {
+      page.took = performance.now() - start;
+      if (done) done();
+    }));
   });
 }
 
