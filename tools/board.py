@@ -16,6 +16,7 @@ import json
 import os
 import shutil
 import time
+import zlib
 
 import board_bars
 import board_feed
@@ -91,9 +92,16 @@ def read_rows(board):
         return {}
 
 
+def page_text():
+    """The page of a tag, before its name stands there."""
+    with open(os.path.join(PAGES, "tag.html")) as page:
+        return page.read()
+
+
 def write_tag(plant, board, name, about, notes, known, wait):
     """Writes what is new of a tag: what is kept of it for the next time, its row among it, and whether there was something new."""
-    path, marks = plant.path("historian.d", name + ".tag"), json.dumps([board_tags.FORM, about, notes])
+    path, page = plant.path("historian.d", name + ".tag"), page_text()
+    marks = json.dumps([board_tags.FORM, zlib.crc32(page.encode()), about, notes])
     with shared_locks(plant, wait):
         try:
             events = events_on(path)
@@ -105,9 +113,8 @@ def write_tag(plant, board, name, about, notes, known, wait):
             events, row = None, dict(about, name=name, broken="no device yet")
         except Damaged as why:
             events, row = None, dict(about, name=name, broken="damaged %s" % why)
-    with open(os.path.join(PAGES, "tag.html")) as page:
-        text = page.read().replace("NAME", html.escape(name)).replace("ABOUT", html.escape(about["descriptor"]))
-    put_file(os.path.join(board, "tags", name + ".html"), text.encode())
+    page = page.replace("NAME", html.escape(name)).replace("ABOUT", html.escape(about["descriptor"]))
+    put_file(os.path.join(board, "tags", name + ".html"), page.encode())
     return {"events": events, "marks": marks, "row": row}, True
 
 

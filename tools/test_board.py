@@ -132,6 +132,7 @@ def day_of_points(driver, trial, board):
     wait_for(driver, "return page.to - page.from < arguments[0] / 2", before)
     driver.execute_script("[...document.querySelectorAll('#spans button')].find(each => each.textContent === 'all').click()")
     wait_for(driver, "return page.to - page.from > 10 * 3600000")
+    assert driver.execute_script("return page.from <= ends()[0] && page.to >= ends()[1]")
     require_no_errors(driver)
 
 
@@ -240,6 +241,7 @@ def thousand_tags(driver, folder, program):
     board = written(trial)
     go(driver, os.path.join(board, "index.html"))
     assert len(cells(driver)) == 1_000 and "1\u202f000 tags" in driver.find_element("id", "count").text, (len(cells(driver)), driver.find_element("id", "count").text)
+    assert list(cells(driver)) == ["LONG"] + names[:-1]  # T2 before T10
     type_in(driver, "T99")
     assert len(cells(driver)) == 10  # T99 and T990 to T998
     go(driver, os.path.join(board, "tags", "LONG.html"))

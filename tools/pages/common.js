@@ -45,6 +45,10 @@ function countText(count) {
   return String(count).replace(/\B(?=(\d{3})+$)/g, "\u202f");
 }
 
+function plural(count, one) {
+  return countText(count) + " " + one + (count === 1 ? "" : "s");
+}
+
 // ---- times
 
 const clocks = {};
@@ -116,6 +120,6 @@ function fullAt(tag) {
 
 function fullText(tag) {
   const share = 100 * tag.records / tag.limit, at = fullAt(tag);
-  const when = at === null ? "" : at > Date.UTC(2100, 0) ? ", after 2100" : ", until " + timeText(at, tag.zone).slice(0, 7);
+  const when = at === null ? "" : at > Date.UTC(2100, 0) ? ", full after 2100" : ", full in " + timeText(at, tag.zone).slice(0, 7);
   return (share && share < 0.1 ? "< 0.1" : share.toFixed(1)) + " %" + when;
 }

@@ -28,6 +28,7 @@ function nameCell(tag) {
 function valueCell(tag) {
   const made = element("span");
   if (tag.newest) made.append(element("b", valueText(tag.newest[1], tag.scale)), " ", element("span", tag.unit, "unit"));
+  if (tag.unit.length > 12) made.title = tag.unit;
   return made;
 }
 
@@ -85,10 +86,6 @@ function card(title, kind, text, more) {
   made.lastChild.append(element("span", mark, "mark"), " ", text);
   if (more) made.append(element("p", more, "more"));
   return made;
-}
-
-function plural(count, one, many) {
-  return countText(count) + " " + (count === 1 ? one : many || one + "s");
 }
 
 function turnCard(feed, now) {
@@ -166,8 +163,10 @@ function makeRows(now) {
   });
 }
 
+const names = new Intl.Collator("en", {numeric: true}); // T2 before T10
+
 function compare(a, b) {
-  return a < b ? -1 : a > b ? 1 : 0;
+  return typeof a === "string" && names.compare(a, b) || (a < b ? -1 : a > b ? 1 : 0);
 }
 
 function sort() {

@@ -2,7 +2,7 @@
 // How a trend is painted: bands, the line and dots, each as one outline for all points in sight. (dygraphs' own plotters fill a rectangle
 // for each pair of points, and begin an outline for each dot.)
 
-const DOT_EVERY = 5; // pixels: kept points that are nearer together on the average have no dots, which would make a thick line
+const DOT_EVERY = 4; // pixels: kept points that are nearer together on the average have no dots, which would make a thick line
 
 // Calls `each` with the stretches of points without a gap, and with the time, in pixels, up to which a stair goes on behind a stretch.
 function stretches(points, each) {
@@ -33,6 +33,7 @@ function follow(context, places) {
 function bandPlotter(alpha) {
   return ({points, drawingContext: context, plotArea: area, color, dygraph}) => {
     const step = dygraph.getOption("stepPlot"), height = share => area.h * share + area.y;
+    context.save();
     context.globalAlpha = alpha;
     context.fillStyle = color;
     context.beginPath();
@@ -43,6 +44,7 @@ function bandPlotter(alpha) {
       context.closePath();
     });
     context.fill();
+    context.restore();
   };
 }
 

@@ -241,7 +241,8 @@ function tick(t, shown, step) {
 
 // ---- the picture
 
-// The dots of the points that are drawn one by one. Where kept ones are too near together, these have none.
+// The dots of the points that are drawn one by one. Where kept ones are too near together, these have none; late ones lie one over the
+// other, unless they are very many.
 function paintPoints({drawingContext: context, plotArea: area, dygraph}) {
   const found = {kept: [], late: [], held: []}, [from, to] = dygraph.xAxisRange(), {scale} = page.head;
   for (const point of page.drawn.points || []) {
@@ -249,7 +250,9 @@ function paintPoints({drawingContext: context, plotArea: area, dygraph}) {
     found[point.late ? "late" : point.held ? "held" : "kept"].push([dygraph.toDomXCoord(point.t), dygraph.toDomYCoord(point.v / scale)]);
   }
   if (found.kept.length * DOT_EVERY > area.w) found.kept = [];
-  for (const kind in found) paintDots(context, kind, found[kind], COLOURS[LINE]);
+  const isDense = found.late.length * DOT_EVERY > area.w;
+  for (const places of isDense ? [found.late] : found.late.map(place => [place])) paintDots(context, "late", places, COLOURS[LINE]);
+  for (const kind of ["kept", "held"]) paintDots(context, kind, found[kind], COLOURS[LINE]);
 }
 
 function drawLimits(context, area, graph) {
@@ -277,7 +280,7 @@ function options() {
   }};
   return {
     labels: ["time", "wide", "narrow", "line"], colors: COLOURS, series, customBars: true, legend: "never",
-    stepPlot: page.head.step, showRangeSelector: true, rangeSelectorHeight: 44, rangeSelectorPlotStrokeColor: "#7b8794",
+    stepPlot: page.head.step, showRangeSelector: ends()[0] < ends()[1], rangeSelectorHeight: 44, rangeSelectorPlotStrokeColor: "#7b8794",
     interactionModel: Dygraph.defaultInteractionModel, // a drag zooms; beside a range selector it would pan
     rangeSelectorPlotFillColor: "#dfe5ec", highlightCircleSize: 0, gridLineColor: "#e3e8ed", axisLineColor: "#8a96a3", axisLabelFontSize: 12,
     underlayCallback: drawLimits, drawCallback: drawn, animatedZooms: false, xRangePad: 0, yRangePad: 10, panEdgeFraction: 0.1,
@@ -287,7 +290,8 @@ function options() {
 }
 
 function yText(value) {
-  return Math.abs(value) >= 1e7 || value && Math.abs(value) < 1e-4 ? value.toPrecision(4) : String(Number(value.toFixed(6)));
+  const isLong = Math.abs(value) >= 1e7 || value && Math.abs(value) < 1e-4;
+  return isLong ? value.toExponential(3).replace(/\.?0+e/, "e") : String(Number(value.toFixed(6)));
 }
 
 // Shows a span of time. `done` is called once it is on the screen.
@@ -332,9 +336,9 @@ function ends() {
 }
 
 // A span of time that ends with the newest value, with a little room.
-function showSpan(length) {
-  const [first, last] = ends(), wanted = length === Infinity ? Math.max(last - first, MINUTE) : length;
-  show(last - wanted + wanted * 0.02, last + wanted * 0.02);
+function showSpan(length, done) {
+  const [first, last] = ends(), whole = Math.max(last - first, MINUTE), room = 0.02 * Math.min(length, whole);
+  show(length < whole ? last - length + room : length === Infinity ? last - whole - room : last - length, last + room, done);
 }
 
 function move(share) {
@@ -421,7 +425,7 @@ board.bars = function (bars) { page.bars = bars; if (page.graph) drawBars(); };
 function drawBars() {
   const area = page.graph.getArea(), wide = find("chart").clientWidth, all = [];
   for (const {title, spans} of page.bars) {
-    const svg = shape("svg", {width: wide, height: 22}), name = shape("text", {x: area.x - 6, y: 15, "text-anchor": "end", class: "title"});
+    const svg = shape("svg", {width: wide, height: 22});
     const inside = spans.filter(span => span[1] > page.from && span[0] < page.to);
     for (const [start, end, text] of inside) {
       const x = page.graph.toDomXCoord(Math.max(start, page.from)), to = page.graph.toDomXCoord(Math.min(end, page.to));
@@ -445,7 +449,7 @@ function showLegend() {
     made.append(element("i", null, kind), text);
     all.push(made);
   };
-  add("line", step ? "archive (stair)" : "archive (line; in windows: mean, lowest, highest)");
+  add("line", step ? "archive (stair)" : "archive (in windows: mean, lowest, highest)");
   if (promises.some(each => each[3])) {
     add("narrow", "± CompDev");
     add("wide", step ? "± (CompDev + ExcDev): every raw value in order" : "± (CompDev + 2 ExcDev): every raw value in order");
@@ -464,13 +468,13 @@ function fact(name, text, kind) {
 function showFacts() {
   const head = page.head, {unit, scale} = head, after = unit ? " " + unit : "", now = Date.now();
   const state = stateOf(head, now), promise = head.promises[head.promises.length - 1];
-  find("value").textContent = head.newest ? valueText(head.newest[1], scale) : "no value";
-  find("unit").textContent = unit;
+  find("value").textContent = head.newest ? valueText(head.newest[1], scale) : "";
+  find("unit").textContent = head.newest ? unit : "";
   find("state").replaceChildren(stateElement(state));
-  find("age").textContent = head.newest ? `${ageText(now - head.newest[0])} ago, ${timeText(head.newest[0], head.zone)}` : "";
-  const kept = head.records ? `${countText(head.taken)} values in ${countText(head.records)} records` : "none";
-  const facts = [fact("stored", kept + (head.records ? `, one record for ${(head.taken / head.records).toFixed(1)} values` : "")),
-    fact("came late", countText(head.late)), fact("device", head.newest ? fullText(head) + " full" : "empty"),
+  find("age").textContent = head.newest ? `· ${ageText(now - head.newest[0])} ago, ${timeText(head.newest[0], head.zone)}` : "";
+  const kept = head.records ? `${plural(head.taken, "value")} in ${plural(head.records, "record")}` : "none";
+  const facts = [fact("stored", kept + (head.taken > 1 ? `, one record for ${(head.taken / head.records).toFixed(1)} values` : "")),
+    fact("came late", countText(head.late)), fact("room taken", head.newest ? fullText(head) : "none"),
     fact("CompDev, ExcDev", `${head.comp_dev}, ${head.exc_dev}${after}`),
     fact("promised of raw values", promise[3] ? `± ${valueText(promise[2], scale)}${after} of the ${head.step ? "stair" : "line"}` : "nothing: CompMin is above 0")];
   if (head.low !== null || head.high !== null) facts.push(fact("limits", `${head.low ?? "none"} to ${head.high ?? "none"}${after}`));
@@ -482,10 +486,6 @@ function auditFact(audit, after) {
   const seen = audit.promised === null ? "" : `greatest deviation seen ${audit.seen} of ${audit.promised}${after} promised`;
   const text = audit.outside ? `✖ ${plural(audit.outside, "value")} not as promised: ${audit.first}` : `✓ ${seen || "each value as promised"}`;
   return fact("audit", `${text} (${countText(audit.values)} values, ${timeText(audit.at, page.head.zone)})`, audit.outside ? "bad" : "");
-}
-
-function plural(count, one) {
-  return countText(count) + " " + one + (count === 1 ? "" : "s");
 }
 
 board.audit = function (results) {
@@ -501,7 +501,7 @@ board.head = function (head) {
   if (!head.parts.length) {
     find("empty").hidden = false;
     find("empty").textContent = "No value was stored yet, so there is no trend.";
-    for (const id of ["frame", "bars", "legend", "readout"]) find(id).hidden = true;
+    for (const id of ["frame", "bars", "legend", "readout", "moves"]) find(id).hidden = true;
     board.shown = performance.now();
     return;
   }
@@ -516,10 +516,7 @@ board.head = function (head) {
   leave();
   const ready = () => { board.shown = performance.now(); };
   if (asked && Number(asked[1]) < Number(asked[2])) show(Number(asked[1]), Number(asked[2]), ready);
-  else {
-    const length = Math.min(DAY, Math.max(last - first, MINUTE));
-    show(last - 0.98 * length, last + 0.02 * length, ready);
-  }
+  else showSpan(last - first < DAY ? Infinity : DAY, ready);
   find("chart").addEventListener("dblclick", event => { event.stopPropagation(); showSpan(Infinity); }, true);
   find("chart").addEventListener("mousemove", point);
   find("chart").addEventListener("mouseleave", leave);
