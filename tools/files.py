@@ -1,8 +1,10 @@
 """files.py: why a tool ends, and files that are read and written whole.
 
 All tools share it; it knows nothing of a plant."""
+import copy
 import difflib
 import errno
+import functools
 import hashlib
 import os
 import shutil
@@ -36,11 +38,16 @@ def nearest(name, names):
     return "; did you mean %s?" % shown(found[0]) if found else ""
 
 
+@functools.lru_cache(64)
+def tables_in(data):
+    """The tables of a TOML text. A site reads a text several times, and most parts have their base twice."""
+    return tomllib.loads(data.decode())
+
+
 def read_toml(path):
     """The tables of a TOML text."""
     try:
-        with open(path, "rb") as text:
-            return tomllib.load(text)
+        return copy.deepcopy(tables_in(bytes_of(path)))
     except OSError as why:
         raise Refusal(UNREADABLE, "%s cannot be read: %s" % (path, why.strerror)) from None
     except (tomllib.TOMLDecodeError, UnicodeDecodeError, RecursionError) as why:

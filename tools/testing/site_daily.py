@@ -1,16 +1,20 @@
 """site_daily.py: tests of what happens to a site from day to day; test_tools.py runs them.
 
 Files that come twice or have rows of several parts, names and files of somebody else's making, parts that fail, a next part, wrong texts."""
+import csv
 import fcntl
+import io
 import os
 import shutil
 import subprocess
 import sys
 import tomllib
+from decimal import Decimal
 
+import clock
 from site_trial import PARTS, SITE, SiteTrial, archive_of, check_clean, check_site, part_base, taken
 from stops import put_bytes
-from trial import HERE, START, TOOLS
+from trial import HERE, LINES, START, TOOLS
 
 A_ROW = "FIC1.PV,1711670400000,5.00\n"
 WRONG_SITES = (  # what stands in site.toml, and what is said
@@ -280,6 +284,13 @@ def asked_as_one(folder, program, settings):
     assert status == 0 and lines["LIC4.PV"][1] == "east" and lines["FIC1.PV"][1] == "west-2", (status, said)
     wanted = sum(name == "LIC4.PV" for _, name, _ in trial.rows)
     assert lines["LIC4.PV"][2] == str(wanted) and lines["FIC1.PV"][2:4] == ["0", "0"] and lines["FIC1.PV"][6] != "", said
+    status, said = trial.site("ask", "--tags")
+    tags = {line["tag"]: line for line in csv.DictReader(io.StringIO(said))}
+    for name in ("FIC1.PV", "LIC4.PV"):
+        t, v = max((t, v) for t, tag, v in trial.rows if tag == name)
+        assert status == 0 and tags[name]["newest"] == clock.short_text(t, None), (status, tags[name], t)
+        assert abs(Decimal(tags[name]["value"]) * LINES[name] - v) <= 10, (tags[name], v)  # it is within ExcDev
+    assert tags["LIC4.PV"]["taken"] == str(wanted) and (tags["FIC1.PV"]["taken"], tags["FIC1.PV"]["note"]) == ("0", ""), tags
     for words, text in ((["verify"], "each as the last turn left it"), (["backup"], "site.toml: backup/")):
         status, said = trial.site(*words)
         assert status == 0 and said.count("east: ") == 1 and text in said, (words, status, said)
