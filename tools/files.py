@@ -1,12 +1,12 @@
 """files.py: why a tool ends, and files that are read and written whole.
 
 All tools share it; it knows nothing of a plant."""
-import copy
 import difflib
 import errno
 import functools
 import hashlib
 import os
+import pickle
 import shutil
 import tomllib
 
@@ -40,14 +40,15 @@ def nearest(name, names):
 
 @functools.lru_cache(64)
 def tables_in(data):
-    """The tables of a TOML text. A site reads a text several times, and most parts have their base twice."""
-    return tomllib.loads(data.decode())
+    """The tables of a TOML text, pickled, so that each reader gets its own. A site reads a text several times, and most parts have their base
+    twice."""
+    return pickle.dumps(tomllib.loads(data.decode()))
 
 
 def read_toml(path):
     """The tables of a TOML text."""
     try:
-        return copy.deepcopy(tables_in(bytes_of(path)))
+        return pickle.loads(tables_in(bytes_of(path)))
     except OSError as why:
         raise Refusal(UNREADABLE, "%s cannot be read: %s" % (path, why.strerror)) from None
     except (tomllib.TOMLDecodeError, UnicodeDecodeError, RecursionError) as why:
