@@ -70,8 +70,8 @@ def row_of(site, name, parts, rows):
     mine = [rows[part][name] for part in parts if name in rows.get(part, ())]
     about = board.about_tag(parts[-1].plant, parts[-1].tags[name])
     if not mine:
-        where = "on %s" % parts[-1].worker if parts[-1].worker else ""
-        return dict(about, name=name, newest=None, held=None, taken=0, records=0, late=0, rate=None, limit=1, spark=None, elsewhere=where)
+        what = {"elsewhere": "on %s" % parts[-1].worker} if parts[-1].worker else {"taken": 0, "records": 0, "late": 0}
+        return dict(about, name=name, newest=None, held=None, rate=None, limit=1, spark=None, **what)
     newest = next((row for row in reversed(mine) if row.get("newest")), mine[-1])
     sums = {key: sum(row.get(key) or 0 for row in mine) for key in ("taken", "records", "late")}
     broken = [row["broken"] for row in mine if row.get("broken")]
