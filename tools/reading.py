@@ -31,6 +31,7 @@ REPLY = 256                    # points in a reply
 MOST_BYTES = 120_000_000       # of the devices that one call of the program opens: 17 bytes a record, and 8,388,608 records at most
 MOST_RECORDS = 1_048_576       # of a tag
 MEMORY, SPARE = "/dev/shm", 8  # a folder in memory; so many times the copies have to fit there
+COPIES = "historian-"          # how folders of copies are named
 WAIT = 60                      # seconds for the feeder's turn to end, if --wait does not say otherwise
 
 
@@ -252,7 +253,7 @@ def opened(plant, tags=None, groups=(), wait=WAIT, lenient=False):
     tags = list(dict.fromkeys(tags + [name for group in groups for name in all_groups[group]["tags"]]))
     require_scales(plant, {name: definitions[name] for name in tags})
     names = ["historian.d/%s.tag" % tag for tag in tags] + ["historian.d/%s.grp" % group for group in groups]
-    with tempfile.TemporaryDirectory(prefix="historian-", dir=place_of_copies(plant, names)) as folder:
+    with folder_of_copies(place_of_copies(plant, names)) as folder:
         os.mkdir(os.path.join(folder, "historian.d"))
         with shared_locks(plant, wait):
             kept, exempt = sealed(plant, names)
@@ -316,6 +317,35 @@ def place_of_copies(plant, names):
         return None
     fits = SPARE * size < min(free, disk.f_bavail * disk.f_frsize) and os.access(MEMORY, os.W_OK | os.X_OK)
     return MEMORY if fits and "TMPDIR" not in os.environ else None
+
+
+@contextlib.contextmanager
+def folder_of_copies(place):
+    """A locked folder for copies, which is removed at the end. In memory those are removed first that a killed process left there."""
+    if place:
+        remove_left_over(place)
+    with tempfile.TemporaryDirectory(prefix=COPIES, dir=place) as folder:
+        handle = os.open(folder, os.O_RDONLY)
+        try:
+            try_lock(handle, True)
+            yield folder
+        finally:
+            os.close(handle)
+
+
+def remove_left_over(place):
+    for name in os.listdir(place):
+        with contextlib.suppress(OSError):
+            path = os.path.join(place, name)
+            about = os.lstat(path)
+            if not name.startswith(COPIES) or about.st_uid != os.getuid() or time.time() < about.st_mtime + WAIT:
+                continue
+            handle = os.open(path, os.O_RDONLY | os.O_NOFOLLOW | os.O_DIRECTORY)
+            try:
+                if try_lock(handle):
+                    shutil.rmtree(path, ignore_errors=True)
+            finally:
+                os.close(handle)
 
 
 def copy(plant, name, folder):
