@@ -393,5 +393,5 @@ def pandas_reads_a_table(folder, program, settings):
 
 
 CASES = [spoken_times, steps_and_lengths, units_of_formulas, asks_with_a_right_to_read, several_ask_at_once, copies_in_memory,
-         asks_while_a_base_is_refused, reasons_for_no_value, units_and_totals, shifts_and_frames, tables_of_tags, tags_at_a_glance, points_at_uneven_paces, help_and_version,
-         pandas_reads_a_table]
+         asks_while_a_base_is_refused, reasons_for_no_value, units_and_totals, shifts_and_frames, tables_of_tags, tags_at_a_glance,
+         points_at_uneven_paces, help_and_version, pandas_reads_a_table]
