@@ -14,8 +14,10 @@ import argparse
 import html
 import json
 import os
+import re
 import shutil
 import time
+import zlib
 
 import board_bars
 import board_feed
@@ -33,7 +35,7 @@ from version import version_text
 PAGES = os.path.join(os.path.dirname(os.path.abspath(__file__)), "pages")
 DYGRAPHS = "/usr/share/javascript/dygraphs"
 LIBRARY = ("dygraph.min.js", "dygraph.min.css")
-OWN = ("board.css", "common.js", "index.js", "tag.js", "index.html")
+OWN = ("board.css", "common.js", "plot.js", "trend.js", "index.js", "tag.js", "index.html")
 
 
 def put_file(path, data):
@@ -60,10 +62,14 @@ def put_library(board):
                               " package: apt-get install libjs-dygraphs") from None
 
 
-def put_pages(board):
-    """Copies what is the same on each board."""
+def put_folders(board):
     for folder in ("", "tags", "data"):
         os.makedirs(os.path.join(board, folder), exist_ok=True)
+
+
+def put_pages(board):
+    """Copies what is the same on each board."""
+    put_folders(board)
     put_library(board)
     for name in OWN:
         with open(os.path.join(PAGES, name), "rb") as page:
@@ -91,9 +97,17 @@ def read_rows(board):
         return {}
 
 
-def write_tag(plant, board, name, about, notes, known, wait):
+def page_of(name, descriptor, pieces):
+    """The page of a tag. `pieces` says where its data are, from the page's folder on: a table for each plant that has some."""
+    texts = {"NAME": name, "ABOUT": descriptor, "PIECES": json.dumps(pieces)}
+    with open(os.path.join(PAGES, "tag.html")) as page:
+        return re.sub("|".join(texts), lambda found: html.escape(texts[found[0]]), page.read()).encode()
+
+
+def write_tag(plant, board, name, about, notes, known, wait, with_pages):
     """Writes what is new of a tag: what is kept of it for the next time, its row among it, and whether there was something new."""
-    path, marks = plant.path("historian.d", name + ".tag"), json.dumps([board_tags.FORM, about, notes])
+    path, page = plant.path("historian.d", name + ".tag"), page_of(name, about["descriptor"], [{"folder": ""}])
+    marks = json.dumps([board_tags.FORM, zlib.crc32(page), about, notes])
     with shared_locks(plant, wait):
         try:
             events = events_on(path)
@@ -105,20 +119,19 @@ def write_tag(plant, board, name, about, notes, known, wait):
             events, row = None, dict(about, name=name, broken="no device yet")
         except Damaged as why:
             events, row = None, dict(about, name=name, broken="damaged %s" % why)
-    with open(os.path.join(PAGES, "tag.html")) as page:
-        text = page.read().replace("NAME", html.escape(name)).replace("ABOUT", html.escape(about["descriptor"]))
-    put_file(os.path.join(board, "tags", name + ".html"), text.encode())
+    if with_pages:
+        put_file(os.path.join(board, "tags", name + ".html"), page)
     return {"events": events, "marks": marks, "row": row}, True
 
 
-def write_tags(plant, board, wait):
+def write_tags(plant, board, wait, with_pages):
     """Writes what is new of all tags: their rows, and the names of those with news."""
     tags, notes, rows, kept, news = plant.base(plant.fed_base())[0], noted_tunings(plant), read_rows(board), {}, set()
     require_scales(plant, tags)
     progress = Progress("tags", len(tags))
     for name, definition in tags.items():
         about = about_tag(plant, definition)
-        kept[name], is_new = write_tag(plant, board, name, about, notes.get(name, []), rows.get(name), wait)
+        kept[name], is_new = write_tag(plant, board, name, about, notes.get(name, []), rows.get(name), wait, with_pages)
         news |= {name} if is_new else set()
         progress.add(1)
     progress.end()
@@ -141,11 +154,11 @@ def write_bars(plant, board, news, wait):
     return ""
 
 
-def write_board(plant, board, wait=WAIT):
-    """Writes the board of a plant: how many tags had news, and how many there are."""
+def write_board(plant, board, wait=WAIT, with_pages=True):
+    """Writes the board of a plant, or its data alone: how many tags had news, and how many there are."""
     require_devices(plant)
-    put_pages(board)
-    rows, news = write_tags(plant, board, wait)
+    put_pages(board) if with_pages else put_folders(board)
+    rows, news = write_tags(plant, board, wait, with_pages)
     trouble = write_bars(plant, board, news, wait)
     state = board_feed.feed_state(plant, board)
     table = {"plant": os.path.basename(plant.folder), "zone": plant.settings.zone or "UTC", "stale": plant.settings.stale_ms, "feed": state,
@@ -165,13 +178,14 @@ def main():
     parser = argparse.ArgumentParser(description=__doc__, formatter_class=argparse.RawDescriptionHelpFormatter)
     parser.add_argument("plant", nargs="?", default=".", help="the plant's folder (default: this one)")
     parser.add_argument("--out", metavar="FOLDER", help="where the pages go (default: `board` of feed.toml, or board/ in the plant)")
+    parser.add_argument("--data", action="store_true", help="write the data without pages, for the board of a site (site.py board)")
     parser.add_argument("--program", default="historian", metavar="PATH", help="the historian, for shifts and frames (default: on the path)")
     parser.add_argument("--wait", type=float, default=WAIT, metavar="SECONDS", help="for the feeder's turn to end (60)")
     parser.add_argument("--version", action="version", version=version_text("board.py"))
     given = parser.parse_args()
     plant = Plant(given.plant, given.program)
     board = folder_of(plant, given.out)
-    news, count, trouble = write_board(plant, board, given.wait)
+    news, count, trouble = write_board(plant, board, given.wait, not given.data)
     print("%s: %d tags, %d of them with news%s" % (os.path.join(board, "index.html"), count, news, trouble and "\n  " + trouble))
     return 0
 

@@ -1,9 +1,10 @@
 """board_tags.py: what a board has of a tag: its points in files of a month each, its windows for long times, and its row in the table.
 
 A tag's folder on the board has `head.js`, with all but the points, and a file of points for each month. A month with very many points is
-parted into days or hours. A tag that has nothing new is not written again, and of another one only what is new is read and written, as
+parted into ten days, days or hours. A tag that has nothing new is not written again, and of another one only what is new is read and written, as
 long as its points go on in order. A late value may change any window, so its tag is written anew."""
 import bisect
+import calendar
 import collections
 import datetime
 import json
@@ -21,8 +22,8 @@ FORM = 1                    # of the files of a board; a board of another form i
 SMALL, MONTHS = 20_000, 36  # points, and files of points: a tag with more gets windows
 WINDOWS = 2_000             # of a tag's whole time, at most
 SPARK, SPARKS = 1_200_000, 72  # the windows of the last day in the table: how wide, how many
-PART = 50_000               # points in a file; where a month or a day has more, it is parted
-LENGTHS = (7, 10, 13)       # of 2024-03, 2024-03-05, 2024-03-05T07
+PART = 50_000               # points in a file; where a month, ten days or a day have more, they are parted
+LENGTHS = (7, 9, 10, 13)    # of 2024-03, 2024-03-0 (its days until the 9th), 2024-03-05, 2024-03-05T07
 DAYS = 30                   # by whose records the table tells when a device is full
 HOUR, DAY = 3_600_000, 86_400_000
 
@@ -197,18 +198,19 @@ def moment(t):
 
 
 def next_begin(key):
-    """When the month, the day or the hour after a key begins, in milliseconds."""
-    form = {7: "%Y-%m", 10: "%Y-%m-%d", 13: "%Y-%m-%dT%H"}[len(key)]
-    begin = datetime.datetime.strptime(key, form).replace(tzinfo=datetime.timezone.utc)
-    if len(key) == 7:
-        begin = begin.replace(year=begin.year + begin.month // 12, month=begin.month % 12 + 1) if key < "9999-12" else None
-        return 10**15 if begin is None else int(begin.timestamp()) * 1000
-    return int(begin.timestamp()) * 1000 + (DAY if len(key) == 10 else 3_600_000)
+    """When the month, the ten days, the day or the hour after a key begin, in milliseconds."""
+    if len(key) >= 10:
+        begin = datetime.datetime.strptime(key, "%Y-%m-%dT%H"[:8 if len(key) == 10 else None]).replace(tzinfo=datetime.timezone.utc)
+        return int(begin.timestamp()) * 1000 + (DAY if len(key) == 10 else HOUR)
+    year, month, day = int(key[:4]), int(key[5:7]), 10 * int(key[8:] or 9) + 10
+    if day > calendar.monthrange(year, month)[1]:
+        year, month, day = year + month // 12, month % 12 + 1, 1
+    return 10**15 if year > 9999 else int(datetime.datetime(year, month, day, tzinfo=datetime.timezone.utc).timestamp()) * 1000
 
 
 def keys_of(times, last):
-    """The files into which points go, and up to which place: a month each, or a day or an hour where a file would be too large. `last` is
-    the newest file that is there, which may be one of a day already."""
+    """The files into which points go, and up to which place: a month each, or less where a file would be too large. `last` is the newest
+    file that is there, which may be one of a day already."""
     start = 0
     while start < len(times):
         text, length = moment(times[start]), 0
@@ -217,7 +219,7 @@ def keys_of(times, last):
         while True:
             key = text[:LENGTHS[length]]
             end = bisect.bisect_left(times, next_begin(key), start)
-            if end - start <= PART or length == 2:
+            if end - start <= PART or length == len(LENGTHS) - 1:
                 break
             length += 1
         yield key, end

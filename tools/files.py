@@ -3,8 +3,10 @@
 All tools share it; it knows nothing of a plant."""
 import difflib
 import errno
+import functools
 import hashlib
 import os
+import pickle
 import shutil
 import tomllib
 
@@ -37,11 +39,17 @@ def nearest(name, names):
     return "; did you mean %s?" % shown(plain[found[0]]) if found else ""
 
 
+@functools.lru_cache(64)
+def tables_in(data):
+    """The tables of a TOML text, pickled, so that each reader gets its own. A site reads a text several times, and most parts have their base
+    twice."""
+    return pickle.dumps(tomllib.loads(data.decode()))
+
+
 def read_toml(path):
     """The tables of a TOML text."""
     try:
-        with open(path, "rb") as text:
-            return tomllib.load(text)
+        return pickle.loads(tables_in(bytes_of(path)))
     except OSError as why:
         raise Refusal(UNREADABLE, "%s cannot be read: %s" % (path, why.strerror)) from None
     except (tomllib.TOMLDecodeError, UnicodeDecodeError, RecursionError) as why:

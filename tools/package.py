@@ -4,8 +4,8 @@
     package.py [--program PATH] [--out FOLDER]
 
 Who has the toolchain builds it, and hands the file to the plant, which needs no toolchain: `apt install ./historian_VERSION_amd64.deb`.
-It puts everything into /opt/historian (program, tools, docs/, examples/plant), the units into /lib/systemd/system, and links into
-/usr/bin: historian, and historian-feed, historian-ask and so on for the tools.
+It puts everything into /opt/historian (program, tools, pages of the board, docs/, the examples of a plant and of a site), the units into
+/lib/systemd/system, and links into /usr/bin: historian, and historian-feed, historian-ask and so on for the tools.
 
 Without --program it takes what `rt run` leaves in crates/historian/out once each crate is proved. Of another program the package says that
 nobody knows whether it was proved. It needs dpkg-deb, which every Debian has.
@@ -27,6 +27,8 @@ TOOLS = os.path.dirname(os.path.abspath(__file__))
 TOP = os.path.dirname(TOOLS)
 PROVED = os.path.join("crates", "historian", "out", "historian")
 PLACE, UNITS = "opt/historian", "lib/systemd/system"
+EXAMPLES = ("oven", "plant", "site")
+LEFT_OUT = ("__pycache__", "historian-*", "kept", "draw.py", "*_two_days.py", "show_board.py")  # of the examples
 CONTROL = """Package: historian
 Version: %(version)s
 Architecture: %(architecture)s
@@ -34,6 +36,7 @@ Maintainer: %(maintainer)s
 Installed-Size: %(size)d
 Depends: libc6 (>= %(libc)s), python3 (>= 3.11), tzdata
 Recommends: librsvg2-bin, libjs-dygraphs
+Suggests: python3-distributed, python3-pandas
 Section: science
 Priority: optional
 Description: proved plant historian with its tools
@@ -82,12 +85,13 @@ def lay(root, program, lines):
     for name in sorted(os.listdir(TOOLS)):
         if name.endswith(".py") and not name.startswith("test_") and name != "package.py":
             shutil.copy(os.path.join(TOOLS, name), place)
+    shutil.copytree(os.path.join(TOOLS, "pages"), os.path.join(place, "pages"))
     with open(os.path.join(place, "BUILT"), "w") as out:
         out.writelines(line + "\n" for line in lines)
     shutil.copytree(os.path.join(TOP, "docs"), os.path.join(place, "docs"), ignore=shutil.ignore_patterns("*.py", "__pycache__"))
     shutil.copy(os.path.join(TOP, "README.md"), place)
-    shutil.copytree(os.path.join(TOP, "examples", "plant"), os.path.join(place, "examples", "plant"),
-                    ignore=shutil.ignore_patterns("__pycache__", "historian-*", "kept", "draw.py", "*_two_days.py"))
+    for name in EXAMPLES:
+        shutil.copytree(os.path.join(TOP, "examples", name), os.path.join(place, "examples", name), ignore=shutil.ignore_patterns(*LEFT_OUT))
 
 
 def lay_units(root):
@@ -104,7 +108,7 @@ def lay_links(root):
     os.makedirs(os.path.join(root, "usr/bin"))
     for name in sorted(os.listdir(os.path.join(root, PLACE))):
         path = os.path.join(root, PLACE, name)
-        if os.path.isfile(path) and os.access(path, os.X_OK):
+        if os.path.isfile(path) and os.access(path, os.X_OK) and name != "site_work.py":  # that one is called by site.py alone
             link = name if name == "historian" else "historian-" + name.removesuffix(".py")
             os.symlink("/%s/%s" % (PLACE, name), os.path.join(root, "usr/bin", link))
 

@@ -29,6 +29,8 @@ READERS, QUERIES = 16, 4_096   # of a plan; of a reader's file
 POINT_QUERIES = 4_096          # queries of points that are asked at once: their replies may have 256 points each
 REPLY = 256                    # points in a reply
 MOST_BYTES = 120_000_000       # of the devices that one call of the program opens: 17 bytes a record, and 8,388,608 records at most
+MEMORY, SPARE = "/dev/shm", 8  # a folder in memory; so many times the copies have to fit there
+COPIES = "historian-"          # how folders of copies are named
 WAIT = 60                      # seconds for the feeder's turn to end, if --wait does not say otherwise
 
 
@@ -155,6 +157,8 @@ class Archive:
             self.look_up([tag])
         return self.ends[tag][0]
 
+    first_on_device = first
+
     def points(self, tag, first, last):
         """All points of a tag from one time to another, both included, as times with values.
 
@@ -248,7 +252,7 @@ def opened(plant, tags=None, groups=(), wait=WAIT, lenient=False):
     tags = list(dict.fromkeys(tags + [name for group in groups for name in all_groups[group]["tags"]]))
     require_scales(plant, {name: definitions[name] for name in tags})
     names = ["historian.d/%s.tag" % tag for tag in tags] + ["historian.d/%s.grp" % group for group in groups]
-    with tempfile.TemporaryDirectory(prefix="historian-") as folder:
+    with folder_of_copies(place_of_copies(plant, names)) as folder:
         os.mkdir(os.path.join(folder, "historian.d"))
         with shared_locks(plant, wait):
             kept, exempt = sealed(plant, names)
@@ -299,6 +303,50 @@ def sealed(plant, names):
     return kept, {name for name in names if tags and (name.endswith(".grp") or name[len("historian.d/"):-len(".tag")] in tags)}
 
 
+def place_of_copies(plant, names):
+    """Where copies of these devices go: into memory where there is plenty of it, because the program syncs each device that it opens, twice.
+    Else, or if TMPDIR is set, where temporary files go."""
+    size = 0
+    for name in names:
+        with contextlib.suppress(OSError):
+            size += os.stat(plant.path(name)).st_size
+    try:
+        disk, free = os.statvfs(MEMORY), os.sysconf("SC_AVPHYS_PAGES") * os.sysconf("SC_PAGE_SIZE")
+    except (OSError, ValueError):
+        return None
+    fits = SPARE * size < min(free, disk.f_bavail * disk.f_frsize) and os.access(MEMORY, os.W_OK | os.X_OK)
+    return MEMORY if fits and "TMPDIR" not in os.environ else None
+
+
+@contextlib.contextmanager
+def folder_of_copies(place):
+    """A locked folder for copies, which is removed at the end. In memory those are removed first that a killed process left there."""
+    if place:
+        remove_left_over(place)
+    with tempfile.TemporaryDirectory(prefix=COPIES, dir=place) as folder:
+        handle = os.open(folder, os.O_RDONLY)
+        try:
+            try_lock(handle, True)
+            yield folder
+        finally:
+            os.close(handle)
+
+
+def remove_left_over(place):
+    for name in os.listdir(place):
+        with contextlib.suppress(OSError):
+            path = os.path.join(place, name)
+            about = os.lstat(path)
+            if not name.startswith(COPIES) or about.st_uid != os.getuid() or time.time() < about.st_mtime + WAIT:
+                continue
+            handle = os.open(path, os.O_RDONLY | os.O_NOFOLLOW | os.O_DIRECTORY)
+            try:
+                if try_lock(handle):
+                    shutil.rmtree(path, ignore_errors=True)
+            finally:
+                os.close(handle)
+
+
 def copy(plant, name, folder):
     """Copies a device that is there."""
     try:
@@ -311,7 +359,7 @@ def copy(plant, name, folder):
         if why.errno not in (errno.ENOSPC, errno.EDQUOT, errno.EFBIG):
             raise
         raise Refusal(UNREADABLE, "there is no room in %s for copies of the devices, so nothing was read: free some, or set TMPDIR to a"
-                      " folder with more" % tempfile.gettempdir()) from None
+                      " folder with more" % os.path.dirname(folder)) from None
 
 
 def changed(folder, names, kept, exempt):

@@ -9,7 +9,6 @@ Exit status: 0 all is well; else that of the first part that failed (feed.py --h
 works on the site, or a turn is unfinished; 21 what a turn wrote down is damaged; 22 a text or a file cannot be read or written; 24 rows
 were refused; 25 a worker or the scheduler is away; 127 no Dask."""
 import argparse
-import html
 import os
 import re
 import sys
@@ -19,6 +18,7 @@ import types
 import answers
 import ask
 import clock
+import site_board
 import site_turns
 from devices import PLANT_RECORDS, TAG_RECORDS
 from fields import decimal_text
@@ -266,21 +266,15 @@ def begin_next(site, machines, given):
 
 
 def board(site, machines, given):
-    """Has each part write its pages, and writes a page that links them. A part on another machine has its pages there."""
+    """Writes the pages of the site. Each part writes its data, or its own pages if it is on another machine."""
     copy_texts(site, machines)
     site.read()
     out = os.path.abspath(given.out or site.path("board"))
-    calls = [(part, "board.py", [folder_of(part)] + ([] if part.worker else ["--out", os.path.join(out, str(part.place + 1))]), b"")
+    calls = [(part, "board.py", [folder_of(part)] + ([] if part.worker else ["--data", "--out", site_board.folder_of(out, part)]), b"")
              for part in site.parts if part.worker or not is_new(part.plant)]
-    troubles, links = {}, []
-    for part, done in machines.all(calls, progress_of("%d of %d boards are written")).items():
-        name = html.escape(part.folder)
-        links.append("<li>%s" % (name if part.worker else '<a href="%d/index.html">%s</a>' % (part.place + 1, name)))
-        if done.status:
-            troubles[part] = done.status, done.why()
-    os.makedirs(out, exist_ok=True)
-    write_whole(os.path.join(out, "index.html"), ("<!doctype html><meta charset=utf-8><title>Site</title><ul>%s</ul>\n" % "".join(links)).encode())
-    site.say("%s: %d parts" % (os.path.join(out, "index.html"), len(links)))
+    troubles = {part: (done.status, done.why()) for part, done in machines.all(calls, progress_of("%d of %d parts are written")).items() if done.status}
+    count = site_board.write_pages(site, out, {part: why for part, (_, why) in troubles.items()})
+    site.say("%s: %d tags of %d parts" % (os.path.join(out, "index.html"), count, len(site.parts)))
     return told(site, troubles, False)
 
 

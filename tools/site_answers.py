@@ -100,6 +100,15 @@ class SiteArchive(Archive):
             pieces = self.pieces[tag]
             if pieces:
                 self.ends[tag] = (pieces[0].first, None), (pieces[-1].last, pieces[-1].value)
+                own, end = self.archives[pieces[-1].part].newest[tag], self.span_of(tag, pieces[-1].part)[1]
+                self.newest[tag] = own if own <= end else pieces[-1].last
+
+    def first_on_device(self, tag):
+        """The first point of a tag in the part of which `state` is; None if it has none there."""
+        if tag not in self.ends:
+            self.look_up([tag])
+        last = self.pieces[tag][-1:]
+        return (last[0].first, None) if last and last[0].part is self.spans[tag][-1] else None
 
     def add_piece(self, tag, part, first, held, clipped):
         """Adds a part's stretch of a tag, if it has one. A part that has points from the time of the next one on is read up to that."""
@@ -265,7 +274,7 @@ class Distant:
     def __init__(self, part, machines, tags, groups, lenient):
         self.part, self.machines, self.opened = part, machines, {"tags": tags, "groups": groups, "lenient": lenient}
         about = self.call("about")
-        self.tags, self.refused = about["tags"], about["refused"]
+        self.tags, self.refused, self.newest = about["tags"], about["refused"], about["newest"]
 
     def call(self, what, *words):
         data = json.dumps(self.opened | {"call": what, "words": words}).encode()

@@ -2,7 +2,6 @@
 
 A part is one plant's folder. A part that is on another machine has a `worker`, and the site keeps a copy of its texts in
 feed.d/parts, so that it can route rows while that machine is away."""
-import bisect
 import contextlib
 import os
 import time
@@ -177,9 +176,3 @@ def require_known(parts, spans):
         if strange:
             raise Refusal(UNREADABLE, "feed.toml of %s has a table for %s, and no part has that tag: correct the name, or remove the table"
                           % (part.folder, ", ".join(strange)))
-
-
-def part_at(spans, t):
-    """Which of a tag's parts has its values of a time, or None: the one with the latest `from` that is not after it."""
-    place = bisect.bisect_right([part.start for part in spans], t) - 1
-    return spans[place] if place >= 0 else None

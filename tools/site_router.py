@@ -3,10 +3,12 @@
 A part gets its rows in the long form, in files of its own with the header `tag,time,value,row`. In the last column, which the feeder passes
 over, stands the number of the router's turn. So no two turns give a part the same bytes, and its feeder never takes one file for another. A
 row that is not plainly readable is read as the feeder reads it; if it is none, or no part has its tag at its time, it is refused."""
+import bisect
 import codecs
 import csv
 import errno
 import hashlib
+import itertools
 import os
 import stat
 
@@ -14,13 +16,12 @@ import turns
 from fields import BadField, iso_text, milliseconds
 from inbox import MOST_BYTES, NOT_FOLLOWED
 from rows import fields_of, layout_of
-from site_parts import part_at
 
 BLOCK = 1 << 20            # bytes of a file that are read at once
 LINE_BYTES = 1 << 20       # a longer line is none
 FILE_BYTES = 32_000_000    # of a part's file; the feeder takes no file above 67,108,864 bytes
-DAY = 86_400_000
-DAYS = 50_000              # whose part is remembered
+HOUR, DAY = 3_600_000, 86_400_000
+REMEMBERED = 50_000        # days, or hours, whose part is remembered
 
 
 class Unroutable(Exception):
@@ -75,36 +76,60 @@ class Lot:
 
 
 class Spans:
-    """The parts of a tag that several parts have, by time."""
+    """The parts of a tag that several parts have, by time. What takes all rows of a day is remembered, and near a `from` that of an hour:
+    so few times are read."""
 
     def __init__(self, parts, lots, zone):
-        self.parts, self.zone, self.days = parts, zone, {}
-        self.takes = {part: lots[part.place].lines.append for part in parts}
+        self.zone, self.days, self.hours = zone, {}, {}
+        self.starts = [part.start for part in parts]
+        self.takes = [None] + [lots[part.place].lines.append for part in parts]
 
     def take(self, time):
-        """What takes the row of this time, or None. Of a day that is far from each `from` it is remembered."""
-        if time[10:11] in ("T", " "):
-            day = time[:10]
-            if day not in self.days:
-                self.remember(day)
-            if self.days[day]:
-                return self.days[day]
+        """What takes the row of this time, or None."""
+        take = self.days.get(time[:10])
+        if take:
+            return take
+        if take is None:
+            return self.by_day(time)
+        key = time[:13] + ("Z" if time[-1:] == "Z" else time[-6:])
+        return self.hours.get(key) or self.by_hour(time, key)
+
+    def by_day(self, time):
+        if time[10:11] not in ("T", " "):
+            return self.exactly(time)
+        remember(self.days, time[:10], self.of_all(time[:10] + "T00:00:00Z", DAY, 2 * DAY))  # on whatever clock
+        return self.take(time)
+
+    def by_hour(self, time, key):
+        """Of a day near a `from`. The offset of a time tells which hour it is; a time without one is read."""
+        if key not in self.hours:
+            is_told = time[13:14] == ":" and (key[13:] == "Z" or time[-6:-5] in ("+", "-") and time[-3:-2] == ":")
+            remember(self.hours, key, is_told and self.of_all(time[:13] + ":00:00" + key[13:], 0, HOUR - 1))
+        return self.hours[key] or self.exactly(time)
+
+    def exactly(self, time):
         try:
-            return self.takes.get(part_at(self.parts, milliseconds(time.strip(), self.zone)))
+            return self.at(milliseconds(time.strip(), self.zone))
         except BadField:
             return None
 
-    def remember(self, day):
-        """Notes what takes all rows of a day, on whatever clock, or None if that needs the time of the day."""
-        if len(self.days) >= DAYS:
-            self.days.clear()
+    def at(self, t):
+        return self.takes[bisect.bisect_right(self.starts, t)]
+
+    def of_all(self, begin, before, behind):
+        """What takes all rows from so long before a time until so long behind it; False if no one part does, or if it is no time."""
         try:
-            first = milliseconds(day + "T00:00:00Z", None)
+            t = milliseconds(begin, None)
         except BadField:
-            self.days[day] = None
-            return
-        early, late = part_at(self.parts, first - DAY), part_at(self.parts, first + 2 * DAY)
-        self.days[day] = self.takes.get(early) if early is late else None
+            return False
+        early = self.at(t - before)
+        return early if early and early is self.at(t + behind) else False
+
+
+def remember(known, key, what):
+    if len(known) >= REMEMBERED:
+        known.clear()
+    known[key] = what
 
 
 class Refused(turns.Refused):
@@ -163,7 +188,7 @@ class Router:
         if reading is None:
             reading = self.reading_of(lines, refused)
         if reading:
-            reading.take(first, lines)
+            reading.take(first, lines, split_all(lines, self.separator, b'"' in block))
         for lot in self.lots:
             lot.flush()
         return reading
@@ -218,13 +243,15 @@ class Long:
         self.router, self.refused, self.columns, self.width = router, refused, columns, width
         self.as_it_is = width == 3 and columns == [0, 1, 2]
 
-    def take(self, first, lines):
-        router, separator, width = self.router, self.router.separator, self.width
+    def take(self, first, lines, split):
+        """Routes lines, which are given as they stand and as fields."""
+        plain, by_time, separator, width = self.router.plain.get, self.router.by_time.get, self.router.separator, self.width
         tag_column, time_column, value_column = self.columns
-        plain, taker = router.plain.get, router.taker
-        for number, (line, fields) in enumerate(zip(lines, split_all(lines, separator)), first):
-            if fields and len(fields) == width:
-                take = plain(fields[tag_column]) or taker(fields[tag_column], fields[time_column])
+        for number, line, fields in zip(itertools.count(first), lines, split):
+            if len(fields) == width:
+                take = plain(fields[tag_column])
+                if not take and (spans := by_time(fields[tag_column])):
+                    take = spans.take(fields[time_column])
                 if take:
                     take(line if self.as_it_is else separator.join(
                         quoted(fields[column], separator) for column in (tag_column, time_column, value_column)))
@@ -263,10 +290,11 @@ class Wide:
             self.refused.add(name, time, value, self.number, why)
         return take
 
-    def take(self, first, lines):
+    def take(self, first, lines, split):
+        """Routes the values of lines, which are given as they stand and as fields."""
         separator, names = self.router.separator, self.names
-        for self.number, (line, fields) in enumerate(zip(lines, split_all(lines, separator)), first):
-            if fields and len(fields) == len(names) and '"' not in line:
+        for self.number, line, fields in zip(itertools.count(first), lines, split):
+            if len(fields) == len(names) and '"' not in line:
                 columns = self.columns if self.fixed else self.columns_at(fields[0])
                 if columns:
                     time = fields[0] + separator
@@ -295,15 +323,16 @@ class Wide:
         return columns if all(take for take, _ in columns) else None
 
 
-def split_all(lines, separator):
-    """The fields of each line; of a line with a quote that is not closed there are none, and then of the other lines neither."""
-    if not any('"' in line for line in lines):
-        return [line.split(separator) for line in lines]
+def split_all(lines, separator, has_quotes):
+    """The fields of each line, one after the other; of a line with a quote that is not closed there are none, and then of the other lines
+    neither."""
+    if not has_quotes:
+        return map(str.split, lines, itertools.repeat(separator))
     try:
         found = list(csv.reader(lines, delimiter=separator, strict=True))
     except csv.Error:
         found = ()
-    return found if len(found) == len(lines) else [None] * len(lines)
+    return found if len(found) == len(lines) else itertools.repeat(())
 
 
 def quoted(field, separator):

@@ -113,7 +113,7 @@ class Empty:
     """What can be asked of a plant that was never fed: its tags have no values."""
 
     def __init__(self, tags):
-        self.tags, self.refused = tags, {}
+        self.tags, self.refused, self.newest = tags, {}, {}
 
     def held(self, tag):
         return None
@@ -152,7 +152,7 @@ def asked(plant, wait, call):
     """What a call of reading.Archive answers, as what JSON has."""
     with opened(plant, call["tags"], call["groups"], wait, call["lenient"]) as archive:
         if call["call"] == "about":
-            return {"tags": archive.tags, "refused": archive.refused}
+            return {"tags": archive.tags, "refused": archive.refused, "newest": archive.newest}
         found = getattr(archive, {name: name for name in CALLS}[call["call"]])(*call["words"])
     return {name: vars(tag) for name, tag in found.items()} if call["call"] == "state" else found
 

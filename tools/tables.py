@@ -2,6 +2,7 @@
 import bisect
 import csv
 import sys
+import types
 
 import clock
 from answers import measured_in, quotient_text
@@ -104,6 +105,7 @@ def export(archive, tag, first, last, times, units):
     progress.end()
 
 
+NOTHING = types.SimpleNamespace(taken=0, records=0, late=0, held=None)  # that a tag has which was never fed
 TAGS = ("tag", "descriptor", "value", "unit", "newest", "age", "records", "full %", "full at", "late", "taken", "note")
 
 
@@ -115,14 +117,14 @@ def tag_lines(archive, words, at):
         word.lower() in (tag + " " + archive.descriptor(tag)).lower() for word in words)]
     archive.look_up(found)
     for tag in found:
-        yield tag_line(archive, tag, state[tag], at)
+        yield tag_line(archive, tag, state.get(tag, NOTHING), at)
     for name, what in archive.refused.items():
-        yield (name[len("historian.d/"):].removesuffix(".tag"), *[""] * (len(TAGS) - 2), what.partition(":")[0])
+        yield (name.rpartition("historian.d/")[2].removesuffix(".tag"), *[""] * (len(TAGS) - 2), what.partition(":")[0])
 
 
 def tag_line(archive, tag, state, at):
     """The line of a tag."""
-    zone, held = archive.plant.settings.zone, state.held
+    zone, held = archive.plant.settings.zone, archive.held(tag)
     value, time, age, full = "", "", "", ""
     if held:
         value, time = decimal_text(held[1], archive.scale(tag)), clock.short_text(archive.newest[tag], zone)
@@ -134,7 +136,7 @@ def tag_line(archive, tag, state, at):
 
 def full_at(archive, tag, state):
     """The day on which a tag is full if its records go on at their pace so far; empty if that cannot be said, or is after 9999."""
-    first = archive.first(tag)
+    first = archive.first_on_device(tag)
     if not first or state.records < 2 or state.held[0] <= first[0]:
         return ""
     t = state.held[0] + (TAG_RECORDS - state.records) * (state.held[0] - first[0]) // state.records

@@ -22,7 +22,9 @@ sys.path[:0] = [HERE, os.path.join(HERE, "testing")]
 import browser  # noqa: E402
 from browser import go, require_no_errors, wait_for  # noqa: E402
 from device_maker import device_bytes, tag_text, walk  # noqa: E402
+from fields import milliseconds  # noqa: E402
 from plant import program_of  # noqa: E402
+from site_trial import TURN_OF_TIME, SiteTrial  # noqa: E402
 from trial import LINES, REFUSED, START, STEPS, Trial, decimal  # noqa: E402
 
 HOUR = 3_600_000
@@ -132,6 +134,7 @@ def day_of_points(driver, trial, board):
     wait_for(driver, "return page.to - page.from < arguments[0] / 2", before)
     driver.execute_script("[...document.querySelectorAll('#spans button')].find(each => each.textContent === 'all').click()")
     wait_for(driver, "return page.to - page.from > 10 * 3600000")
+    assert driver.execute_script("return page.from <= ends()[0] && page.to >= ends()[1]")
     require_no_errors(driver)
 
 
@@ -240,6 +243,7 @@ def thousand_tags(driver, folder, program):
     board = written(trial)
     go(driver, os.path.join(board, "index.html"))
     assert len(cells(driver)) == 1_000 and "1\u202f000 tags" in driver.find_element("id", "count").text, (len(cells(driver)), driver.find_element("id", "count").text)
+    assert list(cells(driver)) == ["LONG"] + names[:-1]  # T2 before T10
     type_in(driver, "T99")
     assert len(cells(driver)) == 10  # T99 and T990 to T998
     go(driver, os.path.join(board, "tags", "LONG.html"))
@@ -252,10 +256,61 @@ def thousand_tags(driver, folder, program):
     require_no_errors(driver)
 
 
+def tags_of_a_site(driver, folder, program):
+    """The board of a site has one page for each tag. A tag whose values lie in two parts by time has the points of both, as site.py tells
+    them, from points and from windows, and no line, no band and no promise between the last one of a part and the first one of the next."""
+    trial = SiteTrial(os.path.join(folder, "site"), program)
+    for block in range(3):
+        trial.deliver(block)
+    trial.fed()
+    for _ in range(2):  # the second time nothing is new
+        status, text = trial.site("board")
+        assert status == 0 and text.endswith("8 tags of 3 parts\n"), (status, text)
+    board = trial.path("board")
+    pages = sorted(os.path.relpath(os.path.join(place, name), board) for place, _, names in os.walk(board) for name in names if name.endswith(".html"))
+    assert pages == ["index.html"] + ["tags/%s.html" % name for name in sorted(LINES | STEPS)], pages
+    go(driver, os.path.join(board, "index.html"))
+    rows = cells(driver)
+    assert list(rows) == sorted(LINES | STEPS) and "east: " in driver.find_element("id", "feed").text
+    for name, row in rows.items():
+        assert row[5] == str(sum(tag == name for _, tag, _ in trial.rows)) and row[1].split()[0] == newest_of(trial, name), row
+    for name in ("FIC1.PV", "XV7.ZSO", "LIC4.PV"):
+        points = points_over_parts(driver, trial, board, name)
+        if name != "LIC4.PV":
+            nothing_between_parts(driver, points)
+        require_no_errors(driver)
+
+
+def points_over_parts(driver, trial, board, name):
+    """Opens the page of a tag of a site, which has to draw the points that site.py prints, one by one and in windows: those points."""
+    go(driver, os.path.join(board, "tags", name + ".html"))
+    zoomed(driver, START, START + 19 * HOUR)
+    status, text = trial.site("ask", "--csv", name, str(START), str(START + 19 * HOUR))
+    assert status == 0, text
+    points, asked = shown_points(driver, START, START + 19 * HOUR), list(csv.DictReader(io.StringIO(text)))
+    assert [(t, v) for t, v, _ in points] == [(milliseconds(row["time"], None), row[name]) for row in asked] and asked, (points, asked)
+    lows = driver.execute_script("return page.pieces.map(piece => Math.min(...piece.windowRows(windowsOf(piece.pointsIn(piece.needed(piece.first,"
+                                 "piece.last).keys, piece.first, piece.last), piece.first, piece.last, piece.head.step), piece.first, piece.last)"
+                                 ".map(row => row[3][0])))")
+    assert min(lows) == min(float(v) for _, v, _ in points), (lows, points)
+    assert driver.find_element("id", "facts").text.count("from 2024-03-29 09:00:00 on") == (name != "LIC4.PV")
+    return points
+
+
+def nothing_between_parts(driver, points):
+    """Fails if something is drawn or promised between the last point before the parts' boundary and the first one behind it."""
+    before, after = max(t for t, _, _ in points if t < TURN_OF_TIME), min(t for t, _, _ in points if t >= TURN_OF_TIME)
+    between = driver.execute_script("return page.drawn.rows.filter(row => row[0] > arguments[0] && row[0] < arguments[1])", before, after)
+    assert between and all(row[1:] == [None, None, None] for row in between), between
+    zoomed(driver, before - HOUR // 2, after + HOUR // 2)
+    text = pointed(driver, (before + after) // 2)
+    assert "going on to the next part; nothing is promised here" in text, text
+
+
 def cases_of(folder, program, only):
     """Runs the cases with one browser: a name and what went wrong, or nothing, for each."""
     fed = [table_of_tags, day_of_points, band_under_the_pointer]
-    own = [strange_plants, thousand_tags]
+    own = [strange_plants, thousand_tags, tags_of_a_site]
     chosen = [case for case in fed + own if not only or case.__name__.startswith(tuple(only))]
     given = fed_plant(folder, program) if set(chosen) & set(fed) else None
     with browser.opened() as driver:

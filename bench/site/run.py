@@ -3,7 +3,8 @@
 
 PROGRAM is a built historian (crates/historian/out/historian, after `rt run` there). It measures three things:
 - route: how many rows a second site.py routes on one processor, by its own processor time: long files of tags that one part has, long files
-  of tags that go on in another part, each row with a time of its own, and wide files.
+  of tags that go on in another part, some months before that part begins and in the days around it, and wide files. Each row of a long
+  file has a time of its own.
 - feed: a million values of 4,000 tags in four parts by site.py, against as many values of 1,000 tags in one plant by feed.py.
 - ask: the newest values of 10,000 tags in ten parts, by `site.py ask --tags`.
 
@@ -75,11 +76,13 @@ def route(given, folder):
     site.read()
     long = list(rows(given.values, given.tags, 100))
     first = given.tags // given.parts
+    goes_on = [line for line in long if int(line[1:line.index(",")]) < first]
+    earlier = [line.replace("2025-01-01T", "2024-07-01T").replace("2024-12-31T", "2024-06-30T") for line in goes_on]
     wide = ["time,%s\n" % ",".join("T%d" % n for n in range(first, 2 * first))] + [
         "%s,%s\n" % ((BEGIN + datetime.timedelta(seconds=n)).isoformat(), ",".join(str(n % 97) for _ in range(first)))
         for n in range(given.values // first)]
     for name, lines in (("long, tags of one part", [line for line in long if int(line[1:line.index(",")]) >= first]),
-                        ("long, tags that go on in another part", [line for line in long if int(line[1:line.index(",")]) < first]),
+                        ("long, tags that go on, months before", earlier), ("long, tags that go on, days around", goes_on),
                         ("wide, values", wide)):
         data, start = "".join(lines).encode(), time.process_time()
         router = site_router.Router(site, folder, 1)

@@ -19,11 +19,19 @@ function shape(name, attributes) {
 }
 
 // A file of data is a script that calls a function of `board`: so it is read from a disk as well as from a server.
-function load(path, done) {
+function load(path, done, piece) {
   const script = element("script");
+  script.dataset.piece = piece;
   script.onload = script.onerror = () => { script.remove(); if (done) done(); };
   script.src = path;
   document.head.append(script);
+}
+
+// Loads files of data, each with the number of the piece that it is of, and then calls `done`.
+function loadAll(files, done) {
+  let open = files.length;
+  if (!open) return done();
+  for (const [path, piece] of files) load(path, () => { open -= 1; if (!open) done(); }, piece);
 }
 
 // ---- numbers
@@ -43,6 +51,10 @@ function valueText(value, scale) {
 
 function countText(count) {
   return String(count).replace(/\B(?=(\d{3})+$)/g, "\u202f");
+}
+
+function plural(count, one) {
+  return countText(count) + " " + one + (count === 1 ? "" : "s");
 }
 
 // ---- times
@@ -89,12 +101,12 @@ function ageText(ms) {
 // The state of a tag now: its rank (the worst first), a mark and words. A mark has a shape of its own, so nobody needs the colour.
 function stateOf(tag, now) {
   if (tag.broken) return {rank: 0, kind: "bad", mark: "✖", text: tag.broken};
-  if (!tag.newest) return {rank: 4, kind: "none", mark: "–", text: "no value"};
+  if (!tag.newest) return {rank: 4, kind: "none", mark: "–", text: tag.elsewhere || "no value"};
   const value = tag.newest[1] / tag.scale;
   if (tag.high !== null && value > tag.high) return {rank: 1, kind: "bad", mark: "▲", text: "above " + tag.high};
   if (tag.low !== null && value < tag.low) return {rank: 1, kind: "bad", mark: "▼", text: "below " + tag.low};
   if (isOld(tag, now)) return {rank: 2, kind: "warn", mark: "◷", text: "old"};
-  if (tag.records > 0.9 * tag.limit) return {rank: 3, kind: "warn", mark: "◼", text: "nearly full"};
+  if (filledOf(tag) > 0.9 * tag.limit) return {rank: 3, kind: "warn", mark: "◼", text: "nearly full"};
   if (tag.high === null && tag.low === null) return {rank: 5, kind: "none", mark: "·", text: "no limits"};
   return {rank: 6, kind: "good", mark: "●", text: "good"};
 }
@@ -109,13 +121,18 @@ function stateElement(state) {
   return made;
 }
 
+// The records on the device that fills now. A tag of a site has others too, in parts that have ended.
+function filledOf(tag) {
+  return tag.filled ?? tag.records;
+}
+
 // When a device will be full at the rate of late; null if nobody can tell.
 function fullAt(tag) {
-  return tag.rate ? tag.newest[0] + (tag.limit - tag.records) / tag.rate * DAY : null;
+  return tag.rate ? tag.newest[0] + (tag.limit - filledOf(tag)) / tag.rate * DAY : null;
 }
 
 function fullText(tag) {
-  const share = 100 * tag.records / tag.limit, at = fullAt(tag);
-  const when = at === null ? "" : at > Date.UTC(2100, 0) ? ", after 2100" : ", until " + timeText(at, tag.zone).slice(0, 7);
+  const share = 100 * filledOf(tag) / tag.limit, at = fullAt(tag);
+  const when = at === null ? "" : at > Date.UTC(2100, 0) ? ", full after 2100" : ", full in " + timeText(at, tag.zone).slice(0, 7);
   return (share && share < 0.1 ? "< 0.1" : share.toFixed(1)) + " %" + when;
 }

@@ -12,7 +12,7 @@ const COLUMNS = [
   {title: "records", key: tag => tag.records, cell: tag => countCell(tag.records), kind: "number roomy"},
   {title: "values a record", key: tag => tag.records ? tag.taken / tag.records : null, cell: ratioCell, kind: "number roomy"},
   {title: "late", key: tag => tag.late, cell: tag => countCell(tag.late), kind: "number roomy"},
-  {title: "full", key: tag => tag.records, cell: fullCell, kind: "roomy"},
+  {title: "full", key: filledOf, cell: fullCell, kind: "roomy"},
 ];
 const view = {plant: null, rows: [], order: 0, down: false, filter: "", trouble: false};
 
@@ -28,6 +28,7 @@ function nameCell(tag) {
 function valueCell(tag) {
   const made = element("span");
   if (tag.newest) made.append(element("b", valueText(tag.newest[1], tag.scale)), " ", element("span", tag.unit, "unit"));
+  if (tag.unit.length > 12) made.title = tag.unit;
   return made;
 }
 
@@ -51,7 +52,7 @@ function fullCell(tag) {
   const made = element("span", null, "full");
   if (!tag.newest) return made;
   const gauge = element("span", null, "gauge"), filled = element("i");
-  filled.style.width = Math.min(100, 100 * tag.records / tag.limit) + "%";
+  filled.style.width = Math.min(100, 100 * filledOf(tag) / tag.limit) + "%";
   gauge.append(filled);
   made.append(gauge, " " + fullText(tag));
   return made;
@@ -87,18 +88,14 @@ function card(title, kind, text, more) {
   return made;
 }
 
-function plural(count, one, many) {
-  return countText(count) + " " + (count === 1 ? one : many || one + "s");
-}
-
-function turnCard(feed, now) {
+function turnCard(feed, stale, now) {
   if (feed.unfinished !== null) {
     return card("last turn", "bad", "a turn is unfinished", `for ${ageText(now - feed.unfinished)}: the next feed ends it`);
   }
   if (feed.turn.at === null) return card("last turn", "none", "nothing was fed yet");
-  const stale = view.plant.stale !== null && now - feed.turn.at > view.plant.stale;
+  const isOldTurn = stale !== null && now - feed.turn.at > stale;
   const waits = feed.waiting ? `, ${plural(feed.waiting, "file")} in the inbox` : "";
-  return card("last turn", stale ? "warn" : "good", `${ageText(now - feed.turn.at)} ago`, `turn ${feed.turn.number}, `
+  return card("last turn", isOldTurn ? "warn" : "good", `${ageText(now - feed.turn.at)} ago`, `turn ${feed.turn.number}, `
     + timeText(feed.turn.at, view.plant.zone) + waits);
 }
 
@@ -133,10 +130,24 @@ function auditCard(feed) {
   return card("audit", "bad", `${plural(outside.length, "tag")} not as promised`, outside[0].first);
 }
 
+function cardsOf({feed, stale, trouble}, now) {
+  const cards = [turnCard(feed, stale, now), refusedCard(feed), sealCard(feed), backupCard(feed, now), auditCard(feed)];
+  if (trouble) cards.push(card("shifts and frames", "warn", "not written", trouble));
+  return cards;
+}
+
+// Of a part of a site the worst of what a plant's cards say: what is bad, what is to be looked at, or else its last turn.
+function partCard(part, now) {
+  const cards = part.feed ? cardsOf(part, now) : [card("no pages", "none", part.text)], worst = cards.find(each => each.matches(".bad")) || cards.find(each => each.matches(".warn")) || cards[0];
+  const title = worst.querySelector("h2");
+  title.textContent = `${part.name}: ${title.textContent}`;
+  title.className = "part";
+  return worst;
+}
+
 function showFeed(now) {
-  const feed = view.plant.feed, cards = [turnCard(feed, now), refusedCard(feed), sealCard(feed), backupCard(feed, now), auditCard(feed)];
-  if (view.plant.trouble) cards.push(card("shifts and frames", "warn", "not written", view.plant.trouble));
-  document.getElementById("feed").replaceChildren(...cards);
+  const {parts} = view.plant;
+  document.getElementById("feed").replaceChildren(...(parts ? parts.map(part => partCard(part, now)) : cardsOf(view.plant, now)));
 }
 
 // ---- the table
@@ -166,8 +177,10 @@ function makeRows(now) {
   });
 }
 
+const names = new Intl.Collator("en", {numeric: true}); // T2 before T10
+
 function compare(a, b) {
-  return a < b ? -1 : a > b ? 1 : 0;
+  return typeof a === "string" && names.compare(a, b) || (a < b ? -1 : a > b ? 1 : 0);
 }
 
 function sort() {

@@ -1,201 +1,15 @@
 "use strict";
-// The page of a tag: its trend with the proved band. A long time is drawn from windows, a short one from points, which come in files of a
-// month each and are loaded when they are wanted. What is drawn is always a few thousand rows.
+// The page of a tag: its trend with the proved band, what stands under the pointer, and what is known of the tag.
 
-const MOST_DRAWN = 3000;     // points that are drawn one by one
-const MOST_LOADED = 200000;  // points that are loaded for one view
 const NEAR = 12;             // how near to a point the pointer is, in pixels, to mean that point
-const WIDE = 0, NARROW = 1, LINE = 2, KEPT = 3, LATE = 4, HELD = 5; // the series
+const WIDE = 0, NARROW = 1, LINE = 2; // the series
 const SPANS = [["hour", HOUR], ["day", DAY], ["week", 7 * DAY], ["month", 30 * DAY], ["year", 365 * DAY], ["all", Infinity]];
-const COLOURS = ["#b9cfe4", "#6f9fca", "#a3271b", "#a3271b", "#a3271b", "#a3271b"];
-const page = {name: document.body.dataset.tag, head: null, parts: new Map(), graph: null, drawn: null, bars: [], from: 0, to: 0, busy: false};
+const COLOURS = ["#b9cfe4", "#6f9fca", "#a3271b"];
+const {tag: NAME, pieces: PIECES} = document.body.dataset;
+const page = {name: NAME, pieces: JSON.parse(PIECES).map(given => new Piece(NAME, given)), head: null, graph: null, drawn: null, bars: new Map(),
+  from: 0, to: 0, busy: false};
 
 const find = id => document.getElementById(id);
-
-// ---- what the archive has
-
-// After what time which deviations are promised.
-function promiseAt(t) {
-  const all = page.head.promises;
-  let place = 0;
-  while (place + 1 < all.length && all[place + 1][0] < t) place += 1;
-  return {narrow: all[place][1], wide: all[place][2], is: all[place][3] === 1};
-}
-
-board.part = function (key, late, later, values) {
-  const times = Float64Array.from(JSON.parse("[" + later + "]"));
-  const part = {times, values: Float64Array.from(JSON.parse("[" + values + "]")), late: new Uint8Array(times.length)};
-  for (let place = 1; place < times.length; place += 1) times[place] += times[place - 1];
-  for (const place of late) part.late[place] = 1;
-  page.parts.set(key, part);
-};
-
-// The files of points that a span of time needs, with one more point on each side, and how many points they have.
-function needed(from, to) {
-  const parts = page.head.parts;
-  let first = parts.findIndex(part => part[4] >= from), last = parts.findLastIndex(part => part[2] <= to);
-  if (first < 0) first = parts.length - 1;
-  if (last < 0) last = 0;
-  const keys = parts.slice(Math.min(first, last), Math.max(first, last) + 1);
-  return {keys: keys.map(part => part[0]), count: keys.reduce((sum, part) => sum + part[1], 0)};
-}
-
-function withParts(keys, done) {
-  const missing = keys.filter(key => !page.parts.has(key));
-  let open = missing.length;
-  if (!open) return done();
-  for (const key of missing) load(`${page.name}.d/${key}.js`, () => { open -= 1; if (!open) done(); });
-}
-
-// The place of the last time that is at most t; -1 before the first.
-function placeOf(times, t) {
-  let low = 0, high = times.length;
-  while (low < high) {
-    const middle = (low + high) >> 1;
-    if (times[middle] <= t) low = middle + 1; else high = middle;
-  }
-  return low - 1;
-}
-
-// The points between two times and one more on each side; the held one too, unless a point stands at its time.
-function pointsIn(keys, from, to) {
-  const found = [], parts = page.head.parts, places = keys.map(key => parts.findIndex(part => part[0] === key));
-  const before = parts[places[0] - 1], after = parts[places[places.length - 1] + 1], held = page.head.held;
-  if (before) found.push({t: before[4], v: before[5], late: before[6] === 1});
-  for (const key of keys) {
-    const {times, values, late} = page.parts.get(key) || {times: [], values: [], late: []};
-    for (let place = 0; place < times.length; place += 1) found.push({t: times[place], v: values[place], late: late[place] === 1});
-  }
-  if (after) found.push({t: after[2], v: after[3], late: false, beyond: true});
-  else if (held && (!found.length || found[found.length - 1].t < held[0])) found.push({t: held[0], v: held[1], late: false, held: true});
-  else if (held && found[found.length - 1].t === held[0] && !found[found.length - 1].late) found[found.length - 1].held = true;
-  let first = 0, last = found.length - 1;
-  while (first < last && found[first + 1].t <= from) first += 1;
-  while (last > first && found[last - 1].t >= to) last -= 1;
-  return found.slice(first, last + 1);
-}
-
-// Whether something is promised between two neighbouring points.
-function isClean(left, right) {
-  return !left.late && !right.late && promiseAt(right.t).is;
-}
-
-// ---- rows for the picture: [time, wide band, narrow band, line, kept, late, held], each of the lowest, the drawn and the highest value
-
-function around(value, by) {
-  return [value - by, value, value + by];
-}
-
-function pointRow(point, band, scale) {
-  const exact = [point.v / scale, point.v / scale, point.v / scale], is = kind => kind ? exact : null;
-  const bands = band ? [around(point.v, band.wide), around(point.v, band.narrow)].map(all => all.map(v => v / scale)) : [null, null];
-  return [point.t, ...bands, exact, is(!point.late && !point.held && !point.beyond), is(point.late), is(point.held)];
-}
-
-// A row between two points that ends or begins a band; the line goes through it.
-function jointRow(left, right, share, band, scale) {
-  const v = page.head.step ? left.v : left.v + (right.v - left.v) * share;
-  return pointRow({t: left.t + (right.t - left.t) * share, v, beyond: true}, band, scale);
-}
-
-function pointRows(points, scale) {
-  const rows = [];
-  points.forEach((point, place) => {
-    const next = points[place + 1], before = points[place - 1];
-    const clean = before && isClean(before, point), cleanNext = next && isClean(point, next);
-    const band = clean ? promiseAt(point.t) : cleanNext ? promiseAt(next.t) : null, then = cleanNext ? promiseAt(next.t) : null;
-    rows.push(pointRow(point, band, scale));
-    if (!next) return;
-    if (band && then && band.wide === then.wide && band.narrow === then.narrow) {
-      if (page.head.step) rows.push(jointRow(point, next, 0.999999, then, scale));
-      return;
-    }
-    if (band && !then) rows.push(jointRow(point, next, 1e-6, null, scale));
-    else if (then && band) rows.push(jointRow(point, next, 1e-6, then, scale));
-  });
-  return rows;
-}
-
-// Rows of windows, as they were written or as they are made here of many points.
-function windowRows(windows, from, to, scale) {
-  const {low, high, mean, first, width, late} = windows, rows = [];
-  const start = Math.max(0, Math.floor(from / width) - first), end = Math.min(low.length - 1, Math.floor(to / width) - first);
-  for (let place = start; place <= end; place += 1) {
-    const t = (first + place + (page.head.step ? 0 : 0.5)) * width, promise = promiseAt(t);
-    const all = by => [(low[place] - by) / scale, mean[place] / scale, (high[place] + by) / scale];
-    const clean = promise.is && !late(first + place);
-    rows.push([t, clean ? all(promise.wide) : null, clean ? all(promise.narrow) : null, all(0), null, null, null]);
-  }
-  return rows;
-}
-
-// The windows that stand in the tag's file. A tag with few points has none there: all of its points are loaded, and shown as they are.
-function keptWindows() {
-  const {kept, tail, unclean} = page.head;
-  if (!page.windows && kept) {
-    const starts = unclean.map(each => each[0]);
-    const late = number => {
-      const place = placeOf(starts, number);
-      return place >= 0 && number <= unclean[place][1];
-    };
-    page.windows = {low: kept.low.concat(tail.low), high: kept.high.concat(tail.high), mean: kept.mean.concat(tail.mean), first: kept.first,
-      width: kept.width, late: unclean.length ? late : () => false};
-  }
-  return page.windows;
-}
-
-// Windows of many points: the lowest, the highest and the mean value of the line in each.
-function windowsOf(points, from, to) {
-  const width = (to - from) / MOST_DRAWN * 2, count = Math.ceil((to - from) / width), first = Math.floor(from / width);
-  const low = new Array(count + 1).fill(null), high = low.slice(), mean = low.slice(), late = new Set(), area = new Float64Array(count + 1);
-  const covered = new Float64Array(count + 1);
-  const put = (place, t, until, v, w) => {
-    if (low[place] === null || Math.min(v, w) < low[place]) low[place] = Math.min(v, w);
-    if (high[place] === null || Math.max(v, w) > high[place]) high[place] = Math.max(v, w);
-    area[place] += (until - t) * (v + w) / 2;
-    covered[place] += until - t;
-  };
-  for (let at = 0; at + 1 < points.length; at += 1) {
-    const left = points[at], right = points[at + 1], clean = isClean(left, right);
-    const value = t => page.head.step ? left.v : left.v + (right.v - left.v) * (t - left.t) / (right.t - left.t);
-    let t = Math.max(left.t, from);
-    while (t < Math.min(right.t, to)) {
-      const place = Math.floor(t / width) - first, until = Math.min((first + place + 1) * width, right.t, to);
-      if (place >= 0 && place <= count) { put(place, t, until, value(t), page.head.step ? left.v : value(until)); if (!clean) late.add(first + place); }
-      if (until <= t) break;
-      t = until;
-    }
-  }
-  let start = 0, end = count;
-  while (start < end && low[start] === null) start += 1;
-  while (end > start && low[end] === null) end -= 1;
-  for (let place = start; place <= end; place += 1) {
-    if (low[place] === null) { low[place] = low[place - 1]; high[place] = high[place - 1]; mean[place] = mean[place - 1]; continue; }
-    mean[place] = covered[place] ? area[place] / covered[place] : low[place];
-  }
-  return {low: low.slice(start, end + 1), high: high.slice(start, end + 1), mean: mean.slice(start, end + 1), first: first + start, width,
-    late: number => late.has(number)};
-}
-
-// The points of a span of time as rows: one by one, or in windows if they are many.
-function insideRows(points, from, to) {
-  const {scale} = page.head;
-  return points.length <= MOST_DRAWN ? pointRows(points, scale) : windowRows(windowsOf(points, from, to), from, to, scale);
-}
-
-// Calls `done` with the rows that show a span of time, and the points in it if these are drawn one by one. Outside of it stand rows too,
-// for the small picture of the whole time.
-function rowsFor(from, to, done) {
-  const {scale, kept, parts} = page.head, {keys, count} = needed(from, to);
-  if (kept && count > MOST_LOADED) return done(windowRows(keptWindows(), -Infinity, Infinity, scale), null);
-  const [first, last] = ends();
-  withParts(kept ? keys : parts.map(part => part[0]), () => {
-    const points = pointsIn(keys, from, to), inside = insideRows(points, from, to), start = inside[0][0], end = inside[inside.length - 1][0];
-    const rest = (a, b) => b <= a ? [] : kept ? windowRows(keptWindows(), a, b, scale) : insideRows(pointsIn(needed(a, b).keys, a, b), a, b);
-    const left = rest(first, start).filter(row => row[0] < start), right = rest(end, last).filter(row => row[0] > end);
-    done(left.concat(inside, right), points.length <= MOST_DRAWN ? points : null);
-  });
-}
 
 // ---- the time axis, on the plant's clock
 
@@ -230,25 +44,19 @@ function tick(t, shown, step) {
 
 // ---- the picture
 
-function dot(draw) {
-  return (graph, name, context, x, y, colour, size) => {
-    context.beginPath();
-    context.lineWidth = 1.5;
-    context.strokeStyle = context.fillStyle = colour;
-    draw(context, x, y, size);
-  };
+// The dots of the points that are drawn one by one. Where kept ones are too near together, these have none; late ones lie one over the
+// other, unless they are very many.
+function paintPoints({drawingContext: context, plotArea: area, dygraph}) {
+  const found = {kept: [], late: [], held: []}, [from, to] = dygraph.xAxisRange(), {scale} = page.head;
+  for (const point of page.drawn.points || []) {
+    if (point.beyond || point.t < from || point.t > to) continue;
+    found[point.late ? "late" : point.held ? "held" : "kept"].push([dygraph.toDomXCoord(point.t), dygraph.toDomYCoord(point.v / scale)]);
+  }
+  if (found.kept.length * DOT_EVERY > area.w) found.kept = [];
+  const isDense = found.late.length * DOT_EVERY > area.w;
+  for (const places of isDense ? [found.late] : found.late.map(place => [place])) paintDots(context, "late", places, COLOURS[LINE]);
+  for (const kind of ["kept", "held"]) paintDots(context, kind, found[kind], COLOURS[LINE]);
 }
-
-const DOTS = {
-  kept: dot((context, x, y, size) => { context.arc(x, y, size, 0, 2 * Math.PI); context.fill(); }),
-  late: dot((context, x, y, size) => {
-    context.arc(x, y, size + 1, 0, 2 * Math.PI);
-    context.fillStyle = "#fff";
-    context.fill();
-    context.stroke();
-  }),
-  held: dot((context, x, y, size) => { context.rect(x - size - 0.5, y - size - 0.5, 2 * size + 1, 2 * size + 1); context.fill(); }),
-};
 
 function drawLimits(context, area, graph) {
   for (const limit of [page.head.low, page.head.high]) {
@@ -267,16 +75,15 @@ function drawLimits(context, area, graph) {
 }
 
 function options() {
-  const series = {wide: {fillAlpha: 0.45, strokeWidth: 0}, narrow: {fillAlpha: 0.45, strokeWidth: 0}, line: {strokeWidth: 1.8, fillAlpha: 0.25},
-    kept: {}, late: {}, held: {}};
-  for (const name of ["kept", "late", "held"]) {
-    Object.assign(series[name], {strokeWidth: 0, drawPoints: true, pointSize: 3, drawPointCallback: DOTS[name], fillAlpha: 0,
-      showInRangeSelector: false});
-  }
-  series.line.showInRangeSelector = true;
+  const band = bandPlotter(0.45), spread = bandPlotter(0.25), series = {wide: {plotter: band}, narrow: {plotter: band}, line: {}};
+  series.line = {strokeWidth: 1.8, showInRangeSelector: true, plotter: about => {
+    if (!page.drawn.points) spread(about);
+    paintLine(about);
+    paintPoints(about);
+  }};
   return {
-    labels: ["time", "wide", "narrow", "line", "kept", "late", "held"], colors: COLOURS, series, customBars: true, legend: "never",
-    stepPlot: page.head.step, showRangeSelector: true, rangeSelectorHeight: 44, rangeSelectorPlotStrokeColor: "#7b8794",
+    labels: ["time", "wide", "narrow", "line"], colors: COLOURS, series, customBars: true, legend: "never",
+    stepPlot: page.head.step, showRangeSelector: ends()[0] < ends()[1], rangeSelectorHeight: 44, rangeSelectorPlotStrokeColor: "#7b8794",
     interactionModel: Dygraph.defaultInteractionModel, // a drag zooms; beside a range selector it would pan
     rangeSelectorPlotFillColor: "#dfe5ec", highlightCircleSize: 0, gridLineColor: "#e3e8ed", axisLineColor: "#8a96a3", axisLabelFontSize: 12,
     underlayCallback: drawLimits, drawCallback: drawn, animatedZooms: false, xRangePad: 0, yRangePad: 10, panEdgeFraction: 0.1,
@@ -286,23 +93,26 @@ function options() {
 }
 
 function yText(value) {
-  return Math.abs(value) >= 1e7 || value && Math.abs(value) < 1e-4 ? value.toPrecision(4) : String(Number(value.toFixed(6)));
+  const isLong = Math.abs(value) >= 1e7 || value && Math.abs(value) < 1e-4;
+  return isLong ? value.toExponential(3).replace(/\.?0+e/, "e") : String(Number(value.toFixed(6)));
 }
 
-// Shows a span of time. `done` is called once it is drawn.
+// Shows a span of time. `done` is called once it is on the screen.
 function show(from, to, done) {
   const start = performance.now();
   page.from = from;
   page.to = to;
-  rowsFor(from, to, (rows, points) => {
+  rowsFor(page.pieces, from, to, (rows, points) => {
     page.drawn = {rows, points};
     page.busy = true;
     if (page.graph) page.graph.updateOptions({file: rows, dateWindow: [from, to]});
     else page.graph = new Dygraph(find("chart"), rows, Object.assign(options(), {dateWindow: [from, to]}));
     page.busy = false;
     settle();
-    page.took = performance.now() - start;
-    if (done) done();
+    requestAnimationFrame(() => setTimeout(() => {
+      page.took = performance.now() - start;
+      if (done) done();
+    }));
   });
 }
 
@@ -324,14 +134,13 @@ function settle() {
 }
 
 function ends() {
-  const {parts, held} = page.head;
-  return [parts[0][2], held[0]];
+  return [page.pieces[0].first, page.pieces[page.pieces.length - 1].last];
 }
 
 // A span of time that ends with the newest value, with a little room.
-function showSpan(length) {
-  const [first, last] = ends(), wanted = length === Infinity ? Math.max(last - first, MINUTE) : length;
-  show(last - wanted + wanted * 0.02, last + wanted * 0.02);
+function showSpan(length, done) {
+  const [first, last] = ends(), whole = Math.max(last - first, MINUTE), room = 0.02 * Math.min(length, whole);
+  show(length < whole ? last - length + room : length === Infinity ? last - whole - room : last - length, last + room, done);
 }
 
 function move(share) {
@@ -361,19 +170,22 @@ function under(t, reach) {
   const near = points.reduce((best, point) => Math.abs(point.t - t) < Math.abs(best.t - t) ? point : best);
   if (Math.abs(near.t - t) <= reach && !near.beyond) {
     const place = points.indexOf(near), before = points[place - 1], after = points[place + 1];
+    const promiseAt = t => near.piece.promiseAt(t);
     const promise = before && isClean(before, near) ? promiseAt(near.t) : after && isClean(near, after) ? promiseAt(after.t) : null;
     return {t: near.t, value: near.v, kind: near.late ? "came late" : near.held ? "held" : "kept", promise};
   }
   const place = placeOf(points.map(point => point.t), t), left = points[place], right = points[place + 1];
   if (!left) return null;
-  if (!right) return {t, value: left.v, kind: "newest value going on", promise: null};
-  return {t, value: lineAt(left, right, t), kind: page.head.step ? "stair" : "line", promise: isClean(left, right) ? promiseAt(right.t) : null};
+  if (!right || right.piece !== left.piece) return {t, value: left.v, kind: right ? "going on to the next part" : "newest value going on", promise: null};
+  const promise = isClean(left, right) ? right.piece.promiseAt(right.t) : null;
+  return {t, value: lineAt(left, right, t), kind: page.head.step ? "stair" : "line", promise};
 }
 
 function underWindow(t) {
   const rows = page.drawn.rows;
   if (!rows.length) return null;
   const row = rows[Math.max(0, placeOf(rows.map(each => each[0]), t))];
+  if (!row[1 + LINE]) return null; // between two parts
   return {t: row[0], low: row[1 + LINE][0], value: row[1 + LINE][1], high: row[1 + LINE][2], wide: row[1 + WIDE], kind: "window"};
 }
 
@@ -413,12 +225,15 @@ function hint() {
 
 // ---- below the picture
 
-board.bars = function (bars) { page.bars = bars; if (page.graph) drawBars(); };
+board.bars = function (bars) {
+  for (const {title, spans} of bars) page.bars.set(title, (page.bars.get(title) || []).concat(spans));
+  if (page.graph) drawBars();
+};
 
 function drawBars() {
   const area = page.graph.getArea(), wide = find("chart").clientWidth, all = [];
-  for (const {title, spans} of page.bars) {
-    const svg = shape("svg", {width: wide, height: 22}), name = shape("text", {x: area.x - 6, y: 15, "text-anchor": "end", class: "title"});
+  for (const [title, spans] of page.bars) {
+    const svg = shape("svg", {width: wide, height: 22});
     const inside = spans.filter(span => span[1] > page.from && span[0] < page.to);
     for (const [start, end, text] of inside) {
       const x = page.graph.toDomXCoord(Math.max(start, page.from)), to = page.graph.toDomXCoord(Math.min(end, page.to));
@@ -442,7 +257,7 @@ function showLegend() {
     made.append(element("i", null, kind), text);
     all.push(made);
   };
-  add("line", step ? "archive (stair)" : "archive (line; in windows: mean, lowest, highest)");
+  add("line", step ? "archive (stair)" : "archive (in windows: mean, lowest, highest)");
   if (promises.some(each => each[3])) {
     add("narrow", "± CompDev");
     add("wide", step ? "± (CompDev + ExcDev): every raw value in order" : "± (CompDev + 2 ExcDev): every raw value in order");
@@ -461,18 +276,24 @@ function fact(name, text, kind) {
 function showFacts() {
   const head = page.head, {unit, scale} = head, after = unit ? " " + unit : "", now = Date.now();
   const state = stateOf(head, now), promise = head.promises[head.promises.length - 1];
-  find("value").textContent = head.newest ? valueText(head.newest[1], scale) : "no value";
-  find("unit").textContent = unit;
+  find("value").textContent = head.newest ? valueText(head.newest[1], scale) : "";
+  find("unit").textContent = head.newest ? unit : "";
   find("state").replaceChildren(stateElement(state));
-  find("age").textContent = head.newest ? `${ageText(now - head.newest[0])} ago, ${timeText(head.newest[0], head.zone)}` : "";
-  const kept = head.records ? `${countText(head.taken)} values in ${countText(head.records)} records` : "none";
-  const facts = [fact("stored", kept + (head.records ? `, one record for ${(head.taken / head.records).toFixed(1)} values` : "")),
-    fact("came late", countText(head.late)), fact("device", head.newest ? fullText(head) + " full" : "empty"),
+  find("age").textContent = head.newest ? `· ${ageText(now - head.newest[0])} ago, ${timeText(head.newest[0], head.zone)}` : "";
+  const kept = head.records ? `${plural(head.taken, "value")} in ${plural(head.records, "record")}` : "none";
+  const facts = [fact("stored", kept + (head.taken > 1 ? `, one record for ${(head.taken / head.records).toFixed(1)} values` : "")),
+    fact("came late", countText(head.late)), fact("room taken", head.newest ? fullText(head) : "none"),
     fact("CompDev, ExcDev", `${head.comp_dev}, ${head.exc_dev}${after}`),
     fact("promised of raw values", promise[3] ? `± ${valueText(promise[2], scale)}${after} of the ${head.step ? "stair" : "line"}` : "nothing: CompMin is above 0")];
+  if (page.pieces.length > 1 || page.pieces[0].name) facts.push(fact("parts", partsText()));
   if (head.low !== null || head.high !== null) facts.push(fact("limits", `${head.low ?? "none"} to ${head.high ?? "none"}${after}`));
   if (page.audit) facts.push(auditFact(page.audit, after));
   find("facts").replaceChildren(...facts.flat());
+}
+
+// Which parts of a site have the tag's values, and from when on.
+function partsText() {
+  return page.pieces.map(each => each.name + (each.from > 0 ? ` from ${timeText(each.from, page.head.zone)} on` : "")).join(", ");
 }
 
 function auditFact(audit, after) {
@@ -481,27 +302,43 @@ function auditFact(audit, after) {
   return fact("audit", `${text} (${countText(audit.values)} values, ${timeText(audit.at, page.head.zone)})`, audit.outside ? "bad" : "");
 }
 
-function plural(count, one) {
-  return countText(count) + " " + one + (count === 1 ? "" : "s");
-}
-
 board.audit = function (results) {
   page.audit = results.find(each => each.tag === page.name);
   if (page.head) showFacts();
 };
 
-board.head = function (head) {
-  page.head = head;
-  document.title = `${head.name}, ${head.plant}`;
+// A file of data belongs to the piece whose script element brings it.
+const pieceOfScript = () => page.pieces[document.currentScript.dataset.piece];
+board.part = (...words) => pieceOfScript().addFile(...words);
+board.head = head => { pieceOfScript().head = head; };
+
+// What the heads of all pieces say: the newest one's, and the sums of all.
+function headOf(pieces) {
+  const newest = pieces.findLast(piece => piece.head.newest) || pieces[pieces.length - 1];
+  const sum = key => pieces.reduce((all, piece) => all + piece.head[key], 0);
+  return {...newest.head, taken: sum("taken"), records: sum("records"), late: sum("late"), filled: newest.head.records};
+}
+
+function begin() {
+  page.pieces = page.pieces.filter(piece => piece.head);
+  if (!page.pieces.length) return showNothing("Nothing of this tag can be read here: the table of all tags says why.");
+  page.head = headOf(page.pieces);
+  document.title = `${page.head.name}, ${page.head.plant}`;
   showFacts();
   showLegend();
-  if (!head.parts.length) {
-    find("empty").hidden = false;
-    find("empty").textContent = "No value was stored yet, so there is no trend.";
-    for (const id of ["frame", "bars", "legend", "readout"]) find(id).hidden = true;
-    board.shown = performance.now();
-    return;
-  }
+  if (page.pieces.some(piece => piece.hasValues)) return showTrend();
+  showNothing("No value was stored yet, so there is no trend.");
+}
+
+function showNothing(why) {
+  find("empty").hidden = false;
+  find("empty").textContent = why;
+  for (const id of ["frame", "bars", "legend", "readout", "moves"]) find(id).hidden = true;
+  board.shown = performance.now();
+}
+
+function showTrend() {
+  page.pieces = page.pieces.filter(piece => piece.hasValues);
   for (const [name, length] of SPANS) {
     const button = element("button", name);
     button.onclick = () => showSpan(length);
@@ -513,15 +350,12 @@ board.head = function (head) {
   leave();
   const ready = () => { board.shown = performance.now(); };
   if (asked && Number(asked[1]) < Number(asked[2])) show(Number(asked[1]), Number(asked[2]), ready);
-  else {
-    const length = Math.min(DAY, Math.max(last - first, MINUTE));
-    show(last - 0.98 * length, last + 0.02 * length, ready);
-  }
+  else showSpan(last - first < DAY ? Infinity : DAY, ready);
   find("chart").addEventListener("dblclick", event => { event.stopPropagation(); showSpan(Infinity); }, true);
   find("chart").addEventListener("mousemove", point);
   find("chart").addEventListener("mouseleave", leave);
 };
 
-load(`${page.name}.d/head.js`);
-load(`${page.name}.d/bars.js`);
+loadAll(page.pieces.map((piece, place) => [piece.folder + "head.js", place]), begin);
+for (const piece of page.pieces) load(piece.folder + "bars.js");
 load("../data/audit.js");

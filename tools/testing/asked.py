@@ -6,8 +6,10 @@ import fractions
 import hashlib
 import os
 import re
+import shutil
 import subprocess
 import sys
+import tempfile
 import time
 import zoneinfo
 
@@ -163,6 +165,26 @@ def several_ask_at_once(folder, program, settings):
     assert "turn 2" in trial.fed()
     trial.write("go", "")
     assert list(csv.reader(first.communicate()[0].splitlines()))[1:] == before != asked(trial, "snap,LIC4.PV")
+
+
+def copies_in_memory(folder, program, settings):
+    """Copies of devices lie in memory only while they are asked. What a killed process left there is removed, and nothing else."""
+    if "TMPDIR" in os.environ or not os.access("/dev/shm", os.W_OK):
+        return "no /dev/shm, or TMPDIR is set: not tried"
+    trial, _ = two_blocks(folder, program)
+    left, held, other = (tempfile.mkdtemp(prefix=prefix, dir="/dev/shm") for prefix in ("historian-", "historian-", "historia-"))
+    for path in (left, held, other):
+        os.mkdir(os.path.join(path, "historian.d"))
+        os.utime(path, (1_000, 1_000))
+    handle = os.open(held, os.O_RDONLY)
+    fcntl.flock(handle, fcntl.LOCK_SH)
+    try:
+        assert len(asked(trial, "snap,FIC1.PV")) == 1
+        assert [os.path.exists(path) for path in (left, held, other)] == [False, True, True]
+    finally:
+        os.close(handle)
+        for path in (held, other):
+            shutil.rmtree(path)
 
 
 def asks_while_a_base_is_refused(folder, program, settings):
@@ -370,6 +392,6 @@ def pandas_reads_a_table(folder, program, settings):
     assert child.stdout.split() == ["2024-03-30T01:00:00+01:00", "25", str(highest)], (child.stdout, child.stderr, highest)
 
 
-CASES = [spoken_times, steps_and_lengths, units_of_formulas, asks_with_a_right_to_read, several_ask_at_once, asks_while_a_base_is_refused,
-         reasons_for_no_value, units_and_totals, shifts_and_frames, tables_of_tags, tags_at_a_glance, points_at_uneven_paces, help_and_version,
-         pandas_reads_a_table]
+CASES = [spoken_times, steps_and_lengths, units_of_formulas, asks_with_a_right_to_read, several_ask_at_once, copies_in_memory,
+         asks_while_a_base_is_refused, reasons_for_no_value, units_and_totals, shifts_and_frames, tables_of_tags, tags_at_a_glance,
+         points_at_uneven_paces, help_and_version, pandas_reads_a_table]

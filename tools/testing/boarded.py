@@ -1,6 +1,7 @@
 """boarded.py: tests of board.py without a browser: what it writes, what it writes again, and what it says where something is wrong.
 
 tools/test_board.py opens the pages in a browser."""
+import datetime
 import glob
 import json
 import os
@@ -9,6 +10,7 @@ import shutil
 import unittest.mock
 
 import board
+import board_tags
 from device_maker import START, batch_put, device_bytes, tag_text, walk
 from line_windows import Windows
 from plant import Plant, Refusal
@@ -119,8 +121,24 @@ def windows_of_a_line(folder, program, settings):
                     assert abs(mean[at] - middle) <= 0.5 + 1e-9, (step, number, mean[at], middle)
 
 
+def files_of_points(folder, program, settings):
+    """Points go into files of a month; where these would have too many, into files of ten days, of a day or of an hour. Each point is in the
+    file whose name its time begins with, and points that come later go on in files as long as the newest one."""
+    for step, count, length in ((60, 100_800, 7), (20, 172_800, 9), (10, 216_000, 10), (1, 172_800, 13)):
+        times = [START + 1_000 * step * n for n in range(count)]
+        texts = [datetime.datetime.fromtimestamp(t // 1000, datetime.timezone.utc).isoformat() for t in times]
+        start, keys = 0, list(board_tags.keys_of(times, ""))
+        assert max(len(key) for key, _ in keys) == length, (step, keys)
+        for key, end in keys:
+            assert 0 < end - start <= board_tags.PART and all(text.startswith(key) for text in texts[start:end]), (step, key)
+            assert not any(text.startswith(key) for text in texts[end:]), (step, key)
+            start = end
+        assert start == count, (step, keys)
+        assert list(board_tags.keys_of(times[-2:], keys[-1][0])) == [(keys[-1][0], 2)], (step, keys[-1])
+
+
 def large_tags(folder, program, settings):
-    """A tag with many points is parted into files of days, gets windows, and goes on in them. So does one without windows that grows."""
+    """A tag with many points is parted into files of ten days, gets windows, and goes on in them. So does one without windows that grows."""
     trial = Trial(os.path.join(folder, "a"), program)
     without_library(trial)
     trial.write("base.toml", tag_text("LONG") + tag_text("GROWS"))
@@ -132,7 +150,7 @@ def large_tags(folder, program, settings):
     written(trial)
     heads = {name: data_of(trial.path("board/tags", name + ".d/head.js")) for name in lines}
     assert heads["GROWS"]["kept"] is None and 1_000 <= len(heads["LONG"]["kept"]["low"]) < 2_000
-    assert [part[:2] for part in heads["LONG"]["parts"]][-2:] == [["2024-04-24", 4_320], ["2024-04-25", 3_360]], heads["LONG"]["parts"]
+    assert [part[:2] for part in heads["LONG"]["parts"]][-2:] == [["2024-04-1", 43_200], ["2024-04-2", 24_960]], heads["LONG"]["parts"]
     for name, line in lines.items():
         t, v = line[-1]
         values = [(t + 60_000 * (n + 1), v + 300 * (n % 2 * 2 - 1)) for n in range(6)]
@@ -237,4 +255,4 @@ def board_in_words(folder, program, settings):
     assert trial.tool("board.py", "--outt", "x")[0] == 2
 
 
-CASES = [board_goes_on, windows_of_a_line, large_tags, trouble_on_the_board, feed_on_the_board, board_in_words]
+CASES = [board_goes_on, windows_of_a_line, files_of_points, large_tags, trouble_on_the_board, feed_on_the_board, board_in_words]

@@ -3,16 +3,19 @@
 The points of each part are asked of the program. What the site has to answer is found from them here, in exact fractions, by the rules of
 docs/FORMATS.md and of RUNNING ("More than one plant"), without anything of the tools."""
 import bisect
+import csv
 import fractions
 import os
 import random
 import shlex
 import subprocess
 
+import fields
 from site_answers import as_plant, opener
 from site_machines import Machines
 from site_parts import Site
-from trial import TAG
+from site_trial import PARTS, TURN_OF_TIME, SiteTrial, part_base
+from trial import GROUP, LINES, START, STEPS, TAG
 
 DAY, BEGIN, END = 86_400_000, 1_700_000_000_000, 253_402_300_799_999
 TAGS = {"LINE": "", "STEP": "step = true\n", "RARE": "", "LATER": ""}
@@ -167,4 +170,89 @@ def answers_over_boundaries(folder, program, settings):
     return "%d answers over %d boundaries" % (len(asked), over)
 
 
-CASES = [answers_over_boundaries]
+PERIOD = 900_000  # of the group of trial.py
+CALENDAR = 'zone = "UTC0"\nstarts = ["06:00", "14:00", "22:00"]\ntags = ["FIC1.PV", "XV7.ZSO", "LIC4.PV"]\nmeasure = "%s"\n'
+
+
+def site_with_a_group(folder, program):
+    """A fed site of which both western parts have a group, each from its own beginning on."""
+    trial = SiteTrial(os.path.join(folder, "site"), program)
+    for part in PARTS:
+        trial.write(part + "/feed.toml", 'zone = "UTC"\n' + trial.read(part + "/feed.toml"))
+    for part, start in (("west-1", START), ("west-2", TURN_OF_TIME)):
+        trial.write(part + "/base.toml", part_base(PARTS[part]) + GROUP.replace("start = %d" % START, "start = %d" % start))
+    for block in range(3):
+        trial.deliver(block)
+    trial.fed()
+    return trial
+
+
+def replies_of(trial, part, queries):
+    """What the program replies to questions in a part."""
+    trial.write(part + "/by-hand.csv", "".join(query + "\n" for query in queries))
+    trial.write(part + "/by-hand.toml", '[[reader]]\nfile = "by-hand.csv"\n')
+    return [line.split(" ", 3)[3] for line in said_by_hand(trial, part, "trend", "base.toml", "by-hand.toml")]
+
+
+def said_by_hand(trial, part, *words):
+    child = subprocess.run([*shlex.split(trial.program), *words], cwd=trial.path(part), capture_output=True, text=True)
+    assert child.returncode == 0, child.stdout
+    return child.stdout.splitlines()
+
+
+def curve_over(trial, tag):
+    """The curve of a tag from the points that the program has in its parts."""
+    parts = [part for part, tags in PARTS.items() if tag in tags]
+    spans = [(0, TURN_OF_TIME - 1), (TURN_OF_TIME, END)] if len(parts) == 2 else [(0, END)]
+    texts = [replies_of(trial, part, ["points,%s,0,%d" % (tag, END)])[0] for part in parts]
+    assert all(text.endswith("end") for text in texts), tag
+    return Curve([([tuple(map(int, word.split(","))) for word in text.split()[:-1]], *span) for text, span in zip(texts, spans)], tag in STEPS)
+
+
+def asked(trial, *words):
+    """The lines that `site.py ask` prints, without the header."""
+    status, text = trial.site("ask", *words)
+    assert status == 0, (words, status, text)
+    return list(csv.reader(text.splitlines()))[1:]
+
+
+def calculations_over_parts(folder, program, settings):
+    """A row of a calculation is that of the part whose group has its window, counted from the oldest part's first one. The frames are those
+    of the parts, one after the other, and none is open in a part that has ended. A number has the unit of its tag."""
+    trial, before = site_with_a_group(folder, program), (TURN_OF_TIME - START) // PERIOD
+    count = 18 * 3_600_000 // PERIOD
+    wanted = replies_of(trial, "west-1", ["row,unit,flow,%d" % number for number in range(before)])
+    wanted += replies_of(trial, "west-2", ["row,unit,flow,%d" % number for number in range(count - before)])
+    lines = asked(trial, *["row,unit,flow,%d" % number for number in range(count)])
+    assert len({text for text in wanted if text.isdigit()}) > 20, wanted
+    for number, (text, line) in enumerate(zip(wanted, lines, strict=True)):
+        assert fields.milliseconds(line[2], None) == START + number * PERIOD, (number, line)
+        assert line[4] == (fields.decimal_text(int(text), 100) if text.lstrip("-").isdigit() else ""), (number, text, line)
+    frames = [[words[0], int(words[1]), int(words[2]), part == "west-2" and len(words) > 3] for part in ("west-1", "west-2")
+              for words in map(str.split, said_by_hand(trial, part, "frames", "base.toml", "unit", "hot", "2"))]
+    got = asked(trial, "--frames", "unit", "hot", "2")
+    assert [[line[0], *(fields.milliseconds(text, None) for text in line[2:4])] for line in got] == [frame[:3] for frame in frames], (got, frames)
+    assert {frame[1] < TURN_OF_TIME for frame in frames if frame[0] == "frame"} == {True, False}, frames
+    assert ["open" in " ".join(line) for line in got] == [is_open for *_, is_open in frames], (got, frames)
+
+
+def shifts_over_parts(folder, program, settings):
+    """The figure of a shift that goes over the boundary of two parts is that of the points of both, in exact fractions; one that is not over
+    yet has its figure until the newest value, or none."""
+    trial = site_with_a_group(folder, program)
+    curves, scales = {tag: curve_over(trial, tag) for tag in ("FIC1.PV", "XV7.ZSO", "LIC4.PV")}, LINES | STEPS
+    for measure in ("avg", "low", "high", "first"):
+        trial.write("calendar.toml", CALENDAR % measure)
+        lines = asked(trial, "--shifts", "calendar.toml", "2024-03-28", "2")
+        assert len(lines) == 2 * 3 * len(curves), lines
+        over = 0
+        for _, tag, start, end, value, *_, note in lines:
+            first, last = (fields.milliseconds(text, None) for text in (start, end))
+            is_cut = "until" in note
+            wanted = curves[tag].measure(measure, first, curves[tag].pieces[-1].last if is_cut else last)
+            assert value == ("" if wanted == "none" else fields.decimal_text(int(wanted), scales[tag])), (measure, tag, start, end, value, wanted, note)
+            over += first < TURN_OF_TIME < last and value != ""
+        assert over == len(curves), (measure, lines)
+
+
+CASES = [answers_over_boundaries, calculations_over_parts, shifts_over_parts]

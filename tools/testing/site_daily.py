@@ -1,16 +1,24 @@
 """site_daily.py: tests of what happens to a site from day to day; test_tools.py runs them.
 
 Files that come twice or have rows of several parts, names and files of somebody else's making, parts that fail, a next part, wrong texts."""
+import csv
 import fcntl
+import html
+import io
+import json
 import os
+import re
 import shutil
 import subprocess
 import sys
 import tomllib
+from decimal import Decimal
 
+import clock
+from browser import DYGRAPHS
 from site_trial import PARTS, SITE, SiteTrial, archive_of, check_clean, check_site, part_base, taken
 from stops import put_bytes
-from trial import HERE, START, TOOLS
+from trial import HERE, LINES, START, TOOLS
 
 A_ROW = "FIC1.PV,1711670400000,5.00\n"
 WRONG_SITES = (  # what stands in site.toml, and what is said
@@ -280,6 +288,13 @@ def asked_as_one(folder, program, settings):
     assert status == 0 and lines["LIC4.PV"][1] == "east" and lines["FIC1.PV"][1] == "west-2", (status, said)
     wanted = sum(name == "LIC4.PV" for _, name, _ in trial.rows)
     assert lines["LIC4.PV"][2] == str(wanted) and lines["FIC1.PV"][2:4] == ["0", "0"] and lines["FIC1.PV"][6] != "", said
+    status, said = trial.site("ask", "--tags")
+    tags = {line["tag"]: line for line in csv.DictReader(io.StringIO(said))}
+    for name in ("FIC1.PV", "LIC4.PV"):
+        t, v = max((t, v) for t, tag, v in trial.rows if tag == name)
+        assert status == 0 and tags[name]["newest"] == clock.short_text(t, None), (status, tags[name], t)
+        assert abs(Decimal(tags[name]["value"]) * LINES[name] - v) <= 10, (tags[name], v)  # it is within ExcDev
+    assert tags["LIC4.PV"]["taken"] == str(wanted) and (tags["FIC1.PV"]["taken"], tags["FIC1.PV"]["note"]) == ("0", ""), tags
     for words, text in ((["verify"], "each as the last turn left it"), (["backup"], "site.toml: backup/")):
         status, said = trial.site(*words)
         assert status == 0 and said.count("east: ") == 1 and text in said, (words, status, said)
@@ -289,6 +304,30 @@ def asked_as_one(folder, program, settings):
     assert status == 22 and "no part has the tag NIX; there are" in said, (status, said)
     status, said = trial.site("ask", "--table", "FIC1.PV", "LIC4.PV", "2024-03-29T00:00Z", "2024-03-29T06:00Z", "--every", "1h")
     assert status == 0 and len(said.splitlines()) == 8 + 2 and said.startswith("time,FIC1.PV,LIC4.PV\n"), (status, said)
+
+
+def board_without_some_parts(folder, program, settings):
+    """The board of a site says of a part that was never fed, or is on another machine, why nothing is there; the tags of the others stand
+    there all the same. A tag of two parts of which one has values shows these."""
+    if not os.path.exists(DYGRAPHS):
+        return "no dygraphs here: not tried"
+    trial = SiteTrial(os.path.join(folder, "site"), program)
+    trial.deliver(0, hours=2)
+    trial.fed()
+    for worker in ("", 'worker = "m3"\n'):
+        trial.write("site.toml", SITE.replace('folder = "east"\n', 'folder = "east"\n' + worker))
+        if worker:
+            shutil.copytree(trial.path("east"), trial.path("feed.d/parts/east@m3"))
+            shutil.rmtree(trial.path("board"))
+        status, said = trial.site("board")
+        assert status == (25 if worker else 0) and "8 tags of 3 parts" in said, (worker, status, said)
+        table = json.loads(trial.read("board/data/plant.js").removeprefix("board.plant(").removesuffix(")\n"))
+        tags, parts = ({each["name"]: each for each in table[key]} for key in ("tags", "parts"))
+        assert tags["FIC1.PV"]["taken"] == sum(name == "FIC1.PV" for _, name, _ in trial.rows) and tags["FIC1.PV"]["newest"], tags["FIC1.PV"]
+        assert parts["west-2"]["text"] == "was never fed" and "feed" in parts["west-1"], parts
+        assert (parts["east"].get("text"), tags["LIC4.PV"].get("elsewhere")) == (("its pages are on m3", "on m3") if worker else (None, None))
+        pieces = re.search('data-pieces="([^"]*)"', trial.read("board/tags/LIC4.PV.html"))[1]
+        assert json.loads(html.unescape(pieces)) == ([] if worker else [{"folder": "../3/tags/", "name": "east", "from": None, "until": None}])
 
 
 def hides_no_module(folder, program, settings):
@@ -304,4 +343,4 @@ def hides_no_module(folder, program, settings):
 
 
 CASES = [wrong_sites, rows_of_three_parts, same_rows_in_two_files, wide_files, files_of_somebody_else, replaced_meanwhile, two_routers,
-         part_on_a_full_disk, part_that_is_refused, next_part, asked_as_one, hides_no_module]
+         part_on_a_full_disk, part_that_is_refused, next_part, asked_as_one, board_without_some_parts, hides_no_module]

@@ -2,12 +2,14 @@
 import csv
 import os
 import random
+import re
 import shutil
 import subprocess
 import sys
 
 import fields
 from asked import asked
+from browser import DYGRAPHS
 from trial import START, TOOLS, Trial, base_text
 
 SIGMA, SECONDS = 12.0, 10_000  # of the noise, in stored units; between two values of a sample
@@ -113,37 +115,53 @@ def tuning_in_words(folder, program, settings):
         assert status == 22 and "--try" in text, (asked_for, status, text)
 
 
+def unpacked(folder, program):
+    """Makes the package, and unpacks it into a scratch root: the package, and that root."""
+    root = os.path.join(folder, "root")
+    child = subprocess.run([sys.executable, os.path.join(TOOLS, "package.py"), "--program", program.split()[0], "--out", folder, "--maintainer",
+                            "A <a@b.c>"], capture_output=True, text=True)
+    assert child.returncode == 0, child.stderr
+    subprocess.run(["dpkg-deb", "-x", child.stdout.strip(), root], check=True)
+    return child.stdout.strip(), root
+
+
+def installed(root, folder, *words):
+    """Runs a tool of an unpacked package in a folder, with the program of the package: what it printed."""
+    place = os.path.join(root, "opt/historian")
+    child = subprocess.run([sys.executable, os.path.join(place, words[0]), *words[1:]], cwd=folder, capture_output=True, text=True,
+                           env=dict(os.environ, PATH=place + os.pathsep + os.environ["PATH"]))
+    assert child.returncode == 0, (words, child.stdout + child.stderr)
+    return child.stdout
+
+
+def example_of(root, folder):
+    """The example of a plant as the package has it, with the files of a day in its inbox."""
+    plant = os.path.join(folder, "plant")
+    shutil.copytree(os.path.join(root, "opt/historian/examples/plant"), plant)
+    os.mkdir(os.path.join(plant, "inbox"))
+    subprocess.run([sys.executable, "make_days.py", "--iso"], cwd=plant, check=True)
+    for name in ("flow1.csv", "unit1.csv"):
+        os.rename(os.path.join(plant, name), os.path.join(plant, "inbox", name))
+    return plant
+
+
 def package_feeds_the_example(folder, program, settings):
     """The package, unpacked into a scratch root, feeds the example and is asked; what it says of itself fits the program and the commit."""
     if not shutil.which("dpkg-deb"):
         return "no dpkg-deb here: not tried"
-    binary, root = program.split()[0], os.path.join(folder, "root")
-    child = subprocess.run([sys.executable, os.path.join(TOOLS, "package.py"), "--program", binary, "--out", folder, "--maintainer", "A <a@b.c>"],
-                           capture_output=True, text=True)
-    assert child.returncode == 0, child.stderr
-    package = child.stdout.strip()
-    subprocess.run(["dpkg-deb", "-x", package, root], check=True)
+    (package, root), binary = unpacked(folder, program), program.split()[0]
     fields = subprocess.run(["dpkg-deb", "-f", package], capture_output=True, text=True, check=True).stdout
     sha = subprocess.run(["sha256sum", binary], capture_output=True, text=True, check=True).stdout.split()[0]
     for wanted in ("Package: historian\n", "Version: 1.", "Maintainer: A <a@b.c>\n", "python3 (>= 3.11)", "program sha256 " + sha):
         assert wanted in fields, (wanted, fields)
     assert ("proves each crate first" in fields) == binary.endswith("crates/historian/out/historian"), fields
-    place, plant = os.path.join(root, "opt/historian"), os.path.join(folder, "plant")
-    shutil.copytree(os.path.join(place, "examples/plant"), plant)
-    os.mkdir(os.path.join(plant, "inbox"))
-    subprocess.run([sys.executable, "make_days.py", "--iso"], cwd=plant, check=True)
-    for name in ("flow1.csv", "unit1.csv"):
-        os.rename(os.path.join(plant, name), os.path.join(plant, "inbox", name))
-    said = ""
-    for words in (["feed.py"], ["ask.py", "snap,TIC201.PV"], ["ask.py", "--version"]):
-        child = subprocess.run([sys.executable, os.path.join(place, words[0]), *words[1:]], cwd=plant, capture_output=True, text=True,
-                               env=dict(os.environ, PATH=place + os.pathsep + os.environ["PATH"]))
-        assert child.returncode == 0, child.stdout + child.stderr
-        said += child.stdout
+    plant = example_of(root, folder)
+    said = "".join(installed(root, plant, *words) for words in (["feed.py"], ["ask.py", "snap,TIC201.PV"], ["ask.py", "--version"]))
     for wanted in ("19807 values of 5 tags stored, 0 refused", "2024-03-30T23:59:50.000+01:00,,81.19,degC", sha):
         assert wanted in said, (wanted, said)
     links = {name: os.readlink(os.path.join(root, "usr/bin", name)) for name in os.listdir(os.path.join(root, "usr/bin"))}
-    assert {"historian": "/opt/historian/historian", "historian-feed": "/opt/historian/feed.py"}.items() <= links.items(), links
+    tools = {"historian-" + name: "/opt/historian/%s.py" % name for name in ("ask", "audit", "board", "draw", "feed", "site", "tune")}
+    assert links == {"historian": "/opt/historian/historian"} | tools, links
     assert all(os.access(root + target, os.X_OK) for target in links.values()), links
     units = os.listdir(os.path.join(root, "lib/systemd/system"))
     assert {"historian-feed@.service", "historian-feed@.timer"} <= set(units), units
@@ -151,4 +169,31 @@ def package_feeds_the_example(folder, program, settings):
     assert status.returncode == 22 and "there is no program /nowhere" in status.stderr, status.stderr
 
 
-CASES = [tunings_of_a_sample, tunings_of_a_stair, samples_of_sources, tuning_in_words, package_feeds_the_example]
+def package_looks_and_joins(folder, program, settings):
+    """The installed package audits the example, and makes its board with each file that the pages load. It feeds the example of a site, and
+    asks it over both of its years."""
+    if not shutil.which("dpkg-deb"):
+        return "no dpkg-deb here: not tried"
+    root = unpacked(folder, program)[1]
+    plant, site = example_of(root, folder), os.path.join(folder, "site")
+    installed(root, plant, "feed.py")
+    assert installed(root, plant, "audit.py").endswith("5 tags, 19807 values: each as promised\n")
+    shutil.copytree(os.path.join(root, "opt/historian/examples/site"), site)
+    for name in (".", "unit1-2024", "unit1-2025", "unit2"):
+        os.mkdir(os.path.join(site, name, "inbox"))
+    os.rename(os.path.join(site, "newyear.csv"), os.path.join(site, "inbox/newyear.csv"))
+    assert "turn 1: 1 files, 52 rows for 3 parts, 0 refused" in installed(root, site, "site.py", "feed")
+    assert ",51.87,m3/h," in installed(root, site, "site.py", "ask", "avg,FIC101.PV,2024-12-31T18:00Z,2025-01-01T06:00Z")
+    if not os.path.exists(DYGRAPHS):
+        return "no dygraphs here: the board is not tried"
+    assert "5 tags, 5 of them with news" in installed(root, plant, "board.py")
+    for page in ("index.html", "tags/TIC201.PV.html"):
+        with open(os.path.join(plant, "board", page)) as text:
+            loads = re.findall(r'<(?:script src|link rel="stylesheet" href)="([^"]+)"', text.read())
+        assert len(loads) > 2, loads
+        for name in loads + ["data/plant.js" if page == "index.html" else "TIC201.PV.d/head.js"]:
+            assert os.path.getsize(os.path.join(plant, "board", os.path.dirname(page), name)), name
+
+
+CASES = [tunings_of_a_sample, tunings_of_a_stair, samples_of_sources, tuning_in_words, package_feeds_the_example,
+         package_looks_and_joins]
