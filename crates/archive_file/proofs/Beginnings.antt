@@ -1,5 +1,5 @@
 -- What a crash leaves while a layout with a text is begun.
-use Rattle.std.proofs.Common.{◌≡◌, inl, inr, ℕ, zero, suc, ◌+◌, ◌^◌, ◌<◌, ◌≤◌, List, [], ◌∷◌, length, get_or, Option, None, Some, IfSome, Result, Ok, Err, OnOk, sym, ◌∙◌, ap, subst, arith}
+use Rattle.std.proofs.Common.{◌≡◌, inl, inr, ℕ, zero, suc, ◌+◌, ◌^◌, ◌<◌, ◌≤◌, List, [], ◌∷◌, length, get_or, Option, None, Some, IfSome, Result, Ok, Err, OnOk, sym, ap, subst, arith}
 use Rattle.std.proofs.lemmas.Bool.{cases_eq}
 use Rattle.std.proofs.lemmas.Grind.{same_number_lists}
 use Rattle.disk_model.specs.Calls.{IsNoted, IsTimed, HasLength, Sees, Shows}
@@ -21,8 +21,7 @@ left_kept o o1 same =
 
 -- an image of an empty device is short
 short_now : (o : Option Trace) (c : List ℕ) → IsSettled o → HasLength o 0 → MayLeave o c → length c ≡ 0
-short_now None c settled empty may = absurd may.image
-short_now (Some t) c settled empty may = ap length (settled.each c may) ∙ empty
+short_now o c settled empty may = grind arith
 
 -- an empty device was begun by one byte
 pub left_wrote : {E : Type 0} (r : Result (Unit {0}) E) (o o1 o2 : Option Trace) (n : ℕ) → IsSettled o → o1 ≡ o
@@ -46,16 +45,10 @@ left_then_synced q o o2 o3 so_far synced =
 
 -- an image in which the gate alone may be torn: it is closed, or all is as it was
 left_torn : (o : Option Trace) (d c : List ℕ) → MayLeave o d → IsClosing 0 1 d c → IsLeftOrNew o c
-left_torn o d c may torn = elim (cases_eq (get_or c 0 0) open_byte) [
-  | inr shut ↦ inr (inr shut)
-  | inl opened ↦ inl (subst (MayLeave o) (same_image opened) may)
-]
+left_torn o d c may torn = grind (arith, same_image)
   where
     each : (k : ℕ) → get_or c 0 0 ≡ open_byte → get_or d k 0 ≡ get_or c k 0
-    each zero opened = elim (cases_eq (get_or d 0 0) open_byte) [
-      | inl was ↦ was ∙ sym opened
-      | inr shut ↦ sym (torn.same 0 (inr shut))
-    ]
+    each zero opened = grind arith
     each (suc k) opened = sym (torn.same (suc k) (inl (inr (omega arith))))
 
     same_image : get_or c 0 0 ≡ open_byte → d ≡ c
@@ -63,9 +56,7 @@ left_torn o d c may torn = elim (cases_eq (get_or c 0 0) open_byte) [
 
 -- gates are closed
 pub left_closed : (o o1 o2 : Option Trace) → o1 ≡ o → During o1 o2 (FromOld o1 (IsClosing 0 1)) → During o o2 (IsLeftOrNew o)
-left_closed o o1 o2 same closing =
-    weaker o o2 (FromOld o (IsClosing 0 1)) (IsLeftOrNew o) (λ c from. left_torn o from.0 c from.1 from.2)
-    (subst (λ x. During x o2 (FromOld x (IsClosing 0 1))) same closing)
+left_closed o o1 o2 same closing = grind (arith, weaker, left_torn)
 
 -- how many calls that took, where the device had a gate
 closed_of : (c : List ℕ) (n first last : ℕ) → length c ≡ n → 0 < n → last ≡ first + (open_gates 0 1 c + 1) → last ≡ first + closing_calls c
@@ -76,9 +67,7 @@ pub closed_counted : {E : Type 0} (r : Result (Unit {0}) E) (o o1 : Option Trace
     → mid ≡ first → OnOk r (Shows o1 (λ c. last ≡ mid + (open_gates 0 1 c + 1))) → OnOk r (Shows o (λ c. last ≡ first + closing_calls c))
 closed_counted (Err e) o o1 n first mid last same long some none calls = tt
 closed_counted (Ok x) None o1 n first mid last same long some none calls = tt
-closed_counted (Ok x) (Some t) o1 n first mid last same long some none calls =
-    let here = subst (λ x. Shows x (λ c. last ≡ mid + (open_gates 0 1 c + 1))) same calls in
-    closed_of (seen (Some t)) n first last long some (here ∙ ap (λ m. m + (open_gates 0 1 (seen (Some t)) + 1)) none)
+closed_counted (Ok x) (Some t) o1 n first mid last same long some none calls = grind (arith, closed_of)
 
 -- and where it had none
 wrote_of : (c : List ℕ) (n first mid after last : ℕ) → length c ≡ n → n ≤ 0 → mid ≡ first → after ≡ mid + 1 → last ≡ after + 1 → last ≡ first + closing_calls c
@@ -89,14 +78,12 @@ pub wrote_counted : {E : Type 0} (r : Result (Unit {0}) E) (o : Option Trace) (n
     → mid ≡ first → after ≡ mid + 1 → IsTimed after last r → OnOk r (Shows o (λ c. last ≡ first + closing_calls c))
 wrote_counted (Err e) o n first mid after last long none kept wrote synced = tt
 wrote_counted (Ok x) None n first mid after last long none kept wrote synced = tt
-wrote_counted (Ok x) (Some t) n first mid after last long none kept wrote synced =
-    wrote_of (seen (Some t)) n first mid after last long none kept wrote (omega (arith, synced.counted, synced.in_time))
+wrote_counted (Ok x) (Some t) n first mid after last long none kept wrote synced = grind (arith, wrote_of)
 
 -- then four calls more begin the layout
 pub layout_counted : (o : Option Trace) (first mid last : ℕ) → Shows o (λ c. mid ≡ first + closing_calls c) → last ≡ mid + 4
     → Shows o (λ c. last ≡ first + layout_calls c)
-layout_counted None first mid last closed wrote = tt
-layout_counted (Some t) first mid last closed wrote = omega (arith, closed, wrote)
+layout_counted o first mid last closed wrote = grind arith
 
 -- ---- the head is written after it
 
@@ -143,17 +130,12 @@ layout_ready letters text (Some t) made settled = record {
 
 -- a device whose layout was finished is not new
 pub not_new : (c : List ℕ) → IsBegun c → IsNew c → ⊥
-not_new c begun (inl short) = absurd (omega (arith, short, begun.long))
-not_new c begun (inr shut) = shut begun.opened
+not_new c begun h = grind arith
 
 -- a layout that is there is kept
 pub opens_kept : (P Q : List ℕ → Type 0) (o mid : Option Trace) (before now : ℕ) → IfSome o (λ t. length t.calls ≡ before) → mid ≡ noted Synced o
     → Shows mid Q → ((c : List ℕ) → Q c → P c → ⊥) → now ≡ before + 1 → TextOpensAt P o now
-opens_kept P Q None mid before now told is shown apart synced = tt
-opens_kept P Q (Some t) mid before now told is shown apart synced = record {
-  begun = λ p. absurd (apart (seen (Some t)) (subst (λ m. Shows m Q) is shown) p);
-  kept = λ there. omega (arith, told, synced);
-}
+opens_kept h g o mid before now told is shown apart synced = grind (arith, begun)
 
 -- one that is not there is begun
 pub opens_begun : {T E : Type 0} (r : Result T E) (P : List ℕ → Type 0) (o mid : Option Trace) (before first now : ℕ)
@@ -161,7 +143,4 @@ pub opens_begun : {T E : Type 0} (r : Result T E) (P : List ℕ → Type 0) (o m
     → OnOk r (Shows mid (λ c. now ≡ first + layout_calls c)) → OnOk r (TextOpensAt P o now)
 opens_begun (Err e) P o mid before first now told is shown synced begun = tt
 opens_begun (Ok x) P None mid before first now told is shown synced begun = tt
-opens_begun (Ok x) P (Some t) mid before first now told is shown synced begun = record {
-  begun = λ p. omega (arith, told, synced, subst (λ m. Shows m (λ c. now ≡ first + layout_calls c)) is begun);
-  kept = λ none. absurd (none shown);
-}
+opens_begun (Ok x) P (Some t) mid before first now told is shown synced begun = grind (arith, begun)

@@ -1,8 +1,8 @@
 -- Fields one after the other: those that are kept, and the first that is not.
-use Rattle.std.proofs.Common.{◌≡◌, ℕ, Bool, All, List, [], ◌∷◌, ◌++◌, length, take, drop, Option, Result, Err, IsErrOf, refl, sym, ap, ◌∙◌, subst, arith, append_assoc, length-append}
+use Rattle.std.proofs.Common.{◌≡◌, ℕ, Bool, All, List, [], ◌∷◌, ◌++◌, Option, Result, Err, IsErrOf, refl, sym, ap, ◌∙◌, subst, arith, append_assoc, length-append}
 use Rattle.std.proofs.Math.Seq.{take-add}
 use Rattle.std.proofs.lemmas.List.{append-nil, drop-drop}
-use Rattle.std.proofs.lemmas.List.Elements.{All-append, All-cons, All-nil}
+use Rattle.std.proofs.lemmas.List.Elements.{All-append, All-nil}
 use Rattle.archive_file.specs.declared.failure.ScanNo.{ScanNo}
 use Rattle.archive_file.specs.declared.failure.ScanNo.TheVariants.{Damaged}
 use Rattle.archive_file.specs.declared.layout_field.Field.{Field}
@@ -17,24 +17,13 @@ field_of place size is_kept = record { place = place; size = size; is_kept = is_
 -- two pieces, one after the other
 pub spells_both : (c : List ℕ) (at mid end : ℕ) (xs ys : List ℕ) → Spells c at xs mid → Spells c mid ys end
     → Spells c at (xs ++ ys) end
-spells_both c at mid end xs ys first second = record {
-  spelled = ap (λ n. take n (drop at c)) (length-append xs ys) ∙ take-add (length xs) (length ys) (drop at c)
-      ∙ ap (λ l. l ++ take (length ys) (drop (length xs) (drop at c))) first.spelled
-      ∙ ap (λ l. xs ++ take (length ys) l) (drop-drop (length xs) at c)
-      ∙ ap (λ n. xs ++ take (length ys) (drop n c)) (sym first.ends)
-      ∙ ap (λ l. xs ++ l) second.spelled;
-  ends = omega (arith, first.ends, second.ends, length-append xs ys);
-  within = second.within;
-}
+spells_both c at mid end xs ys first second = grind (arith, length-append, take-add, drop-drop)
 
 -- ---- all are kept
 
 -- six fields, each with P
 pub all_six : (P : Field → Type 0) (f g h i j k : Field) → P f → P g → P h → P i → P j → P k → All P (f ∷ g ∷ h ∷ i ∷ j ∷ k ∷ [])
-all_six P f g h i j k pf pg ph pi pj pk =
-    All-cons P f (g ∷ h ∷ i ∷ j ∷ k ∷ []) pf (All-cons P g (h ∷ i ∷ j ∷ k ∷ []) pg
-    (All-cons P h (i ∷ j ∷ k ∷ []) ph (All-cons P i (j ∷ k ∷ []) pi
-    (All-cons P j (k ∷ []) pj (All-cons P k [] pk (All-nil P))))))
+all_six P f g h i j k pf pg ph pi pj pk = grind arith
 
 -- ---- the first field that breaks
 
@@ -53,14 +42,7 @@ breaks_behind c fs gs a byte kept first = record {
 -- with others after
 pub breaks_within : (c : List ℕ) (fs gs : List Field) (a : ℕ) (byte : Option ℕ) → BreaksFirst c fs a byte
     → BreaksFirst c (fs ++ gs) a byte
-breaks_within c fs gs a byte first = record {
-  before = first.before;
-  field = first.field;
-  behind = first.behind ++ gs;
-  are = ap (λ l. l ++ gs) first.are ∙ append_assoc first.before (first.field ∷ first.behind) gs;
-  kept = first.kept;
-  breaks = first.breaks;
-}
+breaks_within c fs gs a byte first = grind (arith, append_assoc)
 
 -- ---- up to a place
 
@@ -82,8 +64,7 @@ kept_more c fields fs rest before kept = record {
 }
 
 pub kept_all : (c : List ℕ) (fields : List Field) → KeptUpTo c fields [] → All (Keeps c) fields
-kept_all c fields before =
-    subst (All (Keeps c)) (sym (before.are ∙ append-nil before.done)) before.kept
+kept_all c fields before = grind (arith, append-nil)
 
 pub breaks_after : (c : List ℕ) (fields rest : List Field) (a : ℕ) (byte : Option ℕ) → KeptUpTo c fields rest
     → BreaksFirst c rest a byte → BreaksFirst c fields a byte

@@ -1,5 +1,5 @@
 -- The bits of the flags of a summary.
-use Rattle.std.proofs.Common.{◌≡◌, ℕ, ◌+◌, ◌*◌, ◌/◌, ◌%◌, ◌≤◌, Bool, true, false, cond, eqb, is_some, ap, arith}
+use Rattle.std.proofs.Common.{◌≡◌, ℕ, ◌+◌, ◌*◌, ◌/◌, ◌%◌, ◌≤◌, Bool, cond, eqb, is_some, arith}
 use Rattle.trend_num.specs.declared.archive.Summary.{Summary}
 use Rattle.archive_file.specs.Summaries.{flag, flags}
 
@@ -8,16 +8,13 @@ abbrev bit : Bool → ℕ
 bit b = cond b 1 0
 
 flag-bit : (b : Bool) (k : ℕ) → flag b k ≡ k * bit b
-flag-bit true k = omega arith
-flag-bit false k = omega arith
+flag-bit b k = grind arith
 
 bit_le : (b : Bool) → bit b ≤ 1
-bit_le true = omega arith
-bit_le false = omega arith
+bit_le b = grind arith
 
 tests_bit : (n : ℕ) (b : Bool) → n ≡ bit b → eqb n 1 ≡ b
-tests_bit n true is = ap (λ k. eqb k 1) is
-tests_bit n false is = ap (λ k. eqb k 1) is
+tests_bit n b is = grind arith
 
 -- a number made of five bits
 record HasBits (n : ℕ) (held pending hinge doors tuning : Bool) : Type 0 where
@@ -31,21 +28,7 @@ record HasBits (n : ℕ) (held pending hinge doors tuning : Bool) : Type 0 where
 module _ (s : Summary) where
   -- the flags are
   bits : HasBits (flags s) (is_some s.held) (is_some s.pending) (is_some s.hinge) (is_some s.upper) (is_some s.tuning)
-  bits = record {
-    sum = omega (
-      arith,
-      flag-bit (is_some s.held) 1,
-      flag-bit (is_some s.pending) 2,
-      flag-bit (is_some s.hinge) 4,
-      flag-bit (is_some s.upper) 8,
-      flag-bit (is_some s.tuning) 16,
-    );
-    held_le = bit_le (is_some s.held);
-    pending_le = bit_le (is_some s.pending);
-    hinge_le = bit_le (is_some s.hinge);
-    doors_le = bit_le (is_some s.upper);
-    tuning_le = bit_le (is_some s.tuning);
-  }
+  bits = grind (arith, flag-bit, bit_le)
 
   -- held
   pub held_bit : eqb (flags s % 2) 1 ≡ is_some s.held

@@ -1,8 +1,7 @@
 -- What is in an image is what was read of it.
-use Rattle.std.proofs.Common.{◌≡◌, ℕ, ◌+◌, ◌%◌, ◌^◌, ◌<◌, ◌≤◌, List, [], ◌∷◌, ◌++◌, length, get_or, take, drop, refl, sym, ap, ◌∙◌, subst, arith, length-take, length-drop, inl, inr}
+use Rattle.std.proofs.Common.{◌≡◌, ℕ, ◌+◌, ◌^◌, ◌<◌, ◌≤◌, List, ◌++◌, length, get_or, take, drop, refl, sym, ◌∙◌, subst, arith, length-take, length-drop}
 use Rattle.std.proofs.lemmas.Nat.{be_bytes_4, be_bytes_8}
 use Rattle.std.proofs.lemmas.List.{get_or-take, get_or-drop, get_or_past, drop_more}
-use Rattle.std.proofs.lemmas.Bool.{cases_lt}
 use Rattle.std.specs.Int.{w64, cast_signed}
 use Rattle.std.proofs.lemmas.Int.{of_z-to_z}
 use Rattle.archive_file.specs.Fields.{number_bytes, value_bytes}
@@ -16,10 +15,7 @@ byte_of c at n i low = get_or-take n (drop at c) i 0 low ∙ get_or-drop at c i 
 
 -- a part of bytes has bytes
 part_bytes : (c : List ℕ) (at n : ℕ) → IsBytes c → IsBytes (take n (drop at c))
-part_bytes c at n bytes i = elim (cases_lt i n) [
-  | inl low ↦ subst (λ x. x < 256) (sym (byte_of c at n i low)) (bytes (at + i))
-  | inr high ↦ subst (λ x. x < 256) (sym (get_or_past (take n (drop at c)) i 0 (omega (arith, length-take n (drop at c))))) (omega arith)
-]
+part_bytes c at n bytes i = grind (arith, byte_of, get_or_past, length-take)
 
 -- n bytes at a place, where the image is long enough
 part_long : (c : List ℕ) (at n : ℕ) → at + n ≤ length c → length (take n (drop at c)) ≡ n
@@ -27,13 +23,7 @@ part_long c at n there = omega (arith, length-take n (drop at c), length-drop at
 
 -- n bytes at a place are spelled there
 part_spelled : (c : List ℕ) (at n : ℕ) (bytes : List ℕ) → at + n ≤ length c → bytes ≡ take n (drop at c) → Spells c at bytes (at + n)
-part_spelled c at n bytes there is =
-    let long : length bytes ≡ n = ap length is ∙ part_long c at n there in
-    record {
-      spelled = ap (λ k. take k (drop at c)) long ∙ sym is;
-      ends = omega arith;
-      within = there;
-    }
+part_spelled c at n bytes there is = grind (arith, part_long)
 
 pub spells_short : (c : List ℕ) (at : ℕ) → IsBytes c → at + 4 ≤ length c → Spells c at (number_bytes 4 (short_at c at)) (at + 4)
 spells_short c at bytes there =
@@ -46,11 +36,7 @@ spells_long c at bytes there =
     (be_bytes_8 (take 8 (drop at c)) (long_at c at) (part_long c at 8 there) (part_bytes c at 8 bytes) refl)
 
 pub spells_byte : (c : List ℕ) (at : ℕ) → IsBytes c → at + 1 ≤ length c → Spells c at (number_bytes 1 (get_or c at 0)) (at + 1)
-spells_byte c at bytes there =
-    let small : get_or c at 0 < 256 = bytes at in
-    let same : get_or c at 0 % 256 ≡ get_or c at 0 = omega arith in
-    part_spelled c at 1 (number_bytes 1 (get_or c at 0)) there
-    (ap (λ x. x ∷ []) same ∙ ap (take 1) (sym (drop_more c at 0 (omega arith))))
+spells_byte c at bytes there = grind (arith, part_spelled, drop_more)
 
 -- a number of 8 bytes has 64 bits
 pub long_below : (c : List ℕ) (at : ℕ) → IsBytes c → long_at c at < 2 ^ 64

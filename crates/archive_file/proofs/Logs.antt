@@ -39,11 +39,7 @@ records_joined s at k m rs qs first second =
 
 -- at first no record is added
 pub adds_none : (s : List ℕ) (at : ℕ) (old : List Rec) → Adds s at 0 old old
-adds_none s at old = record {
-  added = [];
-  behind = sym (append-nil old);
-  there = record { counted = refl; records = record { in_range = tt; image = refl } };
-}
+adds_none s at old = grind (arith, append-nil)
 
 -- k records and then m records are k + m records
 adds_joined : (s : List ℕ) (at k m : ℕ) (old mid new : List Rec) → Adds s at k old mid
@@ -122,9 +118,7 @@ byte_of s at size p below = get_or-take size (drop at s) p 0 below ∙ get_or-dr
 
 -- a place that breaks is one of the 17
 breaks_below : (b : List ℕ) (k : ℕ) → BreaksAt b k → k < 17
-breaks_below b k (inl kind) = omega (arith, kind.0)
-breaks_below b k (inr (inl time)) = omega (arith, time.0)
-breaks_below b k (inr (inr value)) = omega (arith, value.0)
+breaks_below b k h = grind arith
 
 -- so the damage of the part is one of the device
 damage_at : (o : Option Trace) (at count a : ℕ) (byte : Option ℕ) (part : List ℕ)
@@ -189,9 +183,7 @@ added_next (Some t) at k m old mid new first second = adds_joined (seen (Some t)
 -- all that is added to an empty list
 pub added_all : (o : Option Trace) (at count : ℕ) (old new : List Rec) → old ≡ []
     → IfSome o (λ t. Adds (seen (Some t)) at count old new) → IfSome o (λ t. HasRecords (seen (Some t)) at count new)
-added_all None at count old new none adds = tt
-added_all (Some t) at count old new none adds =
-    subst (HasRecords (seen (Some t)) at count) (sym (adds.behind ∙ ap (λ l. l ++ adds.added) none)) adds.there
+added_all o at count old new none adds = grind arith
 
 -- damage in a piece after whole records is damage of the whole
 damage_behind : (o : Option Trace) (at k m count a : ℕ) (byte : Option ℕ) (old mid : List Rec)

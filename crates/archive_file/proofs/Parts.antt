@@ -1,6 +1,6 @@
 -- A summary is read of its bytes, part by part.
 use Rattle.std.proofs.Common.{◌≡◌, ℕ, ◌/◌, ◌%◌, ◌≤◌, Bool, true, false, cond, eqb, List, [], ◌∷◌, ◌++◌}
-use Rattle.std.proofs.Common.{length, get_or, take, drop, Option, None, Some, is_some, IfSome, refl, ap, ◌∙◌}
+use Rattle.std.proofs.Common.{length, get_or, take, drop, Option, None, Some, is_some, IfSome, ap, ◌∙◌}
 use Rattle.std.proofs.Common.{arith, append_assoc}
 use Rattle.std.proofs.lemmas.List.{drop_at}
 use Rattle.std.specs.Int.{w32, w64, from_be_bytes, to_be_bytes}
@@ -21,26 +21,19 @@ behind b rest front back n is whole long = is ∙ ap (drop n) whole ∙ drop_at 
 
 -- a place has 16 bytes
 length-place : (p : Option Point) → length (place_bytes p) ≡ 16
-length-place None = refl
-length-place (Some p) = refl
+length-place p = grind arith
 
 -- a number below 2 ^ 56 in 8 bytes begins with a zero
 deviation_wide : (n : ℕ) → n ≤ largest_value → 0 ∷ number_bytes 7 n ≡ to_be_bytes w64 n
-deviation_wide n small = let none : 0 ≡ n / 72057594037927936 % 256 =
-    omega arith in ap (λ b. b ∷ number_bytes 7 n) none
+deviation_wide n small = grind arith
 
 -- one below 2 ^ 48 with two
 time_wide : (n : ℕ) → n ≤ last_time → 0 ∷ 0 ∷ number_bytes 6 n ≡ to_be_bytes w64 n
-time_wide n small =
-    let first : 0 ≡ n / 72057594037927936 % 256 = omega arith in
-    let second : 0 ≡ n / 281474976710656 % 256 = omega arith in
-    ap (λ b. b ∷ 0 ∷ number_bytes 6 n) first ∙ ap (λ b. (n / 72057594037927936 % 256) ∷ b ∷ number_bytes 6 n)
-    second
+time_wide n small = grind arith
 
 -- so they are read
 deviation_read : (n : ℕ) → n ≤ largest_value → from_be_bytes w64 (0 ∷ number_bytes 7 n) ≡ n
-deviation_read n small = ap (from_be_bytes w64) (deviation_wide n small)
-    ∙ from_be_bytes-to_be_bytes_8 n (omega arith)
+deviation_read n small = grind (arith, deviation_wide, from_be_bytes-to_be_bytes_8)
 
 time_read : (n : ℕ) → n ≤ last_time → from_be_bytes w64 (0 ∷ 0 ∷ number_bytes 6 n) ≡ n
 time_read n small = ap (from_be_bytes w64) (time_wide n small) ∙ from_be_bytes-to_be_bytes_8 n (omega arith)
@@ -158,10 +151,8 @@ parts_read s b r1 r2 r3 r4 r5 r6 r7 r8 there whole is e1 e2 flag e3 e4 e5 e6 e7 
 pub tuning_some : (o : Option Tuning) (r : List ℕ) (t : Tuning) → is_some o ≡ true → IfSome o TuningInRange → r
     ≡ tuning_bytes o
     → ((u : Tuning) → TuningInRange u → r ≡ tuning_bytes (Some u) → t ≡ u) → Some t ≡ o
-tuning_some None r t there tuned is reads = absurd (cc (there))
-tuning_some (Some u) r t there tuned is reads = ap Some (reads u tuned is)
+tuning_some o r t there tuned is reads = grind arith
 
 -- and one that is not
 pub tuning_none : (o : Option Tuning) → is_some o ≡ false → None ≡ o
-tuning_none None absent = refl
-tuning_none (Some u) absent = absurd (cc (absent))
+tuning_none o absent = grind arith

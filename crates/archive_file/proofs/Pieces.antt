@@ -1,5 +1,5 @@
 -- Pieces of an image: what is known of a piece holds of the image.
-use Rattle.std.proofs.Common.{◌≡◌, inl, inr, ℕ, ◌+◌, ◌-◌, ◌<◌, ◌≤◌, min, All, List, [], ◌∷◌, ◌++◌, length, get_or, take, drop, map, nat_eq, Bool, true, Option, Some, sym, ap, ◌∙◌, subst, arith, lit<, length-append, length-take, length-drop}
+use Rattle.std.proofs.Common.{◌≡◌, ℕ, ◌+◌, ◌-◌, ◌<◌, ◌≤◌, min, All, List, [], ◌∷◌, ◌++◌, length, get_or, take, drop, map, nat_eq, Bool, true, Option, sym, ap, ◌∙◌, subst, arith, lit<, length-append, length-take, length-drop}
 use Rattle.std.proofs.Math.Seq.{get_or-append_seam}
 use Rattle.std.proofs.lemmas.List.{drop-drop, drop-take, map-append, take-take}
 use Rattle.std.proofs.lemmas.List.Elements.{All-map}
@@ -9,7 +9,7 @@ use Rattle.disk_model.specs.Gates.{IsBegun}
 use Rattle.disk_model.specs.Traces.{Trace}
 use Rattle.archive_file.specs.declared.layout_field.Field.{Field}
 use Rattle.archive_file.specs.LayoutFields.{Breaks, BreaksFirst, Keeps, Spells, long_at, short_at}
-use Rattle.archive_file.specs.TextHeads.{IsOfText, head_fields, letter_field}
+use Rattle.archive_file.specs.TextHeads.{IsOfText, head_fields}
 use Rattle.archive_file.proofs.FieldLaws.{all_six, field_of}
 use Rattle.archive_file.proofs.LayoutSpellings.{byte_of}
 use Rattle.archive_file.proofs.ReadImages.{shows_both}
@@ -34,10 +34,7 @@ pub record IsWithin (n : ℕ) (f : Field) : Type 0 where
 
 -- a refused piece breaks within it, or at its end
 pub breaks_low : (p : List ℕ) (fields : List Field) (a : ℕ) (byte : Option ℕ) → BreaksFirst p fields a byte → a ≤ length p
-breaks_low p fields a byte first = elim first.breaks [
-  | inl ends ↦ omega (arith, ends.place)
-  | inr broken ↦ omega (arith, broken.place, broken.there)
-]
+breaks_low p fields a byte first = grind arith
 
 module _ (c : List ℕ) (from size : ℕ) where
   -- bytes that were asked for are those of the image
@@ -81,17 +78,7 @@ module _ (c : List ℕ) (from size : ℕ) where
   -- a field that was asked for is broken if it is broken in the piece
   piece_breaks : (f : Field) (a : ℕ) (byte : Option ℕ) → from ≤ length c → IsWithin size f → Breaks (piece_of c from size) f a byte
       → Breaks c (moved from f) (from + a) byte
-  piece_breaks f a byte starts within (inl ends) = inl (record {
-    short = omega (arith, ends.short, within.ends, piece_long c from size);
-    place = omega (arith, ends.place, ends.short, within.ends, piece_long c from size);
-    none_there = ends.none_there;
-  })
-  piece_breaks f a byte starts within (inr broken) = inr (record {
-    there = omega (arith, broken.there, piece_long c from size);
-    broken = broken.broken;
-    place = ap (λ n. from + n) broken.place;
-    byte_there = broken.byte_there ∙ ap Some (piece_byte a (omega (arith, broken.place, within.some, within.ends)));
-  })
+  piece_breaks f a byte starts within h = grind (arith, piece_long, piece_byte)
 
   -- so is the first of them
   pub piece_first : (fields : List Field) (a : ℕ) (byte : Option ℕ) → from ≤ length c → All (IsWithin size) fields
@@ -151,13 +138,7 @@ module _ (c : List ℕ) (size : ℕ) where
     size_within = record { some = lit< tt; ends = omega arith }
 
     head_within : All (IsWithin size) (head_fields letters (piece_of c 0 size))
-    head_within =
-        let p = piece_of c 0 size in
-        all_six (IsWithin size) (letter_field p 1 (get_or letters 0 0)) (letter_field p 2 (get_or letters 1 0))
-        (letter_field p 3 (get_or letters 2 0)) (letter_field p 4 (get_or letters 3 0)) (field_of 5 4 true)
-        (field_of 9 (short_at p 5 + 1) true)
-        (letter_within 1 _ (lit< tt)) (letter_within 2 _ (lit< tt)) (letter_within 3 _ (lit< tt)) (letter_within 4 _ (lit< tt))
-        size_within text_within
+    head_within = grind (arith, all_six, field_of, letter_within, size_within, text_within)
 
     pub piece_text : (text : List ℕ) → IsOfText letters text (piece_of c 0 size) → IsOfText letters text c
     piece_text text is = record {

@@ -1,5 +1,5 @@
 -- Bytes that are at a place of an image, part by part, and those in front of a place.
-use Rattle.std.proofs.Common.{◌≡◌, inl, ℕ, ◌+◌, ◌<◌, ◌≤◌, List, [], ◌∷◌, ◌++◌, length, get_or, take, drop, refl, sym, ap, ◌∙◌, arith, lit<, length-append, length-take, length-drop}
+use Rattle.std.proofs.Common.{◌≡◌, ℕ, ◌+◌, ◌<◌, ◌≤◌, List, [], ◌∷◌, ◌++◌, length, get_or, take, drop, refl, sym, ap, ◌∙◌, arith, lit<, length-append, length-take, length-drop}
 use Rattle.std.proofs.Math.Seq.{take-add}
 use Rattle.std.proofs.lemmas.Grind.{same_number_lists}
 use Rattle.std.proofs.lemmas.List.{get_or-take, get_or-drop, drop-drop, take-take, take_at}
@@ -36,13 +36,11 @@ holds_right c at xs ys holds =
 -- one of them
 pub holds_byte : (c : List ℕ) (at : ℕ) (bytes : List ℕ) (i : ℕ) → Holds at bytes c → i < length bytes
     → get_or c (at + i) 0 ≡ get_or bytes i 0
-holds_byte c at bytes i holds low =
-    sym (get_or-take (length bytes) (drop at c) i 0 low ∙ get_or-drop at c i 0) ∙ ap (λ l. get_or l i 0) holds
+holds_byte c at bytes i holds low = grind (arith, get_or-take, get_or-drop, holds)
 
 -- and the image is long enough
 pub holds_there : (c : List ℕ) (at : ℕ) (bytes : List ℕ) → Holds at bytes c → 0 < length bytes → at + length bytes ≤ length c
-holds_there c at bytes holds some =
-    omega (arith, ap length holds, length-take (length bytes) (drop at c), length-drop at c)
+holds_there c at bytes holds some = grind (arith, holds, length-take, length-drop)
 
 -- a byte that was written
 pub written_byte : (s : List ℕ) (at byte : ℕ) → at ≤ length s → get_or (written s at (byte ∷ [])) at 0 ≡ byte
@@ -61,20 +59,11 @@ pub record SameFront (n : ℕ) (d c : List ℕ) : Type 0 where
 
 -- so is a part of them
 pub part_same : (n at size : ℕ) (d c : List ℕ) → SameFront n d c → at + size ≤ n → take size (drop at c) ≡ take size (drop at d)
-part_same n at size d c front within = same_number_lists (take size (drop at c)) (take size (drop at d))
-    (omega (arith, length-take size (drop at c), length-take size (drop at d), length-drop at c, length-drop at d, front.before, front.now))
-    (λ k low.
-    let inside : k < size = omega (arith, low, length-take size (drop at c)) in
-    (get_or-take size (drop at c) k 0 inside ∙ get_or-drop at c k 0) ∙ front.same (at + k) (omega arith)
-    ∙ sym (get_or-take size (drop at d) k 0 inside ∙ get_or-drop at d k 0))
+part_same n at size d c front within = grind (arith, same_number_lists, size, length-take, length-drop, get_or-take, get_or-drop)
 
 -- in front of the gate nothing is written
 pub guarded_front : (d c bytes : List ℕ) (at : ℕ) → IsGuarded (at + 1) bytes at d c → at < length d → SameFront at d c
-guarded_front d c bytes at guarded low = record {
-  before = omega (arith, low);
-  now = omega (arith, low, guarded.no_shorter);
-  same = λ i before. guarded.outside i (omega (arith, before, low)) (inl (omega (arith, before))) (λ e. absurd (omega (arith, e, before)));
-}
+guarded_front d c bytes at guarded low = grind arith
 
 -- ---- a block after a gate
 

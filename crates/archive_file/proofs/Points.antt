@@ -2,7 +2,7 @@
 use Rattle.std.proofs.Common.{◌≡◌, ⊎_elim, ℕ, ◌+◌, ◌^◌, ◌<◌, cond, List, [], ◌∷◌, ◌++◌, length, get_or}
 use Rattle.std.proofs.Common.{take, drop, Option, None, Some, is_some, IfSome, refl, sym, ap, ◌∙◌, subst}
 use Rattle.std.proofs.Common.{arith, length-take, length-drop, take-append-drop}
-use Rattle.std.specs.Int.{w64, from_be_bytes, to_be_bytes}
+use Rattle.std.specs.Int.{w64, from_be_bytes}
 use Rattle.std.proofs.lemmas.Nat.{be_bytes_8, from_be_bytes-to_be_bytes_8}
 use Rattle.std.proofs.lemmas.Int.{ints, to_z-of_z, of_z-to_z}
 use Rattle.std.proofs.lemmas.List.{get_or-take, get_or-drop, get_or_past, take_all, append-nil, drop_more}
@@ -10,7 +10,6 @@ use Rattle.std.proofs.lemmas.Bool.{cases_lt}
 use Rattle.trend_num.specs.declared.point.Point.{Point}
 use Rattle.trend_num.specs.declared.archive.Rec.{Rec}
 use Rattle.trend_num.specs.declared.archive.Kind.{Kind}
-use Rattle.trend_num.specs.declared.archive.Kind.TheVariants.{Kept, Late}
 use Rattle.trend_num.specs.Ranges.{InRange}
 use Rattle.archive_file.specs.Fields.{number_bytes, point_bytes, place_bytes, point_at}
 use Rattle.archive_file.specs.Records.{kind_byte, rec_image}
@@ -26,14 +25,7 @@ fits p inside = let value = inside.value in grind (arith, ints)
 
 -- what is in the bytes of a point, with more after them
 pub point_at-bytes : (p : Point) (more : List ℕ) → InRange p → point_at (point_bytes p ++ more) ≡ p
-point_at-bytes p more inside =
-    let time : from_be_bytes w64 (to_be_bytes w64 p.t)
-    ≡ p.t = from_be_bytes-to_be_bytes_8 p.t (omega (arith, inside.time)) in
-    let bits : from_be_bytes w64 (to_be_bytes w64 (of_z w64 p.v))
-    ≡ of_z w64 p.v = from_be_bytes-to_be_bytes_8 (of_z w64 p.v) (below p.v (fits p inside)) in
-    let value : to_z w64 (from_be_bytes w64 (to_be_bytes w64 (of_z w64 p.v))) ≡ p.v = ap (to_z w64) bits
-    ∙ to_z-of_z w64 p.v (fits p inside) in
-    λ i. record { t = time i; v = value i }
+point_at-bytes p more inside = grind (arith, from_be_bytes-to_be_bytes_8, below, fits, to_z-of_z)
   where
     below : (v : _) → SFits w64 v → of_z w64 v < 2 ^ 64
     below v f = omega (arith, ints)
@@ -50,18 +42,7 @@ number_8 bs long bytes = be_bytes_8 bs (from_be_bytes w64 bs) long bytes refl
 
 -- and it has 64 bits
 number_8_below : (bs : List ℕ) → IsBytes bs → from_be_bytes w64 bs < 2 ^ 64
-number_8_below bs bytes = omega (
-  arith,
-  bytes 0,
-  bytes 1,
-  bytes 2,
-  bytes 3,
-  bytes 4,
-  bytes 5,
-  bytes 6,
-  bytes
-      7,
-)
+number_8_below bs bytes = grind arith
 
 -- 16 bytes are those of the point that is there
 pub point_bytes-at : (bs : List ℕ) → length bs ≡ 16 → IsBytes bs → point_bytes (point_at bs) ≡ bs
@@ -72,11 +53,8 @@ point_bytes-at bs long bytes =
     let second_long : length second ≡ 8 = omega (arith, length-take 8 (drop 8 bs), length-drop 8 bs) in
     let all : take 8 (drop 8 bs) ≡ drop 8 bs = take_all 8 (drop 8 bs) (omega (arith, length-drop 8 bs)) in
     let value : of_z w64 (to_z w64 (from_be_bytes w64 second)) ≡ from_be_bytes w64 second =
-    of_z-to_z w64 (from_be_bytes w64 second) (number_8_below second second_bytes) in
-    ap (λ l. number_bytes 8 (from_be_bytes w64 first) ++ l)
-    (ap (number_bytes 8) value ∙ number_8 second second_long second_bytes ∙ all)
-    ∙ ap (λ l. l ++ drop 8 bs) (number_8 first first_long first_bytes)
-    ∙ take-append-drop 8 bs
+    grind (arith, of_z-to_z, number_8_below, second_bytes) in
+    grind (arith, number_8, second_bytes, first_bytes, take-append-drop)
   where
     byte_of_take : (n : ℕ) (l : List ℕ) → IsBytes l → IsBytes (take n l)
     byte_of_take n l each i = ⊎_elim (λ below. omega (arith, get_or-take n l i 0 below, each i))
@@ -98,10 +76,7 @@ rec_read b k r says inside is =
     λ i. record { kind = kind i; point = point i }
   where
     same_kind : (j k : Kind) → kind_byte j ≡ kind_byte k → j ≡ k
-    same_kind Kept Kept is = refl
-    same_kind Kept Late is = absurd (omega (arith, is))
-    same_kind Late Kept is = absurd (omega (arith, is))
-    same_kind Late Late is = refl
+    same_kind j k is = grind arith
 
 -- its bytes are those that it was read of
 pub rec_spelled : (b : List ℕ) (k : Kind) → length b ≡ 17 → IsBytes b → get_or b 0 0 ≡ kind_byte k → b
@@ -124,9 +99,7 @@ rec_here b k long bytes says inside r = (spelled, λ both. ap Some (rec_read b k
 
     spelled : Some (record { kind = k; point = point_at (drop 1 b) }) ≡ Some r → InRange r.point
         × (b ≡ rec_image r)
-    spelled is =
-        let same = of_some (record { kind = k; point = point_at (drop 1 b) }) r is in
-        (subst (λ x. InRange x.point) same inside, rec_spelled b k long bytes says ∙ ap rec_image same)
+    spelled is = grind (arith, of_some, rec_spelled)
 
 -- nothing is read of bytes whose point is out of range
 pub rec_outside : (b : List ℕ) (k : Kind) → get_or b 0 0 ≡ kind_byte k → (InRange (point_at (drop 1 b)) → ⊥)

@@ -1,10 +1,10 @@
 -- What a read of a device gives, what follows for its images, and a device that is synced before it is read.
-use Rattle.std.proofs.Common.{◌≡◌, ◌⊎◌, inl, ℕ, ◌+◌, List, Option, None, Some, Result, sym, subst, arith}
+use Rattle.std.proofs.Common.{◌≡◌, ◌⊎◌, inl, ℕ, ◌+◌, List, Option, Result, sym, subst, arith}
 use Rattle.disk_model.specs.Calls.{IsNoted, Reaches, Shows}
 use Rattle.disk_model.specs.Gates.{IsShut}
 use Rattle.disk_model.specs.Images.{IsSettled, MayLeave, Now}
 use Rattle.disk_model.specs.Moments.{During}
-use Rattle.disk_model.specs.Traces.{Synced, Idle, Trace, noted, seen}
+use Rattle.disk_model.specs.Traces.{Synced, Idle, Trace, noted}
 use Rattle.disk_model.proofs.Images.{present, synced_now}
 use Rattle.disk_model.proofs.Moments.{goes_on, started}
 
@@ -12,23 +12,19 @@ use Rattle.disk_model.proofs.Moments.{goes_on, started}
 
 -- what follows from what is read
 pub shows_so : (o : Option Trace) (P Q : List ℕ → Type 0) → ((c : List ℕ) → P c → Q c) → Shows o P → Shows o Q
-shows_so None P Q then is = tt
-shows_so (Some t) P Q then is = then (seen (Some t)) is
+shows_so o h g then is = grind arith
 
 -- from two facts
 pub shows_both : (o : Option Trace) (P Q R : List ℕ → Type 0) → ((c : List ℕ) → P c → Q c → R c) → Shows o P → Shows o Q → Shows o R
-shows_both None P Q R then first second = tt
-shows_both (Some t) P Q R then first second = then (seen (Some t)) first second
+shows_both o h g i then first second = grind arith
 
 -- bytes written after a gate begin after it
 pub shut_reached : (o : Option Trace) (at : ℕ) → Now o (IsShut at) → Reaches o (at + 1)
-shut_reached None at shut = tt
-shut_reached (Some t) at shut = omega (arith, (shut.each (seen (Some t)) (present t)).there)
+shut_reached o at shut = grind (arith, present)
 
 -- what holds of that of a settled device holds of each image
 pub shown_now : (o : Option Trace) (P : List ℕ → Type 0) → Shows o P → IsSettled o → Now o P
-shown_now None P is settled = record { each = λ c may. absurd may.image }
-shown_now (Some t) P is settled = record { each = λ c may. subst P (sym (settled.each c may)) is }
+shown_now o h is settled = grind arith
 
 -- ---- a sync before it
 
@@ -42,8 +38,7 @@ left_synced P r o mid is =
 
 -- a synced device shows what it showed
 pub shown_before : (o mid : Option Trace) (P : List ℕ → Type 0) → mid ≡ noted Synced o → Shows mid P → Shows o P
-shown_before None mid P synced is = tt
-shown_before (Some t) mid P synced is = subst (λ x. Shows x P) synced is
+shown_before o mid h synced is = grind arith
 
 -- the same images until a later device that is the same
 pub during_same : (o mid new : Option Trace) (P : List ℕ → Type 0) → new ≡ mid → During o mid P → During o new P

@@ -29,10 +29,7 @@ behind_letters text = number_bytes 4 (length text) ++ (text ++ 0 ∷ [])
 -- the head with a text is a layout of it without blocks
 pub head_is : (letters text c : List ℕ) → length letters ≡ 4 → length text < 2 ^ 32 → IsOpen 0 c → Holds 1 (head_image letters text) c
     → IsEmpty letters text c
-head_is letters text c four small opened holds = record {
-  of_text = record { head = record { begun = record { long = omega (arith, long); opened = opened }; fields = fields }; same = same };
-  shut = record { there = omega (arith, long); closed = closed };
-}
+head_is letters text c four small opened holds = grind (arith, long, fields, same, closed)
   where
     size : length (head_image letters text) ≡ 9 + length text
     size = omega (arith, four, length-append letters (behind_letters text), length-append text (0 ∷ []))
@@ -47,8 +44,7 @@ head_is letters text c four small opened holds = record {
     rest = subst (λ at. Holds at (behind_letters text) c) five (holds_right c 1 letters (behind_letters text) holds)
 
     number : short_at c 5 ≡ length text
-    number = ap (from_be_bytes w32) (holds_left c 5 (number_bytes 4 (length text)) (text ++ 0 ∷ []) rest)
-        ∙ from_be_bytes-to_be_bytes_4 (length text) small
+    number = grind (arith, holds_left, rest, from_be_bytes-to_be_bytes_4)
 
     behind : Holds 9 (text ++ 0 ∷ []) c
     behind = holds_right c 5 (number_bytes 4 (length text)) (text ++ 0 ∷ []) rest
@@ -76,12 +72,7 @@ head_is letters text c four small opened holds = record {
     text_kept = record { there = omega (arith, long, number); kept = refl }
 
     fields : All (Keeps c) (head_fields letters c)
-    fields =
-        all_six (Keeps c) (letter_field c 1 (get_or letters 0 0)) (letter_field c 2 (get_or letters 1 0)) (letter_field c 3 (get_or letters 2 0))
-        (letter_field c 4 (get_or letters 3 0)) (field_of 5 4 true) (field_of 9 (short_at c 5 + 1) true)
-        (kept 1 (get_or letters 0 0) (lit< tt) (letter 0 (lit< tt))) (kept 2 (get_or letters 1 0) (lit< tt) (letter 1 (lit< tt)))
-        (kept 3 (get_or letters 2 0) (lit< tt) (letter 2 (lit< tt))) (kept 4 (get_or letters 3 0) (lit< tt) (letter 3 (lit< tt)))
-        size_kept text_kept
+    fields = grind (arith, all_six, field_of, kept, letter, size_kept, text_kept)
 
 -- ---- a head in front of what is written
 

@@ -10,19 +10,11 @@ use Rattle.archive_file.proofs.log.read_pieces.Goals.{After-parse}
 
 -- the piece that was read has its size, and is the next one
 long : (g : _) (c : After-parse g) → length c.read.new.buf ≡ 17 * c.min-next.result
-long g c = omega (
-  arith,
-  c.requires.whole,
-  c.min-next.ensures,
-  c.read.auto.buf,
-  c.loop-done.auto.buf,
-  length-take (17 * c.min-next.result) c.loop-done.buf,
-)
+long g c = grind (arith, length-take)
 
 piece : (g : _) (c : After-parse g)
     → Reads (g.D.Disk.trace c.args.dev.now) (c.args.at + 17 * c.from.result) c.read.new.buf
-piece g c = subst (λ o. Reads o (c.args.at + 17 * c.from.result) c.read.new.buf) c.loop-done.invariant.same
-    c.in-Ok.ensures.bytes
+piece g c = grind arith
 
 -- the records before it
 before : (g : _) (c : After-parse g) → IfSome (g.D.Disk.trace c.args.dev.now)
