@@ -72,7 +72,9 @@ fn ended<R: Threads + Wait + Sync>(
 fn crashed(alloc: Global, store: &mut MemStore, pick: Pick) -> Result<MemStore, Fail> {
     let mut devices = Vec::new(alloc);
     for name in "T1.tag S1.tag g.grp".split(' ') {
-        let dev = store.device(name).map_err(|_| "a device")?;
+        let Ok(dev) = store.device(name) else {
+            return Err("a device".into());
+        };
         let left = dev.crash(pick).map_err(|_| "memory")?;
         store.give_back(name, dev);
         devices.push((String::from_str(alloc, name)?, left))?;
