@@ -1,7 +1,7 @@
 """board_tags.py: what a board has of a tag: its points in files of a month each, its windows for long times, and its row in the table.
 
 A tag's folder on the board has `head.js`, with all but the points, and a file of points for each month. A month with very many points is
-parted into ten days, days or hours. A tag that has nothing new is not written again, and of another one only what is new is read and written, as
+parted into ten days, days or hours. A tag with very many points has finer windows too (fine_windows.py). A tag that has nothing new is not written again, and of another one only what is new is read and written, as
 long as its points go on in order. A late value may change any window, so its tag is written anew."""
 import bisect
 import calendar
@@ -15,10 +15,11 @@ import shutil
 from compression import LATE, State, Tuning, raw_deviation
 from device_reader import content, read_device
 from devices import TAG_RECORDS
+from fine_windows import FineWindows, fine_width, read_fine
 from line_windows import Windows, width_for
 from tunings import stretches
 
-FORM = 1                    # of the files of a board; a board of another form is written anew
+FORM = 2                    # of the files of a board; a board of another form is written anew
 SMALL, MONTHS = 20_000, 36  # points, and files of points: a tag with more gets windows
 WINDOWS = 2_000             # of a tag's whole time, at most
 SPARK, SPARKS = 1_200_000, 72  # the windows of the last day in the table: how wide, how many
@@ -33,7 +34,7 @@ class TagPages:
 
     def __init__(self, board, name):
         self.name, self.folder = name, os.path.join(board, "tags", name + ".d")
-        self.known = self.windows = self.spark = None
+        self.known = self.windows = self.fine = self.spark = None
         self.parts, self.unclean, self.days, self.late = [], [], {}, 0
 
     # What stands there
@@ -47,6 +48,7 @@ class TagPages:
                 return False
             self.known = state_of(head["state"], step)
             self.windows = Windows(step=step, **head["kept"]) if head["kept"] else None
+            self.fine = read_fine(self.folder, step, head["fine"]) if head["fine"] else None
             self.spark = Windows(step=step, **head["spark"])
             self.parts, self.unclean, self.days, self.late = head["parts"], head["unclean"], dict(head["days"]), head["late"]
         except (OSError, ValueError, KeyError, TypeError):
@@ -92,9 +94,9 @@ class TagPages:
             self.parts.append([key, len(times), *ends])
         self.write(key + ".js", 'board.part("%s",%s,\n"%s",\n"%s")\n' % (key, json.dumps(late), *numbers))
 
-    def fits(self, times):
+    def fits(self, times, held):
         """Whether points go on where those stand that are there: behind the last one, which did not come late, in a file that does not
-        become too large, and in few enough windows."""
+        become too large, and in few enough windows, the held one too."""
         if not self.parts or not times:
             return bool(self.parts)
         last = self.parts[-1]
@@ -102,20 +104,27 @@ class TagPages:
             return False
         if self.windows is None:
             return not self.is_large(len(times))
-        return times[-1] // self.windows.width - self.windows.first < WINDOWS
+        width = fine_width(self.windows.width, WINDOWS, self.count() + len(times))
+        return held[0] // self.windows.width - self.windows.first < WINDOWS and width == (self.fine and self.fine.width)
 
     def is_large(self, more=0):
         """Whether the page would have to load too much to show the whole time from points. Then it gets windows."""
-        return sum(part[1] for part in self.parts) + more > SMALL or len(self.parts) > MONTHS
+        return self.count() + more > SMALL or len(self.parts) > MONTHS
+
+    def count(self):
+        """How many points the files have."""
+        return sum(part[1] for part in self.parts)
 
     def go_on(self, device):
         """Adds what is new of a device; whether that was possible."""
         kinds, times, values = device.all_records()
-        if LATE in kinds or not self.fits(times):
+        if LATE in kinds or not self.fits(times, device.state.held):
             return False
         self.put_points(times, values, None)
-        for windows in filter(None, (self.windows, self.spark)):
+        for windows in filter(None, (self.windows, self.fine, self.spark)):
             windows.add(times, values)
+        if self.fine:
+            self.fine.put(self, device.state.held, [])
         self.spark.forget(SPARKS)
         self.count_days(times)
         return True
@@ -127,16 +136,25 @@ class TagPages:
         self.begin()
         self.write("bars.js", "board.bars([])\n")
         self.put_points(times, values, is_late if 1 in is_late else None)
-        self.windows, self.spark, self.days = None, Windows(SPARK, step), {}
+        self.windows, self.fine, self.spark, self.days = None, None, Windows(SPARK, step), {}
         if self.is_large():
             self.windows = Windows(width_for(held[0] - times[0], WINDOWS), step)
             self.windows.add(times, values)
             self.unclean = unclean_windows(times, is_late, held, self.windows.width) if 1 in is_late else []
+            self.put_fine(times, values, is_late, held)
         before = times[-1] - DAY - 2 * SPARK if times else 0  # the first windows are forgotten: all that stay are whole
         since = max(0, bisect.bisect_left(times, before) - 1)
         self.spark.add(times[since:], values[since:])
         self.spark.forget(SPARKS)
         self.count_days([t for t in device.all_records()[1] if t >= held[0] - (DAYS + 1) * DAY] if held else [])
+
+    def put_fine(self, times, values, is_late, held):
+        """Writes the finer windows of all points, if these are many enough."""
+        width = fine_width(self.windows.width, WINDOWS, len(times))
+        if width:
+            self.fine = FineWindows(width, self.windows.step)
+            self.fine.add(times, values)
+            self.fine.put(self, held, unclean_windows(times, is_late, held, width) if 1 in is_late else [])
 
     def count_days(self, times):
         """Counts the records of each of the last days."""
@@ -158,7 +176,7 @@ class TagPages:
         state = device.state
         windows = self.windows
         return {"form": FORM, "state": kept_state(state), "kept": windows and windows.kept(), "tail": windows and windows.tail(state.held),
-                "spark": self.spark.kept(), "parts": self.parts,
+                "fine": self.fine and self.fine.about(), "spark": self.spark.kept(), "parts": self.parts,
                 "unclean": self.unclean, "days": sorted(self.days.items()), "held": state.held, "newest": state.newest(),
                 "promises": promises(device, notes)}
 

@@ -21,13 +21,15 @@ HERE = os.path.dirname(os.path.abspath(__file__))
 sys.path[:0] = [HERE, os.path.join(HERE, "testing")]
 import browser  # noqa: E402
 from browser import go, require_no_errors, wait_for  # noqa: E402
-from device_maker import device_bytes, tag_text, walk  # noqa: E402
+from device_maker import TUNING, device_bytes, tag_text, walk  # noqa: E402
 from fields import milliseconds  # noqa: E402
+from line_windows import Windows  # noqa: E402
 from plant import program_of  # noqa: E402
 from site_trial import TURN_OF_TIME, SiteTrial  # noqa: E402
 from trial import LINES, REFUSED, START, STEPS, Trial, decimal  # noqa: E402
 
 HOUR = 3_600_000
+MONTH = 720 * HOUR
 CELLS = "return [...document.querySelectorAll('#tags tbody tr:not([hidden])')].map(row => [...row.cells].map(cell => cell.innerText))"
 HACK = "<script>window.hacked = 1</script><img src=x onerror='window.hacked = 1'>&amp;\"'"
 STRANGE = [".", "..", "-", "_", ".hidden", "a.b-c_D9", "A.d", "A", "x" * 64, "head.js", "index.html", "0", "__proto__", "constructor"]
@@ -256,6 +258,81 @@ def thousand_tags(driver, folder, program):
     require_no_errors(driver)
 
 
+def dense_plant(folder, program):
+    """A plant with a line and a stair of 400,000 points each, in which lies one late point, and in a month one peak and one hollow: the two
+    lines, when that month begins, and the late point."""
+    trial, lines = Trial(os.path.join(folder, "dense"), program), {}
+    os.makedirs(trial.path("historian.d"))
+    trial.write("base.toml", tag_text("LINE") + tag_text("STAIR", step=True))
+    for place, name in enumerate(("LINE", "STAIR")):
+        line = lines[name] = walk(400_000, 30_000, 5 + place)
+        for at, by in ((171_111, 90_000), (188_888, -90_000)):
+            line[at] = line[at][0], line[at][1] + by
+        late = line[180_000][0] + 15_000, line[180_000][1] + 7
+        with open(trial.path("historian.d", name + ".tag"), "wb") as out:
+            out.write(device_bytes(name, line, 2 * len(line), name == "STAIR", [late]))
+        line.insert(180_001, late)
+    return trial, lines, line[150_000][0] + 12_345, late[0]
+
+
+def month_of_many_points(driver, folder, program):
+    """A month, and a week, with too many points to draw each are drawn from finer windows, and no point is loaded. The lowest and the highest
+    value are those that ask.py gives, of a line and of a stair. Each row has the lowest and the highest value of its own time, and the band
+    around these, but beside a late point, where nothing is promised. A shorter span is drawn from points."""
+    trial, lines, month, late = dense_plant(folder, program)
+    board = written(trial)
+    for name, line in lines.items():
+        go(driver, os.path.join(board, "tags", name + ".html"))
+        driver.execute_script("page.pieces[0].files.clear()")
+        for first, last in ((month, month + MONTH), (late - 60 * HOUR, late + 108 * HOUR)):
+            zoomed(driver, first, last)
+            assert driver.execute_script("return [page.drawn.points, page.pieces[0].files.size]") == [None, 0], (name, first)
+            rows = driver.execute_script("return page.drawn.rows.filter(row => row[0] >= arguments[0] && row[0] < arguments[1])", first, last)
+            assert 900 < len(rows) <= 2_000, (name, len(rows))
+            shown = min(row[3][0] for row in rows), max(row[3][2] for row in rows)
+            asked = list(csv.DictReader(io.StringIO(trial.tool("ask.py", *("%s,%s,%d,%d" % (what, name, first, last) for what in ("low", "high")))[1])))
+            assert last - first < MONTH or shown == tuple(float(row["value"]) for row in asked), (name, shown, asked)
+            rows_are_of_the_line(rows, line, name == "STAIR", late)
+        zoomed(driver, month, month + HOUR)
+        assert shown_points(driver, month, month + HOUR) == [[t, decimal(v, 10), "kept"] for t, v in line if month <= t <= month + HOUR]
+        require_no_errors(driver)
+    nothing_in_a_gap(driver, month + MONTH // 3, month + MONTH // 2, month)
+
+
+def rows_are_of_the_line(rows, line, step, late):
+    """Fails unless each row has the lowest and the highest value that the line has in the row's time, and its bands are the tuning's around
+    these; at a late point a few rows have none."""
+    width = round(rows[1][0] - rows[0][0])
+    windows = Windows(width, step)
+    windows.add(*zip(*line))
+    wide, bare = TUNING[2] + (1 if step else 2) * TUNING[0], []
+    for t, outer, inner, (low, mean, high) in rows:
+        place = int(t // width) - windows.first
+        assert abs(10 * low - windows.low[place]) < 1.01 and abs(10 * high - windows.high[place]) < 1.01 and low <= mean <= high, (step, t, low, high)
+        if outer is None:
+            assert inner is None
+            bare.append(t)
+            continue
+        for band, by in ((outer, wide), (inner, TUNING[2])):
+            assert abs(10 * (low - band[0]) - by) < 1e-6 and abs(10 * (band[2] - high) - by) < 1e-6, (step, t, band)
+    assert 1 <= len(bare) <= 3 and all(abs(t - late) <= 2 * width for t in bare), (bare, late)
+
+
+def nothing_in_a_gap(driver, until, since, first):
+    """Parts the time of the page's tag, as a site does, and fails if something is drawn from finer windows between the two parts."""
+    driver.execute_script("""const head = page.head, name = page.name;
+        page.pieces = [{folder: "", until: arguments[0]}, {folder: "", from: arguments[1]}].map(given => Object.assign(new Piece(name, given), {head}))""",
+                          until, since)
+    zoomed(driver, first, first + MONTH)
+    assert driver.execute_script("return page.pieces.map(piece => piece.fine.size > 0 && piece.files.size)") == [0, 0]
+    rows = driver.execute_script("return page.drawn.rows")
+    before, after = [row[0] for row in rows if row[0] < until and row[3]], [row[0] for row in rows if row[0] >= since and row[3]]
+    between = [row for row in rows if before[-1] < row[0] < after[0]]
+    assert len(between) == 1 and between[0][1:] == [None, None, None], between
+    assert until - before[-1] < 2 * HOUR and after[0] - since < 2 * HOUR, (before[-1], after[0])
+    require_no_errors(driver)
+
+
 def tags_of_a_site(driver, folder, program):
     """The board of a site has one page for each tag. A tag whose values lie in two parts by time has the points of both, as site.py tells
     them, from points and from windows, and no line, no band and no promise between the last one of a part and the first one of the next."""
@@ -310,7 +387,7 @@ def nothing_between_parts(driver, points):
 def cases_of(folder, program, only):
     """Runs the cases with one browser: a name and what went wrong, or nothing, for each."""
     fed = [table_of_tags, day_of_points, band_under_the_pointer]
-    own = [strange_plants, thousand_tags, tags_of_a_site]
+    own = [strange_plants, thousand_tags, month_of_many_points, tags_of_a_site]
     chosen = [case for case in fed + own if not only or case.__name__.startswith(tuple(only))]
     given = fed_plant(folder, program) if set(chosen) & set(fed) else None
     with browser.opened() as driver:

@@ -310,6 +310,7 @@ board.audit = function (results) {
 // A file of data belongs to the piece whose script element brings it.
 const pieceOfScript = () => page.pieces[document.currentScript.dataset.piece];
 board.part = (...words) => pieceOfScript().addFile(...words);
+board.fine = (...words) => pieceOfScript().addFine(...words);
 board.head = head => { pieceOfScript().head = head; };
 
 // What the heads of all pieces say: the newest one's, and the sums of all.

@@ -1,10 +1,16 @@
 "use strict";
 // What the board has of a tag's archive, and the rows that are drawn of it. The values of a time stand in one piece: a tag of a plant has one
-// piece, a tag of a site one for each part. A long time is drawn from windows, a short one from points, which come in files of a month or less
-// each and are loaded when they are wanted. What is drawn is always a few thousand rows. Between two pieces there is nothing.
+// piece, a tag of a site one for each part. A long time is drawn from windows, a shorter one that has many points from finer windows, and a short
+// one from points. Finer windows and points come in files, and are loaded when they are wanted. What is drawn is always a few thousand rows.
+// Between two pieces there is nothing.
 
 const MOST_DRAWN = 3000;     // points that are drawn one by one
 const MOST_LOADED = 200000;  // points that are loaded for one view
+const MOST_POINTS = 5000;    // points in sight: of more, windows are loaded where there are enough of them
+const ENOUGH = 1000;         // windows in sight with which no finer ones are wanted
+const FEWEST_FINE = 400;     // finer windows in sight: were there fewer, points are drawn
+const MOST_FINE = 32768;     // finer windows that are loaded for one view
+const FINE_ROWS = 2000;      // rows that are made of them
 
 // The place of the last time that is at most t; -1 before the first.
 function placeOf(times, t) {
@@ -22,6 +28,7 @@ class Piece {
     Object.assign(this, {folder: `${given.folder}${tag}.d/`, from: given.from ?? -Infinity, until: given.until ?? Infinity, name: given.name});
     this.head = this.windows = null;
     this.files = new Map();
+    this.fine = new Map();
   }
 
   // From when to when there are points, and whether some of them are not of this piece's time.
@@ -44,6 +51,72 @@ class Piece {
     for (let place = 1; place < times.length; place += 1) times[place] += times[place - 1];
     for (const place of late) file.late[place] = 1;
     this.files.set(key, file);
+  }
+
+  // Finer windows: the lowest value of each as it differs from the one before, what the highest and the mean are above it, and the first and
+  // last one of each stretch where something came late. A file of another writing than the head's is of no use.
+  addFine(width, first, unclean, ...texts) {
+    if (!this.head.fine || width !== this.head.fine.width) return;
+    const [low, spread, mean] = texts.map(text => Float64Array.from(JSON.parse("[" + text + "]")));
+    for (let place = 1; place < low.length; place += 1) low[place] += low[place - 1];
+    this.fine.set(Math.floor(first / this.head.fine.each), {first, unclean, low, high: low.map((v, place) => v + spread[place]),
+      mean: low.map((v, place) => v + mean[place])});
+  }
+
+  // About how many points a span of time has.
+  countIn(from, to) {
+    const share = ([, count, first, , last]) => last > first ? count * Math.max(0, Math.min(to, last) - Math.max(from, first)) / (last - first) : 1;
+    return this.head.parts.filter(part => part[4] >= from && part[2] <= to).reduce((sum, part) => sum + share(part), 0);
+  }
+
+  // The finer windows that a span of time needs, with one row more on each side: so many make a row, and the first and the last row.
+  fineRange(from, to) {
+    const {width, first, last} = this.head.fine, number = t => Math.min(last, Math.max(first, Math.floor(t / width)));
+    const start = number(Math.max(from, this.from)), end = number(Math.min(to, this.until)), each = Math.ceil((end - start + 1) / FINE_ROWS);
+    const row = window => Math.floor(window / each);
+    return {each, count: end - start + 1, start: Math.max(row(first), row(start) - 1), end: Math.min(row(last), row(end) + 1)};
+  }
+
+  // The files of them.
+  fineKeys(from, to) {
+    const {each, start, end} = this.fineRange(from, to), {first, last, each: inFile} = this.head.fine, keys = [];
+    const until = Math.floor(Math.min(last, (end + 1) * each - 1) / inFile);
+    for (let key = Math.floor(Math.max(first, start * each) / inFile); key <= until; key += 1) keys.push(key);
+    return keys;
+  }
+
+  // The finer windows of a span of time, as many in one as rows need.
+  fineWindows(from, to) {
+    const {each, start, end} = this.fineRange(from, to), count = end - start + 1, late = new Set();
+    const [low, high, sum, number] = [Infinity, -Infinity, 0, 0].map(value => new Float64Array(count).fill(value));
+    for (const key of this.fineKeys(from, to)) {
+      const file = this.fine.get(key);
+      if (!file) continue;
+      for (let at = Math.max(0, start * each - file.first), until = Math.min(file.low.length, (end + 1) * each - file.first); at < until; at += 1) {
+        const place = Math.floor((file.first + at) / each) - start;
+        if (file.low[at] < low[place]) low[place] = file.low[at];
+        if (file.high[at] > high[place]) high[place] = file.high[at];
+        sum[place] += file.mean[at];
+        number[place] += 1;
+      }
+      for (const [a, b] of file.unclean) for (let row = Math.floor(a / each); row <= Math.floor(b / each); row += 1) late.add(row);
+    }
+    return {low, high, mean: sum.map((all, place) => all / number[place]), first: start, width: each * this.head.fine.width, late: row => late.has(row)};
+  }
+
+  // Of what a span of time is drawn that has many points: "windows", "fine" ones or "points".
+  kindFor(from, to, isFar) {
+    const {kept, fine} = this.head, inSight = windows => (to - from) / windows.width;
+    if (kept && inSight(kept) >= ENOUGH) return "windows";
+    if (fine && inSight(fine) >= FEWEST_FINE && this.fineRange(from, to).count <= MOST_FINE) return "fine";
+    return kept && isFar ? "windows" : "points";
+  }
+
+  // The files that a span of time needs: their names without the end.
+  filesFor(kind, wanted, from, to) {
+    if (kind === "windows") return [];
+    if (kind === "fine") return this.fineKeys(from, to).filter(key => !this.fine.has(key)).map(key => "fine" + key);
+    return (this.head.kept ? wanted.keys : this.head.parts.map(part => part[0])).filter(key => !this.files.has(key));
   }
 
   // The files of points that a span of time needs, with one more point on each side, and how many points they have.
@@ -112,15 +185,22 @@ class Piece {
     return rows;
   }
 
-  // The points of a span of time as rows: one by one, or in windows.
-  insideRows(points, from, to, oneByOne) {
+  // The rows of a span of time: finer windows, or its points one by one or in windows.
+  insideRows(points, from, to, oneByOne, kind = "points") {
+    if (kind === "fine") return this.fineRows(from, to);
     return !points.length ? [] : oneByOne ? pointRows(points, this.head) : this.windowRows(windowsOf(points, from, to, this.head.step), from, to);
   }
 
+  // Rows of finer windows. One in which nothing is known is left out.
+  fineRows(from, to) {
+    const windows = this.fineWindows(from, to), {first, width, low} = windows;
+    return this.windowRows(windows, first * width, (first + low.length - 1) * width).filter(row => Number.isFinite(row[3][0]));
+  }
+
   // The rows that show a span of time, whose points are given. Outside of it stand rows too, for the small picture of the whole time.
-  rowsFor(points, from, to, oneByOne) {
+  rowsFor(points, from, to, oneByOne, kind) {
     const rest = (a, b) => b <= a ? [] : this.keptWindows() ? this.windowRows(this.windows, a, b) : this.restRows(a, b);
-    const inside = this.insideRows(points, from, to, oneByOne);
+    const inside = this.insideRows(points, from, to, oneByOne, kind);
     if (!inside.length) return rest(this.first, this.last);
     const start = inside[0][0], end = inside[inside.length - 1][0];
     const left = rest(this.first, start).filter(row => row[0] < start), right = rest(end, this.last).filter(row => row[0] > end);
@@ -223,15 +303,15 @@ function joined(each) {
 // Calls `done` with the rows that show a span of time, and the points in it if these are drawn one by one.
 function rowsFor(pieces, from, to, done) {
   const wanted = pieces.map(piece => piece.needed(from, to)), isFar = wanted.reduce((sum, each) => sum + each.count, 0) > MOST_LOADED;
-  const byWindows = piece => isFar && piece.head.kept !== null;
+  const isDense = isFar || pieces.reduce((sum, piece) => sum + piece.countIn(from, to), 0) > MOST_POINTS;
+  const kinds = pieces.map((piece, place) => isDense && wanted[place].count ? piece.kindFor(from, to, isFar) : "points");
   const files = pieces.flatMap((piece, place) => {
-    const keys = byWindows(piece) ? [] : piece.head.kept ? wanted[place].keys : piece.head.parts.map(part => part[0]);
-    return keys.filter(key => !piece.files.has(key)).map(key => [`${piece.folder}${key}.js`, pieces.indexOf(piece)]);
+    return piece.filesFor(kinds[place], wanted[place], from, to).map(key => [`${piece.folder}${key}.js`, pieces.indexOf(piece)]);
   });
   loadAll(files, () => {
-    const points = pieces.map((piece, place) => byWindows(piece) ? [] : piece.pointsIn(wanted[place].keys, from, to));
-    const oneByOne = !isFar && points.flat().length <= MOST_DRAWN;
-    const rows = pieces.map((piece, place) => piece.rowsFor(points[place], from, to, oneByOne));
+    const points = pieces.map((piece, place) => kinds[place] === "points" ? piece.pointsIn(wanted[place].keys, from, to) : []);
+    const oneByOne = !isFar && kinds.every(kind => kind === "points") && points.flat().length <= MOST_DRAWN;
+    const rows = pieces.map((piece, place) => piece.rowsFor(points[place], from, to, oneByOne, kinds[place]));
     done(joined(rows), oneByOne ? points.flat() : null);
   });
 }

@@ -12,6 +12,7 @@ import unittest.mock
 import board
 import board_tags
 from device_maker import START, batch_put, device_bytes, tag_text, walk
+from fine_windows import EACH, FineWindows, columns, read_fine
 from line_windows import Windows
 from plant import Plant, Refusal
 from trial import LINES, REFUSED, STEPS, Trial, iso
@@ -138,7 +139,8 @@ def files_of_points(folder, program, settings):
 
 
 def large_tags(folder, program, settings):
-    """A tag with many points is parted into files of ten days, gets windows, and goes on in them. So does one without windows that grows."""
+    """A tag with many points is parted into files of ten days, gets windows, and goes on in them. So does one without windows that grows.
+    Finer windows are a fifth of the points' bytes at most, and only the last file of them is written anew."""
     trial = Trial(os.path.join(folder, "a"), program)
     without_library(trial)
     trial.write("base.toml", tag_text("LONG") + tag_text("GROWS"))
@@ -151,6 +153,9 @@ def large_tags(folder, program, settings):
     heads = {name: data_of(trial.path("board/tags", name + ".d/head.js")) for name in lines}
     assert heads["GROWS"]["kept"] is None and 1_000 <= len(heads["LONG"]["kept"]["low"]) < 2_000
     assert [part[:2] for part in heads["LONG"]["parts"]][-2:] == [["2024-04-1", 43_200], ["2024-04-2", 24_960]], heads["LONG"]["parts"]
+    fine = finer_files(trial)
+    points = sum(map(os.path.getsize, glob.glob(trial.path("board/tags/LONG.d/[0-9]*.js"))))
+    assert len(fine) == 2 and 0 < sum(map(len, fine.values())) <= points / 5 and heads["GROWS"]["fine"] is None, (len(fine), points)
     for name, line in lines.items():
         t, v = line[-1]
         values = [(t + 60_000 * (n + 1), v + 300 * (n % 2 * 2 - 1)) for n in range(6)]
@@ -161,11 +166,53 @@ def large_tags(folder, program, settings):
     assert heads["GROWS"]["kept"] is not None
     for name, line in lines.items():
         assert points_on(trial.path("board"), name) == line[:-1] and tuple(heads[name]["held"]) == line[-1], name
+    changed = [path for path, data in finer_files(trial).items() if fine.get(path) != data]
+    assert changed == [max(fine)] and heads["LONG"]["fine"]["last"] == lines["LONG"][-1][0] // heads["LONG"]["fine"]["width"], changed
     went_on = files_of(trial.path("board"))
     shutil.rmtree(trial.path("board/tags"))
     os.remove(trial.path("board/data/rows.json"))
     written(trial)
     assert files_of(trial.path("board")) == went_on
+
+
+def finer_files(trial):
+    """The files of finer windows on a board."""
+    return {path: data for path, data in files_of(trial.path("board")).items() if "/fine" in path}
+
+
+def finer_windows(folder, program, settings):
+    """Finer windows that get points in several goes lie in files as those of all points at once, and these are the windows of the line. A
+    stretch beside late points is told in each file into which it goes."""
+    pages, line = board_tags.TagPages(folder, "X"), walk(60_000, 1_000, 7)
+    os.makedirs(pages.folder)
+    for step in (False, True):
+        found = []
+        for parts in ((60_000,), (1, 20_000, 20_001, 60_000), tuple(range(5_000, 60_001, 5_000))):
+            for path in glob.glob(os.path.join(pages.folder, "*")):
+                os.remove(path)
+            fine, start = FineWindows(4_096, step), 0
+            for end in parts:
+                fine.add(*zip(*line[start:end]))
+                fine.put(pages, (line[end - 1][0] + 9_000, 5), [])
+                fine, start = read_fine(pages.folder, step, fine.about()), end
+            found.append(files_of(folder))
+        assert found[0] == found[1] == found[2] and len(found[0]) > 3, (step, [len(each) for each in found])
+        wanted = Windows(4_096, step)
+        wanted.add(*zip(*line))
+        tail = wanted.tail((line[-1][0] + 9_000, 5))
+        lists = [[], [], []]
+        for _, data in sorted(found[0].items()):
+            for place, column in enumerate(columns(data.decode().split("\n")[1:4])):
+                lists[place] += column
+        assert lists == [wanted.low + tail["low"], wanted.high + tail["high"], wanted.mean + tail["mean"]], step
+    first = fine.begin_at
+    edge = first // EACH * EACH + EACH
+    whole = FineWindows(4_096, True)
+    whole.add(*zip(*line))
+    whole.put(pages, line[-1], [[first, first + 1], [edge - 2, edge + 3]])
+    told = [json.loads("[%s]" % files_of(folder)["tags/X.d/fine%d.js" % (number // EACH)].decode().split("\n")[0][len("board.fine("):-1])[2]
+            for number in (first, edge)]
+    assert told == [[[first, first + 1], [edge - 2, edge - 1]], [[edge, edge + 3]]], told
 
 
 def trouble_on_the_board(folder, program, settings):
@@ -255,4 +302,4 @@ def board_in_words(folder, program, settings):
     assert trial.tool("board.py", "--outt", "x")[0] == 2
 
 
-CASES = [board_goes_on, windows_of_a_line, files_of_points, large_tags, trouble_on_the_board, feed_on_the_board, board_in_words]
+CASES = [board_goes_on, windows_of_a_line, files_of_points, large_tags, finer_windows, trouble_on_the_board, feed_on_the_board, board_in_words]

@@ -9,18 +9,18 @@ TAG = ('[[tag]]\nname = "%s"\ndescriptor = "a generated tag"\nengunits = "0.1 ba
        "comp_min = %d\ncomp_max = %d\n")
 
 
-def tag_text(name):
+def tag_text(name, step=False):
     """A tag of a base with the tuning of these devices."""
-    return TAG % (name, *TUNING)
+    return TAG % (name, *TUNING) + ("step = true\n" if step else "")
 
 
-def device_bytes(name, points, taken):
-    """A device that has these kept points, of which the last one is held."""
-    head = b"\xa5PHT1" + bytes([len(name)]) + name.encode().ljust(64, b"\0") + struct.pack(">5QI", *TUNING, SLOTS) + bytes(14)
+def device_bytes(name, points, taken, step=False, late=()):
+    """A device that has these kept points, of which the last one is held, and late ones."""
+    head = b"\xa5PHT1" + bytes([len(name)]) + name.encode().ljust(64, b"\0") + struct.pack(">5QIB", *TUNING, SLOTS, step) + bytes(13)
     last = struct.pack(">Qq", *points[-1])
     tuning = b"".join(number.to_bytes(width, "big") for number, width in zip(TUNING, (7, 6, 7, 6, 6)))
-    summary = struct.pack(">QI", taken, len(points)) + b"\x15\0\0\0" + last + bytes(16) + last + bytes(32) + tuning
-    records = b"".join(struct.pack(">cQq", b"K", *point) for point in points)
+    summary = struct.pack(">QI", taken, len(points) + len(late)) + b"\x15\0\0\0" + last + bytes(16) + last + bytes(32) + tuning
+    records = b"".join(struct.pack(">cQq", kind, *point) for kind, some in ((b"K", points), (b"L", late)) for point in some)
     return head + summary + bytes(128) + b"\xa5" + bytes(15) + bytes(SLOTS + 1_034 * SLOTS) + records
 
 
