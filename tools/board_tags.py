@@ -1,8 +1,8 @@
 """board_tags.py: what a board has of a tag: its points in files of a month each, its windows for long times, and its row in the table.
 
 A tag's folder on the board has `head.js`, with all but the points, and a file of points for each month. A month with very many points is
-parted into ten days, days or hours. A tag with very many points has finer windows too (fine_windows.py). A tag that has nothing new is not written again, and of another one only what is new is read and written, as
-long as its points go on in order. A late value may change any window, so its tag is written anew."""
+parted into ten days, days or hours. A tag with very many points has finer windows too (fine_windows.py). A tag that has nothing new is not
+written again, and of another one only what is new is read and written, as long as its points go on in order. A late value may change any window, so its tag is written anew."""
 import bisect
 import calendar
 import collections
@@ -97,10 +97,10 @@ class TagPages:
     def fits(self, times, held):
         """Whether points go on where those stand that are there: behind the last one, which did not come late, in a file that does not
         become too large, and in few enough windows, the held one too."""
-        if not self.parts or not times:
-            return bool(self.parts)
+        if not self.parts:
+            return False
         last = self.parts[-1]
-        if times[0] <= last[4] or last[6] or last[1] + len(times) > PART:
+        if times and (times[0] <= last[4] or last[6] or last[1] + len(times) > PART):
             return False
         if self.windows is None:
             return not self.is_large(len(times))

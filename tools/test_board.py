@@ -6,6 +6,7 @@ ends with 0. What the pages have to show comes from the rows that were fed, from
 each case, and last `N passed, N failed`; the exit status is 1 if a case fails."""
 import argparse
 import csv
+import glob
 import io
 import json
 import os
@@ -278,7 +279,8 @@ def dense_plant(folder, program):
 def month_of_many_points(driver, folder, program):
     """A month, and a week, with too many points to draw each are drawn from finer windows, and no point is loaded. The lowest and the highest
     value are those that ask.py gives, of a line and of a stair. Each row has the lowest and the highest value of its own time, and the band
-    around these, but beside a late point, where nothing is promised. A shorter span is drawn from points."""
+    around these, but beside a late point, where nothing is promised. A shorter span is drawn from points. Where finer windows are of another
+    writing than the page, the windows of the whole time are drawn."""
     trial, lines, month, late = dense_plant(folder, program)
     board = written(trial)
     for name, line in lines.items():
@@ -290,13 +292,30 @@ def month_of_many_points(driver, folder, program):
             rows = driver.execute_script("return page.drawn.rows.filter(row => row[0] >= arguments[0] && row[0] < arguments[1])", first, last)
             assert 900 < len(rows) <= 2_000, (name, len(rows))
             shown = min(row[3][0] for row in rows), max(row[3][2] for row in rows)
-            asked = list(csv.DictReader(io.StringIO(trial.tool("ask.py", *("%s,%s,%d,%d" % (what, name, first, last) for what in ("low", "high")))[1])))
-            assert last - first < MONTH or shown == tuple(float(row["value"]) for row in asked), (name, shown, asked)
+            if last - first == MONTH:  # else the edges may be lower or higher, and windows go beyond them
+                asked = trial.tool("ask.py", *("%s,%s,%d,%d" % (what, name, first, last) for what in ("low", "high")))[1]
+                assert shown == tuple(float(row["value"]) for row in csv.DictReader(io.StringIO(asked))), (name, shown, asked)
             rows_are_of_the_line(rows, line, name == "STAIR", late)
         zoomed(driver, month, month + HOUR)
         assert shown_points(driver, month, month + HOUR) == [[t, decimal(v, 10), "kept"] for t, v in line if month <= t <= month + HOUR]
         require_no_errors(driver)
     nothing_in_a_gap(driver, month + MONTH // 3, month + MONTH // 2, month)
+    of_another_writing(driver, board, month)
+
+
+def of_another_writing(driver, board, first):
+    """Fails unless a page draws the windows of the whole time where finer ones are narrower than its head says."""
+    go(driver, os.path.join(board, "tags", "LINE.html"))
+    width, whole = driver.execute_script("return [page.head.fine.width, page.head.kept.width]")
+    for path in glob.glob(os.path.join(board, "tags", "LINE.d", "fine*")):
+        with open(path) as text:
+            there = text.read()
+        with open(path, "w") as out:
+            out.write(there.replace("board.fine(%d," % width, "board.fine(%d," % (width // 2)))
+    zoomed(driver, first, first + MONTH)
+    rows = driver.execute_script("return page.drawn.rows.filter(row => row[0] > arguments[0] && row[0] < arguments[1])", first, first + MONTH)
+    assert len(rows) > 200 and {b[0] - a[0] for a, b in zip(rows, rows[1:])} == {whole}, (len(rows), whole)
+    require_no_errors(driver)
 
 
 def rows_are_of_the_line(rows, line, step, late):

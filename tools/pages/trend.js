@@ -85,13 +85,16 @@ class Piece {
     return keys;
   }
 
+  hasFine(from, to) {
+    return this.fineKeys(from, to).every(key => this.fine.has(key));
+  }
+
   // The finer windows of a span of time, as many in one as rows need.
   fineWindows(from, to) {
     const {each, start, end} = this.fineRange(from, to), count = end - start + 1, late = new Set();
     const [low, high, sum, number] = [Infinity, -Infinity, 0, 0].map(value => new Float64Array(count).fill(value));
     for (const key of this.fineKeys(from, to)) {
       const file = this.fine.get(key);
-      if (!file) continue;
       for (let at = Math.max(0, start * each - file.first), until = Math.min(file.low.length, (end + 1) * each - file.first); at < until; at += 1) {
         const place = Math.floor((file.first + at) / each) - start;
         if (file.low[at] < low[place]) low[place] = file.low[at];
@@ -191,10 +194,9 @@ class Piece {
     return !points.length ? [] : oneByOne ? pointRows(points, this.head) : this.windowRows(windowsOf(points, from, to, this.head.step), from, to);
   }
 
-  // Rows of finer windows. One in which nothing is known is left out.
   fineRows(from, to) {
     const windows = this.fineWindows(from, to), {first, width, low} = windows;
-    return this.windowRows(windows, first * width, (first + low.length - 1) * width).filter(row => Number.isFinite(row[3][0]));
+    return this.windowRows(windows, first * width, (first + low.length - 1) * width);
   }
 
   // The rows that show a span of time, whose points are given. Outside of it stand rows too, for the small picture of the whole time.
@@ -309,6 +311,7 @@ function rowsFor(pieces, from, to, done) {
     return piece.filesFor(kinds[place], wanted[place], from, to).map(key => [`${piece.folder}${key}.js`, pieces.indexOf(piece)]);
   });
   loadAll(files, () => {
+    pieces.forEach((piece, place) => { if (kinds[place] === "fine" && !piece.hasFine(from, to)) kinds[place] = "windows"; }); // the board changed
     const points = pieces.map((piece, place) => kinds[place] === "points" ? piece.pointsIn(wanted[place].keys, from, to) : []);
     const oneByOne = !isFar && kinds.every(kind => kind === "points") && points.flat().length <= MOST_DRAWN;
     const rows = pieces.map((piece, place) => piece.rowsFor(points[place], from, to, oneByOne, kinds[place]));
