@@ -2,7 +2,8 @@
 
 A tag's folder on the board has `head.js`, with all but the points, and a file of points for each month. A month with very many points is
 parted into ten days, days or hours. A tag with very many points has finer windows too (fine_windows.py). A tag that has nothing new is not
-written again, and of another one only what is new is read and written, as long as its points go on in order. A late value may change any window, so its tag is written anew."""
+written again, and of another one only what is new is read and written, as long as its points go on in order. A late value may change any
+window, so its tag is written anew."""
 import bisect
 import calendar
 import collections
