@@ -95,7 +95,8 @@ class Piece {
     const [low, high, sum, number] = [Infinity, -Infinity, 0, 0].map(value => new Float64Array(count).fill(value));
     for (const key of this.fineKeys(from, to)) {
       const file = this.fine.get(key);
-      for (let at = Math.max(0, start * each - file.first), until = Math.min(file.low.length, (end + 1) * each - file.first); at < until; at += 1) {
+      const until = Math.min(file.low.length, (end + 1) * each - file.first);
+      for (let at = Math.max(0, start * each - file.first); at < until; at += 1) {
         const place = Math.floor((file.first + at) / each) - start;
         if (file.low[at] < low[place]) low[place] = file.low[at];
         if (file.high[at] > high[place]) high[place] = file.high[at];
@@ -311,7 +312,9 @@ function rowsFor(pieces, from, to, done) {
     return piece.filesFor(kinds[place], wanted[place], from, to).map(key => [`${piece.folder}${key}.js`, pieces.indexOf(piece)]);
   });
   loadAll(files, () => {
-    pieces.forEach((piece, place) => { if (kinds[place] === "fine" && !piece.hasFine(from, to)) kinds[place] = "windows"; }); // the board changed
+    pieces.forEach((piece, place) => { // the board may have changed since the page was opened
+      if (kinds[place] === "fine" && !piece.hasFine(from, to)) kinds[place] = "windows";
+    });
     const points = pieces.map((piece, place) => kinds[place] === "points" ? piece.pointsIn(wanted[place].keys, from, to) : []);
     const oneByOne = !isFar && kinds.every(kind => kind === "points") && points.flat().length <= MOST_DRAWN;
     const rows = pieces.map((piece, place) => piece.rowsFor(points[place], from, to, oneByOne, kinds[place]));
