@@ -86,9 +86,9 @@ class TagPages:
         later = [times[0] - (self.parts[-1][4] if goes_on else 0), *map(operator.sub, times[1:], times)]
         numbers = [str(list(column))[1:-1].replace(" ", "") for column in (later, values)]
         if goes_on:
-            with open(os.path.join(self.folder, key + ".js")) as text:
-                numbers = [there[1:-2] + "," + new for there, new in zip(text.read().split("\n")[1:3], numbers)]
             part = self.parts[-1]
+            with open(os.path.join(self.folder, key + ".js")) as text:
+                numbers = [first_numbers(there[1:-2], part[1]) + "," + new for there, new in zip(text.read().split("\n")[1:3], numbers)]
             part[1], part[4], part[5], part[6] = part[1] + len(times), times[-1], values[-1], 0
         else:
             ends = [times[0], values[0], times[-1], values[-1], int(late[-1:] == [len(times) - 1])]
@@ -180,6 +180,11 @@ class TagPages:
                 "fine": self.fine and self.fine.about(), "spark": self.spark.kept(), "parts": self.parts,
                 "unclean": self.unclean, "days": sorted(self.days.items()), "held": state.held, "newest": state.newest(),
                 "promises": promises(device, notes)}
+
+
+def first_numbers(text, count):
+    """The first of the numbers in a text. A board that was stopped may have left more of them than its head counts."""
+    return text if text.count(",") < count else ",".join(text.split(",", count)[:count])
 
 
 def unclean_windows(times, is_late, held, width):

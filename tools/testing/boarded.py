@@ -140,7 +140,8 @@ def files_of_points(folder, program, settings):
 
 def large_tags(folder, program, settings):
     """A tag with many points is parted into files of ten days, gets windows, and goes on in them. So does one without windows that grows.
-    Finer windows are a fifth of the points' bytes at most, and only the last file of them is written anew."""
+    Finer windows are a fifth of the points' bytes at most, and only the last file of them is written anew. A board that was stopped between
+    the points and the head of a tag has no point twice once it is written again."""
     trial = Trial(os.path.join(folder, "a"), program)
     without_library(trial)
     trial.write("base.toml", tag_text("LONG") + tag_text("GROWS"))
@@ -156,6 +157,7 @@ def large_tags(folder, program, settings):
     fine = finer_files(trial)
     points = sum(map(os.path.getsize, glob.glob(trial.path("board/tags/LONG.d/[0-9]*.js"))))
     assert len(fine) == 2 and 0 < sum(map(len, fine.values())) <= points / 5 and heads["GROWS"]["fine"] is None, (len(fine), points)
+    stood = {path: trial.read(path) for path in ("board/tags/LONG.d/head.js", "board/data/rows.json")}
     for name, line in lines.items():
         t, v = line[-1]
         values = [(t + 60_000 * (n + 1), v + 300 * (n % 2 * 2 - 1)) for n in range(6)]
@@ -169,6 +171,10 @@ def large_tags(folder, program, settings):
     changed = [path for path, data in finer_files(trial).items() if fine.get(path) != data]
     assert changed == [max(fine)] and heads["LONG"]["fine"]["last"] == lines["LONG"][-1][0] // heads["LONG"]["fine"]["width"], changed
     went_on = files_of(trial.path("board"))
+    for path, text in stood.items():
+        trial.write(path, text)
+    written(trial)
+    assert files_of(trial.path("board")) == went_on
     shutil.rmtree(trial.path("board/tags"))
     os.remove(trial.path("board/data/rows.json"))
     written(trial)
