@@ -28,6 +28,7 @@ use Rattle.plant_store.specs.Groups.{AllStaySame, AreBooksOpened, AreNamesOf, De
 use Rattle.plant_store.specs.BookRefusals.{CountsStore}
 use Rattle.plant_store.proofs.BookCauses.{back_is, front_of}
 use Rattle.plant_store.proofs.BookNames.{as_many, named_at}
+use Rattle.plant_status.proofs.Elements.{element}
 use Rattle.store_commands.specs.Replies.{Rows, rows_in}
 use Rattle.store_commands.specs.GroupRows.{AllGainSync, AreGroupsTold, AreRowsTold, cells_of, IsGroupTold, IsGroupRowsRefusal, IsTooMuchAt, OfCells, OfCopies, OfWant}
 use Rattle.store_commands.specs.Refreshing.{AreCutBooks, AreRefreshedOnce, AreWithinLimits, HaveDevicesOf, IsOverIn, IsOverSome, IsRefreshedOnce, book_cells, refresh_status}
@@ -109,42 +110,45 @@ all_told {D} trace ticks faults groups records old books closed hs many opened d
               one.changed (told.each i b h (omega (arith, below, many, devices.as_many)));
         })
 
--- the device of each is back, and stays the same
+-- the device of each is back under its name
+device_back : {D : Type 0} (trace : D → Option Trace) (ticks faults : D → ℕ) (groups : List GroupDef) (names : List (String Global))
+    (records : List (List Rec)) (old mid new : DeviceTraces) (books closed : List (ToldBook D)) → AreNamesOf groups names
+    → length books ≡ length groups → AreBooksOpened trace ticks faults groups records old books → HaveDevicesOf books closed
+    → AreGivenBack trace names closed mid new → (i : ℕ) (g : GroupDef) (b : ToldBook D) → i < length groups
+    → group_trace_at new (get_or groups i g) ≡ trace_of trace (get_or books i b).dev
+device_back trace ticks faults groups [] records old mid new books closed are many opened devices given i g b below =
+    absurd (omega (arith, below, as_many groups [] are))
+device_back trace ticks faults groups (s ∷ ss) records old mid new books closed are many opened devices given i g b below =
+    let book = opened.each i g b (omega (arith, below, many)) in
+    ap new (sym (named_at groups (s ∷ ss) i g s are below)) ∙ given i b s (omega (arith, below, many, devices.as_many))
+    (named_at groups (s ∷ ss) i g s are below ∙ sym book.named ∙ ap device_name_of (sym (devices.texts i b)))
+    ∙ ap (λ dev. trace_after trace dev (mid (string_bytes (get_or (s ∷ ss) i s)))) (devices.each i b)
+    ∙ back_is trace (get_or books i b).dev _ book.device
+
+-- and stays the same
 pub all_back : {D : Type 0} (trace : D → Option Trace) (ticks faults : D → ℕ) (groups : List GroupDef) (names : List (String Global))
     (records : List (List Rec)) (old mid new : DeviceTraces) (books closed : List (ToldBook D)) → AreNamesOf groups names
     → length books ≡ length groups → AreBooksOpened trace ticks faults groups records old books → HaveDevicesOf books closed
     → AreGivenBack trace names closed mid new → AllStaySame groups old new
-all_back trace ticks faults groups names records old mid new [] closed are many opened devices given i g below =
-    absurd (omega (arith, below, many))
-all_back trace ticks faults groups [] records old mid new (b ∷ bs) closed are many opened devices given i g below =
-    absurd (omega (arith, below, as_many groups [] are))
-all_back trace ticks faults groups (s ∷ ss) records old mid new (b ∷ bs) closed are many opened devices given i g below =
-    let book = opened.each i g b (omega (arith, below, many)) in
-    let is : group_trace_at new (get_or groups i g) ≡ trace_of trace (get_or (b ∷ bs) i b).dev =
-    ap new (sym (named_at groups (s ∷ ss) i g s are below)) ∙ given i b s (omega (arith, below, many, devices.as_many))
-    (named_at groups (s ∷ ss) i g s are below ∙ sym book.named ∙ ap device_name_of (sym (devices.texts i b)))
-    ∙ ap (λ dev. trace_after trace dev (mid (string_bytes (get_or (s ∷ ss) i s)))) (devices.each i b)
-    ∙ back_is trace (get_or (b ∷ bs) i b).dev _ book.device in
+all_back trace ticks faults groups names records old mid new books closed are many opened devices given i g below =
+    let there : i < length books = omega (arith, below, many) in
+    let b = element books i there in
     subst (λ o. During (group_trace_at old (get_or groups i g)) o
-    (BookStaysSame (group_definition_text (get_or groups i g)) (group_parts_of (get_or groups i g)) (group_trace_at old (get_or groups i g)))) (sym is) book.same
+    (BookStaysSame (group_definition_text (get_or groups i g)) (group_parts_of (get_or groups i g)) (group_trace_at old (get_or groups i g))))
+    (sym (device_back trace ticks faults groups names records old mid new books closed are many opened devices given i g b below))
+    (opened.each i g b there).same
 
 -- and gained a sync alone, if it was whole
 pub all_synced : {D : Type 0} (trace : D → Option Trace) (ticks faults : D → ℕ) (groups : List GroupDef) (names : List (String Global))
     (records : List (List Rec)) (old mid new : DeviceTraces) (books closed : List (ToldBook D)) → AreNamesOf groups names
     → length books ≡ length groups → AreBooksOpened trace ticks faults groups records old books → HaveDevicesOf books closed
     → AreGivenBack trace names closed mid new → AllGainSync groups old new
-all_synced trace ticks faults groups names records old mid new [] closed are many opened devices given i g below =
-    absurd (omega (arith, below, many))
-all_synced trace ticks faults groups [] records old mid new (b ∷ bs) closed are many opened devices given i g below =
-    absurd (omega (arith, below, as_many groups [] are))
-all_synced trace ticks faults groups (s ∷ ss) records old mid new (b ∷ bs) closed are many opened devices given i g below =
-    let book = opened.each i g b (omega (arith, below, many)) in
-    let is : group_trace_at new (get_or groups i g) ≡ trace_of trace (get_or (b ∷ bs) i b).dev =
-    ap new (sym (named_at groups (s ∷ ss) i g s are below)) ∙ given i b s (omega (arith, below, many, devices.as_many))
-    (named_at groups (s ∷ ss) i g s are below ∙ sym book.named ∙ ap device_name_of (sym (devices.texts i b)))
-    ∙ ap (λ dev. trace_after trace dev (mid (string_bytes (get_or (s ∷ ss) i s)))) (devices.each i b)
-    ∙ back_is trace (get_or (b ∷ bs) i b).dev _ book.device in
-    subst (λ o. GainsGroupSync (group_definition_text (get_or groups i g)) (group_trace_at old (get_or groups i g)) o) (sym is) book.synced
+all_synced trace ticks faults groups names records old mid new books closed are many opened devices given i g below =
+    let there : i < length books = omega (arith, below, many) in
+    let b = element books i there in
+    subst (λ o. GainsGroupSync (group_definition_text (get_or groups i g)) (group_trace_at old (get_or groups i g)) o)
+    (sym (device_back trace ticks faults groups names records old mid new books closed are many opened devices given i g b below))
+    (opened.each i g b there).synced
 
 -- none has counted a fault
 pub none_counted : {D : Type 0} (trace : D → Option Trace) (ticks faults : D → ℕ) (groups : List GroupDef) (records : List (List Rec))
