@@ -1,7 +1,7 @@
 -- Records read and written one after the other.
 use Rattle.std.proofs.Common.{◌≡◌, ⊎_elim, inl, inr, ℕ, ◌+◌, ◌*◌, ◌-◌, ◌<◌, ◌≤◌, List, [], ◌∷◌, ◌++◌, length}
-use Rattle.std.proofs.Common.{get_or, take, drop, Option, None, Some, unsigned_abs, refl, sym, ap, ◌∙◌, subst}
-use Rattle.std.proofs.Common.{arith, zero-add, IfSome, length-append}
+use Rattle.std.proofs.Common.{get_or, take, drop, Option, Some, unsigned_abs, refl, sym, ap, ◌∙◌, subst}
+use Rattle.std.proofs.Common.{arith, zero-add, length-append}
 use Rattle.disk_model.specs.Traces.{Trace, seen}
 use Rattle.disk_model.specs.Calls.{Reaches, Reads}
 use Rattle.std.proofs.Math.Seq.{take-add}
@@ -121,13 +121,12 @@ breaks_below : (b : List ℕ) (k : ℕ) → BreaksAt b k → k < 17
 breaks_below b k h = grind arith
 
 -- so the damage of the part is one of the device
-damage_at : (o : Option Trace) (at count a : ℕ) (byte : Option ℕ) (part : List ℕ)
+damage_at : (o : Trace) (at count a : ℕ) (byte : Option ℕ) (part : List ℕ)
     → Reaches o (at + 17 * count) → length part ≡ 17 * count → Reads o at part
     → (p : ℕ) × (a ≡ at + p) × (rs : List Rec) × (k : ℕ) × IsRecordBroken part 0 count p byte rs k
-    → IfSome o (λ t. IsDamage (seen (Some t)) at count a byte)
-damage_at None at count a byte part room long reads broken = tt
-damage_at (Some t) at count a byte part room long reads broken =
-    let s = seen (Some t) in
+    → IsDamage (seen o) at count a byte
+damage_at t at count a byte part room long reads broken =
+    let s = seen t in
     let p = broken.0 in
     let rs = broken.2 in
     let k = broken.3 in
@@ -157,11 +156,10 @@ damage_at (Some t) at count a byte part room long reads broken =
     )
 
 -- what is added of a part of a device is added of the device
-pub added_at : (o : Option Trace) (at count : ℕ) (part : List ℕ) (old new : List Rec) → length part ≡ 17 * count
-    → Reads o at part → Adds part 0 count old new → IfSome o (λ t. Adds (seen (Some t)) at count old new)
-added_at None at count part old new long reads adds = tt
-added_at (Some t) at count part old new long reads adds =
-    let s = seen (Some t) in
+pub added_at : (o : Trace) (at count : ℕ) (part : List ℕ) (old new : List Rec) → length part ≡ 17 * count
+    → Reads o at part → Adds part 0 count old new → Adds (seen o) at count old new
+added_at t at count part old new long reads adds =
+    let s = seen t in
     let is : take (17 * count) part ≡ take (17 * count) (drop at s) =
     take_all (17 * count) part (omega (arith, long)) ∙ reads ∙ ap (λ n. take n (drop at s)) long in
     record {
@@ -174,27 +172,25 @@ added_at (Some t) at count part old new long reads adds =
     }
 
 -- the next piece of a device after those before
-pub added_next : (o : Option Trace) (at k m : ℕ) (old mid new : List Rec)
-    → IfSome o (λ t. Adds (seen (Some t)) at k old mid) → IfSome o (λ t. Adds (seen (Some t)) (at + 17 * k) m mid new)
-    → IfSome o (λ t. Adds (seen (Some t)) at (k + m) old new)
-added_next None at k m old mid new first second = tt
-added_next (Some t) at k m old mid new first second = adds_joined (seen (Some t)) at k m old mid new first second
+pub added_next : (o : Trace) (at k m : ℕ) (old mid new : List Rec)
+    → Adds (seen o) at k old mid → Adds (seen o) (at + 17 * k) m mid new
+    → Adds (seen o) at (k + m) old new
+added_next t at k m old mid new first second = adds_joined (seen t) at k m old mid new first second
 
 -- all that is added to an empty list
-pub added_all : (o : Option Trace) (at count : ℕ) (old new : List Rec) → old ≡ []
-    → IfSome o (λ t. Adds (seen (Some t)) at count old new) → IfSome o (λ t. HasRecords (seen (Some t)) at count new)
+pub added_all : (o : Trace) (at count : ℕ) (old new : List Rec) → old ≡ []
+    → Adds (seen o) at count old new → HasRecords (seen o) at count new
 added_all o at count old new none adds = grind arith
 
 -- damage in a piece after whole records is damage of the whole
-damage_behind : (o : Option Trace) (at k m count a : ℕ) (byte : Option ℕ) (old mid : List Rec)
-    → Reaches o (at + 17 * count) → k + m ≤ count → IfSome o (λ t. Adds (seen (Some t)) at k old mid)
-    → IfSome o (λ t. IsDamage (seen (Some t)) (at + 17 * k) m a byte)
-    → IfSome o (λ t. IsDamage (seen (Some t)) at count a byte)
-damage_behind None at k m count a byte old mid room fits before damage = tt
-damage_behind (Some t) at k m count a byte old mid room fits before (inl short) =
+damage_behind : (o : Trace) (at k m count a : ℕ) (byte : Option ℕ) (old mid : List Rec)
+    → Reaches o (at + 17 * count) → k + m ≤ count → Adds (seen o) at k old mid
+    → IsDamage (seen o) (at + 17 * k) m a byte
+    → IsDamage (seen o) at count a byte
+damage_behind t at k m count a byte old mid room fits before (inl short) =
     absurd (omega (arith, short.short, room, fits))
-damage_behind (Some t) at k m count a byte old mid room fits before (inr broken) =
-    let s = seen (Some t) in
+damage_behind t at k m count a byte old mid room fits before (inr broken) =
+    let s = seen t in
     let rs = before.added in
     let qs = broken.0 in
     let b = broken.2 in
@@ -215,12 +211,11 @@ damage_behind (Some t) at k m count a byte old mid room fits before (inr broken)
     )
 
 -- so is damage in the next piece that is read
-pub damage_next : (o : Option Trace) (at k m count a : ℕ) (byte : Option ℕ) (part : List ℕ) (old mid : List Rec)
-    → Reaches o (at + 17 * count) → k + m ≤ count → IfSome o (λ t. Adds (seen (Some t)) at k old mid)
+pub damage_next : (o : Trace) (at k m count a : ℕ) (byte : Option ℕ) (part : List ℕ) (old mid : List Rec)
+    → Reaches o (at + 17 * count) → k + m ≤ count → Adds (seen o) at k old mid
     → length part ≡ 17 * m → Reads o (at + 17 * k) part
     → (p : ℕ) × (a ≡ at + 17 * k + p) × (rs : List Rec) × (i : ℕ) × IsRecordBroken part 0 m p byte rs i
-    → IfSome o (λ t. IsDamage (seen (Some t)) at count a byte)
-damage_next None at k m count a byte part old mid room fits before long reads broken = tt
-damage_next (Some t) at k m count a byte part old mid room fits before long reads broken =
-    damage_behind (Some t) at k m count a byte old mid room fits before
-    (damage_at (Some t) (at + 17 * k) m a byte part (omega (arith, room, fits)) long reads broken)
+    → IsDamage (seen o) at count a byte
+damage_next t at k m count a byte part old mid room fits before long reads broken =
+    damage_behind t at k m count a byte old mid room fits before
+    (damage_at t (at + 17 * k) m a byte part (omega (arith, room, fits)) long reads broken)

@@ -169,7 +169,7 @@ head_size front size c size_is first =
     omega (arith, size_is, number)
 
 -- the head was read in full, as its first bytes tell
-module _ (o : Option Trace) (letters front head : List ℕ) (size : ℕ) (size_is : size ≡ 9 + short_at front 5 + 1)
+module _ (o : Trace) (letters front head : List ℕ) (size : ℕ) (size_is : size ≡ 9 + short_at front 5 + 1)
     (front_is : Shows o (λ c. front ≡ piece_of c 0 9)) (head_is : Shows o (λ c. head ≡ piece_of c 0 size)) where
   pub text_shown : (text : List ℕ) → IsOfText letters text head → Shows o (IsOfText letters text)
   text_shown text is =

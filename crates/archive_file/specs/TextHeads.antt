@@ -1,5 +1,5 @@
 -- A layout that begins with four letters and a text: its head, and where its blocks begin.
-use Rattle.std.specs.Prelude.{◌≡◌, ◌⊎◌, ℕ, ◌+◌, true, List, [], ◌∷◌, ◌++◌, All, length, take, drop, slice_index, nat_eq, Option}
+use Rattle.std.specs.Prelude.{◌≡◌, ◌⊎◌, ℕ, ◌+◌, true, List, [], ◌∷◌, ◌++◌, All, length, take, drop, slice_index, nat_eq}
 use Rattle.disk_model.specs.Calls.{Shows}
 use Rattle.disk_model.specs.Gates.{IsBegun, IsNew, IsShut, layout_calls}
 use Rattle.disk_model.specs.Images.{MayLeave}
@@ -52,11 +52,11 @@ pub record IsEmpty (letters text c : List ℕ) : Type 0 where
   pub shut : IsShut (blocks_at (length text)) c
 
 -- a crash might have left the image before, or the image has no finished layout
-abbrev pub IsLeftOrNew : Option Trace → List ℕ → Type 0
+abbrev pub IsLeftOrNew : Trace → List ℕ → Type 0
 IsLeftOrNew o c = MayLeave o c ⊎ IsNew c
 
 -- or the image is the layout of this text, without blocks
-abbrev pub IsLeftOrBegun : List ℕ → List ℕ → Option Trace → List ℕ → Type 0
+abbrev pub IsLeftOrBegun : List ℕ → List ℕ → Trace → List ℕ → Type 0
 IsLeftOrBegun letters text o c = IsLeftOrNew o c ⊎ IsEmpty letters text c
 
 -- ---- a device that is opened
@@ -68,5 +68,5 @@ pub record CountsTextOpening (is_begun : Type 0) (c : List ℕ) (before now : �
   pub kept : (is_begun → ⊥) → now ≡ before + 1
 
 -- the opening of a device that had these calls ends at this moment; its layout is begun if its bytes have P
-abbrev pub TextOpensAt : (List ℕ → Type 0) → Option Trace → ℕ → Type 0
+abbrev pub TextOpensAt : (List ℕ → Type 0) → Trace → ℕ → Type 0
 TextOpensAt P old t = Shows old (λ c. CountsTextOpening (P c) c (moment old) t)

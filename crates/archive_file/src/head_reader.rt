@@ -23,16 +23,15 @@ pub fn read_text<D: Disk>(
     dev: &mut D,
     letters: [u8; 4],
 ) -> Result<Option<Vec<u8>>, ScanNo>
-    ensures new { IfOk result (λ found. IfNone found (Shows (D.trace dev.old) IsNew)) }
-    ensures text { IfOk result (λ found. IfSome found (λ text. Shows (D.trace dev.old) (IsOfText letters text.items))) }
+    ensures new { IfOk result (λ found. IfNone found (Shows (D.device dev.old).trace IsNew)) }
+    ensures text { IfOk result (λ found. IfSome found (λ text. Shows (D.device dev.old).trace (IsOfText letters text.items))) }
     ensures small { IfOk result (λ found. IfSome found (λ text. length text.items < 2 ^ 32)) }
-    ensures begun { (a : ℕ) (byte : Option ℕ) → IsErrOf result (Damaged a byte) → Shows (D.trace dev.old) IsBegun }
+    ensures begun { (a : ℕ) (byte : Option ℕ) → IsErrOf result (Damaged a byte) → Shows (D.device dev.old).trace IsBegun }
     ensures damaged { (a : ℕ) (byte : Option ℕ) → IsErrOf result (Damaged a byte)
-        → Shows (D.trace dev.old) (λ c. BreaksFirst c (head_fields letters c) a byte) }
-    ensures cause { CountsFault result DeviceFault (D.fault_count dev.old) (D.fault_count dev.new) }
-    ensures handed { D.hand_out dev.new ≡ D.hand_out dev.old }
-    ensures same { D.trace dev.new ≡ D.trace dev.old }
-    ensures untimed { D.ticks dev.new ≡ D.ticks dev.old }
+        → Shows (D.device dev.old).trace (λ c. BreaksFirst c (head_fields letters c) a byte) }
+    ensures cause { CountsFault result DeviceFault (D.device dev.old).faults (D.device dev.new).faults }
+    ensures handed { (D.device dev.new).handed ≡ (D.device dev.old).handed }
+    ensures same { (D.device dev.new).trace ≡ (D.device dev.old).trace }
 {
     let Ok(len) = dev.len() else {
         return Err(ScanNo::DeviceFault);

@@ -6,6 +6,7 @@ ghost use Rattle.disk_model.specs.Images.{IsSettled, Now};
 ghost use Rattle.disk_model.specs.Moments.{During};
 ghost use Rattle.archive_file.specs.declared.failure.PutNo.TheVariants.{DeviceFault, WantOfMemory as NoMemory};
 ghost use Rattle.archive_file.specs.TextHeads.{IsEmpty, IsLeftOrBegun, IsLeftOrNew, blocks_at, head_image};
+ghost use Rattle.disk_model.specs.Traces.{moment};
 
 use crate::failure::PutNo;
 use disk_model::{Disk, Failed, close_gates, write_guarded};
@@ -28,16 +29,16 @@ pub fn begin_layout<D: Disk>(
     letters: [u8; 4],
     text: &[u8],
 ) -> Result<(), PutNo>
-    requires settled { IsSettled (D.trace dev.old) }
-    ensures any_moment { During (D.trace dev.old) (D.trace dev.new) (IsLeftOrBegun letters text.now (D.trace dev.old)) }
-    ensures made { OnOk result (Shows (D.trace dev.new) (IsEmpty letters text.now)) }
-    ensures settled { OnOk result (IsSettled (D.trace dev.new)) }
-    ensures ready { OnOk result (Now (D.trace dev.new) (IsShut (blocks_at (length text.now)))) }
+    requires settled { IsSettled (D.device dev.old).trace }
+    ensures any_moment { During (D.device dev.old).trace (D.device dev.new).trace (IsLeftOrBegun letters text.now (D.device dev.old).trace) }
+    ensures made { OnOk result (Shows (D.device dev.new).trace (IsEmpty letters text.now)) }
+    ensures settled { OnOk result (IsSettled (D.device dev.new).trace) }
+    ensures ready { OnOk result (Now (D.device dev.new).trace (IsShut (blocks_at (length text.now)))) }
     ensures no_memory { IsErrOf result NoMemory → dev.new ≡ dev.old }
-    ensures cause { CountsFault result DeviceFault (D.fault_count dev.old) (D.fault_count dev.new) }
-    ensures handed { D.hand_out dev.new ≡ D.hand_out dev.old }
-    ensures later { D.ticks dev.old ≤ D.ticks dev.new }
-    ensures calls { OnOk result (Shows (D.trace dev.old) (λ c. D.ticks dev.new ≡ D.ticks dev.old + layout_calls c)) }
+    ensures cause { CountsFault result DeviceFault (D.device dev.old).faults (D.device dev.new).faults }
+    ensures handed { (D.device dev.new).handed ≡ (D.device dev.old).handed }
+    ensures later { moment (D.device dev.old).trace ≤ moment (D.device dev.new).trace }
+    ensures calls { OnOk result (Shows (D.device dev.old).trace (λ c. moment (D.device dev.new).trace ≡ moment (D.device dev.old).trace + layout_calls c)) }
 {
     let Ok(size) = u32::try_from(text.len()) else {
         return Err(PutNo::WantOfMemory);
@@ -76,15 +77,15 @@ fn head_bytes(
 /// length 0, it writes the closed gate. It writes any other only if the gate is open. After a failure the device has to
 /// be opened again before it is used.
 pub fn close_layout<D: Disk>(dev: &mut D) -> Result<(), Failed>
-    requires settled { IsSettled (D.trace dev.old) }
+    requires settled { IsSettled (D.device dev.old).trace }
 
     // A crash at any moment leaves what it might have left before, or no finished layout.
-    ensures any_moment { During (D.trace dev.old) (D.trace dev.new) (IsLeftOrNew (D.trace dev.old)) }
-    ensures shut { OnOk result (Now (D.trace dev.new) (IsShut 0)) }
-    ensures later { D.ticks dev.old ≤ D.ticks dev.new }
-    ensures calls { OnOk result (Shows (D.trace dev.old) (λ c. D.ticks dev.new ≡ D.ticks dev.old + closing_calls c)) }
-    ensures cause { HasCause (D.fault_count dev.old) (D.fault_count dev.new) result }
-    ensures handed { D.hand_out dev.new ≡ D.hand_out dev.old }
+    ensures any_moment { During (D.device dev.old).trace (D.device dev.new).trace (IsLeftOrNew (D.device dev.old).trace) }
+    ensures shut { OnOk result (Now (D.device dev.new).trace (IsShut 0)) }
+    ensures later { moment (D.device dev.old).trace ≤ moment (D.device dev.new).trace }
+    ensures calls { OnOk result (Shows (D.device dev.old).trace (λ c. moment (D.device dev.new).trace ≡ moment (D.device dev.old).trace + closing_calls c)) }
+    ensures cause { HasCause (D.device dev.old).faults (D.device dev.new).faults result }
+    ensures handed { (D.device dev.new).handed ≡ (D.device dev.old).handed }
 {
     if dev.len()? > 0 {
         return close_gates(dev, GATE, 1);

@@ -1,7 +1,7 @@
 // Records on a device.
 ghost use Rattle.std.specs.Prelude.{◌≡◌, ◌+◌, ◌*◌, ◌^◌, ◌<◌, ◌≤◌, ℕ, Option, min, length, take, drop, slice_index, Some, IfOk};
-ghost use Rattle.std.specs.Prelude.{IfSome, OnOk, IsErrOf, vec_len, vec_capacity};
-ghost use Rattle.disk_model.specs.Traces.{Wrote, WroteInPart, seen};
+ghost use Rattle.std.specs.Prelude.{OnOk, IsErrOf, vec_len, vec_capacity};
+ghost use Rattle.disk_model.specs.Traces.{Wrote, WroteInPart, seen, moment};
 ghost use Rattle.disk_model.specs.Calls.{CountsFault, IsNoted, Reaches, Reads};
 ghost use Rattle.archive_file.specs.declared.failure.ScanNo.TheVariants.{DeviceFault, Damaged};
 ghost use Rattle.archive_file.specs.declared.failure.PutNo.TheVariants.{DeviceFault as PutFault, WantOfMemory};
@@ -23,14 +23,14 @@ const PIECE_MOST: u32 = 3_855;
 /// Writes records at the place `at`, in bytes, with one write. Returns `WantOfMemory` before the write if the memory
 /// cannot be allocated. Returns `DeviceFault` if the write fails.
 pub fn put_records<D: Disk>(alloc: Global, dev: &mut D, at: u64, recs: &[Rec]) -> Result<(), PutNo>
-    requires room { Reaches (D.trace dev.old) at }
+    requires room { Reaches (D.device dev.old).trace at }
     ensures noted { IsNoted (Wrote at (recs_image recs.now)) (WroteInPart at (recs_image recs.now)) result
-        (D.trace dev.old) (D.trace dev.new) }
+        (D.device dev.old).trace (D.device dev.new).trace }
     ensures unwritten { IsErrOf result WantOfMemory → dev.new ≡ dev.old }
-    ensures cause { CountsFault result PutFault (D.fault_count dev.old) (D.fault_count dev.new) }
-    ensures handed { D.hand_out dev.new ≡ D.hand_out dev.old }
-    ensures clock { OnOk result (D.ticks dev.new ≡ D.ticks dev.old + 1) }
-    ensures later { D.ticks dev.old ≤ D.ticks dev.new }
+    ensures cause { CountsFault result PutFault (D.device dev.old).faults (D.device dev.new).faults }
+    ensures handed { (D.device dev.new).handed ≡ (D.device dev.old).handed }
+    ensures clock { OnOk result (moment (D.device dev.new).trace ≡ moment (D.device dev.old).trace + 1) }
+    ensures later { moment (D.device dev.old).trace ≤ moment (D.device dev.new).trace }
 {
     let Ok(bytes) = bytes_of(alloc, recs) else {
         return Err(PutNo::WantOfMemory);
@@ -62,13 +62,12 @@ pub fn read_records<D: Disk>(
     at: u64,
     count: u32,
 ) -> Result<Vec<Rec>, ScanNo>
-    ensures ok { IfOk result (λ v. IfSome (D.trace dev.old) (λ t. HasRecords (seen (Option.Some t)) at count v.items)) }
+    ensures ok { IfOk result (λ v. HasRecords (seen (D.device dev.old).trace) at count v.items) }
     ensures damaged { (a : ℕ) (byte : Option ℕ) → IsErrOf result (Damaged a byte) →
-        IfSome (D.trace dev.old) (λ t. IsDamage (seen (Option.Some t)) at count a byte) }
-    ensures cause { CountsFault result DeviceFault (D.fault_count dev.old) (D.fault_count dev.new) }
-    ensures handed { D.hand_out dev.new ≡ D.hand_out dev.old }
-    ensures same { D.trace dev.new ≡ D.trace dev.old }
-    ensures untimed { D.ticks dev.new ≡ D.ticks dev.old }
+        IsDamage (seen (D.device dev.old).trace) at count a byte }
+    ensures cause { CountsFault result DeviceFault (D.device dev.old).faults (D.device dev.new).faults }
+    ensures handed { (D.device dev.new).handed ≡ (D.device dev.old).handed }
+    ensures same { (D.device dev.new).trace ≡ (D.device dev.old).trace }
 {
     let Ok(len) = dev.len() else {
         return Err(ScanNo::DeviceFault);
@@ -98,18 +97,16 @@ fn read_pieces<D: Disk>(
     buf: &mut [u8],
     recs: &mut Vec<Rec>,
 ) -> Result<(), ScanNo>
-    requires there { Reaches (D.trace dev.old) (at + 17 * count) }
+    requires there { Reaches (D.device dev.old).trace (at + 17 * count) }
     requires end { at + 17 * count < 2 ^ 64 }
     requires whole { length buf.old ≡ 17 * min count PIECE_MOST }
     requires room { vec_len recs.old + count ≤ vec_capacity recs.old }
-    ensures ok { OnOk result (IfSome (D.trace dev.old)
-        (λ t. Adds (seen (Option.Some t)) at count recs.old.items recs.new.items)) }
+    ensures ok { OnOk result (Adds (seen (D.device dev.old).trace) at count recs.old.items recs.new.items) }
     ensures damaged { (a : ℕ) (byte : Option ℕ) → IsErrOf result (Damaged a byte) →
-        IfSome (D.trace dev.old) (λ t. IsDamage (seen (Option.Some t)) at count a byte) }
-    ensures cause { CountsFault result DeviceFault (D.fault_count dev.old) (D.fault_count dev.new) }
-    ensures handed { D.hand_out dev.new ≡ D.hand_out dev.old }
-    ensures same { D.trace dev.new ≡ D.trace dev.old }
-    ensures untimed { D.ticks dev.new ≡ D.ticks dev.old }
+        IsDamage (seen (D.device dev.old).trace) at count a byte }
+    ensures cause { CountsFault result DeviceFault (D.device dev.old).faults (D.device dev.new).faults }
+    ensures handed { (D.device dev.new).handed ≡ (D.device dev.old).handed }
+    ensures same { (D.device dev.new).trace ≡ (D.device dev.old).trace }
 {
     let mut done = 0;
     while done < count {
@@ -134,14 +131,13 @@ pub fn read_bytes<D: Disk>(
     at: u64,
     size: usize,
 ) -> Result<Vec<u8>, ScanNo>
-    requires { Reaches (D.trace dev.old) (at + size) }
-    ensures reads { IfOk result (λ v. Reads (D.trace dev.old) at v.items) }
+    requires { Reaches (D.device dev.old).trace (at + size) }
+    ensures reads { IfOk result (λ v. Reads (D.device dev.old).trace at v.items) }
     ensures len { IfOk result (λ v. length v.items ≡ size) }
     ensures damaged { (a : ℕ) (byte : Option ℕ) → IsErrOf result (Damaged a byte) → ⊥ }
-    ensures cause { CountsFault result DeviceFault (D.fault_count dev.old) (D.fault_count dev.new) }
-    ensures handed { D.hand_out dev.new ≡ D.hand_out dev.old }
-    ensures same { D.trace dev.new ≡ D.trace dev.old }
-    ensures untimed { D.ticks dev.new ≡ D.ticks dev.old }
+    ensures cause { CountsFault result DeviceFault (D.device dev.old).faults (D.device dev.new).faults }
+    ensures handed { (D.device dev.new).handed ≡ (D.device dev.old).handed }
+    ensures same { (D.device dev.new).trace ≡ (D.device dev.old).trace }
 {
     let Ok(mut bytes) = vec![in alloc; 0; size] else {
         return Err(ScanNo::WantOfMemory);

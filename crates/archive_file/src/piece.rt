@@ -18,14 +18,13 @@ pub fn read_piece<D: Disk>(
     at: u64,
     size: u64,
 ) -> Result<Vec<u8>, ScanNo>
-    requires { HasLength (D.trace dev.old) len }
-    ensures piece { IfOk result (λ v. Shows (D.trace dev.old) (λ c. v.items ≡ take size (drop at c))) }
+    requires { HasLength (D.device dev.old).trace len }
+    ensures piece { IfOk result (λ v. Shows (D.device dev.old).trace (λ c. v.items ≡ take size (drop at c))) }
     ensures long { IfOk result (λ v. length v.items ≡ min size (len - at)) }
     ensures undamaged { (a : ℕ) (byte : Option ℕ) → IsErrOf result (Damaged a byte) → ⊥ }
-    ensures cause { CountsFault result DeviceFault (D.fault_count dev.old) (D.fault_count dev.new) }
-    ensures handed { D.hand_out dev.new ≡ D.hand_out dev.old }
-    ensures same { D.trace dev.new ≡ D.trace dev.old }
-    ensures untimed { D.ticks dev.new ≡ D.ticks dev.old }
+    ensures cause { CountsFault result DeviceFault (D.device dev.old).faults (D.device dev.new).faults }
+    ensures handed { (D.device dev.new).handed ≡ (D.device dev.old).handed }
+    ensures same { (D.device dev.new).trace ≡ (D.device dev.old).trace }
 {
     if len <= at {
         return Ok(Vec::new(alloc));

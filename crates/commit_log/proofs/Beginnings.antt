@@ -1,5 +1,5 @@
 -- What a crash leaves while a plant's log is begun on a device.
-use Rattle.std.proofs.Common.{◌≡◌, inl, ℕ, ◌*◌, List, [], ◌∷◌, ◌++◌, length, Option, refl, arith, length-append}
+use Rattle.std.proofs.Common.{◌≡◌, inl, ℕ, ◌*◌, List, [], ◌∷◌, ◌++◌, length, refl, arith, length-append}
 use Rattle.disk_model.specs.Traces.{Trace}
 use Rattle.disk_model.specs.Images.{IsSettled}
 use Rattle.disk_model.specs.Moments.{During}
@@ -14,7 +14,7 @@ use Rattle.commit_log.specs.Images.{LogsNothing}
 -- ---- a device is begun
 
 -- no rows are on a new device as long as nothing was called
-pub nothing_yet : (plant : List ℕ) (o : Option Trace) → Shows o IsNew → IsSettled o → During o o (LogsNothing plant)
+pub nothing_yet : (plant : List ℕ) (o : Trace) → Shows o IsNew → IsSettled o → During o o (LogsNothing plant)
 nothing_yet plant o is settled =
     weaker o o IsNew (LogsNothing plant) (λ c new. inl new) (started o IsNew (shown_now o IsNew is settled))
 

@@ -1,5 +1,5 @@
 -- What a log's type keeps, after a commit and after one whose device failed.
-use Rattle.std.proofs.Common.{◌≡◌, ⊎_elim, ℕ, ◌+◌, ◌-◌, ◌<◌, ◌≤◌, Bool, true, false, List, [], ◌∷◌, ◌++◌, length, min, take, drop, get_or, nat_le, if◌then◌else◌, Option, None, Some, IfSome, refl, sym, ap, ◌∙◌, subst, arith, append_assoc, length-append, length-drop}
+use Rattle.std.proofs.Common.{◌≡◌, ⊎_elim, ℕ, ◌+◌, ◌-◌, ◌<◌, ◌≤◌, Bool, true, false, List, [], ◌∷◌, ◌++◌, length, min, take, drop, get_or, nat_le, if◌then◌else◌, refl, sym, ap, ◌∙◌, subst, arith, append_assoc, length-append, length-drop}
 use Rattle.std.proofs.lemmas.Bool.Decides.{nat_tests}
 use Rattle.std.proofs.lemmas.List.{append-nil, take-append-le}
 use Rattle.std.proofs.Math.Seq.{take-add, take-append_seam}
@@ -51,18 +51,17 @@ part_least plant tags opening rows least fewer c le is =
     record { count = is.count; enough = omega arith; within = is.within; stands = is.stands }
 
 -- each image of a device that is ready stores what is read
-ready_now : (plant : List ℕ) (tags : ℕ) (rows : List LogRow) (end : ℕ) (o : Option Trace) → IfSome o (IsReady plant tags rows end)
+ready_now : (plant : List ℕ) (tags : ℕ) (rows : List LogRow) (end : ℕ) (o : Trace) → IsReady plant tags rows end o
     → (d : List ℕ) → MayLeave o d → Stores plant tags rows end d
-ready_now plant tags rows end None ready d may = absurd may.image
-ready_now plant tags rows end (Some t) ready d may = subst (Stores plant tags rows end) (sym (ready.settled.each d may)) ready.stores
+ready_now plant tags rows end t ready d may = subst (Stores plant tags rows end) (sym (ready.settled.each d may)) ready.stores
 
 -- so it stands for these rows
-pub ready_stands : (plant : List ℕ) (tags : ℕ) (rows : List LogRow) (end : ℕ) (o : Option Trace) → IfSome o (IsReady plant tags rows end)
+pub ready_stands : (plant : List ℕ) (tags : ℕ) (rows : List LogRow) (end : ℕ) (o : Trace) → IsReady plant tags rows end o
     → (d : List ℕ) → MayLeave o d → StandsForRows plant tags d rows
 ready_stands plant tags rows end o ready d may = stores_stand plant tags rows end d (ready_now plant tags rows end o ready d may)
 
 -- and has a closed gate where the next block goes
-pub ready_shut : (plant : List ℕ) (tags : ℕ) (rows : List LogRow) (end : ℕ) (o : Option Trace) → IfSome o (IsReady plant tags rows end)
+pub ready_shut : (plant : List ℕ) (tags : ℕ) (rows : List LogRow) (end : ℕ) (o : Trace) → IsReady plant tags rows end o
     → Now o (IsShut end)
 ready_shut plant tags rows end o ready = record { each = λ d may. shut_there d (ready_now plant tags rows end o ready d may) }
   where
@@ -76,7 +75,7 @@ le_when m t is = grind (arith, nat_tests)
 -- ---- a commit
 
 module _ (plant : List ℕ) (tags : ℕ) (opening : List LogRow) (moment faults : ℕ) (tape : List LogTurn) (next acked end : ℕ)
-    (old : Option Trace) (ticks faults_now : ℕ) (legal : IsLogLegal tags opening moment tape acked) (waits : Waits opening tape next acked)
+    (old : Trace) (ticks faults_now : ℕ) (legal : IsLogLegal tags opening moment tape acked) (waits : Waits opening tape next acked)
     (kept : IsKept plant tags opening moment faults tape next end false old ticks faults_now)
     (count turns : ℕ) (bytes : List ℕ) (is : IsBlockOf acked count (drop next tape) bytes turns)
     (some : 1 ≤ count) (few : count ≤ most_in_block) where
@@ -144,7 +143,7 @@ module _ (plant : List ℕ) (tags : ℕ) (opening : List LogRow) (moment faults 
       (acked_at-most tags (log_begin (length opening) moment) tape t (length opening) (omega arith) legal.turns)
 
   -- so the log stays safe
-  pub writing_safe : (new : Option Trace) → IsLogSafe plant tags opening moment tape (LeftSince old) → During old new IsWriting
+  pub writing_safe : (new : Trace) → IsLogSafe plant tags opening moment tape (LeftSince old) → During old new IsWriting
       → IsLogSafe plant tags opening moment tape (LeftSince new)
   writing_safe new safe during = record {
     images = λ t c since left. ⊎_elim
@@ -154,7 +153,7 @@ module _ (plant : List ℕ) (tags : ℕ) (opening : List LogRow) (moment faults 
   }
 
   -- a call of the device failed
-  pub kept_faulted : (new : Option Trace) (ticks' faults' : ℕ) → ticks ≤ ticks' → Rose faults_now faults'
+  pub kept_faulted : (new : Trace) (ticks' faults' : ℕ) → ticks ≤ ticks' → Rose faults_now faults'
       → IsKept plant tags opening moment faults tape next end true new ticks' faults'
   kept_faulted new ticks' faults' later rose = record {
     ready = λ usable. absurd (cc (usable));
@@ -164,9 +163,9 @@ module _ (plant : List ℕ) (tags : ℕ) (opening : List LogRow) (moment faults 
     cause = λ failed. subst (λ (n : ℕ). Rose n faults') (kept.faultless refl) rose;
   }
 
-  module _ (new : Option Trace) (ticks' faults' : ℕ) (clock : ticks' ≡ ticks + 4) (during : During old new IsWriting)
+  module _ (new : Trace) (ticks' faults' : ℕ) (clock : ticks' ≡ ticks + 4) (during : During old new IsWriting)
       (sees : Sees new (written (written (seen old) (end + 1) bytes) end (open_byte ∷ []))) (settled : IsSettled new)
-      (told : IfSome new (λ t. length t.calls ≡ ticks')) (longer : List LogTurn)
+      (told : length new.calls ≡ ticks') (longer : List LogTurn)
       (longer_is : longer ≡ tape ++ Commit ticks' (acked + count) ∷ []) where
     same_puts : puts longer ≡ puts tape
     same_puts = ap puts longer_is ∙ (puts-append tape (Commit ticks' (acked + count) ∷ []) ∙ append-nil (puts tape))
@@ -228,21 +227,19 @@ module _ (plant : List ℕ) (tags : ℕ) (opening : List LogRow) (moment faults 
         block_opened plant tags done end from.0 c (stored from.0 from.1) block (guarded_by from.0 c from.2)
         (opened old new (ready_shut plant tags done end old (kept.ready refl)) during.later sees settled c may) rows_are
       where
-        opened : (x y : Option Trace) → Now x (IsShut end) → ComesAfter x y
+        opened : (x y : Trace) → Now x (IsShut end) → ComesAfter x y
             → Sees y (written (written (seen x) (end + 1) bytes) end (open_byte ∷ [])) → IsSettled y → (c : List ℕ) → MayLeave y c → IsOpen end c
-        opened x None shut after sees settled c may = absurd may.image
-        opened None (Some u) shut after sees settled c may = absurd after
-        opened (Some t) (Some u) shut after sees settled c may =
-            let there : end < length (seen (Some t)) = (shut.each (seen (Some t)) (present t)).there in
+        opened t u shut after sees settled c may =
+            let there : end < length (seen t) = (shut.each (seen t) (present t)).there in
             ap (λ (l : List ℕ). get_or l end 0) (settled.each c may ∙ sees)
-            ∙ written_byte (written (seen (Some t)) (end + 1) bytes) end open_byte
-            (omega (arith, there, length-written (seen (Some t)) (end + 1) bytes (omega (arith, there))))
+            ∙ written_byte (written (seen t) (end + 1) bytes) end open_byte
+            (omega (arith, there, length-written (seen t) (end + 1) bytes (omega (arith, there))))
 
     commit_kept : (end' : ℕ) → end' ≡ end + log_block_size block → faults' ≡ faults_now
         → IsKept plant tags opening moment faults longer (next + turns) end' false new ticks' faults'
     commit_kept end' end_is same = record {
-      ready = λ usable. subst (λ (n : ℕ). IfSome new (IsReady plant tags (opening ++ puts (take (next + turns) longer)) n)) (sym end_is)
-          (subst (λ (l : List LogRow). IfSome new (IsReady plant tags l (end + log_block_size block))) rows_is (shown new settled stored_now));
+      ready = λ usable. subst (λ (n : ℕ). IsReady plant tags (opening ++ puts (take (next + turns) longer)) n new) (sym end_is)
+          (subst (λ (l : List LogRow). IsReady plant tags l (end + log_block_size block) new) rows_is (shown new settled stored_now));
       past = subst (λ (w : LogWalk). w.moment ≤ ticks') (sym walk_is) (omega arith);
       opened_before = omega (arith, kept.opened_before, clock);
       faultless = λ usable. same ∙ kept.faultless refl;
@@ -252,10 +249,9 @@ module _ (plant : List ℕ) (tags : ℕ) (opening : List LogRow) (moment faults 
         rows_is : done ++ block ≡ opening ++ puts (take (next + turns) longer)
         rows_is = both_are ∙ ap (λ (l : List LogRow). opening ++ l) (sym upto_rows)
 
-        shown : (x : Option Trace) → IsSettled x → ((c : List ℕ) → MayLeave x c → Stores plant tags (done ++ block) (end + log_block_size block) c)
-            → IfSome x (IsReady plant tags (done ++ block) (end + log_block_size block))
-        shown None settled has = tt
-        shown (Some t) settled has = record { settled = settled; stores = has (seen (Some t)) (present t) }
+        shown : (x : Trace) → IsSettled x → ((c : List ℕ) → MayLeave x c → Stores plant tags (done ++ block) (end + log_block_size block) c)
+            → IsReady plant tags (done ++ block) (end + log_block_size block) x
+        shown t settled has = record { settled = settled; stores = has (seen t) (present t) }
 
     commit_safe : IsLogSafe plant tags opening moment tape (LeftSince old) → IsLogSafe plant tags opening moment longer (LeftSince new)
     commit_safe safe = record {

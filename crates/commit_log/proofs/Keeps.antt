@@ -1,7 +1,7 @@
 -- What a log's type keeps while its tape is given more places.
-use Rattle.std.proofs.Common.{◌≡◌, ℕ, ◌+◌, ◌≤◌, Bool, List, ◌++◌, length, take, drop, Option, sym, ap, subst, arith, length-append}
+use Rattle.std.proofs.Common.{◌≡◌, ℕ, ◌+◌, ◌≤◌, Bool, List, ◌++◌, length, take, drop, sym, ap, subst, arith, length-append}
 use Rattle.disk_model.specs.Moments.{LeftSince}
-use Rattle.disk_model.specs.Traces.{Trace}
+use Rattle.disk_model.specs.Traces.{Trace, moment}
 use Rattle.commit_log.specs.declared.row.LogRow.{LogRow}
 use Rattle.commit_log.specs.declared.history.LogTurn.{LogTurn}
 use Rattle.commit_log.specs.Tapes.{puts}
@@ -25,7 +25,7 @@ rest_waits opening tape rest next acked waits is =
 
 -- the same tape with no fewer places
 pub same_tape : (plant : List ℕ) (tags : ℕ) (opening : List LogRow) (moment faults : ℕ) (tape tape' : List LogTurn) (places places' count room next acked end : ℕ)
-    (failed : Bool) (trace : Option Trace) (ticks faults_now : ℕ) → tape' ≡ tape → places ≤ places'
+    (failed : Bool) (trace : Trace) (ticks faults_now : ℕ) → tape' ≡ tape → places ≤ places'
     → IsLogLegal tags opening moment tape acked × HasRoomForPuts opening tape places count room × Waits opening tape next acked
     × IsKept plant tags opening moment faults tape next end failed trace ticks faults_now × IsLogSafe plant tags opening moment tape (LeftSince trace)
     → IsLogLegal tags opening moment tape' acked × HasRoomForPuts opening tape' places' count room × Waits opening tape' next acked

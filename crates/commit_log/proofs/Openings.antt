@@ -1,9 +1,9 @@
 -- What opening a log returns, and what its type keeps at first.
-use Rattle.std.proofs.Common.{◌≡◌, ℕ, ◌+◌, ◌<◌, ◌≤◌, false, All, List, [], length, Option, Result, Ok, Err, IfErr, IfOk, IfSome, IsErrOf, OnErr, OnOk, refl, sym, ◌∙◌, subst, arith}
+use Rattle.std.proofs.Common.{◌≡◌, ℕ, ◌+◌, ◌<◌, ◌≤◌, false, All, List, [], length, Option, Result, Ok, Err, IfErr, IfOk, IsErrOf, OnErr, OnOk, refl, sym, ◌∙◌, subst, arith}
 use Rattle.std.proofs.lemmas.List.{append-nil}
 use Rattle.disk_model.specs.Calls.{Shows}
 use Rattle.disk_model.specs.Moments.{LeftSince}
-use Rattle.disk_model.specs.Traces.{Synced, Trace, noted}
+use Rattle.disk_model.specs.Traces.{Synced, Trace, noted, moment}
 use Rattle.disk_model.proofs.Moments.{only_since}
 use Rattle.archive_file.specs.declared.failure.ScanNo.{ScanNo}
 use Rattle.archive_file.specs.declared.failure.ScanNo.TheVariants as scan
@@ -40,7 +40,7 @@ on_err (Err e) P p = p
 -- ---- why a device is not opened
 
 -- it was not read
-pub read_cause : {T : Type 0} (plant : List ℕ) (tags room : ℕ) (o mid : Option Trace) (r : Result T LogNo) (no : LogNo) → r ≡ Err no
+pub read_cause : {T : Type 0} (plant : List ℕ) (tags room : ℕ) (o mid : Trace) (r : Result T LogNo) (no : LogNo) → r ≡ Err no
     → mid ≡ noted Synced o
     → ((a : ℕ) (byte : Option ℕ) → IsErrOf r (Damaged a byte) → Shows mid (λ c. IsLogDamage plant tags c a byte))
     → ((at : ℕ) → IsErrOf r (OtherPlant at) → Shows mid (λ c. IsOfOther plant c at))
@@ -54,7 +54,7 @@ read_cause plant tags room o mid r (TooMany n) is synced damaged other many = ab
 read_cause plant tags room o mid r WantOfMemory is synced damaged other many = tt
 
 -- its rows are too many, or there was no memory
-pub parts_cause : {T : Type 0} (plant : List ℕ) (tags room : ℕ) (o : Option Trace) (r : Result T LogNo) (together : ℕ)
+pub parts_cause : {T : Type 0} (plant : List ℕ) (tags room : ℕ) (o : Trace) (r : Result T LogNo) (together : ℕ)
     → ((n : ℕ) → IsErrOf r (TooMany n) → (n ≡ together) × (most_rows < n))
     → ((a : ℕ) (byte : Option ℕ) → IsErrOf r (Damaged a byte) → ⊥) → ((at : ℕ) → IsErrOf r (OtherPlant at) → ⊥)
     → ((n : ℕ) → n ≡ together → Shows o (IsTooMany plant tags room n)) → IfErr r (IsLogCause plant tags room o)
@@ -88,9 +88,9 @@ damage_read r out why a byte is same told =
 
 -- what the type keeps of a log that was opened
 pub opened_keeps : (plant : List ℕ) (tags : ℕ) (rows : List LogRow) (moment faults : ℕ) (tape : List LogTurn) (places room acked end : ℕ)
-    (trace : Option Trace) (ticks faults_now : ℕ) → tape ≡ [] → moment ≡ ticks → faults ≡ faults_now → acked ≡ length rows
-    → All (IsLogRow tags) rows → room ≤ places → length rows + room ≤ most_rows → IfSome trace (IsReady plant tags rows end)
-    → IfSome trace (λ t. length t.calls ≡ ticks)
+    (trace : Trace) (ticks faults_now : ℕ) → tape ≡ [] → moment ≡ ticks → faults ≡ faults_now → acked ≡ length rows
+    → All (IsLogRow tags) rows → room ≤ places → length rows + room ≤ most_rows → IsReady plant tags rows end trace
+    → length trace.calls ≡ ticks
     → IsLogLegal tags rows moment tape acked × HasRoomForPuts rows tape places 0 room × Waits rows tape 0 acked
     × IsKept plant tags rows moment faults tape 0 end false trace ticks faults_now × IsLogSafe plant tags rows moment tape (LeftSince trace)
 opened_keeps plant tags rows moment faults tape places room acked end trace ticks faults_now none moment_is faults_is acked_is each enough few
@@ -101,7 +101,7 @@ opened_keeps plant tags rows moment faults tape places room acked end trace tick
       record { count_is = refl; within = omega arith; tape_room = omega arith; few = few },
       record { within = omega arith; acked_are = omega arith },
       record {
-        ready = λ usable. subst (λ (l : List LogRow). IfSome trace (IsReady plant tags l end)) (sym (append-nil rows)) ready;
+        ready = λ usable. subst (λ (l : List LogRow). IsReady plant tags l end trace) (sym (append-nil rows)) ready;
         past = omega arith;
         opened_before = omega arith;
         faultless = λ usable. sym faults_is;

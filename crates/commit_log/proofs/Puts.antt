@@ -1,5 +1,5 @@
 -- What a log's type keeps, after a put.
-use Rattle.std.proofs.Common.{◌≡◌, ℕ, ◌+◌, ◌≤◌, Bool, List, [], ◌∷◌, ◌++◌, length, take, Option, IfSome, sym, ap, ◌∙◌, subst, arith, length-append}
+use Rattle.std.proofs.Common.{◌≡◌, ℕ, ◌+◌, ◌≤◌, Bool, List, [], ◌∷◌, ◌++◌, length, take, sym, ap, ◌∙◌, subst, arith, length-append}
 use Rattle.std.proofs.lemmas.List.{take-append-le}
 use Rattle.disk_model.specs.Traces.{Trace}
 use Rattle.commit_log.specs.declared.row.LogRow.{LogRow}
@@ -46,11 +46,11 @@ module _ (tags : ℕ) (opening : List LogRow) (moment : ℕ) (tape : List LogTur
     acked_are = waits.acked_are ∙ ap (λ (l : List LogTurn). length opening + length (puts l)) (sym (before next waits.within));
   }
 
-  pub put_kept : (plant : List ℕ) (faults next end acked : ℕ) (failed : Bool) (trace : Option Trace) (ticks faults' : ℕ)
+  pub put_kept : (plant : List ℕ) (faults next end acked : ℕ) (failed : Bool) (trace : Trace) (ticks faults' : ℕ)
       → Waits opening tape next acked → IsKept plant tags opening moment faults tape next end failed trace ticks faults'
       → IsKept plant tags opening moment faults longer next end failed trace ticks faults'
   put_kept plant faults next end acked failed trace ticks faults' waits kept = record {
-    ready = λ usable. subst (λ (l : List LogTurn). IfSome trace (IsReady plant tags (opening ++ puts l) end))
+    ready = λ usable. subst (λ (l : List LogTurn). IsReady plant tags (opening ++ puts l) end trace)
         (sym (before next waits.within)) (kept.ready usable);
     past = subst (λ (w : LogWalk). w.moment ≤ ticks) (sym (walked-push (log_begin (length opening) moment) tape (Put row))) kept.past;
     opened_before = kept.opened_before;

@@ -1,5 +1,5 @@
 -- Blocks one after the other, and one more.
-use Rattle.std.proofs.Common.{◌≡◌, ℕ, ◌+◌, ◌<◌, List, [], ◌∷◌, ◌++◌, length, Option, None, Some, IfSome, refl, sym, ap, ◌∙◌, subst, arith, append_assoc, length-append}
+use Rattle.std.proofs.Common.{◌≡◌, ℕ, ◌+◌, ◌<◌, List, [], ◌∷◌, ◌++◌, length, Option, Some, IfSome, refl, sym, ap, ◌∙◌, subst, arith, append_assoc, length-append}
 use Rattle.std.proofs.lemmas.List.{append-nil}
 use Rattle.disk_model.specs.Calls.{HasLength, Reaches, Shows}
 use Rattle.disk_model.specs.Gates.{IsOpen}
@@ -73,20 +73,17 @@ pub if_some : {A : Type 0} (o : Option A) (x : A) (P : A → Type 0) → o ≡ S
 if_some o x P is has = subst (λ p. IfSome p P) is has
 
 -- a place before its end is reached
-pub reached : (o : Option Trace) (len at : ℕ) → HasLength o len → at < len → Reaches o (at + 1)
-reached None len at long low = tt
-reached (Some t) len at long low = omega (arith, long, low)
+pub reached : (o : Trace) (len at : ℕ) → HasLength o len → at < len → Reaches o (at + 1)
+reached t len at long low = omega (arith, long, low)
 
 -- one more block
-pub walks_on : (o : Option Trace) (tags at gate next : ℕ) (old new : List LogRow) → Shows o (λ c. IsWalked c tags at gate old)
+pub walks_on : (o : Trace) (tags at gate next : ℕ) (old new : List LogRow) → Shows o (λ c. IsWalked c tags at gate old)
     → Shows o (IsOpen gate) → Shows o (λ c. AddsBlock c tags gate old new next) → Shows o (λ c. IsWalked c tags at next new)
-walks_on None tags at gate next old new so_far opened added = tt
-walks_on (Some t) tags at gate next old new so_far opened added = walk_on (seen (Some t)) tags at gate next old new so_far opened added
+walks_on t tags at gate next old new so_far opened added = walk_on (seen t) tags at gate next old new so_far opened added
 
 -- one that breaks a rule
-pub walks_break : (o : Option Trace) (tags at gate : ℕ) (rows : List LogRow) (a : ℕ) (byte : Option ℕ)
+pub walks_break : (o : Trace) (tags at gate : ℕ) (rows : List LogRow) (a : ℕ) (byte : Option ℕ)
     → Shows o (λ c. IsWalked c tags at gate rows) → Shows o (IsOpen gate)
     → Shows o (λ c. BreaksFirst c (block_fields c tags (length rows) gate) a byte) → Shows o (λ c. IsBlockDamage c tags at a byte)
-walks_break None tags at gate rows a byte so_far opened breaks = tt
-walks_break (Some t) tags at gate rows a byte so_far opened breaks =
-    walk_breaks (seen (Some t)) tags at gate rows a byte so_far opened breaks
+walks_break t tags at gate rows a byte so_far opened breaks =
+    walk_breaks (seen t) tags at gate rows a byte so_far opened breaks

@@ -71,7 +71,7 @@ HasRowsOf tags (Some s) = All (IsLogRow tags) s.rows.items
 -- ---- while a device is opened
 
 -- a crash might have left this image before, or it stands for these rows
-abbrev pub IsLeftOrStands : List ℕ → ℕ → List LogRow → Option Trace → List ℕ → Type 0
+abbrev pub IsLeftOrStands : List ℕ → ℕ → List LogRow → Trace → List ℕ → Type 0
 IsLeftOrStands plant tags rows o c = MayLeave o c ⊎ StandsForRows plant tags c rows
 
 -- the image stands for rows for which these bytes stood before
@@ -81,15 +81,15 @@ pub record StandsSame (plant : List ℕ) (tags : ℕ) (before c : List ℕ) : Ty
   pub stands : StandsForRows plant tags c rows
 
 -- a crash might have left this image before, or it stands for the same rows as the device before
-abbrev pub IsLogLeftOrSame : List ℕ → ℕ → Option Trace → List ℕ → Type 0
+abbrev pub IsLogLeftOrSame : List ℕ → ℕ → Trace → List ℕ → Type 0
 IsLogLeftOrSame plant tags o c = MayLeave o c ⊎ StandsSame plant tags (seen o) c
 
 -- a device that is not new gains one sync, and nothing else
-abbrev pub GainsLogSync : Option Trace → Option Trace → Type 0
+abbrev pub GainsLogSync : Trace → Trace → Type 0
 GainsLogSync old new = Shows old (λ c. (IsNew c → ⊥) → new ≡ noted Synced old)
 
 -- a device that is refused gains one sync, and nothing else, whether it is new or not; or a call of it has failed
-abbrev pub GainsSyncOnly : LogNo → Option Trace → Option Trace → Type 0
+abbrev pub GainsSyncOnly : LogNo → Trace → Trace → Type 0
 GainsSyncOnly why old new = why ≢ DeviceFault → new ≡ noted Synced old
 
 -- ---- why a device is not opened
@@ -100,8 +100,8 @@ pub record IsTooMany (plant : List ℕ) (tags room n : ℕ) (c : List ℕ) : Typ
   pub stands : StandsForRows plant tags c rows
   pub together : n ≡ length rows + room
 
--- why a device is not opened; the trace of its calls decides, if it is known
-abbrev pub IsLogCause : List ℕ → ℕ → ℕ → Option Trace → LogNo → Type 0
+-- why a device is not opened; its calls decide
+abbrev pub IsLogCause : List ℕ → ℕ → ℕ → Trace → LogNo → Type 0
 IsLogCause plant tags room o DeviceFault = Unit {0}
 IsLogCause plant tags room o (Damaged a byte) = Shows o (λ c. IsLogDamage plant tags c a byte)
 IsLogCause plant tags room o (OtherPlant at) = Shows o (λ c. IsOfOther plant c at)

@@ -1,10 +1,10 @@
 -- The model of a log, what its type keeps, and what its calls change.
-use Rattle.std.specs.Prelude.{◌≡◌, ◌⊎◌, ℕ, ◌+◌, ◌-◌, ◌≤◌, Bool, true, false, List, [], ◌∷◌, ◌++◌, length, min, take, drop, Option, None, Some, IfSome, nat_eq, nat_le, if◌then◌else◌}
+use Rattle.std.specs.Prelude.{◌≡◌, ◌⊎◌, ℕ, ◌+◌, ◌-◌, ◌≤◌, Bool, true, false, List, [], ◌∷◌, ◌++◌, length, min, take, drop, Option, None, Some, nat_eq, nat_le, if◌then◌else◌}
 use Rattle.disk_model.specs.Calls.{Rose, Sees}
 use Rattle.disk_model.specs.Gates.{open_byte}
 use Rattle.disk_model.specs.Images.{IsSettled}
 use Rattle.disk_model.specs.Moments.{LeftSince}
-use Rattle.disk_model.specs.Traces.{Trace, seen, written}
+use Rattle.disk_model.specs.Traces.{Trace, seen, written, moment, Device}
 use Rattle.commit_log.specs.declared.history.LogAcked.{LogAcked}
 use Rattle.commit_log.specs.declared.history.LogHistory.{LogHistory}
 use Rattle.commit_log.specs.declared.history.LogTurn.{LogTurn}
@@ -49,13 +49,13 @@ pub record Waits (opening : List LogRow) (tape : List LogTurn) (next acked : ℕ
 
 -- the device has settled, and stores these rows
 pub record IsReady (plant : List ℕ) (tags : ℕ) (rows : List LogRow) (end : ℕ) (t : Trace) : Type 0 where
-  pub settled : IsSettled (Some t)
-  pub stores : Stores plant tags rows end (seen (Some t))
+  pub settled : IsSettled t
+  pub stores : Stores plant tags rows end (seen t)
 
 -- the device keeps the acknowledged rows as long as no call of it failed
 pub record IsKept (plant : List ℕ) (tags : ℕ) (opening : List LogRow) (moment opened_faults : ℕ) (tape : List LogTurn)
-    (next end : ℕ) (failed : Bool) (trace : Option Trace) (ticks faults : ℕ) : Type 0 where
-  pub ready : failed ≡ false → IfSome trace (IsReady plant tags (opening ++ puts (take next tape)) end)
+    (next end : ℕ) (failed : Bool) (trace : Trace) (ticks faults : ℕ) : Type 0 where
+  pub ready : failed ≡ false → IsReady plant tags (opening ++ puts (take next tape)) end trace
   pub past : (log_walked (log_begin (length opening) moment) tape).moment ≤ ticks
   pub opened_before : moment ≤ ticks
   pub faultless : failed ≡ false → faults ≡ opened_faults
@@ -83,16 +83,16 @@ put_refusal s row =
 
 -- The rows that have waited longest are acknowledged, as many as one block may have. The device has them as one block
 -- after the others. The tape has the new number of acknowledged rows, and the device's clock.
-pub record AreRowsAcknowledged {D : Type 0} (trace : D → Option Trace) (ticks : D → ℕ) (a : LogAcked) (old new : ToldLog D) : Type 0 where
+pub record AreRowsAcknowledged {D : Type 0} (device : D → Device) (a : LogAcked) (old new : ToldLog D) : Type 0 where
   pub rows : List LogRow
   pub rows_are : rows ≡ take most_in_block (waiting old)
   pub acked_are : a.acked ≡ old.acked + min most_in_block (rows_waiting old)
   pub waiting_are : a.waiting ≡ rows_waiting old - min most_in_block (rows_waiting old)
-  pub clock : ticks new.dev ≡ ticks old.dev + 4
-  pub wrote : Sees (trace new.dev) (written (written (seen (trace old.dev)) (old.end + 1) (log_block_image old.acked rows ++ 0 ∷ []))
+  pub clock : moment (device new.dev).trace ≡ moment (device old.dev).trace + 4
+  pub wrote : Sees (device new.dev).trace (written (written (seen (device old.dev).trace) (old.end + 1) (log_block_image old.acked rows ++ 0 ∷ []))
       old.end (open_byte ∷ []))
   pub changed : new ≡ record old {
-    tape = old.tape ++ Commit (ticks new.dev) a.acked ∷ [];
+    tape = old.tape ++ Commit (moment (device new.dev).trace) a.acked ∷ [];
     acked = a.acked;
     end = old.end + log_block_size rows;
     dev = new.dev;
@@ -108,7 +108,7 @@ pub record IsLogFaulted {D : Type 0} (old new : ToldLog D) : Type 0 where
 -- The history of a log on a device with this trace, this clock and this number of faults. It is legal. What a crash
 -- leaves is safe. No moment is later than the clock.
 pub record IsLogHistory (plant : List ℕ) (tags : ℕ) (opening : List LogRow) (moment opened_faults : ℕ) (tape : List LogTurn)
-    (acked : ℕ) (trace : Option Trace) (ticks faults : ℕ) : Type 0 where
+    (acked : ℕ) (trace : Trace) (ticks faults : ℕ) : Type 0 where
   pub legal : IsLogLegal tags opening moment tape acked
   pub safe : IsLogSafe plant tags opening moment tape (LeftSince trace)
   pub past : (log_walked (log_begin (length opening) moment) tape).moment ≤ ticks
@@ -117,11 +117,11 @@ pub record IsLogHistory (plant : List ℕ) (tags : ℕ) (opening : List LogRow) 
   pub faults_since : (faults ≡ opened_faults) ⊎ Rose opened_faults faults
 
 -- the history of this log
-abbrev pub HasHistory : {D : Type 0} → (D → Option Trace) → (D → ℕ) → (D → ℕ) → ToldLog D → Type 0
-HasHistory trace ticks faults s =
-    IsLogHistory s.plant s.tags s.opening s.moment s.faults s.tape s.acked (trace s.dev) (ticks s.dev) (faults s.dev)
+abbrev pub HasHistory : {D : Type 0} → (D → Device) → ToldLog D → Type 0
+HasHistory device s =
+    IsLogHistory s.plant s.tags s.opening s.moment s.faults s.tape s.acked (device s.dev).trace (moment (device s.dev).trace) (device s.dev).faults
 
 -- the history that was returned at the log's end
-abbrev pub IsHandedOut : LogHistory → Option Trace → ℕ → ℕ → Type 0
+abbrev pub IsHandedOut : LogHistory → Trace → ℕ → ℕ → Type 0
 IsHandedOut h trace ticks faults =
     IsLogHistory h.plant.items h.tags h.opening.items h.moment h.faults h.tape.items h.acked trace ticks faults

@@ -32,15 +32,14 @@ pub(crate) fn read_blocks<D: Disk>(
     at: u64,
     tags: u32,
 ) -> Result<Stored, ScanNo>
-    requires gate { Reaches (D.trace dev.old) (at + 1) }
-    ensures stored { IfOk result (λ s. Shows (D.trace dev.old) (λ c. ListsRows c tags at s.rows.items s.end)) }
+    requires gate { Reaches (D.device dev.old).trace (at + 1) }
+    ensures stored { IfOk result (λ s. Shows (D.device dev.old).trace (λ c. ListsRows c tags at s.rows.items s.end)) }
     ensures rows { IfOk result (λ s. All (IsLogRow tags) s.rows.items) }
     ensures damaged { (a : ℕ) (byte : Option ℕ) → IsErrOf result (Damaged a byte)
-        → Shows (D.trace dev.old) (λ c. IsBlockDamage c tags at a byte) }
-    ensures cause { CountsFault result DeviceFault (D.fault_count dev.old) (D.fault_count dev.new) }
-    ensures handed { D.hand_out dev.new ≡ D.hand_out dev.old }
-    ensures same { D.trace dev.new ≡ D.trace dev.old }
-    ensures untimed { D.ticks dev.new ≡ D.ticks dev.old }
+        → Shows (D.device dev.old).trace (λ c. IsBlockDamage c tags at a byte) }
+    ensures cause { CountsFault result DeviceFault (D.device dev.old).faults (D.device dev.new).faults }
+    ensures handed { (D.device dev.new).handed ≡ (D.device dev.old).handed }
+    ensures same { (D.device dev.new).trace ≡ (D.device dev.old).trace }
 {
     let Ok(len) = dev.len() else {
         return Err(ScanNo::DeviceFault);
@@ -65,23 +64,22 @@ fn read_block<D: Disk>(
     tags: u32,
     rows: &mut Vec<LogRow>,
 ) -> Result<Option<u64>, ScanNo>
-    requires length { HasLength (D.trace dev.old) len }
+    requires length { HasLength (D.device dev.old).trace len }
     requires rows { All (IsLogRow tags) rows.old.items }
-    ensures closed { IfOk result (λ next. IfNone next (Shows (D.trace dev.old) (λ c. IsOpen gate c → ⊥))) }
+    ensures closed { IfOk result (λ next. IfNone next (Shows (D.device dev.old).trace (λ c. IsOpen gate c → ⊥))) }
     ensures kept { IfOk result (λ next. IfNone next (rows.new.items ≡ rows.old.items)) }
-    ensures opened { IfOk result (λ next. IfSome next (λ end. Shows (D.trace dev.old) (IsOpen gate))) }
-    ensures added { IfOk result (λ next. IfSome next (λ end. Shows (D.trace dev.old)
+    ensures opened { IfOk result (λ next. IfSome next (λ end. Shows (D.device dev.old).trace (IsOpen gate))) }
+    ensures added { IfOk result (λ next. IfSome next (λ end. Shows (D.device dev.old).trace
         (λ c. AddsBlock c tags gate rows.old.items rows.new.items end))) }
     ensures further { IfOk result (λ next. IfSome next (λ end. gate < end)) }
     ensures within { IfOk result (λ next. IfSome next (λ end. end < len)) }
     ensures rows { OnOk result (All (IsLogRow tags) rows.new.items) }
-    ensures damaged_open { (a : ℕ) (byte : Option ℕ) → IsErrOf result (Damaged a byte) → Shows (D.trace dev.old) (IsOpen gate) }
+    ensures damaged_open { (a : ℕ) (byte : Option ℕ) → IsErrOf result (Damaged a byte) → Shows (D.device dev.old).trace (IsOpen gate) }
     ensures damaged { (a : ℕ) (byte : Option ℕ) → IsErrOf result (Damaged a byte)
-        → Shows (D.trace dev.old) (λ c. BreaksFirst c (block_fields c tags (length rows.old.items) gate) a byte) }
-    ensures cause { CountsFault result DeviceFault (D.fault_count dev.old) (D.fault_count dev.new) }
-    ensures handed { D.hand_out dev.new ≡ D.hand_out dev.old }
-    ensures same { D.trace dev.new ≡ D.trace dev.old }
-    ensures untimed { D.ticks dev.new ≡ D.ticks dev.old }
+        → Shows (D.device dev.old).trace (λ c. BreaksFirst c (block_fields c tags (length rows.old.items) gate) a byte) }
+    ensures cause { CountsFault result DeviceFault (D.device dev.old).faults (D.device dev.new).faults }
+    ensures handed { (D.device dev.new).handed ≡ (D.device dev.old).handed }
+    ensures same { (D.device dev.new).trace ≡ (D.device dev.old).trace }
 {
     let Some(count) = read_front(alloc, dev, len, gate, rows.len() as u64)? else {
         return Ok(None);
@@ -99,19 +97,18 @@ fn read_front<D: Disk>(
     gate: u64,
     number: u64,
 ) -> Result<Option<u32>, ScanNo>
-    requires length { HasLength (D.trace dev.old) len }
-    ensures closed { IfOk result (λ found. IfNone found (Shows (D.trace dev.old) (λ c. IsOpen gate c → ⊥))) }
-    ensures front { IfOk result (λ found. IfSome found (λ count. Shows (D.trace dev.old) (λ c. HasFront c number gate count))) }
+    requires length { HasLength (D.device dev.old).trace len }
+    ensures closed { IfOk result (λ found. IfNone found (Shows (D.device dev.old).trace (λ c. IsOpen gate c → ⊥))) }
+    ensures front { IfOk result (λ found. IfSome found (λ count. Shows (D.device dev.old).trace (λ c. HasFront c number gate count))) }
     ensures some { IfOk result (λ found. IfSome found (λ count. 1 ≤ count)) }
     ensures few { IfOk result (λ found. IfSome found (λ count. count ≤ most_in_block)) }
     ensures within { IfOk result (λ found. IfSome found (λ count. gate + 13 ≤ len)) }
-    ensures damaged_open { (a : ℕ) (byte : Option ℕ) → IsErrOf result (Damaged a byte) → Shows (D.trace dev.old) (IsOpen gate) }
+    ensures damaged_open { (a : ℕ) (byte : Option ℕ) → IsErrOf result (Damaged a byte) → Shows (D.device dev.old).trace (IsOpen gate) }
     ensures damaged { (a : ℕ) (byte : Option ℕ) → IsErrOf result (Damaged a byte)
-        → Shows (D.trace dev.old) (λ c. BreaksFirst c (front_fields c number gate) a byte) }
-    ensures cause { CountsFault result DeviceFault (D.fault_count dev.old) (D.fault_count dev.new) }
-    ensures handed { D.hand_out dev.new ≡ D.hand_out dev.old }
-    ensures same { D.trace dev.new ≡ D.trace dev.old }
-    ensures untimed { D.ticks dev.new ≡ D.ticks dev.old }
+        → Shows (D.device dev.old).trace (λ c. BreaksFirst c (front_fields c number gate) a byte) }
+    ensures cause { CountsFault result DeviceFault (D.device dev.old).faults (D.device dev.new).faults }
+    ensures handed { (D.device dev.new).handed ≡ (D.device dev.old).handed }
+    ensures same { (D.device dev.new).trace ≡ (D.device dev.old).trace }
 {
     let front = read_piece(alloc, dev, len, gate, HEAD_LEN as u64)?;
     if byte_at(&front, 0) != OPEN {
@@ -133,19 +130,18 @@ fn read_body<D: Disk>(
     tags: u32,
     rows: &mut Vec<LogRow>,
 ) -> Result<(), ScanNo>
-    requires length { HasLength (D.trace dev.old) len }
+    requires length { HasLength (D.device dev.old).trace len }
     requires start { from ≤ len }
     requires few { count ≤ most_in_block }
     requires rows { All (IsLogRow tags) rows.old.items }
-    ensures added { OnOk result (Shows (D.trace dev.old) (λ c. AddsRows c tags from count rows.old.items rows.new.items)) }
+    ensures added { OnOk result (Shows (D.device dev.old).trace (λ c. AddsRows c tags from count rows.old.items rows.new.items)) }
     ensures within { OnOk result (from + 32 * count < len) }
     ensures rows { OnOk result (All (IsLogRow tags) rows.new.items) }
     ensures damaged { (a : ℕ) (byte : Option ℕ) → IsErrOf result (Damaged a byte)
-        → Shows (D.trace dev.old) (λ c. BreaksFirst c (body_fields c tags from count) a byte) }
-    ensures cause { CountsFault result DeviceFault (D.fault_count dev.old) (D.fault_count dev.new) }
-    ensures handed { D.hand_out dev.new ≡ D.hand_out dev.old }
-    ensures same { D.trace dev.new ≡ D.trace dev.old }
-    ensures untimed { D.ticks dev.new ≡ D.ticks dev.old }
+        → Shows (D.device dev.old).trace (λ c. BreaksFirst c (body_fields c tags from count) a byte) }
+    ensures cause { CountsFault result DeviceFault (D.device dev.old).faults (D.device dev.new).faults }
+    ensures handed { (D.device dev.new).handed ≡ (D.device dev.old).handed }
+    ensures same { (D.device dev.new).trace ≡ (D.device dev.old).trace }
 {
     let size = ROW_LEN as u64 * u64::from(count) + 1;
     let body = read_piece(alloc, dev, len, from, size)?;

@@ -33,10 +33,10 @@ impl<D: Disk> Log<D> {
         ensures broken { IsErrOf result Broken ↔ (self.old.failed ≡ true) }
         ensures idle { self.old.failed ≡ false → rows_waiting self.old ≡ 0
             → (result ≡ Ok (record { acked = self.old.acked; waiting = 0 })) × (self.new ≡ self.old) }
-        ensures committed { 0 < rows_waiting self.old → IfOk result (λ a. AreRowsAcknowledged D.trace D.ticks a self.old self.new) }
+        ensures committed { 0 < rows_waiting self.old → IfOk result (λ a. AreRowsAcknowledged D.device a self.old self.new) }
         ensures faulted { IsErrOf result DeviceFault → IsLogFaulted self.old self.new }
-        ensures cause { CountsFault result DeviceFault (D.fault_count self.old.dev) (D.fault_count self.new.dev) }
-        ensures broken_cause { IsErrOf result Broken → Rose self.old.faults (D.fault_count self.old.dev) }
+        ensures cause { CountsFault result DeviceFault (D.device self.old.dev).faults (D.device self.new.dev).faults }
+        ensures broken_cause { IsErrOf result Broken → Rose self.old.faults (D.device self.old.dev).faults }
         ensures untouched { IsErrOf result NoMemory → self.new ≡ self.old }
         ensures still_broken { IsErrOf result Broken → self.new ≡ self.old }
     {

@@ -23,16 +23,15 @@ pub(crate) fn read_log<D: Disk>(
     plant: &[u8],
     tags: u32,
 ) -> Result<Option<Stored>, LogNo>
-    ensures found { IfOk result (λ f. Shows (D.trace dev.old) (IsFound plant.now tags f)) }
+    ensures found { IfOk result (λ f. Shows (D.device dev.old).trace (IsFound plant.now tags f)) }
     ensures rows { IfOk result (HasRowsOf tags) }
     ensures damaged { (a : ℕ) (byte : Option ℕ) → IsErrOf result (Damaged a byte)
-        → Shows (D.trace dev.old) (λ c. IsLogDamage plant.now tags c a byte) }
-    ensures other { (at : ℕ) → IsErrOf result (OtherPlant at) → Shows (D.trace dev.old) (λ c. IsOfOther plant.now c at) }
+        → Shows (D.device dev.old).trace (λ c. IsLogDamage plant.now tags c a byte) }
+    ensures other { (at : ℕ) → IsErrOf result (OtherPlant at) → Shows (D.device dev.old).trace (λ c. IsOfOther plant.now c at) }
     ensures not_many { (n : ℕ) → IsErrOf result (TooMany n) → ⊥ }
-    ensures cause { CountsFault result DeviceFault (D.fault_count dev.old) (D.fault_count dev.new) }
-    ensures handed { D.hand_out dev.new ≡ D.hand_out dev.old }
-    ensures same { D.trace dev.new ≡ D.trace dev.old }
-    ensures untimed { D.ticks dev.new ≡ D.ticks dev.old }
+    ensures cause { CountsFault result DeviceFault (D.device dev.old).faults (D.device dev.new).faults }
+    ensures handed { (D.device dev.new).handed ≡ (D.device dev.old).handed }
+    ensures same { (D.device dev.new).trace ≡ (D.device dev.old).trace }
 {
     let Some(text) = read_text(alloc, dev, LETTERS)? else {
         return Ok(None);

@@ -1,7 +1,7 @@
 // A log: the raw values of a plant, with all that is under its lock.
 ghost use Rattle.std.specs.Prelude.{◌≡◌, false, true};
 ghost use Rattle.disk_model.specs.Calls.{Rose};
-ghost use Rattle.disk_model.specs.Traces.{FitsName};
+ghost use Rattle.disk_model.specs.Traces.{FitsName, moment};
 ghost use Rattle.commit_log.specs.Devices.{log_name};
 ghost use Rattle.commit_log.specs.Told.{HasHistory, IsHandedOut};
 
@@ -18,7 +18,8 @@ pub struct Log<D: Disk> {
     pub(crate) plant: Vec<u8>,
     pub(crate) tags: u32,
     pub(crate) opening: Vec<LogRow>,
-    pub(crate) moment: u64,
+    // The device's clock at the end of the opening.
+    pub(crate) opened_at: u64,
     pub(crate) faults: u64,
     pub(crate) tape: Vec<LogTurn>,
     // How many puts the tape has, and how many it has room for.
@@ -36,7 +37,7 @@ pub struct Log<D: Disk> {
 impl<D: Disk> Model for Log<D> {
     ghost use Rattle.std.specs.Prelude.{vec_capacity};
     ghost use Rattle.disk_model.specs.Moments.{LeftSince};
-    ghost use Rattle.disk_model.specs.Traces.{FitsName};
+    ghost use Rattle.disk_model.specs.Traces.{FitsName, moment};
     ghost use Rattle.commit_log.specs.Devices.{log_name};
     ghost use Rattle.commit_log.specs.Histories.{IsLogLegal, IsLogSafe};
     ghost use Rattle.commit_log.specs.Told.{ToldLog, HasRoomForPuts, Waits, IsKept};
@@ -47,7 +48,7 @@ impl<D: Disk> Model for Log<D> {
       plant = l.plant.items;
       tags = l.tags;
       opening = l.opening.items;
-      moment = l.moment;
+      moment = l.opened_at;
       faults = l.faults;
       tape = l.tape.items;
       room = l.room;
@@ -57,13 +58,13 @@ impl<D: Disk> Model for Log<D> {
       dev = l.dev;
     } };
 
-    ghost invariant = { λ l. IsLogLegal l.tags l.opening.items l.moment l.tape.items l.acked
+    ghost invariant = { λ l. IsLogLegal l.tags l.opening.items l.opened_at l.tape.items l.acked
         × HasRoomForPuts l.opening.items l.tape.items (vec_capacity l.tape) l.count l.room
         × Waits l.opening.items l.tape.items l.next l.acked
-        × IsKept l.plant.items l.tags l.opening.items l.moment l.faults l.tape.items l.next l.end l.failed
-        (D.trace l.dev) (D.ticks l.dev) (D.fault_count l.dev)
-        × IsLogSafe l.plant.items l.tags l.opening.items l.moment l.tape.items (LeftSince (D.trace l.dev))
-        × FitsName log_name (D.hand_out l.dev) };
+        × IsKept l.plant.items l.tags l.opening.items l.opened_at l.faults l.tape.items l.next l.end l.failed
+        (D.device l.dev).trace (moment (D.device l.dev).trace) (D.device l.dev).faults
+        × IsLogSafe l.plant.items l.tags l.opening.items l.opened_at l.tape.items (LeftSince (D.device l.dev).trace)
+        × FitsName log_name (D.device l.dev).handed };
 }
 
 impl<D: Disk> Log<D> {
@@ -78,7 +79,7 @@ impl<D: Disk> Log<D> {
     pub fn moment(&self) -> u64
         ensures { result ≡ self.now.moment }
     {
-        self.moment
+        self.opened_at
     }
 
     /// Returns how often a call of the device had failed by the end of the opening.
@@ -92,7 +93,7 @@ impl<D: Disk> Log<D> {
     /// moment on the tape is later than the device's clock.
     pub fn tape(&self) -> &[LogTurn]
         ensures tape { result.now ≡ self.now.tape }
-        ensures history { HasHistory D.trace D.ticks D.fault_count self.now }
+        ensures history { HasHistory D.device self.now }
     {
         &self.tape
     }
@@ -113,7 +114,7 @@ impl<D: Disk> Log<D> {
 
     /// Returns how often a call of the device has failed.
     pub fn device_faults(&self) -> u64
-        ensures { result ≡ D.fault_count self.now.dev }
+        ensures { result ≡ (D.device self.now.dev).faults }
     {
         self.dev.faults()
     }
@@ -121,7 +122,7 @@ impl<D: Disk> Log<D> {
     /// Returns the device, and all that happened to the log since it was opened.
     pub fn into_history(self) -> (D, LogHistory)
         ensures device { result.0 ≡ self.dev }
-        ensures named { FitsName log_name (D.hand_out result.0) }
+        ensures named { FitsName log_name (D.device result.0).handed }
         ensures plant { result.1.plant.items ≡ self.plant }
         ensures tags { result.1.tags ≡ self.tags }
         ensures opening { result.1.opening.items ≡ self.opening }
@@ -129,17 +130,17 @@ impl<D: Disk> Log<D> {
         ensures faults { result.1.faults ≡ self.faults }
         ensures tape { result.1.tape.items ≡ self.tape }
         ensures acked { result.1.acked ≡ self.acked }
-        ensures history { IsHandedOut result.1 (D.trace result.0) (D.ticks result.0) (D.fault_count result.0) }
+        ensures history { IsHandedOut result.1 (D.device result.0).trace (moment (D.device result.0).trace) (D.device result.0).faults }
 
         // One fault was counted since the opening if a commit failed, and none otherwise.
-        ensures rose { self.failed ≡ true → Rose self.faults (D.fault_count result.0) }
-        ensures faultless { self.failed ≡ false → D.fault_count result.0 ≡ self.faults }
+        ensures rose { self.failed ≡ true → Rose self.faults (D.device result.0).faults }
+        ensures faultless { self.failed ≡ false → (D.device result.0).faults ≡ self.faults }
     {
         let Log {
             plant,
             tags,
             opening,
-            moment,
+            opened_at,
             faults,
             tape,
             acked,
@@ -152,7 +153,7 @@ impl<D: Disk> Log<D> {
                 plant,
                 tags,
                 opening,
-                moment,
+                moment: opened_at,
                 faults,
                 tape,
                 acked,

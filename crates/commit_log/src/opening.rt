@@ -1,10 +1,10 @@
 // Opening a log.
-ghost use Rattle.std.specs.Prelude.{◌≡◌, ◌≢◌, ℕ, ◌+◌, ◌<◌, ◌≤◌, [], All, Option, IfErr, IfOk, IfSome, IsErrOf, OnErr, OnOk, false, length, vec_capacity};
+ghost use Rattle.std.specs.Prelude.{◌≡◌, ◌≢◌, ℕ, ◌+◌, ◌<◌, ◌≤◌, [], All, Option, IfErr, IfOk, IsErrOf, OnErr, OnOk, false, length, vec_capacity};
 ghost use Rattle.disk_model.specs.Calls.{CountsFault, Shows};
 ghost use Rattle.disk_model.specs.Gates.{IsNew, layout_calls};
 ghost use Rattle.disk_model.specs.Images.{IsSettled};
 ghost use Rattle.disk_model.specs.Moments.{During};
-ghost use Rattle.disk_model.specs.Traces.{FitsName};
+ghost use Rattle.disk_model.specs.Traces.{FitsName, moment};
 ghost use Rattle.commit_log.specs.Devices.{log_name};
 ghost use Rattle.commit_log.specs.declared.refusal.LogNo.TheVariants.{Damaged, DeviceFault, OtherPlant, TooMany};
 ghost use Rattle.commit_log.specs.Blocks.{IsLogRow};
@@ -43,17 +43,17 @@ pub fn open_log<D: Disk>(
     tags: u32,
     room: u32,
 ) -> Result<Log<D>, LogFail<D>>
-    requires named { FitsName log_name (D.hand_out dev) }
+    requires named { FitsName log_name (D.device dev).handed }
 
     // The log has the rows for which the device's bytes stood.
-    ensures opened { IfOk result (λ l. Shows (D.trace dev) (λ c. StandsForRows plant.now tags c l.opening)) }
-    ensures any_moment { IfOk result (λ l. During (D.trace dev) (D.trace l.dev) (IsLeftOrStands plant.now tags l.opening (D.trace dev))) }
-    ensures any_moment_refused { IfErr result (λ e. During (D.trace dev) (D.trace e.dev) (IsLogLeftOrSame plant.now tags (D.trace dev))) }
+    ensures opened { IfOk result (λ l. Shows (D.device dev).trace (λ c. StandsForRows plant.now tags c l.opening)) }
+    ensures any_moment { IfOk result (λ l. During (D.device dev).trace (D.device l.dev).trace (IsLeftOrStands plant.now tags l.opening (D.device dev).trace)) }
+    ensures any_moment_refused { IfErr result (λ e. During (D.device dev).trace (D.device e.dev).trace (IsLogLeftOrSame plant.now tags (D.device dev).trace)) }
 
     // A device that is not new gains only a sync. A refused one gains only a sync too, unless a call of it failed.
-    ensures synced { IfOk result (λ l. GainsLogSync (D.trace dev) (D.trace l.dev)) }
-    ensures opened_at { IfOk result (λ l. TextOpensAt IsNew (D.trace dev) l.moment) }
-    ensures synced_refused { IfErr result (λ e. GainsSyncOnly e.why (D.trace dev) (D.trace e.dev)) }
+    ensures synced { IfOk result (λ l. GainsLogSync (D.device dev).trace (D.device l.dev).trace) }
+    ensures opened_at { IfOk result (λ l. TextOpensAt IsNew (D.device dev).trace l.moment) }
+    ensures synced_refused { IfErr result (λ e. GainsSyncOnly e.why (D.device dev).trace (D.device e.dev).trace) }
 
     ensures plant { IfOk result (λ l. l.plant ≡ plant.now) }
     ensures tags { IfOk result (λ l. l.tags ≡ tags) }
@@ -62,14 +62,14 @@ pub fn open_log<D: Disk>(
     ensures tape { IfOk result (λ l. l.tape ≡ []) }
     ensures acked { IfOk result (λ l. l.acked ≡ length l.opening) }
     ensures usable { IfOk result (λ l. l.failed ≡ false) }
-    ensures moment { IfOk result (λ l. l.moment ≡ D.ticks l.dev) }
-    ensures faults { IfOk result (λ l. l.faults ≡ D.fault_count l.dev) }
+    ensures moment { IfOk result (λ l. l.moment ≡ moment (D.device l.dev).trace) }
+    ensures faults { IfOk result (λ l. l.faults ≡ (D.device l.dev).faults) }
 
     // A refusal states its cause. The device counts one fault if a call of it has failed, and otherwise none.
-    ensures cause { IfErr result (λ e. IsLogCause plant.now tags room (D.trace dev) e.why) }
-    ensures faultless { IfOk result (λ l. D.fault_count l.dev ≡ D.fault_count dev) }
-    ensures counts { IfErr result (λ e. CountsLogRefusal e.why (D.fault_count dev) (D.fault_count e.dev)) }
-    ensures handed_refused { IfErr result (λ e. D.hand_out e.dev ≡ D.hand_out dev) }
+    ensures cause { IfErr result (λ e. IsLogCause plant.now tags room (D.device dev).trace e.why) }
+    ensures faultless { IfOk result (λ l. (D.device l.dev).faults ≡ (D.device dev).faults) }
+    ensures counts { IfErr result (λ e. CountsLogRefusal e.why (D.device dev).faults (D.device e.dev).faults) }
+    ensures handed_refused { IfErr result (λ e. (D.device e.dev).handed ≡ (D.device dev).handed) }
 {
     let mut dev = dev;
     match open_parts(alloc, &mut dev, plant, tags, room) {
@@ -90,18 +90,18 @@ pub struct Parts {
 
 // Returns the log on a device that was opened.
 fn log_of<D: Disk>(alloc: Global, dev: D, tags: u32, room: u32, parts: Parts) -> Log<D>
-    requires ready { IfSome (D.trace dev) (IsReady parts.plant.items tags parts.rows.items parts.end) }
+    requires ready { IsReady parts.plant.items tags parts.rows.items parts.end (D.device dev).trace }
     requires rows { All (IsLogRow tags) parts.rows.items }
     requires empty { parts.tape.items ≡ [] }
     requires capacity { room ≤ vec_capacity parts.tape }
     requires few { length parts.rows.items + room ≤ most_rows }
-    requires named { FitsName log_name (D.hand_out dev) }
+    requires named { FitsName log_name (D.device dev).handed }
     ensures { result ≡ record {
       plant = parts.plant.items;
       tags = tags;
       opening = parts.rows.items;
-      moment = D.ticks dev;
-      faults = D.fault_count dev;
+      moment = moment (D.device dev).trace;
+      faults = (D.device dev).faults;
       tape = [];
       room = room;
       acked = length parts.rows.items;
@@ -118,7 +118,7 @@ fn log_of<D: Disk>(alloc: Global, dev: D, tags: u32, room: u32, parts: Parts) ->
         plant: parts.plant,
         tags,
         opening: parts.rows,
-        moment,
+        opened_at: moment,
         faults,
         tape: parts.tape,
         count: 0,
@@ -139,22 +139,22 @@ fn open_parts<D: Disk>(
     tags: u32,
     room: u32,
 ) -> Result<Parts, LogNo>
-    ensures stood { IfOk result (λ p. Shows (D.trace dev.old) (λ c. StandsForRows plant.now tags c p.rows.items)) }
-    ensures ready { IfOk result (λ p. IfSome (D.trace dev.new) (IsReady plant.now tags p.rows.items p.end)) }
-    ensures any_moment { IfOk result (λ p. During (D.trace dev.old) (D.trace dev.new)
-        (IsLeftOrStands plant.now tags p.rows.items (D.trace dev.old))) }
-    ensures any_moment_refused { OnErr result (During (D.trace dev.old) (D.trace dev.new) (IsLogLeftOrSame plant.now tags (D.trace dev.old))) }
-    ensures synced { OnOk result (GainsLogSync (D.trace dev.old) (D.trace dev.new)) }
-    ensures moment { OnOk result (TextOpensAt IsNew (D.trace dev.old) (D.ticks dev.new)) }
-    ensures synced_refused { IfErr result (λ why. GainsSyncOnly why (D.trace dev.old) (D.trace dev.new)) }
+    ensures stood { IfOk result (λ p. Shows (D.device dev.old).trace (λ c. StandsForRows plant.now tags c p.rows.items)) }
+    ensures ready { IfOk result (λ p. IsReady plant.now tags p.rows.items p.end (D.device dev.new).trace) }
+    ensures any_moment { IfOk result (λ p. During (D.device dev.old).trace (D.device dev.new).trace
+        (IsLeftOrStands plant.now tags p.rows.items (D.device dev.old).trace)) }
+    ensures any_moment_refused { OnErr result (During (D.device dev.old).trace (D.device dev.new).trace (IsLogLeftOrSame plant.now tags (D.device dev.old).trace)) }
+    ensures synced { OnOk result (GainsLogSync (D.device dev.old).trace (D.device dev.new).trace) }
+    ensures moment { OnOk result (TextOpensAt IsNew (D.device dev.old).trace (moment (D.device dev.new).trace)) }
+    ensures synced_refused { IfErr result (λ why. GainsSyncOnly why (D.device dev.old).trace (D.device dev.new).trace) }
     ensures rows { IfOk result (λ p. All (IsLogRow tags) p.rows.items) }
     ensures plant { IfOk result (λ p. p.plant.items ≡ plant.now) }
     ensures tape { IfOk result (λ p. p.tape.items ≡ []) }
     ensures capacity { IfOk result (λ p. room ≤ vec_capacity p.tape) }
     ensures few { IfOk result (λ p. length p.rows.items + room ≤ most_rows) }
-    ensures cause { IfErr result (IsLogCause plant.now tags room (D.trace dev.old)) }
-    ensures counts { CountsFault result DeviceFault (D.fault_count dev.old) (D.fault_count dev.new) }
-    ensures handed { D.hand_out dev.new ≡ D.hand_out dev.old }
+    ensures cause { IfErr result (IsLogCause plant.now tags room (D.device dev.old).trace) }
+    ensures counts { CountsFault result DeviceFault (D.device dev.old).faults (D.device dev.new).faults }
+    ensures handed { (D.device dev.new).handed ≡ (D.device dev.old).handed }
 {
     let Ok(()) = dev.sync() else {
         return Err(LogNo::DeviceFault);
@@ -205,13 +205,13 @@ fn begin<D: Disk>(
     tags: u32,
     room: u32,
 ) -> Result<Parts, LogNo>
-    requires new { Shows (D.trace dev.old) IsNew }
-    requires settled { IsSettled (D.trace dev.old) }
+    requires new { Shows (D.device dev.old).trace IsNew }
+    requires settled { IsSettled (D.device dev.old).trace }
     ensures rows { IfOk result (λ p. p.rows.items ≡ []) }
-    ensures ready { IfOk result (λ p. IfSome (D.trace dev.new) (IsReady plant.now tags [] p.end)) }
-    ensures any_moment { During (D.trace dev.old) (D.trace dev.new) (LogsNothing plant.now) }
-    ensures unwritten { IfErr result (λ why. why ≢ DeviceFault → D.trace dev.new ≡ D.trace dev.old) }
-    ensures calls { OnOk result (Shows (D.trace dev.old) (λ c. D.ticks dev.new ≡ D.ticks dev.old + layout_calls c)) }
+    ensures ready { IfOk result (λ p. IsReady plant.now tags [] p.end (D.device dev.new).trace) }
+    ensures any_moment { During (D.device dev.old).trace (D.device dev.new).trace (LogsNothing plant.now) }
+    ensures unwritten { IfErr result (λ why. why ≢ DeviceFault → (D.device dev.new).trace ≡ (D.device dev.old).trace) }
+    ensures calls { OnOk result (Shows (D.device dev.old).trace (λ c. moment (D.device dev.new).trace ≡ moment (D.device dev.old).trace + layout_calls c)) }
     ensures plant { IfOk result (λ p. p.plant.items ≡ plant.now) }
     ensures tape { IfOk result (λ p. p.tape.items ≡ []) }
     ensures capacity { IfOk result (λ p. room ≤ vec_capacity p.tape) }
@@ -219,8 +219,8 @@ fn begin<D: Disk>(
     ensures many { (n : ℕ) → IsErrOf result (TooMany n) → (n ≡ room) × (most_rows < n) }
     ensures undamaged { (a : ℕ) (byte : Option ℕ) → IsErrOf result (Damaged a byte) → ⊥ }
     ensures not_other { (at : ℕ) → IsErrOf result (OtherPlant at) → ⊥ }
-    ensures counts { CountsFault result DeviceFault (D.fault_count dev.old) (D.fault_count dev.new) }
-    ensures handed { D.hand_out dev.new ≡ D.hand_out dev.old }
+    ensures counts { CountsFault result DeviceFault (D.device dev.old).faults (D.device dev.new).faults }
+    ensures handed { (D.device dev.new).handed ≡ (D.device dev.old).handed }
 {
     let none = Stored {
         rows: Vec::new(alloc),

@@ -24,7 +24,7 @@ impl<D: Disk> Log<D> {
         ensures place { IfOk result (λ place. place ≡ row_count self.old) }
         ensures appended { OnOk result (self.new ≡ record self.old { tape = self.old.tape ++ Put row ∷ [] }) }
         ensures unchanged { OnErr result (self.new ≡ self.old) }
-        ensures cause { IsErrOf result Broken → Rose self.old.faults (D.fault_count self.old.dev) }
+        ensures cause { IsErrOf result Broken → Rose self.old.faults (D.device self.old.dev).faults }
     {
         if row.tag >= self.tags {
             return Err(PutRowNo::NoTag { tags: self.tags });

@@ -1,6 +1,6 @@
 -- What becomes of a device that is opened: its layout, its free lane slots, and whether a sync is all that it gains.
-use Rattle.std.proofs.Common.{◌≡◌, inl, inr, ℕ, ◌+◌, ◌-◌, ◌<◌, ◌≤◌, false, true, cond, List, Option, None}
-use Rattle.std.proofs.Common.{Some, IfSome, length, refl, sym, ◌∙◌, ap, subst, arith}
+use Rattle.std.proofs.Common.{◌≡◌, inl, inr, ℕ, ◌+◌, ◌-◌, ◌<◌, ◌≤◌, false, true, cond, List}
+use Rattle.std.proofs.Common.{length, refl, sym, ◌∙◌, ap, subst, arith}
 use Rattle.std.proofs.lemmas.Bool.{cases_Bool}
 use Rattle.trend_num.specs.declared.tag_def.TagDef.{TagDef}
 use Rattle.trend_model.specs.State.{State, after, nothing_taken}
@@ -53,120 +53,108 @@ seat_free p c within seat =
           )
     ]
 
-pub free_kept : (o mid : Option Trace) (p : Seat) → mid ≡ noted Synced o → p.lane.used ≤ p.lane.slots
+pub free_kept : (o mid : Trace) (p : Seat) → mid ≡ noted Synced o → p.lane.used ≤ p.lane.slots
     → Shows mid (IsSeat p) → Shows o (HasFreeAtFirst p.lane.slots (free_in p))
 free_kept o mid p is within seat = shown_before o mid (HasFreeAtFirst p.lane.slots (free_in p)) is (kept mid seat)
   where
-    kept : (m : Option Trace) → Shows m (IsSeat p) → Shows m (HasFreeAtFirst p.lane.slots (free_in p))
-    kept None shows = tt
-    kept (Some t) shows = grind (arith, not_seated, seat_free)
+    kept : (m : Trace) → Shows m (IsSeat p) → Shows m (HasFreeAtFirst p.lane.slots (free_in p))
+    kept t shows = grind (arith, not_seated, seat_free)
 
-pub free_made : (o mid : Option Trace) (slots free : ℕ) → mid ≡ noted Synced o → free ≡ slots → Shows mid IsNew
+pub free_made : (o mid : Trace) (slots free : ℕ) → mid ≡ noted Synced o → free ≡ slots → Shows mid IsNew
     → Shows o (HasFreeAtFirst slots free)
 free_made o mid slots free is all new = shown_before o mid (HasFreeAtFirst slots free) is (made mid new)
   where
-    made : (m : Option Trace) → Shows m IsNew → Shows m (HasFreeAtFirst slots free)
-    made None shows = tt
-    made (Some t) shows = record { new = λ new. all; begun = λ begun. absurd (begun shows) }
+    made : (m : Trace) → Shows m IsNew → Shows m (HasFreeAtFirst slots free)
+    made t shows = record { new = λ new. all; begun = λ begun. absurd (begun shows) }
 
 -- without a retuning
-pub free_read : (def : TagDef) (o mid : Option Trace) (r : State) (slots free : ℕ) → IsReadAs def o mid false r
+pub free_read : (def : TagDef) (o mid : Trace) (r : State) (slots free : ℕ) → IsReadAs def o mid false r
     → Shows o (HasFreeAtFirst slots free) → Shows o (LeavesFree def slots free)
-free_read def None mid r slots free read has = tt
-free_read def (Some t) mid r slots free read has = record {
+free_read def t mid r slots free read has = record {
   new = has.new;
   retuned = λ s recovered other. absurd (other (ap (λ x. x.summary.tuning)
-      (one_state def (seen (Some t)) s read.0 recovered read.1) ∙ read.3.0));
+      (one_state def (seen t) s read.0 recovered read.1) ∙ read.3.0));
   kept = λ begun s recovered tuned. has.begun begun;
 }
 
 -- and with one
-pub free_retuned : (def : TagDef) (o mid : Option Trace) (r : State) (slots free : ℕ) → IsReadAs def o mid true r
+pub free_retuned : (def : TagDef) (o mid : Trace) (r : State) (slots free : ℕ) → IsReadAs def o mid true r
     → free ≡ slots → Shows o (LeavesFree def slots free)
-free_retuned def None mid r slots free read all = tt
-free_retuned def (Some t) mid r slots free read all = record {
+free_retuned def t mid r slots free read all = record {
   new = λ new. all;
   retuned = λ s recovered other. all;
   kept = λ begun s recovered tuned. absurd (read.3.0 (ap (λ x. x.summary.tuning)
-      (one_state def (seen (Some t)) read.0 s read.1 recovered) ∙ tuned));
+      (one_state def (seen t) read.0 s read.1 recovered) ∙ tuned));
 }
 
 -- ---- its layout, and its calls
 
 -- a fact of one that was not new
-pub begun_before : (o mid : Option Trace) (P : Type 0) → mid ≡ noted Synced o → Shows mid IsBegun
+pub begun_before : (o mid : Trace) (P : Type 0) → mid ≡ noted Synced o → Shows mid IsBegun
     → Shows o (λ c. IsNew c → P)
 begun_before o mid P is begun = shown_before o mid (λ c. IsNew c → P) is (so mid begun)
   where
-    so : (m : Option Trace) → Shows m IsBegun → Shows m (λ c. IsNew c → P)
-    so None shows = tt
-    so (Some t) shows = λ new. absurd (not_new (seen (Some t)) shows new)
+    so : (m : Trace) → Shows m IsBegun → Shows m (λ c. IsNew c → P)
+    so t shows = λ new. absurd (not_new (seen t) shows new)
 
 -- and of one that was
-pub new_before : (o mid : Option Trace) (P : Type 0) → mid ≡ noted Synced o → Shows mid IsNew
+pub new_before : (o mid : Trace) (P : Type 0) → mid ≡ noted Synced o → Shows mid IsNew
     → Shows o (λ c. (IsNew c → ⊥) → P)
 new_before o mid P is new = shown_before o mid (λ c. (IsNew c → ⊥) → P) is (so mid new)
   where
-    so : (m : Option Trace) → Shows m IsNew → Shows m (λ c. (IsNew c → ⊥) → P)
-    so None shows = tt
-    so (Some t) shows = λ begun. absurd (begun shows)
+    so : (m : Trace) → Shows m IsNew → Shows m (λ c. (IsNew c → ⊥) → P)
+    so t shows = λ begun. absurd (begun shows)
 
 -- of any
-pub shown_always : (o : Option Trace) (A : List ℕ → Type 0) (P : Type 0) → P → Shows o (λ c. A c → P)
-shown_always None A P p = tt
-shown_always (Some t) A P p = λ a. p
+pub shown_always : (o : Trace) (A : List ℕ → Type 0) (P : Type 0) → P → Shows o (λ c. A c → P)
+shown_always t A P p = λ a. p
 
 -- a new device is none of a tag that has to be retuned
-pub layout_retuned : (def : TagDef) (o mid new : Option Trace) (r : State) (slots : ℕ) → IsReadAs def o mid true r
+pub layout_retuned : (def : TagDef) (o mid new : Trace) (r : State) (slots : ℕ) → IsReadAs def o mid true r
     → MakesLayout def slots o new
-layout_retuned def None mid new r slots read = tt
-layout_retuned def (Some t) mid new r slots read = λ blank. absurd (read.3.0 (ap (λ x. x.summary.tuning)
-    (one_state def (seen (Some t)) read.0 (nothing_taken def.tuning) read.1 (inl (blank, refl)))))
+layout_retuned def t mid new r slots read = λ blank. absurd (read.3.0 (ap (λ x. x.summary.tuning)
+    (one_state def (seen t) read.0 (nothing_taken def.tuning) read.1 (inl (blank, refl)))))
 
-pub synced_read : (def : TagDef) (o new : Option Trace) → Shows o (λ c. (IsNew c → ⊥) → new ≡ noted Synced o)
+pub synced_read : (def : TagDef) (o new : Trace) → Shows o (λ c. (IsNew c → ⊥) → new ≡ noted Synced o)
     → GainsSync def o new
-synced_read def None new alone = tt
-synced_read def (Some t) new alone = λ begun s recovered tuned. alone begun
+synced_read def t new alone = λ begun s recovered tuned. alone begun
 
-pub synced_retuned : (def : TagDef) (o mid new : Option Trace) (r : State) → IsReadAs def o mid true r
+pub synced_retuned : (def : TagDef) (o mid new : Trace) (r : State) → IsReadAs def o mid true r
     → GainsSync def o new
-synced_retuned def None mid new r read = tt
-synced_retuned def (Some t) mid new r read = λ begun s recovered tuned. absurd (read.3.0
-    (ap (λ x. x.summary.tuning) (one_state def (seen (Some t)) read.0 s read.1 recovered) ∙ tuned))
+synced_retuned def t mid new r read = λ begun s recovered tuned. absurd (read.3.0
+    (ap (λ x. x.summary.tuning) (one_state def (seen t) read.0 s read.1 recovered) ∙ tuned))
 
 -- ---- when the opening ends
 
 -- without a retuning
-pub opens_read : (def : TagDef) (o mid : Option Trace) (r : State) (before now : ℕ) → IfSome o (λ t. length t.calls ≡ before)
+pub opens_read : (def : TagDef) (o mid : Trace) (r : State) (before now : ℕ) → length o.calls ≡ before
     → IsReadAs def o mid false r → Shows o (λ c. IsNew c → now ≡ before + (layout_calls c + 1))
     → Shows o (λ c. (IsNew c → ⊥) → now ≡ before + 1) → OpensAt def o now
-opens_read def None mid r before now told read new kept = tt
-opens_read def (Some t) mid r before now told read new kept = record {
+opens_read def t mid r before now told read new kept = record {
   new = λ is. omega (arith, told, new is);
   kept = λ begun s recovered tuned. omega (arith, told, kept begun);
   retuned = λ s recovered other. absurd (other (ap (λ x. x.summary.tuning)
-      (one_state def (seen (Some t)) s read.0 recovered read.1) ∙ read.3.0));
+      (one_state def (seen t) s read.0 recovered read.1) ∙ read.3.0));
 }
 
 -- and with one: a checkpoint follows
-pub opens_retuned : (def : TagDef) (o mid : Option Trace) (r : State) (before first now : ℕ) → IfSome o (λ t. length t.calls ≡ before)
+pub opens_retuned : (def : TagDef) (o mid : Trace) (r : State) (before first now : ℕ) → length o.calls ≡ before
     → IsReadAs def o mid true r → Shows o (λ c. (IsNew c → ⊥) → mid ≡ noted Synced o)
     → Shows o (λ c. (IsNew c → ⊥) → first ≡ before + 1)
     → Shows mid (λ c. now ≡ first + checkpoint_calls (length r.records) c) → OpensAt def o now
-opens_retuned def None mid r before first now told read synced kept put = tt
-opens_retuned def (Some t) mid r before first now told read synced kept put = record {
+opens_retuned def t mid r before first now told read synced kept put = record {
   new = λ is. absurd (begun is);
   kept = λ not_new s recovered tuned. absurd (read.3.0 (ap (λ x. x.summary.tuning)
-      (one_state def (seen (Some t)) read.0 s read.1 recovered) ∙ tuned));
+      (one_state def (seen t) read.0 s read.1 recovered) ∙ tuned));
   retuned = λ s recovered other.
-      let same : s ≡ read.0 = one_state def (seen (Some t)) s read.0 recovered read.1 in
+      let same : s ≡ read.0 = one_state def (seen t) s read.0 recovered read.1 in
       let state : r ≡ after def.step s (Tune def.tuning) = read.3.1 ∙ ap (λ x. after def.step x (Tune def.tuning)) (sym same) in
-      let many : checkpoint_calls (length r.records) (seen (Some t))
-      ≡ checkpoint_calls (length (after def.step s (Tune def.tuning)).records) (seen (Some t)) =
-      ap (λ x. checkpoint_calls (length x.records) (seen (Some t))) state in
+      let many : checkpoint_calls (length r.records) (seen t)
+      ≡ checkpoint_calls (length (after def.step s (Tune def.tuning)).records) (seen t) =
+      ap (λ x. checkpoint_calls (length x.records) (seen t)) state in
       omega (arith, told, kept begun, subst (λ m. Shows m (λ c. now ≡ first + checkpoint_calls (length r.records) c)) (synced begun) put, many);
 }
   where
-    begun : IsNew (seen (Some t)) → ⊥
+    begun : IsNew (seen t) → ⊥
     begun new = read.3.0 (ap (λ x. x.summary.tuning)
-        (one_state def (seen (Some t)) read.0 (nothing_taken def.tuning) read.1 (inl (new, refl))))
+        (one_state def (seen t) read.0 (nothing_taken def.tuning) read.1 (inl (new, refl))))

@@ -1,7 +1,7 @@
 -- A batch is put into a lane in use.
 use Rattle.disk_model.specs.Calls.{Shows}
 use Rattle.std.proofs.Common.{◌≡◌, ◌≢◌, ◌⊎◌, inl, inr, ⊎_elim, ℕ, ◌+◌, ◌^◌, ◌<◌, ◌≤◌, false, List, [], ◌∷◌}
-use Rattle.std.proofs.Common.{◌++◌, length, get_or, map, Option, refl, ◌∙◌, ap, arith}
+use Rattle.std.proofs.Common.{◌++◌, length, get_or, map, refl, ◌∙◌, ap, arith}
 use Rattle.std.proofs.Common.{◌-◌, true}
 use Rattle.std.specs.List.{All}
 use Rattle.std.proofs.lemmas.Bool.{cases_eq}
@@ -142,7 +142,7 @@ module _ (p : Seat) (points : List Point) (batch : IsTaken p points) where
           number = omega (arith, filled.number, ap length filled.points);
         }) (λ e. absurd (cc (e)))
 
-  module _ (o new : Option Trace) (laid : LaidOn p o)
+  module _ (o new : Trace) (laid : LaidOn p o)
       (during : During o new (FromOld o (IsGuarded (place_of p.lane.slots p.lane.used)
       (batch_bytes p.lane.next points) (gate_of p.lane.used)))) where
     -- what is known of what a read gave before

@@ -1,5 +1,5 @@
 -- How many calls close a lane's gates, and how many make a checkpoint.
-use Rattle.std.proofs.Common.{◌≡◌, ◌≢◌, ◌==◌, inl, inr, ℕ, zero, suc, ◌+◌, ◌-◌, ◌<◌, ◌≤◌, true, false, cond, List, [], ◌∷◌, length, get_or, Option, None, Some, refl, ◌∙◌, ap, subst, arith, add-zero}
+use Rattle.std.proofs.Common.{◌≡◌, ◌≢◌, ◌==◌, inl, inr, ℕ, zero, suc, ◌+◌, ◌-◌, ◌<◌, ◌≤◌, true, false, cond, List, [], ◌∷◌, length, get_or, refl, ◌∙◌, ap, subst, arith, add-zero}
 use Rattle.std.proofs.lemmas.Bool.{cases_Bool, cases_eq, eq-eqb, ne_eqb, cond-true, cond-false}
 use Rattle.disk_model.specs.Traces.{Trace, seen, written}
 use Rattle.disk_model.specs.Calls.{Sees, Shows}
@@ -13,7 +13,7 @@ use Rattle.device_layout.specs.Recovery.{summary_gate, summary_place}
 use Rattle.crash_recovery.specs.declared.seat.Seat.{Seat}
 use Rattle.crash_recovery.specs.Journals.{IsSeat, SeatedOn, log_end}
 use Rattle.crash_recovery.specs.Seats.{KeepsPlaces, LaidOn, checkpoint_calls, lane_calls, log_calls, record_calls, restarted, spare_slot, stale_calls}
-use Rattle.crash_recovery.proofs.Places.{gate_within, slot_within}
+use Rattle.crash_recovery.proofs.Places.{gate_within, reaches_on, seat_shown, slot_within}
 
 -- ---- open gates
 
@@ -61,43 +61,37 @@ some_open at (suc n) k c below opened = elim (cases_eq k n) [
 -- ---- what some calls leave the same
 
 -- some, and then some more
-pub places_then : (from to : ℕ) (a b c : Option Trace) → KeepsPlaces from to a b → KeepsPlaces from to b c → KeepsPlaces from to a c
+pub places_then : (from to : ℕ) (a b c : Trace) → KeepsPlaces from to a b → KeepsPlaces from to b c → KeepsPlaces from to a c
 places_then from to a b c first second = record {
   later = after_both a b c first.later second.later;
   same = λ i low below. second.same i low below ∙ first.same i low below;
 }
 
 -- bytes were written elsewhere
-pub places_written : (from to at : ℕ) (bytes : List ℕ) (o new : Option Trace) → ComesAfter o new → Shows o (λ c. to ≤ length c)
+pub places_written : (from to at : ℕ) (bytes : List ℕ) (o new : Trace) → ComesAfter o new → Shows o (λ c. to ≤ length c)
     → Sees new (written (seen o) at bytes) → ((i : ℕ) → from ≤ i → i < to → IsOutside at (length bytes) i) → KeepsPlaces from to o new
-places_written from to at bytes None None later long sees apart = record { later = later; same = λ i low below. refl }
-places_written from to at bytes None (Some u) later long sees apart = absurd later
-places_written from to at bytes (Some t) None later long sees apart = absurd later
-places_written from to at bytes (Some t) (Some u) later long sees apart = record {
+places_written from to at bytes t u later long sees apart = record {
   later = later;
   same = λ i low below. ap (λ l. get_or l i 0) sees
-      ∙ (torn_written (seen (Some t)) at bytes).outside i (omega (arith, below, long)) (apart i low below);
+      ∙ (torn_written (seen t) at bytes).outside i (omega (arith, below, long)) (apart i low below);
 }
 
 -- gates were closed elsewhere
-pub places_closed : (from to at n : ℕ) (o new : Option Trace) → ComesAfter o new → IsClosing at n (seen o) (seen new)
+pub places_closed : (from to at n : ℕ) (o new : Trace) → ComesAfter o new → IsClosing at n (seen o) (seen new)
     → ((i : ℕ) → from ≤ i → i < to → IsOutside at n i) → KeepsPlaces from to o new
 places_closed from to at n o new later closing apart = record { later = later; same = λ i low below. closing.same i (inl (apart i low below)) }
 
 -- bytes were written elsewhere, and a gate for them was opened
-pub places_guarded : (from to at gate : ℕ) (bytes : List ℕ) (o new : Option Trace) → ComesAfter o new → Shows o (λ c. to ≤ length c)
+pub places_guarded : (from to at gate : ℕ) (bytes : List ℕ) (o new : Trace) → ComesAfter o new → Shows o (λ c. to ≤ length c)
     → Sees new (written (written (seen o) at bytes) gate (open_byte ∷ []))
     → ((i : ℕ) → from ≤ i → i < to → IsOutside at (length bytes) i × IsOutside gate 1 i) → KeepsPlaces from to o new
-places_guarded from to at gate bytes None None later long sees apart = record { later = later; same = λ i low below. refl }
-places_guarded from to at gate bytes None (Some u) later long sees apart = absurd later
-places_guarded from to at gate bytes (Some t) None later long sees apart = absurd later
-places_guarded from to at gate bytes (Some t) (Some u) later long sees apart = record {
+places_guarded from to at gate bytes t u later long sees apart = record {
   later = later;
   same = λ i low below.
-      let first = torn_written (seen (Some t)) at bytes in
+      let first = torn_written (seen t) at bytes in
       let out = apart i low below in
       ap (λ l. get_or l i 0) sees
-      ∙ (torn_written (written (seen (Some t)) at bytes) gate (open_byte ∷ [])).outside i (omega (arith, below, long, first.no_shorter)) out.1
+      ∙ (torn_written (written (seen t) at bytes) gate (open_byte ∷ [])).outside i (omega (arith, below, long, first.no_shorter)) out.1
       ∙ first.outside i (omega (arith, below, long)) out.0;
 }
 
@@ -180,7 +174,7 @@ module _ (p q r : Seat) (step : IsStepped p q r) where
               omega (arith, fresh_is p a is, fresh_is r d fresh, lane_none p.lane.slots a none)
         ]
 
-  module _ (records first second third fourth last : ℕ) (o1 o2 o3 o4 : Option Trace) (seated : SeatedOn p o1)
+  module _ (records first second third fourth last : ℕ) (o1 o2 o3 o4 : Trace) (seated : SeatedOn p o1)
       (idle : p.stale ≡ false → o2 ≡ o1) (closed : Shows o1 (λ c. second ≡ first + stale_calls p c)) (front : KeepsPlaces 0 (gate_of 0) o1 o2)
       (logged : Shows o2 (λ c. third ≡ second + log_calls q records c)) (log_gates : KeepsPlaces (gate_of 0) (gate_of q.lane.slots) o2 o3)
       (put : fourth ≡ third + 4) (put_gates : KeepsPlaces (gate_of 0) (gate_of q.lane.slots) o3 o4)
@@ -192,58 +186,48 @@ module _ (p q r : Seat) (step : IsStepped p q r) where
 
     -- all calls of a checkpoint
     pub checkpoint_counted : Shows o1 (λ c. last ≡ first + checkpoint_calls records c)
-    checkpoint_counted = by o1 o2 o4 seated closed front logged put_gates_later restarted_last gates_same
+    checkpoint_counted = by o1 o2 o4 (seat_shown p o1 seated) closed front logged put_gates_later restarted_last gates_same
       where
         put_gates_later : ComesAfter o2 o4
         put_gates_later = after_both o2 o3 o4 log_gates.later put_gates.later
 
-        by : (o1 o2 o4 : Option Trace) → SeatedOn p o1 → Shows o1 (λ c. second ≡ first + stale_calls p c) → KeepsPlaces 0 (gate_of 0) o1 o2
+        by : (o1 o2 o4 : Trace) → Shows o1 (IsSeat p) → Shows o1 (λ c. second ≡ first + stale_calls p c) → KeepsPlaces 0 (gate_of 0) o1 o2
             → Shows o2 (λ c. third ≡ second + log_calls q records c) → ComesAfter o2 o4 → Shows o4 (λ c. last ≡ fourth + stale_calls r c)
             → (p.stale ≡ false → (i : ℕ) → gate_of 0 ≤ i → i < gate_of p.lane.slots → get_or (seen o4) i 0 ≡ get_or (seen o1) i 0)
             → Shows o1 (λ c. last ≡ first + checkpoint_calls records c)
-        by None o2 o4 seated closed front logged later ended same = tt
-        by (Some t) None o4 seated closed front logged later ended same = absurd front.later
-        by (Some t) (Some u) None seated closed front logged later ended same = absurd later
-        by (Some t) (Some u) (Some v) seated closed front logged later ended same = grind (arith, counts_same, records_same, gate_within, closed_first, closed_last)
+        by t u v seat closed front logged later ended same = grind (arith, counts_same, records_same, gate_within, closed_first, closed_last)
 
 -- ---- the steps of a checkpoint
 
--- a device with a place reaches so far
-pub place_long : (p : Seat) (o : Option Trace) (n : ℕ) → LaidOn p o → n ≤ log_end p → Shows o (λ c. n ≤ length c)
-place_long p None n laid le = tt
-place_long p (Some t) n laid le = omega (arith, le, laid.laid.long)
-
 -- the records are written, and the gate of the next summary is closed
-pub log_counted : (p : Seat) (records first second last gate : ℕ) (o mid : Option Trace) → gate ≡ summary_gate (spare_slot p.counts)
+pub log_counted : (p : Seat) (records first second last gate : ℕ) (o mid : Trace) → gate ≡ summary_gate (spare_slot p.counts)
     → KeepsPlaces 0 (gate_of 0) o mid → second ≡ first + record_calls p.records records
     → Shows mid (λ c. last ≡ second + (open_gates gate 1 c + 1)) → Shows o (λ c. last ≡ first + log_calls p records c)
-log_counted p records first second last gate None mid is front put closed = tt
-log_counted p records first second last gate (Some t) None is front put closed = absurd front.later
-log_counted p records first second last gate (Some t) (Some u) is front put closed = grind (arith, add-zero, gate_within)
+log_counted p records first second last gate t u is front put closed = grind (arith, add-zero, gate_within)
 
 -- these places do not change
-pub log_front : (p : Seat) (bytes : List ℕ) (o mid : Option Trace) → LaidOn p o → ComesAfter o mid
+pub log_front : (p : Seat) (bytes : List ℕ) (o mid : Trace) → LaidOn p o → ComesAfter o mid
     → Sees mid (written (seen o) (log_end p) bytes) → KeepsPlaces 0 (gate_of 0) o mid
 log_front p bytes o mid laid later sees =
-    places_written 0 (gate_of 0) (log_end p) bytes o mid later (place_long p o (gate_of 0) laid (omega arith)) sees
+    places_written 0 (gate_of 0) (log_end p) bytes o mid later (reaches_on p o (gate_of 0) laid (omega arith)) sees
     (λ i low below. inl (omega (arith, below)))
 
-pub log_gates : (p : Seat) (bytes : List ℕ) (gate : ℕ) (o mid new : Option Trace) → gate ≡ summary_gate (spare_slot p.counts) → LaidOn p o
+pub log_gates : (p : Seat) (bytes : List ℕ) (gate : ℕ) (o mid new : Trace) → gate ≡ summary_gate (spare_slot p.counts) → LaidOn p o
     → ComesAfter o mid → Sees mid (written (seen o) (log_end p) bytes) → ComesAfter mid new → IsClosing gate 1 (seen mid) (seen new)
     → KeepsPlaces (gate_of 0) (gate_of p.lane.slots) o new
 log_gates p bytes gate o mid new is laid later sees then closing =
     places_then (gate_of 0) (gate_of p.lane.slots) o mid new
     (places_written (gate_of 0) (gate_of p.lane.slots) (log_end p) bytes o mid later
-    (place_long p o (gate_of p.lane.slots) laid (omega arith)) sees (λ i low below. inl (omega (arith, below))))
+    (reaches_on p o (gate_of p.lane.slots) laid (omega arith)) sees (λ i low below. inl (omega (arith, below))))
     (places_closed (gate_of 0) (gate_of p.lane.slots) gate 1 mid new then closing
     (λ i low below. inr (omega (arith, is, gate_within (spare_slot p.counts), low))))
 
 -- the summary is written before the lane
-pub put_gates : (p : Seat) (at gate : ℕ) (bytes : List ℕ) (o new : Option Trace) → at ≡ summary_place (spare_slot p.counts)
+pub put_gates : (p : Seat) (at gate : ℕ) (bytes : List ℕ) (o new : Trace) → at ≡ summary_place (spare_slot p.counts)
     → gate ≡ summary_gate (spare_slot p.counts) → length bytes ≡ 128 → LaidOn p o → ComesAfter o new
     → Sees new (written (written (seen o) at bytes) gate (open_byte ∷ [])) → KeepsPlaces (gate_of 0) (gate_of p.lane.slots) o new
 put_gates p at gate bytes o new at_is gate_is size laid later sees =
-    places_guarded (gate_of 0) (gate_of p.lane.slots) at gate bytes o new later (place_long p o (gate_of p.lane.slots) laid (omega arith)) sees
+    places_guarded (gate_of 0) (gate_of p.lane.slots) at gate bytes o new later (reaches_on p o (gate_of p.lane.slots) laid (omega arith)) sees
     (λ i low below. (
       inr (omega (arith, at_is, size, slot_within (spare_slot p.counts), low)),
       inr (omega (arith, gate_is, gate_within (spare_slot p.counts), low)),

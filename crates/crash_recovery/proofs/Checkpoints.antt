@@ -1,7 +1,7 @@
 -- The summary of a core is written after its records.
 use Rattle.disk_model.specs.Calls.{Shows}
 use Rattle.std.proofs.Common.{◌≡◌, ◌≢◌, inl, inr, ⊎_elim, ℕ, ◌+◌, ◌*◌, ◌^◌, ◌<◌, ◌≤◌, Bool, false, List, []}
-use Rattle.std.proofs.Common.{◌∷◌, ◌++◌, length, get_or, take, drop, map, Option, Some, refl, sym, ◌∙◌, ap}
+use Rattle.std.proofs.Common.{◌∷◌, ◌++◌, length, get_or, take, drop, map, Some, refl, sym, ◌∙◌, ap}
 use Rattle.std.proofs.Common.{subst, arith, length-take, length-drop, length-append}
 use Rattle.std.specs.Prelude.{nat_lt}
 use borrow.Author.Tests.{ltb-false}
@@ -21,10 +21,10 @@ use Rattle.trend_model.specs.Lists.{Each}
 use Rattle.trend_model.specs.Parts.{ArePartsOk}
 use Rattle.trend_model.specs.State.{State, replay}
 use Rattle.disk_model.specs.Traces.{Trace, seen, written}
-use Rattle.disk_model.specs.Images.{IsOutside, Now, FromOld, IsSettled}
+use Rattle.disk_model.specs.Images.{IsOutside, FromOld, IsSettled}
 use Rattle.disk_model.specs.Moments.{During}
 use Rattle.disk_model.specs.Calls.{Sees}
-use Rattle.disk_model.specs.Gates.{open_byte, IsOpen, IsShut, Holds, IsGuarded}
+use Rattle.disk_model.specs.Gates.{open_byte, IsOpen, Holds, IsGuarded}
 use Rattle.archive_file.specs.Records.{rec_image, recs_image}
 use Rattle.archive_file.specs.Places.{AreInRange}
 use Rattle.archive_file.specs.Summaries.{summary_image, IsSummary}
@@ -388,25 +388,19 @@ module _ (p : Seat) (u : Tuning) (step : Bool) (r : State) (fit : IsFit u step r
 
   -- ---- the calls
 
-  module _ (o new : Option Trace) (laid : LaidOn p o) (ready : ReadyOn p (summary_gate (spare_slot p.counts))
+  module _ (o new : Trace) (laid : LaidOn p o) (ready : ReadyOn p (summary_gate (spare_slot p.counts))
       r.records o)
       (at gate : ℕ) (bytes : List ℕ) (is_at : at ≡ summary_place (spare_slot p.counts))
       (is_gate : gate ≡ summary_gate (spare_slot p.counts))
       (is_bytes : bytes ≡ summary_image r.summary) where
     logged_shown : Shows o (IsLoggedFor p r)
-    logged_shown = grind (arith, shown_so, laid, shown_both, laid_shown)
+    logged_shown = record { laid = laid_shown p o laid; ready = ready }
 
     -- and what it recovered
     known : (def : TagDef) (s : State) → AllRecover def o s → Shows o (λ c. IsLoggedFor p r c
         × Recovers def c s)
     known def s all = shown_both o (IsLoggedFor p r) (λ c. Recovers def c s) logged_shown
         (shown_now o (λ c. Recovers def c s) all)
-
-    -- what the write needs
-    pub spare_shut : Now o (IsShut gate)
-    spare_shut = now_shown o (IsShut gate) (settled_on p o laid)
-        (shown_so o (IsLoggedFor p r) (IsShut gate) (λ c logged. subst (λ g. IsShut g c)
-        (sym is_gate) logged.ready.shut) logged_shown)
 
     -- the summary, guarded by its gate
     as_guarded : (a b : List ℕ) → IsGuarded at bytes gate a b

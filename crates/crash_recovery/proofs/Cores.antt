@@ -1,7 +1,7 @@
 -- What was read of a device is what it recovers, and where its lane is broken.
 use Rattle.std.proofs.Common.{◌≡◌, inl, inr, ℕ, ◌+◌, ◌*◌, ◌<◌, ◌≤◌, Bool}
 use Rattle.std.proofs.Common.{false, List, [], ◌∷◌, length, take, drop, map}
-use Rattle.std.proofs.Common.{Option, None, Some, refl, sym, ◌∙◌, ap, ap₂, subst, arith, length-append}
+use Rattle.std.proofs.Common.{Option, Some, refl, sym, ◌∙◌, ap, ap₂, subst, arith, length-append}
 use Rattle.std.proofs.Common.{length-take, length-drop}
 use Rattle.std.proofs.lemmas.Bool.{cases_Bool}
 use Rattle.trend_num.specs.Limits.{most_records}
@@ -166,43 +166,39 @@ module _ (def : TagDef) (slots : ℕ) (x : Stored) (c : List ℕ) (read : IsRead
   ]
 
 -- the same of a device
-pub recovered_shown : (def : TagDef) (o : Option Trace) (slots : ℕ) (x : Stored) (s : Scanned) (step : Bool)
+pub recovered_shown : (def : TagDef) (o : Trace) (slots : ℕ) (x : Stored) (s : Scanned) (step : Bool)
     (core new : State)
     → IsWithin slots x.summary.taken slots s → Shows o (IsReadFrom def slots x)
     → Shows o (λ c. IsRead slots x.summary.taken c slots s)
     → def.step ≡ step → core.records ≡ x.recs.items → core.summary ≡ record x.summary { tuning = Some x.tuning }
     → AllFit step core (map Raw s.points.items) → new ≡ replay step core (map Raw s.points.items)
     → Shows o (λ c. IsRecovered def c new)
-recovered_shown def None slots x s step core new inside read scanned same_step records summary fit state = tt
-recovered_shown def (Some t) slots x s step core new inside read scanned same_step records summary fit state =
-    recovered def slots x (seen (Some t)) read s scanned inside step core new same_step records summary fit state
+recovered_shown def t slots x s step core new inside read scanned same_step records summary fit state =
+    recovered def slots x (seen t) read s scanned inside step core new same_step records summary fit state
 
-pub seated_shown : (def : TagDef) (o : Option Trace) (slots : ℕ) (x : Stored) (s : Scanned)
+pub seated_shown : (def : TagDef) (o : Trace) (slots : ℕ) (x : Stored) (s : Scanned)
     → IsWithin slots x.summary.taken slots s → Shows o (IsReadFrom def slots x)
     → Shows o (λ c. IsRead slots x.summary.taken c slots s)
     → Shows o (IsSeat (seat_of x s))
-seated_shown def None slots x s inside read scanned = tt
-seated_shown def (Some t) slots x s inside read scanned = seated def slots x (seen (Some t)) read s scanned inside
+seated_shown def t slots x s inside read scanned = seated def slots x (seen t) read s scanned inside
 
-pub queue_shown : (def : TagDef) (o : Option Trace) (slots : ℕ) (x : Stored) (a : ℕ) (byte : Option ℕ)
+pub queue_shown : (def : TagDef) (o : Trace) (slots : ℕ) (x : Stored) (a : ℕ) (byte : Option ℕ)
     → Shows o (IsReadFrom def slots x) → Shows o (λ c. IsLaneDamage slots c x.summary.taken a byte)
     → Shows o (λ c. IsTagDamage def c a byte)
-queue_shown def None slots x a byte read damage = tt
-queue_shown def (Some t) slots x a byte read damage = BadQueue x.recs.items x.summary (record {
+queue_shown def t slots x a byte read damage = BadQueue x.recs.items x.summary (record {
   stored = read.stored;
-  broken = subst (λ n. IsLaneDamage n (seen (Some t)) x.summary.taken a byte) read.slots_are damage;
+  broken = subst (λ n. IsLaneDamage n (seen t) x.summary.taken a byte) read.slots_are damage;
 })
 
-pub holds_shown : (def : TagDef) (o : Option Trace) (slots : ℕ) (x : Stored) (s : Scanned) (n : ℕ)
+pub holds_shown : (def : TagDef) (o : Trace) (slots : ℕ) (x : Stored) (s : Scanned) (n : ℕ)
     → IsWithin slots x.summary.taken slots s → Shows o (IsReadFrom def slots x)
     → Shows o (λ c. IsRead slots x.summary.taken c slots s)
     → n < length s.points.items → Shows o (HoldsValue slots x.summary.taken s.lane.used n)
-holds_shown def None slots x s n inside read scanned below = tt
-holds_shown def (Some t) slots x s n inside read scanned below =
-    holds_value def slots x (seen (Some t)) read s scanned inside n below
+holds_shown def t slots x s n inside read scanned below =
+    holds_value def slots x (seen t) read s scanned inside n below
 
 -- the refusal of a lane of which a value finds no room
-pub overfull_cause : (def : TagDef) (o : Option Trace) (slots : ℕ) (x : Stored) (s : Scanned) (step : Bool)
+pub overfull_cause : (def : TagDef) (o : Trace) (slots : ℕ) (x : Stored) (s : Scanned) (step : Bool)
     (core : State) (n : ℕ)
     (why : OpenNo) → IsWithin slots x.summary.taken slots s → Shows o (IsReadFrom def slots x)
     → Shows o (λ c. IsRead slots x.summary.taken c slots s) → def.step ≡ step → core.records ≡ x.recs.items
@@ -210,12 +206,9 @@ pub overfull_cause : (def : TagDef) (o : Option Trace) (slots : ℕ) (x : Stored
     → most_records < length (replay step core (map Raw (take n s.points.items))).records + 2
     → IsOverfull o slots x.summary.taken n why → IsCause def o why
 overfull_cause def o slots x s step core n DeviceFault inside read scanned same_step records summary fit full over = tt
-overfull_cause def None slots x s step core n
-    (Damaged at byte) inside read scanned same_step records summary fit full over = tt
-overfull_cause def (Some t) slots x s step core n
-    (Damaged at byte) inside read scanned same_step records summary fit full over =
+overfull_cause def t slots x s step core n (Damaged at byte) inside read scanned same_step records summary fit full over =
     value_broken def slots x (seen
-    (Some t)) read s scanned inside step core n at over.0 over.1 byte same_step records summary fit full
+    t) read s scanned inside step core n at over.0 over.1 byte same_step records summary fit full
     over.2 over.3
 overfull_cause def o slots x s step core n
     (OtherTag found wanted) inside read scanned same_step records summary fit full over =

@@ -1,7 +1,7 @@
 -- The places of the values of a lane.
 use Rattle.std.proofs.Common.{◌≡◌, ℕ, ◌+◌, ◌-◌, ◌*◌, ◌<◌, ◌≤◌, min, List, length}
 use Rattle.std.proofs.Common.{take, drop}
-use Rattle.std.proofs.Common.{get_or, Option, None, Some, sym, ◌∙◌, ap, subst, arith, length-append}
+use Rattle.std.proofs.Common.{get_or, Some, sym, ◌∙◌, ap, subst, arith, length-append}
 use Rattle.std.specs.Int.{w16, from_be_bytes}
 use Rattle.disk_model.specs.Traces.{Trace, seen}
 use Rattle.disk_model.specs.Calls.{Reads}
@@ -23,13 +23,12 @@ count_here slots j at bytes c is size here = ap (from_be_bytes w16)
     (part_of c (place_of slots j) 1034 8 2 (omega arith) ∙ ap (λ k. take 2 (drop k c)) (sym is)
     ∙ ap (λ n. take n (drop at c)) (sym size) ∙ sym here)
 
-pub count_shown : (o : Option Trace) (slots j at : ℕ) (bytes : List ℕ) (m n : ℕ) → at ≡ place_of slots j + 8
+pub count_shown : (o : Trace) (slots j at : ℕ) (bytes : List ℕ) (m n : ℕ) → at ≡ place_of slots j + 8
     → length bytes ≡ 2
     → Reads o at bytes → m ≡ from_be_bytes w16 bytes → n ≡ min m 64 → Shows o (λ c. n ≡ min 64 (count_in
     (slot_at slots c j)))
-count_shown None slots j at bytes m n is size read m_is n_is = tt
-count_shown (Some t) slots j at bytes m n is size read m_is n_is =
-    let count = count_here slots j at bytes (seen (Some t)) is size read in
+count_shown t slots j at bytes m n is size read m_is n_is =
+    let count = count_here slots j at bytes (seen t) is size read in
     omega (arith, count, m_is, n_is)
 
 -- so many of the values are in the first j slots, and `rest` more come before value n
@@ -67,43 +66,39 @@ counted_all slots taken used n rest c holds within so_far =
     absurd (omega (arith, so_far.counted, all, holds.there))
 
 -- the same of a device
-pub more_shown : (o : Option Trace) (slots taken used n j rest m : ℕ) → used ≤ slots → j < used
+pub more_shown : (o : Trace) (slots taken used n j rest m : ℕ) → used ≤ slots → j < used
     → Shows o (HoldsValue slots taken used n) → Shows o (λ c. m ≡ min 64 (count_in (slot_at slots c j))) → m ≤ rest
     → Shows o (IsCountedTo slots taken n j rest) → Shows o (IsCountedTo slots taken n (j + 1) (rest - m))
-more_shown None slots taken used n j rest m within below holds count behind so_far = tt
-more_shown (Some t) slots taken used n j rest m within below holds count behind so_far =
-    counted_more slots taken used n (seen (Some t)) holds j within below m count rest so_far behind
+more_shown t slots taken used n j rest m within below holds count behind so_far =
+    counted_more slots taken used n (seen t) holds j within below m count rest so_far behind
 
-pub value_shown : (o : Option Trace) (slots taken used n j rest m a : ℕ) → used ≤ slots → j < used
+pub value_shown : (o : Trace) (slots taken used n j rest m a : ℕ) → used ≤ slots → j < used
     → Shows o (HoldsValue slots taken used n) → Shows o (λ c. m ≡ min 64 (count_in (slot_at slots c j))) → rest < m
     → Shows o (IsCountedTo slots taken n j rest) → a ≡ place_of slots j + (10 + 16 * rest)
     → Shows o (λ c. (k : ℕ) × (i : ℕ) × IsValuePlace slots c taken n a k i)
-value_shown None slots taken used n j rest m a within below holds count among so_far at = tt
-value_shown (Some t) slots taken used n j rest m a within below holds count among so_far at =
-    (j, rest, value_here slots taken used n (seen (Some t)) holds j within below m count rest a so_far among at)
+value_shown t slots taken used n j rest m a within below holds count among so_far at =
+    (j, rest, value_here slots taken used n (seen t) holds j within below m count rest a so_far among at)
 
-pub never_shown : (o : Option Trace) (slots taken used n j rest a : ℕ) → used ≤ slots → used ≤ j → j ≤ used
+pub never_shown : (o : Trace) (slots taken used n j rest a : ℕ) → used ≤ slots → used ≤ j → j ≤ used
     → Shows o (HoldsValue slots taken used n) → Shows o (IsCountedTo slots taken n j rest)
     → Shows o (λ c. (k : ℕ) × (i : ℕ) × IsValuePlace slots c taken n a k i)
-never_shown None slots taken used n j rest a within low high holds so_far = tt
-never_shown (Some t) slots taken used n j rest a within low high holds so_far =
+never_shown t slots taken used n j rest a within low high holds so_far =
     let same : j ≡ used = omega (arith, low, high) in
-    absurd (counted_all slots taken used n rest (seen (Some t)) holds within
-    (subst (λ k. IsCountedTo slots taken n k rest (seen (Some t))) same so_far))
+    absurd (counted_all slots taken used n rest (seen t) holds within
+    (subst (λ k. IsCountedTo slots taken n k rest (seen t)) same so_far))
 
 -- the byte at a value's place was read
-pub value_told : (o : Option Trace) (slots taken n a : ℕ) (bytes : List ℕ) → length bytes ≡ 1 → Reads o a bytes
+pub value_told : (o : Trace) (slots taken n a : ℕ) (bytes : List ℕ) → length bytes ≡ 1 → Reads o a bytes
     → Shows o (λ c. a < length c) → Shows o (λ c. (j : ℕ) × (i : ℕ) × IsValuePlace slots c taken n a j i)
     → Shows o (λ c. (j : ℕ) × (i : ℕ) × IsValuePlace slots c taken n a j i
     × StandsThere c a (Some (get_or bytes 0 0)))
-value_told None slots taken n a bytes size read within place = tt
-value_told (Some t) slots taken n a bytes size read within place = (
+value_told t slots taken n a bytes size read within place = (
   place.0,
   place.1,
   place.2,
   record {
     within = within;
-    byte_there = ap Some (sym (ap (λ k. get_or (seen (Some t)) k 0) (omega arith)
-        ∙ byte_here bytes a (seen (Some t)) 0 (omega (arith, size)) read));
+    byte_there = ap Some (sym (ap (λ k. get_or (seen t) k 0) (omega arith)
+        ∙ byte_here bytes a (seen t) 0 (omega (arith, size)) read));
   },
 )

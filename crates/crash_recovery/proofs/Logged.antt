@@ -1,7 +1,7 @@
 -- Records are written after the log, and the gate of the slot that does not count is closed.
 use Rattle.disk_model.specs.Calls.{Shows}
 use Rattle.std.proofs.Common.{◌≡◌, ◌≢◌, inl, inr, ⊎_elim, ℕ, ◌+◌, ◌-◌, ◌<◌, ◌≤◌, min, List, length, get_or}
-use Rattle.std.proofs.Common.{take, drop, Option, None, Some, Result, sym, ◌∙◌, ap, subst, arith, length-drop}
+use Rattle.std.proofs.Common.{take, drop, Result, sym, ◌∙◌, ap, subst, arith, length-drop}
 use Rattle.std.proofs.lemmas.List.{take_all, drop_min}
 use Rattle.trend_num.specs.declared.archive.Rec.{Rec}
 use Rattle.trend_num.specs.declared.tag_def.TagDef.{TagDef}
@@ -38,11 +38,11 @@ new_records m from recs is =
     ∙ ap (λ n. drop n recs) is ∙ drop_min m recs
 
 -- nothing was written
-pub torn_kept : (o : Option Trace) (at n : ℕ) → During o o (FromOld o (IsTorn at n))
+pub torn_kept : (o : Trace) (at n : ℕ) → During o o (FromOld o (IsTorn at n))
 torn_kept o at n = started o (FromOld o (IsTorn at n)) (record { each = λ c may. (c, may, torn_self at n c) })
 
 -- a write that may be torn
-pub torn_moments : {E : Type 0} (r : Result (Unit {0}) E) (o new : Option Trace) (at : ℕ) (bytes : List ℕ)
+pub torn_moments : {E : Type 0} (r : Result (Unit {0}) E) (o new : Trace) (at : ℕ) (bytes : List ℕ)
     → IsNoted (Wrote at bytes) (WroteInPart at bytes) r o new
     → During o new (FromOld o (IsTorn at (length bytes)))
 torn_moments r o new at bytes noted =
@@ -129,7 +129,7 @@ module _ (p : Seat) (a b : List ℕ) (laid : IsLaid p a) (logged : IsLogged (log
 
 -- ---- the calls
 
-module _ (p : Seat) (n gate : ℕ) (is_gate : gate ≡ summary_gate (spare_slot p.counts)) (o mid : Option Trace)
+module _ (p : Seat) (n gate : ℕ) (is_gate : gate ≡ summary_gate (spare_slot p.counts)) (o mid : Trace)
     (laid : LaidOn p o)
     (torn : During o mid (FromOld o (IsTorn (log_end p) n))) where
   -- the gate lies before the lane
@@ -152,7 +152,7 @@ module _ (p : Seat) (n gate : ℕ) (is_gate : gate ≡ summary_gate (spare_slot 
       )) torn
 
   -- each image recovers what it recovered
-  recovers_through : (new : Option Trace) (def : TagDef) (s : State) → AllRecover def o s
+  recovers_through : (new : Trace) (def : TagDef) (s : State) → AllRecover def o s
       → During o new (FromOld o (IsLogged (log_end p) gate)) → During o new (λ c. Recovers def c s)
   recovers_through new def s all logged =
       during_from o new (IsLogged (log_end p) gate) (λ c. IsLaid p c × Recovers def c s)
@@ -168,23 +168,29 @@ module _ (p : Seat) (n gate : ℕ) (is_gate : gate ≡ summary_gate (spare_slot 
 
   -- the gate reads the same in each image
   pub gates_torn : Now mid (HasGatesOf (seen mid) gate 1)
-  gates_torn = has mid torn
+  gates_torn = record { each = λ c may. same_gate c (now.each c may) (now.each (seen mid) (present mid)) }
     where
-      same_gate : (u : Trace) (c : List ℕ) → FromOld o (IsTorn (log_end p) n) c
-          → FromOld o (IsTorn (log_end p) n) (seen (Some u))
-          → HasGatesOf (seen (Some u)) gate 1 c
-      same_gate u c from here = grind (arith, settled_on, low_gate)
+      now : Now mid (FromOld o (IsTorn (log_end p) n))
+      now = during_now o mid (FromOld o (IsTorn (log_end p) n)) torn
 
-      has : (mid : Option Trace) → During o mid (FromOld o (IsTorn (log_end p) n))
-          → Now mid (HasGatesOf (seen mid) gate 1)
-      has None torn = record { each = λ c may. absurd may.image }
-      has (Some u) torn = record {
-        each = λ c may.
-            let now = during_now o (Some u) (FromOld o (IsTorn (log_end p) n)) torn in
-            same_gate u c (now.each c may) (now.each (seen (Some u)) (present u));
-      }
+      same_gate : (c : List ℕ) → FromOld o (IsTorn (log_end p) n) c → FromOld o (IsTorn (log_end p) n) (seen mid)
+          → HasGatesOf (seen mid) gate 1 c
+      same_gate c from here =
+          let a = each_laid.each from.0 from.1 in
+          let b = each_laid.each here.0 here.1 in
+          let one : from.0 ≡ here.0 = (settled_on p o laid).each from.0 from.1
+          ∙ sym ((settled_on p o laid).each here.0 here.1) in
+          record {
+            there = omega (arith, low_gate, a.long, from.2.no_shorter);
+            same = λ i low below.
+                from.2.outside i (omega (arith, low_gate, a.long, below))
+                (inl (omega (arith, low_gate, below)))
+                ∙ ap (λ d. get_or d i 0) one
+                ∙ sym (here.2.outside i (omega (arith, low_gate, b.long, below))
+                (inl (omega (arith, low_gate, below))));
+          }
 
-  module _ (new : Option Trace) (closing : During mid new (FromOld mid (IsClosing gate 1))) where
+  module _ (new : Trace) (closing : During mid new (FromOld mid (IsClosing gate 1))) where
     -- after the gate was closed too
     logged_moments : During o new (FromOld o (IsLogged (log_end p) gate))
     logged_moments =
@@ -211,9 +217,8 @@ module _ (p : Seat) (n gate : ℕ) (is_gate : gate ≡ summary_gate (spare_slot 
         (λ a b laid_a step none. logged_laid p a b laid_a (subst (λ g. IsLogged (log_end p) g a b) is_gate
         step) within) logged_moments)
       where
-        any_shown : (x : Option Trace) → Shows x (λ c. Unit {0})
-        any_shown None = tt
-        any_shown (Some u) = tt
+        any_shown : (x : Trace) → Shows x (λ c. Unit {0})
+        any_shown u = tt
 
 -- the bytes that were written stay where a gate before them is closed
 holds_closed : (at gate : ℕ) (bytes old m b : List ℕ) → gate < at → at ≤ length old
@@ -226,19 +231,16 @@ holds_closed at gate bytes old m b before long is closing =
     ∙ ap (λ l. take (length bytes) (drop at l)) is ∙ holds_written old at bytes long
 
 -- and then all is there for a summary
-pub ready_on : (p : Seat) (gate : ℕ) (recs : List Rec) (P Q : List ℕ → Type 0) (o mid new : Option Trace)
+pub ready_on : (p : Seat) (gate : ℕ) (recs : List Rec) (P Q : List ℕ → Type 0) (o mid new : Trace)
     → gate ≡ summary_gate (spare_slot p.counts) → LaidOn p o → During o mid P → During mid new Q
     → Sees mid (written (seen o) (log_end p) (recs_image (drop p.records recs)))
     → IsClosing gate 1 (seen mid) (seen new) → Now new (AreShut gate 1)
     → ReadyOn p (summary_gate (spare_slot p.counts)) recs new
-ready_on p gate recs P Q o mid None is_gate laid first second sees closing shut = tt
-ready_on p gate recs P Q o None (Some v) is_gate laid first second sees closing shut = absurd second.later
-ready_on p gate recs P Q None (Some u) (Some v) is_gate laid first second sees closing shut = absurd
-    first.later
-ready_on p gate recs P Q (Some t) (Some u) (Some v) is_gate laid first second sees closing shut = record {
-  shut = subst (λ g. IsShut g (seen (Some v))) is_gate ((shut.each (seen (Some v)) (present v)) gate
+unfolding LaidOn
+ready_on p gate recs P Q t u v is_gate laid first second sees closing shut = record {
+  shut = subst (λ g. IsShut g (seen v)) is_gate ((shut.each (seen v) (present v)) gate
       (omega arith) (omega arith));
-  logged = holds_closed (log_end p) gate (recs_image (drop p.records recs)) (seen (Some t)) (seen (Some u))
-      (seen (Some v))
+  logged = holds_closed (log_end p) gate (recs_image (drop p.records recs)) (seen t) (seen u)
+      (seen v)
       (omega (arith, is_gate, gate_within (spare_slot p.counts))) laid.laid.long sees closing;
 }

@@ -1,5 +1,5 @@
 -- The place of a journal on a device whose layout was just made.
-use Rattle.std.proofs.Common.{ℕ, ◌≤◌, false, List, length, Option, None, Some, IfSome, refl}
+use Rattle.std.proofs.Common.{ℕ, ◌≤◌, false, List, length, None, refl}
 use Rattle.std.proofs.Common.{sym, ap, arith}
 use Rattle.trend_num.specs.declared.tag_def.TagDef.{TagDef}
 use Rattle.trend_num.specs.Names.{IsName}
@@ -46,10 +46,10 @@ made_seat def slots c made tuned name some few = record {
 }
 
 -- the same of a device
-pub made_seated : (def : TagDef) (slots : ℕ) (o : Option Trace) → TuningInRange def.tuning → IsName def.name → 1 ≤ slots
-    → slots ≤ 65536 → IfSome o (λ t. IsMade def slots (seen (Some t))) → IsSettled o → SeatedOn (first_seat slots) o
-made_seated def slots None tuned name some few made settled = tt
-made_seated def slots (Some t) tuned name some few made settled = record {
+pub made_seated : (def : TagDef) (slots : ℕ) (o : Trace) → TuningInRange def.tuning → IsName def.name → 1 ≤ slots
+    → slots ≤ 65536 → IsMade def slots (seen o) → IsSettled o → SeatedOn (first_seat slots) o
+unfolding SeatedOn
+made_seated def slots t tuned name some few made settled = record {
   settled = settled;
-  seat = made_seat def slots (seen (Some t)) made tuned name some few;
+  seat = made_seat def slots (seen t) made tuned name some few;
 }

@@ -1,6 +1,7 @@
 -- What each image recovers while a tag's device is opened.
 use Rattle.std.proofs.Common.{◌≡◌, ◌⊎◌, inl, inr, ⊎_elim, ℕ, ◌+◌, ◌^◌, ◌<◌, ◌≤◌, Bool, true, false, List}
-use Rattle.std.proofs.Common.{[], ◌∷◌}
+use Rattle.std.proofs.Common.{[], ◌∷◌, ◌≢◌, IfErr, OnErr, length}
+use Rattle.trend_num.specs.Limits.{most_records}
 use Rattle.std.proofs.Common.{Option, None, Some, Result, refl, sym, ◌∙◌, ap, subst, arith}
 use Rattle.trend_num.specs.declared.tuning.Tuning.{Tuning}
 use Rattle.trend_num.specs.declared.tag_def.TagDef.{TagDef}
@@ -10,8 +11,8 @@ use Rattle.trend_model.proofs.StateLaw.{stands_after}
 use Rattle.trend_model.specs.State.{State, nothing_taken, after, after_under}
 use Rattle.disk_model.specs.Traces.{Trace, Synced, Idle, seen, noted}
 use Rattle.disk_model.specs.Images.{MayLeave}
-use Rattle.disk_model.specs.Moments.{ComesAfter, During}
-use Rattle.disk_model.specs.Calls.{IsNoted}
+use Rattle.disk_model.specs.Moments.{During}
+use Rattle.disk_model.specs.Calls.{CountsFault, IsNoted}
 use Rattle.disk_model.proofs.Images.{synced_now, settled}
 use Rattle.disk_model.proofs.Moments.{started, goes_on, weaker, in_turn, during_now}
 use Rattle.crash_recovery.specs.declared.seat.Seat.{Seat}
@@ -32,7 +33,7 @@ use Rattle.device_layout.proofs.OneState.{one_state}
 -- ---- the sync at the beginning
 
 -- each image until then is one from before
-pub synced_during : {E : Type 0} (r : Result (Unit {0}) E) (def : TagDef) (o new : Option Trace)
+pub synced_during : {E : Type 0} (r : Result (Unit {0}) E) (def : TagDef) (o new : Trace)
     → IsNoted Synced Idle r o new
     → During o new (IsTagLeftOrSame def o)
 synced_during r def o new is =
@@ -41,12 +42,11 @@ synced_during r def o new is =
     (record { each = λ c may. synced_now r o new c is may }))
 
 -- a fact on what a read gives is one on what it gave before
-pub shown_before : (o mid : Option Trace) (P : List ℕ → Type 0) → mid ≡ noted Synced o → Shows mid P → Shows o P
-shown_before None mid P is shows = tt
-shown_before (Some t) mid P is shows = subst (λ m. Shows m P) is shows
+pub shown_before : (o mid : Trace) (P : List ℕ → Type 0) → mid ≡ noted Synced o → Shows mid P → Shows o P
+shown_before t mid P is shows = subst (λ m. Shows m P) is shows
 
 -- the cause of a refusal is one of the device before
-pub cause_synced : (def : TagDef) (o mid : Option Trace) (why : OpenNo) → mid ≡ noted Synced o
+pub cause_synced : (def : TagDef) (o mid : Trace) (why : OpenNo) → mid ≡ noted Synced o
     → IsCause def mid why → IsCause def o why
 cause_synced def o mid DeviceFault is cause = tt
 cause_synced def o mid (Damaged at byte) is cause = shown_before o mid (λ c. IsTagDamage def c at byte) is cause
@@ -57,16 +57,15 @@ cause_synced def o mid (Full records) is cause =
 cause_synced def o mid WantOfMemory is cause = tt
 
 -- the same images until a later device that is the same
-pub during_same : (o mid new : Option Trace) (P : List ℕ → Type 0) → new ≡ mid → During o mid P → During o new P
+pub during_same : (o mid new : Trace) (P : List ℕ → Type 0) → new ≡ mid → During o mid P → During o new P
 during_same o mid new P same during = subst (λ x. During o x P) (sym same) during
 
 -- ---- a new device
 
-new_seen : (o mid : Option Trace) → mid ≡ noted Synced o → Shows mid IsNew → IsNew (seen o)
-new_seen None mid is new = inl (omega arith)
-new_seen (Some t) mid is new = subst (λ m. Shows m IsNew) is new
+new_seen : (o mid : Trace) → mid ≡ noted Synced o → Shows mid IsNew → IsNew (seen o)
+new_seen t mid is new = subst (λ m. Shows m IsNew) is new
 
-pub made_during : (def : TagDef) (o mid new : Option Trace) → mid ≡ noted Synced o → Shows mid IsNew
+pub made_during : (def : TagDef) (o mid new : Trace) → mid ≡ noted Synced o → Shows mid IsNew
     → During o mid (IsTagLeftOrSame def o) → During mid new (λ c. Recovers def c (nothing_taken def.tuning))
     → During o new (IsTagLeftOrSame def o)
 made_during def o mid new is blank before made =
@@ -75,29 +74,27 @@ made_during def o mid new is blank before made =
     (weaker mid new (λ c. Recovers def c start) (IsTagLeftOrSame def o)
     (λ c recovers. inr (start, start, inl (new_seen o mid is blank, refl), inl (refl, refl), inl recovers)) made)
 
-pub made_as : (def : TagDef) (o mid new : Option Trace) (r : State) → mid ≡ noted Synced o → Shows mid IsNew
+pub made_as : (def : TagDef) (o mid new : Trace) (r : State) → mid ≡ noted Synced o → Shows mid IsNew
     → During mid new (λ c. Recovers def c (nothing_taken def.tuning)) → r ≡ nothing_taken def.tuning
     → IsReadAs def o new false r
-made_as def None mid new r is blank made same = tt
-made_as def (Some t) mid new r is blank made same =
+made_as def t mid new r is blank made same =
     let start = nothing_taken def.tuning in (
       start,
-      inl (new_seen (Some t) mid is blank, refl),
+      inl (new_seen t mid is blank, refl),
       during_now mid new (λ c. Recovers def c start) made,
       (refl, same),
     )
 
 -- ---- a device whose layout was finished
 
-pub read_as : (def : TagDef) (o mid : Option Trace) (retuned : Bool) (r : State) → mid ≡ noted Synced o
+pub read_as : (def : TagDef) (o mid : Trace) (retuned : Bool) (r : State) → mid ≡ noted Synced o
     → Shows mid (λ c. (s : State) × IsRecovered def c s × OpensAs def retuned s r) → IsReadAs def o mid retuned r
-read_as def None mid retuned r is read = tt
-read_as def (Some t) mid retuned r is read =
+read_as def t mid retuned r is read =
     let found = subst (λ m. Shows m (λ c. (s : State) × IsRecovered def c s × OpensAs def retuned s r)) is read in (
       found.0,
       inr found.1,
       record {
-        each = λ c may. subst (λ x. Recovers def x found.0) (sym ((settled (Some t)).each c (subst
+        each = λ c may. subst (λ x. Recovers def x found.0) (sym ((settled t).each c (subst
             (λ m. MayLeave m c) is may)))
             (inr found.1);
       },
@@ -110,20 +107,17 @@ opens_as : (def : TagDef) (retuned : Bool) (s r : State) → OpensAs def retuned
 opens_as def false s r opens = inl opens
 opens_as def true s r opens = inr opens
 
-pub opened_shown : (def : TagDef) (o new : Option Trace) (retuned : Bool) (r : State) → IsReadAs def o new retuned r
+pub opened_shown : (def : TagDef) (o new : Trace) (retuned : Bool) (r : State) → IsReadAs def o new retuned r
     → Shows o (λ c. (s : State) × Recovers def c s × IsOpenedAs def s r)
-opened_shown def None new retuned r read = tt
-opened_shown def (Some t) new retuned r read = (read.0, read.1, opens_as def retuned read.0 r read.3)
+opened_shown def t new retuned r read = (read.0, read.1, opens_as def retuned read.0 r read.3)
 
 -- without a retuning all is as it was read
-pub stays_read : (def : TagDef) (o new : Option Trace) → During o new (IsTagLeftOrSame def o) → StaysSame def o new
-stays_read def None new during = tt
-stays_read def (Some t) new during = λ countable. during
+pub stays_read : (def : TagDef) (o new : Trace) → During o new (IsTagLeftOrSame def o) → StaysSame def o new
+stays_read def t new during = λ countable. during
 
-pub recovers_read : (def : TagDef) (o new : Option Trace) (r : State) → IsReadAs def o new false r
+pub recovers_read : (def : TagDef) (o new : Trace) (r : State) → IsReadAs def o new false r
     → RecoversThen def o new r
-recovers_read def None new r read = tt
-recovers_read def (Some t) new r read = λ countable. subst (λ s. AllRecover def new s) (sym read.3.1) read.2
+recovers_read def t new r read = λ countable. subst (λ s. AllRecover def new s) (sym read.3.1) read.2
 
 -- an event counts one at most
 counts_under : (step : Bool) (s : State) (e : Event) (u : Option Tuning)
@@ -132,13 +126,13 @@ counts_under step s e None = omega arith
 counts_under step s e (Some u) = omega arith
 
 -- what a checkpoint of a retuned core promises
-abbrev pub Promises : Option Trace → Option Trace → Bool → State → Type 0
+abbrev pub Promises : Trace → Trace → Bool → State → Type 0
 Promises mid new step r = r.summary.taken < 10 ^ 18 → (def : TagDef) (s : State) → AllRecover def mid s
     → GoesOnFrom def s step r
     → During mid new (RecoversEither def s r)
 
-module _ (def : TagDef) (t : Trace) (mid new : Option Trace) (step : Bool) (r : State) (kind : step ≡ def.step)
-    (read : IsReadAs def (Some t) mid true r) (countable : IsCountable def (seen (Some t))) where
+module _ (def : TagDef) (t : Trace) (mid new : Trace) (step : Bool) (r : State) (kind : step ≡ def.step)
+    (read : IsReadAs def t mid true r) (countable : IsCountable def (seen t)) where
   -- the core continues from what was recovered
   goes : GoesOnFrom def read.0 step r
   goes = (kind, (Tune def.tuning ∷ [], read.3.1))
@@ -154,62 +148,72 @@ module _ (def : TagDef) (t : Trace) (mid new : Option Trace) (step : Bool) (r : 
       ))
       (countable read.0 read.1)
 
-  either_same : (c : List ℕ) → RecoversEither def read.0 r c → IsTagLeftOrSame def (Some t) c
+  either_same : (c : List ℕ) → RecoversEither def read.0 r c → IsTagLeftOrSame def t c
   either_same c either = inr (read.0, r, read.1, inr read.3, either)
 
-pub stays_retuned : (def : TagDef) (o mid new : Option Trace) (step : Bool) (r : State) → step ≡ def.step
+pub stays_retuned : (def : TagDef) (o mid new : Trace) (step : Bool) (r : State) → step ≡ def.step
     → IsReadAs def o mid true r
     → During o mid (IsTagLeftOrSame def o) → Promises mid new step r → StaysSame def o new
-stays_retuned def None mid new step r kind read before promise = tt
-stays_retuned def (Some t) mid new step r kind read before promise = λ countable.
-    in_turn (Some t) mid new (IsTagLeftOrSame def (Some t)) before
-    (weaker mid new (RecoversEither def read.0 r) (IsTagLeftOrSame def (Some t))
+stays_retuned def t mid new step r kind read before promise = λ countable.
+    in_turn t mid new (IsTagLeftOrSame def t) before
+    (weaker mid new (RecoversEither def read.0 r) (IsTagLeftOrSame def t)
     (either_same def t mid new step r kind read countable)
     (promise (few def t mid new step r kind read countable) def read.0 read.2
     (goes def t mid new step r kind read countable)))
 
-pub recovers_retuned : (def : TagDef) (o mid new : Option Trace) (step : Bool) (r : State) → step ≡ def.step
+pub recovers_retuned : (def : TagDef) (o mid new : Trace) (step : Bool) (r : State) → step ≡ def.step
     → IsReadAs def o mid true r
     → (r.summary.taken < 10 ^ 18 → (d : TagDef) (s : State) → AllRecover d mid s → GoesOnFrom d s step r
     → AllRecover d new r)
     → RecoversThen def o new r
-recovers_retuned def None mid new step r kind read promise = tt
-recovers_retuned def (Some t) mid new step r kind read promise = λ countable.
+recovers_retuned def t mid new step r kind read promise = λ countable.
     promise (few def t mid new step r kind read countable) def read.0 read.2
     (goes def t mid new step r kind read countable)
 
--- ---- what is recovered now, whether or not the device records its calls
+-- ---- a tag that has no room to be retuned
 
--- a device that does not record them comes from one that does not
-untold : (def : TagDef) (mid : Option Trace) (r : State) → ComesAfter None mid → AllRecover def mid r
-untold def None r later = record { each = λ c may. absurd may.image }
-untold def (Some t) r later = absurd later
+-- it is refused as full
+pub cause_full : {T : Type 0} (def : TagDef) (o : Trace) (s : State) (r : Result T OpenNo) → Shows o (λ c. IsRecovered def c s)
+    → IfErr r (λ why. why ≡ Full (length s.records)) → OnErr r (most_records < length s.records + 2)
+    → OnErr r (s.summary.tuning ≢ Some def.tuning) → IfErr r (IsCause def o)
+cause_full def o s (Result.Ok x) recovered full many other = tt
+cause_full def o s (Result.Err why) recovered full many other = subst (IsCause def o) (sym full)
+    (s, record { recovered = inr recovered; other = other; records_are = refl; full = many })
 
-pub now_read : (def : TagDef) (o mid : Option Trace) (r : State) → ComesAfter o mid → IsReadAs def o mid false r
+-- and no fault is counted
+pub counts_full : {T : Type 0} (r : Result T OpenNo) (n before now : ℕ) → IfErr r (λ why. why ≡ Full n) → now ≡ before
+    → CountsFault r DeviceFault before now
+counts_full (Result.Ok x) n before now full same = grind arith
+counts_full (Result.Err why) n before now full same = grind arith
+
+-- as many are counted from where the count was before
+pub counts_on : {T U : Type 0} (why : OpenNo) (before mid now : ℕ) → mid ≡ before
+    → CountsFault {T = T} (Result.Err why) DeviceFault mid now → CountsFault {T = U} (Result.Err why) DeviceFault before now
+counts_on why before mid now same counts = grind arith
+
+-- ---- what is recovered now
+
+pub now_read : (def : TagDef) (o mid : Trace) (r : State) → IsReadAs def o mid false r
     → AllRecover def mid r
-now_read def None mid r later read = untold def mid r later
-now_read def (Some t) mid r later read = subst (AllRecover def mid) (sym read.3.1) read.2
+now_read def t mid r read = subst (AllRecover def mid) (sym read.3.1) read.2
 
-pub now_retuned : (def : TagDef) (o mid new : Option Trace) (step : Bool) (r : State) → step ≡ def.step
-    → ComesAfter o mid → IsReadAs def o mid true r
+pub now_retuned : (def : TagDef) (o mid new : Trace) (step : Bool) (r : State) → step ≡ def.step
+    → IsReadAs def o mid true r
     → ((d : TagDef) (s : State) → AllRecover d mid s → GoesOnFrom d s step r → AllRecover d new r)
     → AllRecover def new r
-now_retuned def None mid new step r kind later read promise =
-    promise def r (untold def mid r later) (kind, ([], refl))
-now_retuned def (Some t) mid new step r kind later read promise =
+now_retuned def t mid new step r kind read promise =
     promise def read.0 read.2 (kind, (Tune def.tuning ∷ [], read.3.1))
 
 -- ---- how many lane slots there are
 
-pub slots_made : (o mid : Option Trace) (wanted slots : ℕ) → mid ≡ noted Synced o → slots ≡ wanted → Shows mid IsNew
+pub slots_made : (o mid : Trace) (wanted slots : ℕ) → mid ≡ noted Synced o → slots ≡ wanted → Shows mid IsNew
     → Shows o (HasSlots wanted slots)
 slots_made o mid wanted slots is same new = shown_before o mid (HasSlots wanted slots) is (made mid new)
   where
-    made : (m : Option Trace) → Shows m IsNew → Shows m (HasSlots wanted slots)
-    made None shows = tt
-    made (Some t) shows = inl (shows, same)
+    made : (m : Trace) → Shows m IsNew → Shows m (HasSlots wanted slots)
+    made t shows = inl (shows, same)
 
-pub slots_kept : (o mid : Option Trace) (wanted : ℕ) (p : Seat) → mid ≡ noted Synced o → Shows mid (IsSeat p)
+pub slots_kept : (o mid : Trace) (wanted : ℕ) (p : Seat) → mid ≡ noted Synced o → Shows mid (IsSeat p)
     → Shows o (HasSlots wanted p.lane.slots)
 slots_kept o mid wanted p is seat = shown_before o mid (HasSlots wanted p.lane.slots) is (kept mid seat)
   where
@@ -217,9 +221,8 @@ slots_kept o mid wanted p is seat = shown_before o mid (HasSlots wanted p.lane.s
     not_new c stands (inl short) = absurd (omega (arith, short, stands.laid.long))
     not_new c stands (inr shut) = shut stands.laid.opened
 
-    kept : (m : Option Trace) → Shows m (IsSeat p) → Shows m (HasSlots wanted p.lane.slots)
-    kept None shows = tt
-    kept (Some t) shows = inr (not_new _ shows, shows.laid.slots)
+    kept : (m : Trace) → Shows m (IsSeat p) → Shows m (HasSlots wanted p.lane.slots)
+    kept t shows = inr (not_new _ shows, shows.laid.slots)
 
 -- ---- for which history it stands
 

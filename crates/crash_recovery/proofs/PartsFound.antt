@@ -1,5 +1,5 @@
 -- Records and a summary that were read together.
-use Rattle.std.proofs.Common.{◌≡◌, ℕ, Bool, List, [], Option, None, Some, length, get_or, subst, sym, ◌∙◌}
+use Rattle.std.proofs.Common.{◌≡◌, ℕ, Bool, List, [], Some, length, get_or, subst, sym, ◌∙◌}
 use Rattle.trend_num.specs.declared.archive.Rec.{Rec}
 use Rattle.trend_num.specs.declared.archive.Summary.{Summary}
 use Rattle.trend_num.specs.declared.tuning.Tuning.{Tuning}
@@ -37,23 +37,21 @@ found_counts def slots x i c found slot = record {
 }
 
 -- where they can't, the device is damaged
-pub parts_damaged : (def : TagDef) (o : Option Trace) (slots place : ℕ) (x : Stored) (i : Slot) (step : Bool)
+pub parts_damaged : (def : TagDef) (o : Trace) (slots place : ℕ) (x : Stored) (i : Slot) (step : Bool)
     (first : List ℕ) → def.step ≡ step → place ≡ summary_place i → x.slot ≡ Some i
     → (ArePartsOk x.tuning step x.recs.items x.summary → ⊥) → length first ≡ 1 → Reads o place first
     → Shows o (IsFoundOn def slots x)
     → Shows o (λ c. IsTagDamage def c (summary_place i) (Some (get_or first 0 0)))
-parts_damaged def None slots place x i step first same_step at slot broken size read found = tt
-parts_damaged def (Some t) slots place x i step first same_step at slot broken size read found =
-    let c = seen (Some t) in
+parts_damaged def t slots place x i step first same_step at slot broken size read found =
+    let c = seen t in
     parts_broken def slots i x.summary x.tuning step x.recs.items first c same_step
     (subst (λ n. HasRecords c (lane_end n) x.summary.records x.recs.items) (sym found.slots_are) found.records) broken size
     (here_at first place (summary_place i) c at read) (found_counts def slots x i c found slot)
 
 -- and where they can, this was read
-pub read_from : (def : TagDef) (o : Option Trace) (slots : ℕ) (step : Bool) (x : Stored) → def.step ≡ step
+pub read_from : (def : TagDef) (o : Trace) (slots : ℕ) (step : Bool) (x : Stored) → def.step ≡ step
     → ArePartsOk x.tuning step x.recs.items x.summary → Shows o (IsFoundOn def slots x) → Shows o (IsReadFrom def slots x)
-read_from def None slots step x same_step ok found = tt
-read_from def (Some t) slots step x same_step ok found = record {
+read_from def t slots step x same_step ok found = record {
   stored = record {
     tag = found.tag;
     long = found.long;

@@ -12,7 +12,7 @@ use Rattle.crash_recovery.specs.declared.seat.Seat.{Seat}
 use Rattle.device_layout.specs.declared.slot.Slot.{Slot}
 use Rattle.device_layout.specs.declared.slot.Slot.TheVariants.{First, Second}
 use Rattle.device_layout.specs.Recovery.{summary_place, summary_gate, slot_bytes}
-use Rattle.crash_recovery.specs.Journals.{log_end, IsInUse, IsLaid, SeatedOn}
+use Rattle.crash_recovery.specs.Journals.{log_end, IsInUse, IsLaid, IsSeat, SeatedOn}
 use Rattle.crash_recovery.specs.Seats.{spare_slot, LaidOn, OverrunOn}
 use Rattle.crash_recovery.proofs.Pieces.{same_piece}
 use Rattle.crash_recovery.proofs.Counting.{same_counting, counting_left}
@@ -164,38 +164,48 @@ pub laid_moved : (p : Seat) (stale : Bool) (used next : ℕ) (a b : List ℕ) �
 laid_moved p stale used next a b laid keeps room in_use number = grind (arith, taken_kept, records_kept)
 
 -- what a journal keeps is more
-pub laid_on : (p : Seat) (o : Option Trace) → SeatedOn p o → LaidOn p o
-laid_on p None seated = tt
-laid_on p (Some t) seated = record { settled = seated.settled; laid = seated.seat.laid }
+pub laid_on : (p : Seat) (o : Trace) → SeatedOn p o → LaidOn p o
+unfolding SeatedOn LaidOn
+laid_on p t seated = record { settled = seated.settled; laid = seated.seat.laid }
 
 -- a place that is not overtaken
-pub seated_on : (p : Seat) (o : Option Trace) → p.stale ≡ false → LaidOn p o → SeatedOn p o
-seated_on p None fresh laid = tt
-seated_on p (Some t) fresh laid = grind arith
+pub seated_on : (p : Seat) (o : Trace) → p.stale ≡ false → LaidOn p o → SeatedOn p o
+unfolding SeatedOn LaidOn
+seated_on p t fresh laid = grind arith
 
 -- an overtaken one
-pub overrun_on : (p : Seat) (o : Option Trace) → SeatedOn p o → p.stale ≡ true → OverrunOn p o
-overrun_on p None seated is = tt
-overrun_on p (Some t) seated is = seated.seat.overrun is
+pub overrun_on : (p : Seat) (o : Trace) → SeatedOn p o → p.stale ≡ true → OverrunOn p o
+unfolding SeatedOn
+overrun_on p t seated is = seated.seat.overrun is
 
--- its parts
-pub settled_on : (p : Seat) (o : Option Trace) → LaidOn p o → IsSettled o
-settled_on p None laid = record { each = λ c may. absurd may.image }
-settled_on p (Some t) laid = laid.settled
-
--- what a read gives
-pub laid_shown : (p : Seat) (o : Option Trace) → LaidOn p o → Shows o (IsLaid p)
-laid_shown p None laid = tt
-laid_shown p (Some t) laid = laid.laid
+-- what a read of a journal's device gives
+pub seat_shown : (p : Seat) (o : Trace) → SeatedOn p o → Shows o (IsSeat p)
+unfolding SeatedOn
+seat_shown p t seated = seated.seat
 
 -- and back
-pub laid_again : (p : Seat) (o : Option Trace) → IsSettled o → Shows o (IsLaid p) → LaidOn p o
-laid_again p None settled laid = tt
-laid_again p (Some t) settled laid = record { settled = settled; laid = laid }
+pub seated_again : (p : Seat) (o : Trace) → IsSettled o → Shows o (IsSeat p) → SeatedOn p o
+unfolding SeatedOn
+seated_again p t settled seat = record { settled = settled; seat = seat }
+
+-- its parts
+pub settled_on : (p : Seat) (o : Trace) → LaidOn p o → IsSettled o
+unfolding LaidOn
+settled_on p t laid = laid.settled
+
+-- what a read gives
+pub laid_shown : (p : Seat) (o : Trace) → LaidOn p o → Shows o (IsLaid p)
+unfolding LaidOn
+laid_shown p t laid = laid.laid
+
+-- and back
+pub laid_again : (p : Seat) (o : Trace) → IsSettled o → Shows o (IsLaid p) → LaidOn p o
+unfolding LaidOn
+laid_again p t settled laid = record { settled = settled; laid = laid }
 
 -- ---- what the calls need
 
 -- so is all that is before the end of the log
-pub reaches_on : (p : Seat) (o : Option Trace) (n : ℕ) → LaidOn p o → n ≤ log_end p → Reaches o n
-reaches_on p None n laid le = tt
-reaches_on p (Some t) n laid le = omega (arith, le, laid.laid.long)
+pub reaches_on : (p : Seat) (o : Trace) (n : ℕ) → LaidOn p o → n ≤ log_end p → Reaches o n
+unfolding LaidOn
+reaches_on p t n laid le = omega (arith, le, laid.laid.long)

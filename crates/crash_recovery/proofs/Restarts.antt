@@ -1,13 +1,13 @@
 -- The gates of an overtaken lane are closed.
 use Rattle.disk_model.specs.Calls.{Shows}
-use Rattle.std.proofs.Common.{◌≡◌, ◌⊎◌, inl, inr, ℕ, ◌<◌, ◌≤◌, true, false, List, length, Option}
-use Rattle.std.proofs.Common.{ap, arith}
+use Rattle.std.proofs.Common.{◌≡◌, ◌⊎◌, inl, inr, ℕ, ◌<◌, ◌≤◌, true, false, List, length}
+use Rattle.std.proofs.Common.{ap, arith, refl}
 use Rattle.trend_num.specs.declared.tag_def.TagDef.{TagDef}
 use Rattle.trend_model.specs.State.{State}
-use Rattle.disk_model.specs.Traces.{Trace}
+use Rattle.disk_model.specs.Traces.{Trace, seen}
 use Rattle.disk_model.specs.Images.{IsOutside, Now, FromOld, IsSettled}
 use Rattle.disk_model.specs.Moments.{During}
-use Rattle.disk_model.specs.Gates.{IsClosing}
+use Rattle.disk_model.specs.Gates.{HasGatesOf, IsClosing}
 use Rattle.event_queue.specs.Slots.{gate_of, lane_end}
 use Rattle.event_queue.specs.Lanes.{IsLane}
 use Rattle.event_queue.specs.Places.{HasRoom, IsOvertaken}
@@ -18,7 +18,7 @@ use Rattle.device_layout.specs.Recovery.{Recovers}
 use Rattle.crash_recovery.specs.Journals.{AllRecover, IsInUse, IsLaid, IsOverrun}
 use Rattle.crash_recovery.specs.Seats.{LaidOn, OverrunOn, restarted}
 use Rattle.crash_recovery.proofs.Stored.{KeepsLane, recovers_same}
-use Rattle.crash_recovery.proofs.DeviceReads.{shown_now, shown_both, during_from, shown_from}
+use Rattle.crash_recovery.proofs.DeviceReads.{now_shown, shown_now, shown_both, during_from, shown_from}
 use Rattle.crash_recovery.proofs.Places.{OnlyLane, only_lane, laid_moved, settled_on, laid_shown, laid_again}
 
 -- only the lane has changed
@@ -53,7 +53,7 @@ in_use_fresh slots taken next c room is = record {
   number = omega (arith, is, ap length (lane_points_used slots taken 0 c (omega arith) room));
 }
 
-module _ (o new : Option Trace) (p : Seat) (le : p.lane.used ≤ p.lane.slots) (laid : LaidOn p o)
+module _ (o new : Trace) (p : Seat) (le : p.lane.used ≤ p.lane.slots) (laid : LaidOn p o)
     (during : During o new (FromOld o (IsClosing (gate_of 0) p.lane.used))) where
   -- each image recovers what it recovered
   pub restart_moments : (def : TagDef) (s : State) → AllRecover def o s → OverrunOn p o
@@ -81,3 +81,17 @@ module _ (o new : Option Trace) (p : Seat) (le : p.lane.used ≤ p.lane.slots) (
       (only_lane p a b laid_a (closing_lane p.lane.slots p.lane.used a b le closing)) room_b
       (λ e. in_use_fresh p.lane.slots p.taken p.lane.next b room_b (laid_a.number stale))
       (λ e. absurd (cc (e)))) during)
+
+-- ---- what a restart asks
+
+-- each image has the room
+pub room_now : (p : Seat) (o : Trace) → LaidOn p o → Now o (HasRoom p.lane.slots p.lane.used)
+room_now p o laid = now_shown o (HasRoom p.lane.slots p.lane.used) (settled_on p o laid) (laid_shown p o laid).room
+
+-- and the gates that a read gives
+pub gates_now : (p : Seat) (o : Trace) → p.lane.used ≤ p.lane.slots → LaidOn p o
+    → Now o (HasGatesOf (seen o) (gate_of 0) p.lane.used)
+gates_now p o within laid = now_shown o (HasGatesOf (seen o) (gate_of 0) p.lane.used) (settled_on p o laid) (record {
+  there = omega (arith, within, (laid_shown p o laid).room.long);
+  same = λ i low below. refl;
+})

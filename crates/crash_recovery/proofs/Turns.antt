@@ -1,5 +1,5 @@
 -- What each image recovers, from call to call.
-use Rattle.std.proofs.Common.{inl, inr, Option, Result, Ok, Err, OnOk}
+use Rattle.std.proofs.Common.{inl, inr, Result, Ok, Err, OnOk}
 use Rattle.trend_num.specs.declared.tag_def.TagDef.{TagDef}
 use Rattle.trend_model.specs.State.{State}
 use Rattle.disk_model.specs.Traces.{Trace}
@@ -9,37 +9,37 @@ use Rattle.device_layout.specs.Recovery.{Recovers}
 use Rattle.crash_recovery.specs.Journals.{AllRecover, RecoversEither}
 
 -- one of two states is either
-pub either_first : (o new : Option Trace) (def : TagDef) (s r : State) → During o new (λ c. Recovers def c s)
+pub either_first : (o new : Trace) (def : TagDef) (s r : State) → During o new (λ c. Recovers def c s)
     → During o new (RecoversEither def s r)
 either_first o new def s r during = weaker o new (λ c. Recovers def c s) (RecoversEither def s r)
     (λ c is. inl is) during
 
 -- the second one
-pub either_second : (o new : Option Trace) (def : TagDef) (s r : State) → During o new (λ c. Recovers def c r)
+pub either_second : (o new : Trace) (def : TagDef) (s r : State) → During o new (λ c. Recovers def c r)
     → During o new (RecoversEither def s r)
 either_second o new def s r during = weaker o new (λ c. Recovers def c r) (RecoversEither def s r)
     (λ c is. inr is) during
 
 -- nothing was called
-pub either_kept : (o : Option Trace) (def : TagDef) (s r : State) → AllRecover def o s
+pub either_kept : (o : Trace) (def : TagDef) (s r : State) → AllRecover def o s
     → During o o (RecoversEither def s r)
 either_kept o def s r all = either_first o o def s r (started o (λ c. Recovers def c s) all)
 
 -- calls that leave what each image recovers, and then others
-pub then_either : (a b c : Option Trace) (def : TagDef) (s r : State) → During a b (λ x. Recovers def x s)
+pub then_either : (a b c : Trace) (def : TagDef) (s r : State) → During a b (λ x. Recovers def x s)
     → (AllRecover def b s → During b c (RecoversEither def s r)) → During a c (RecoversEither def s r)
 then_either a b c def s r ab bc =
     in_turn a b c (RecoversEither def s r) (either_first a b def s r ab)
     (bc (during_now a b (λ x. Recovers def x s) ab))
 
 -- both leave it
-pub then_same : (a b c : Option Trace) (def : TagDef) (s : State) → During a b (λ x. Recovers def x s)
+pub then_same : (a b c : Trace) (def : TagDef) (s : State) → During a b (λ x. Recovers def x s)
     → (AllRecover def b s → During b c (λ x. Recovers def x s)) → During a c (λ x. Recovers def x s)
 then_same a b c def s ab bc = in_turn a b c (λ x. Recovers def x s) ab
     (bc (during_now a b (λ x. Recovers def x s) ab))
 
 -- others, after which each image recovers the second state, and then calls that leave it
-pub then_second : (a b c : Option Trace) (def : TagDef) (s r : State) → During a b (RecoversEither def s r)
+pub then_second : (a b c : Trace) (def : TagDef) (s r : State) → During a b (RecoversEither def s r)
     → During b c (λ x. Recovers def x r) → During a c (RecoversEither def s r)
 then_second a b c def s r ab bc = in_turn a b c (RecoversEither def s r) ab (either_second b c def s r bc)
 

@@ -28,7 +28,7 @@ pub record Logged (D : Type 0) : Type 0 where
   pub failed : Bool
 
 -- each image that a crash now may leave recovers this state
-abbrev pub AllRecover : TagDef → Option Trace → State → Type 0
+abbrev pub AllRecover : TagDef → Trace → State → Type 0
 AllRecover def o s = Now o (λ c. Recovers def c s)
 
 -- a state of the tag's kind that continues by some events from what is recovered
@@ -41,7 +41,7 @@ RecoversEither def s r c = Recovers def c s ⊎ Recovers def c r
 
 -- a crash at any moment of a call leaves an image that recovers the one state or the other; at Ok, it recovers the
 -- latter
-pub record LeavesEither {T E : Type 0} (def : TagDef) (old new : Option Trace) (s r : State)
+pub record LeavesEither {T E : Type 0} (def : TagDef) (old new : Trace) (s r : State)
     (result : Result T E) : Type 0 where
   pub any_moment : During old new (RecoversEither def s r)
   pub durable : OnOk result (AllRecover def new r)
@@ -114,13 +114,12 @@ pub record IsSeat (p : Seat) (c : List ℕ) : Type 0 where
 
 -- a device on which that is a place, and of which a crash leaves what a read returns
 pub record IsSeated (p : Seat) (t : Trace) : Type 0 where
-  pub settled : IsSettled (Some t)
-  pub seat : IsSeat p (seen (Some t))
+  pub settled : IsSettled t
+  pub seat : IsSeat p (seen t)
 
--- the same if the device records its calls
-abbrev pub SeatedOn : Seat → Option Trace → Type 0
-SeatedOn p None = Unit {0}
-SeatedOn p (Some t) = IsSeated p t
+-- the same, as one fact that nothing looks into
+unfoldable pub SeatedOn : Seat → Trace → Type 0
+SeatedOn p t = IsSeated p t
 
 -- how many lane slots are free; all of them if the lane is stale, because its gates are closed before the next write
 abbrev pub free_in : Seat → ℕ
@@ -131,7 +130,7 @@ abbrev pub IsNumbered : Seat → Type 0
 IsNumbered p = free_in p ≡ p.lane.slots → p.lane.next ≡ p.taken
 
 -- what is true of each journal
-pub record IsJournal (p : Seat) (failed : Bool) (o : Option Trace) : Type 0 where
+pub record IsJournal (p : Seat) (failed : Bool) (o : Trace) : Type 0 where
   pub within : p.lane.used ≤ p.lane.slots
   pub some : 1 ≤ p.lane.slots
   pub few : p.lane.slots ≤ 65536

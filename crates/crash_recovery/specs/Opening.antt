@@ -1,6 +1,6 @@
 -- What opening a tag's device returns.
-use Rattle.std.specs.Prelude.{◌≡◌, ◌≢◌, ◌⊎◌, ℕ, ◌+◌, ◌^◌, ◌<◌, ◌≤◌, Bool, true, false, List, length, Option}
-use Rattle.std.specs.Prelude.{Some, IfSome, slice_index}
+use Rattle.std.specs.Prelude.{◌≡◌, ◌≢◌, ◌⊎◌, ℕ, ◌+◌, ◌^◌, ◌<◌, ◌≤◌, Bool, true, false, List, length}
+use Rattle.std.specs.Prelude.{Some, slice_index}
 use Rattle.trend_num.specs.Limits.{most_records}
 use Rattle.trend_num.specs.declared.point.Point.{Point}
 use Rattle.trend_num.specs.declared.tag_def.TagDef.{TagDef}
@@ -48,17 +48,17 @@ RecoversSame def seen c = (s : State) × (r : State) × Recovers def seen s × I
     × (Recovers def c s ⊎ Recovers def c r)
 
 -- an image that a crash might have left before, or that recovers the same
-abbrev pub IsTagLeftOrSame : TagDef → Option Trace → List ℕ → Type 0
+abbrev pub IsTagLeftOrSame : TagDef → Trace → List ℕ → Type 0
 IsTagLeftOrSame def o c = MayLeave o c ⊎ RecoversSame def (seen o) c
 
--- if the device records its calls, and what it shows is countable, a crash at any moment since leaves such an image
-abbrev pub StaysSame : TagDef → Option Trace → Option Trace → Type 0
-StaysSame def old new = IfSome old (λ t. IsCountable def (seen (Some t))
-    → During (Some t) new (IsTagLeftOrSame def (Some t)))
+-- if what the device shows is countable, a crash at any moment since leaves such an image
+abbrev pub StaysSame : TagDef → Trace → Trace → Type 0
+StaysSame def old new = IsCountable def (seen old)
+    → During old new (IsTagLeftOrSame def old)
 
 -- if the same holds, a crash now leaves what recovers this state
-abbrev pub RecoversThen : TagDef → Option Trace → Option Trace → State → Type 0
-RecoversThen def old new r = IfSome old (λ t. IsCountable def (seen (Some t)) → AllRecover def new r)
+abbrev pub RecoversThen : TagDef → Trace → Trace → State → Type 0
+RecoversThen def old new r = IsCountable def (seen old) → AllRecover def new r
 
 -- a lane in use that holds a value of this number
 pub record HoldsValue (slots taken used n : ℕ) (c : List ℕ) : Type 0 where
@@ -68,7 +68,7 @@ pub record HoldsValue (slots taken used n : ℕ) (c : List ℕ) : Type 0 where
   pub there : n < length held
 
 -- the refusal names value n of the lane as one that finds no room, or a call of the device has failed
-abbrev pub IsOverfull : Option Trace → ℕ → ℕ → ℕ → OpenNo → Type 0
+abbrev pub IsOverfull : Trace → ℕ → ℕ → ℕ → OpenNo → Type 0
 IsOverfull o slots taken n (Damaged a byte) =
     Shows o (λ c. (j : ℕ) × (i : ℕ) × IsValuePlace slots c taken n a j i × StandsThere c a byte)
 IsOverfull o slots taken n DeviceFault = Unit {0}
@@ -84,7 +84,7 @@ abbrev pub HasSlots : ℕ → ℕ → List ℕ → Type 0
 HasSlots wanted slots c = (IsNew c × (slots ≡ wanted)) ⊎ ((IsNew c → ⊥) × (slots ≡ slots_in (header_of c)))
 
 -- the device now recovers what it showed at first, and this is that state as it is opened
-abbrev pub IsReadAs : TagDef → Option Trace → Option Trace → Bool → State → Type 0
+abbrev pub IsReadAs : TagDef → Trace → Trace → Bool → State → Type 0
 IsReadAs def old new retuned r = Shows old (λ c. (s : State) × Recovers def c s × AllRecover def new s
     × OpensAs def retuned s r)
 
@@ -125,11 +125,11 @@ pub record LeavesFree (def : TagDef) (slots free : ℕ) (c : List ℕ) : Type 0 
       → HasFree slots free c
 
 -- a new device now has a whole layout with so many lane slots
-abbrev pub MakesLayout : TagDef → ℕ → Option Trace → Option Trace → Type 0
+abbrev pub MakesLayout : TagDef → ℕ → Trace → Trace → Type 0
 MakesLayout def slots old new = Shows old (λ c. IsNew c → Shows new (IsMade def slots))
 
 -- a device that is not new, and whose tag is not retuned, gains only a sync
-abbrev pub GainsSync : TagDef → Option Trace → Option Trace → Type 0
+abbrev pub GainsSync : TagDef → Trace → Trace → Type 0
 GainsSync def old new = Shows old (λ c. (IsNew c → ⊥) → (s : State) → Recovers def c s
     → s.summary.tuning ≡ Some def.tuning → new ≡ noted Synced old)
 
@@ -142,5 +142,5 @@ pub record CountsOpening (def : TagDef) (c : List ℕ) (before now : ℕ) : Type
       → now ≡ before + (checkpoint_calls (length (after def.step s (Tune def.tuning)).records) c + 1)
 
 -- the opening of a device that had these calls ends at this moment
-abbrev pub OpensAt : TagDef → Option Trace → ℕ → Type 0
+abbrev pub OpensAt : TagDef → Trace → ℕ → Type 0
 OpensAt def old t = Shows old (λ c. CountsOpening def c (moment old) t)

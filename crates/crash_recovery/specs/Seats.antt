@@ -1,6 +1,6 @@
 -- What the steps of a journal keep true of its place, and what they make of the device.
 use Rattle.std.specs.Prelude.{◌≡◌, ◌≢◌, ◌⊎◌, ◌==◌, ℕ, ◌+◌, ◌<◌, ◌≤◌, nat_lt, if◌then◌else◌, false, List, length, drop}
-use Rattle.std.specs.Prelude.{slice_index, Option, None, Some, IfSome}
+use Rattle.std.specs.Prelude.{slice_index, Option, None, Some}
 use Rattle.trend_num.specs.declared.archive.Rec.{Rec}
 use Rattle.disk_model.specs.Traces.{Trace, seen}
 use Rattle.disk_model.specs.Images.{IsSettled}
@@ -23,17 +23,16 @@ spare_slot (Some Second) = First
 
 -- a device on which that is a place, whatever an overtaken lane holds, and of which a crash leaves what a read returns
 pub record IsLaidOut (p : Seat) (t : Trace) : Type 0 where
-  pub settled : IsSettled (Some t)
-  pub laid : IsLaid p (seen (Some t))
+  pub settled : IsSettled t
+  pub laid : IsLaid p (seen t)
 
--- the same if the device records its calls
-abbrev pub LaidOn : Seat → Option Trace → Type 0
-LaidOn p None = Unit {0}
-LaidOn p (Some t) = IsLaidOut p t
+-- the same, as one fact that nothing looks into
+unfoldable pub LaidOn : Seat → Trace → Type 0
+LaidOn p t = IsLaidOut p t
 
--- if the device records its calls, the summary has overtaken each open lane slot of it
-abbrev pub OverrunOn : Seat → Option Trace → Type 0
-OverrunOn p o = IfSome o (λ t. IsOverrun p (seen (Some t)))
+-- the summary has overtaken each open lane slot of the device
+abbrev pub OverrunOn : Seat → Trace → Type 0
+OverrunOn p o = IsOverrun p (seen o)
 
 -- the place once the gates of an overtaken lane are closed
 abbrev pub restarted : Seat → Seat
@@ -51,9 +50,9 @@ pub record IsReady (p : Seat) (gate : ℕ) (recs : List Rec) (c : List ℕ) : Ty
   pub shut : IsShut gate c
   pub logged : Holds (log_end p) (recs_image (drop p.records recs)) c
 
--- the same if the device records its calls
-abbrev pub ReadyOn : Seat → ℕ → List Rec → Option Trace → Type 0
-ReadyOn p gate recs o = IfSome o (λ t. IsReady p gate recs (seen (Some t)))
+-- the same of a device
+abbrev pub ReadyOn : Seat → ℕ → List Rec → Trace → Type 0
+ReadyOn p gate recs o = IsReady p gate recs (seen o)
 
 -- ---- how many calls a checkpoint makes
 
@@ -81,6 +80,6 @@ abbrev pub log_calls : Seat → ℕ → List ℕ → ℕ
 log_calls p records c = record_calls p.records records + (open_gate (summary_gate (spare_slot p.counts)) c + 1)
 
 -- over some calls, the bytes that a read returns of these places stay the same
-pub record KeepsPlaces (from to : ℕ) (old new : Option Trace) : Type 0 where
+pub record KeepsPlaces (from to : ℕ) (old new : Trace) : Type 0 where
   pub later : ComesAfter old new
   pub same : (i : ℕ) → from ≤ i → i < to → slice_index (seen new) i ≡ slice_index (seen old) i

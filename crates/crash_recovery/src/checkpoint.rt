@@ -3,7 +3,7 @@ ghost use Rattle.std.specs.Prelude.{◌≡◌, ◌↔◌, ◌+◌, ◌*◌, ◌^
 ghost use Rattle.std.specs.Prelude.{drop, OnOk, OnErr, IfOk, IsOk, IsErrOf};
 ghost use Rattle.trend_num.specs.declared.tag_def.TagDef.{TagDef};
 ghost use Rattle.trend_model.specs.State.{State};
-ghost use Rattle.disk_model.specs.Traces.{seen, written};
+ghost use Rattle.disk_model.specs.Traces.{seen, written, moment};
 ghost use Rattle.disk_model.specs.Images.{FromOld, IsTorn};
 ghost use Rattle.disk_model.specs.Moments.{ComesAfter, During};
 ghost use Rattle.disk_model.specs.Calls.{CountsFault, HasCause, Reaches, Sees, Shows};
@@ -41,20 +41,20 @@ impl Seat {
         requires within { self.old.lane.used ≤ self.old.lane.slots }
         requires some { 1 ≤ self.old.lane.slots }
         requires numbered { IsNumbered self.old }
-        requires seated { SeatedOn self.old (D.trace dev.old) }
+        requires seated { SeatedOn self.old (D.device dev.old).trace }
 
         // A crash at any moment leaves an image that recovers what each recovered before, or the state of the core. At
         // Ok, it recovers the state of the core.
         ensures any_moment { core.now.state.summary.taken < 10 ^ 18
-            → (def : TagDef) (s : State) → AllRecover def (D.trace dev.old) s
+            → (def : TagDef) (s : State) → AllRecover def (D.device dev.old).trace s
             → GoesOnFrom def s core.now.step core.now.state
-            → During (D.trace dev.old) (D.trace dev.new) (RecoversEither def s core.now.state) }
+            → During (D.device dev.old).trace (D.device dev.new).trace (RecoversEither def s core.now.state) }
         ensures durable { OnOk result (core.now.state.summary.taken < 10 ^ 18
-            → (def : TagDef) (s : State) → AllRecover def (D.trace dev.old) s
+            → (def : TagDef) (s : State) → AllRecover def (D.device dev.old).trace s
             → GoesOnFrom def s core.now.step core.now.state
-            → AllRecover def (D.trace dev.new) core.now.state) }
+            → AllRecover def (D.device dev.new).trace core.now.state) }
 
-        ensures seated { OnOk result (SeatedOn self.new (D.trace dev.new)) }
+        ensures seated { OnOk result (SeatedOn self.new (D.device dev.new).trace) }
         ensures number { OnOk result (self.new.lane.next ≡ core.now.state.summary.taken) }
         ensures free { OnOk result (free_in self.new ≡ self.new.lane.slots) }
         ensures numbered { IsNumbered self.new }
@@ -62,21 +62,21 @@ impl Seat {
             → IsOk result × ((self.new ≡ self.old) × (dev.new ≡ dev.old)) }
         ensures untouched { IsErrOf result NoMemory → free_in self.old ≡ 0
             → (self.new ≡ self.old) × (dev.new ≡ dev.old) }
-        ensures calls { OnOk result (self.old.lane.next < core.now.state.summary.taken → Shows (D.trace dev.old)
-            (λ c. D.ticks dev.new ≡ D.ticks dev.old + checkpoint_calls (length core.now.state.records) c)) }
+        ensures calls { OnOk result (self.old.lane.next < core.now.state.summary.taken → Shows (D.device dev.old).trace
+            (λ c. moment (D.device dev.new).trace ≡ moment (D.device dev.old).trace + checkpoint_calls (length core.now.state.records) c)) }
         ensures ticked { OnOk result (self.old.lane.next < core.now.state.summary.taken
-            → D.ticks dev.old < D.ticks dev.new) }
-        ensures still_seated { IsErrOf result NoMemory → SeatedOn self.new (D.trace dev.new) }
+            → moment (D.device dev.old).trace < moment (D.device dev.new).trace) }
+        ensures still_seated { IsErrOf result NoMemory → SeatedOn self.new (D.device dev.new).trace }
         ensures kept { IsErrOf result NoMemory → (def : TagDef) (s : State)
-            → AllRecover def (D.trace dev.old) s → AllRecover def (D.trace dev.new) s }
+            → AllRecover def (D.device dev.old).trace s → AllRecover def (D.device dev.new).trace s }
         ensures unmoved { OnErr result (self.new.lane.next ≡ self.old.lane.next) }
         ensures still_free { OnErr result (free_in self.new ≡ free_in self.old) }
         ensures slots { self.new.lane.slots ≡ self.old.lane.slots }
         ensures within { self.new.lane.used ≤ self.new.lane.slots }
-        ensures cause { CountsFault result PutFault (D.fault_count dev.old) (D.fault_count dev.new) }
-        ensures continues { ComesAfter (D.trace dev.old) (D.trace dev.new) }
-        ensures handed { D.hand_out dev.new ≡ D.hand_out dev.old }
-        ensures later { D.ticks dev.old ≤ D.ticks dev.new }
+        ensures cause { CountsFault result PutFault (D.device dev.old).faults (D.device dev.new).faults }
+        ensures continues { ComesAfter (D.device dev.old).trace (D.device dev.new).trace }
+        ensures handed { (D.device dev.new).handed ≡ (D.device dev.old).handed }
+        ensures later { moment (D.device dev.old).trace ≤ moment (D.device dev.new).trace }
     {
         if self.has_all_of(core) {
             return Ok(());
@@ -114,22 +114,22 @@ impl Seat {
     // not count, and syncs.
     fn log_records<D: Disk>(&self, alloc: Global, dev: &mut D, recs: &[Rec]) -> Result<(), PutNo>
         requires within { self.now.lane.used ≤ self.now.lane.slots }
-        requires laid { LaidOn self.now (D.trace dev.old) }
+        requires laid { LaidOn self.now (D.device dev.old).trace }
 
         // A crash at any moment leaves an image that recovers what each recovered before.
-        ensures any_moment { (def : TagDef) (s : State) → AllRecover def (D.trace dev.old) s
-            → During (D.trace dev.old) (D.trace dev.new) (λ c. Recovers def c s) }
-        ensures laid { OnOk result (LaidOn self.now (D.trace dev.new)) }
+        ensures any_moment { (def : TagDef) (s : State) → AllRecover def (D.device dev.old).trace s
+            → During (D.device dev.old).trace (D.device dev.new).trace (λ c. Recovers def c s) }
+        ensures laid { OnOk result (LaidOn self.now (D.device dev.new).trace) }
         ensures ready { OnOk result (ReadyOn self.now (summary_gate (spare_slot self.now.counts)) recs.now
-            (D.trace dev.new)) }
-        ensures gates { OnOk result (KeepsPlaces (gate_of 0) (gate_of self.now.lane.slots) (D.trace dev.old) (D.trace dev.new)) }
-        ensures calls { OnOk result (Shows (D.trace dev.old)
-            (λ c. D.ticks dev.new ≡ D.ticks dev.old + log_calls self.now (length recs.now) c)) }
+            (D.device dev.new).trace) }
+        ensures gates { OnOk result (KeepsPlaces (gate_of 0) (gate_of self.now.lane.slots) (D.device dev.old).trace (D.device dev.new).trace) }
+        ensures calls { OnOk result (Shows (D.device dev.old).trace
+            (λ c. moment (D.device dev.new).trace ≡ moment (D.device dev.old).trace + log_calls self.now (length recs.now) c)) }
         ensures unwritten { IsErrOf result NoMemory → dev.new ≡ dev.old }
-        ensures cause { CountsFault result PutFault (D.fault_count dev.old) (D.fault_count dev.new) }
-        ensures continues { ComesAfter (D.trace dev.old) (D.trace dev.new) }
-        ensures handed { D.hand_out dev.new ≡ D.hand_out dev.old }
-        ensures later { D.ticks dev.old ≤ D.ticks dev.new }
+        ensures cause { CountsFault result PutFault (D.device dev.old).faults (D.device dev.new).faults }
+        ensures continues { ComesAfter (D.device dev.old).trace (D.device dev.new).trace }
+        ensures handed { (D.device dev.new).handed ≡ (D.device dev.old).handed }
+        ensures later { moment (D.device dev.old).trace ≤ moment (D.device dev.new).trace }
     {
         self.put_new_records(alloc, dev, recs)?;
         match close_gates(dev, self.spare_slot().gate(), 1) {
@@ -145,19 +145,19 @@ impl Seat {
         dev: &mut D,
         recs: &[Rec],
     ) -> Result<(), PutNo>
-        requires room { Reaches (D.trace dev.old) (log_end self.now) }
+        requires room { Reaches (D.device dev.old).trace (log_end self.now) }
 
         // A crash at any moment leaves an image from before with other bytes after the log.
-        ensures any_moment { During (D.trace dev.old) (D.trace dev.new) (FromOld (D.trace dev.old)
+        ensures any_moment { During (D.device dev.old).trace (D.device dev.new).trace (FromOld (D.device dev.old).trace
             (IsTorn (log_end self.now) (length (recs_image (drop self.now.records recs.now))))) }
-        ensures reads { OnOk result (Sees (D.trace dev.new)
-            (written (seen (D.trace dev.old)) (log_end self.now)
+        ensures reads { OnOk result (Sees (D.device dev.new).trace
+            (written (seen (D.device dev.old).trace) (log_end self.now)
             (recs_image (drop self.now.records recs.now)))) }
-        ensures calls { OnOk result (D.ticks dev.new ≡ D.ticks dev.old + record_calls self.now.records (length recs.now)) }
+        ensures calls { OnOk result (moment (D.device dev.new).trace ≡ moment (D.device dev.old).trace + record_calls self.now.records (length recs.now)) }
         ensures unwritten { IsErrOf result NoMemory → dev.new ≡ dev.old }
-        ensures cause { CountsFault result PutFault (D.fault_count dev.old) (D.fault_count dev.new) }
-        ensures handed { D.hand_out dev.new ≡ D.hand_out dev.old }
-        ensures later { D.ticks dev.old ≤ D.ticks dev.new }
+        ensures cause { CountsFault result PutFault (D.device dev.old).faults (D.device dev.new).faults }
+        ensures handed { (D.device dev.new).handed ≡ (D.device dev.old).handed }
+        ensures later { moment (D.device dev.old).trace ≤ moment (D.device dev.new).trace }
     {
         let from = (self.records as usize).min(recs.len());
         let recs = &recs[from..];
@@ -172,35 +172,35 @@ impl Seat {
     fn put_summary<D: Disk>(&self, dev: &mut D, core: &TagCore) -> Result<Seat, DeviceFault>
         requires fresh { self.now.stale ≡ false }
         requires within { self.now.lane.used ≤ self.now.lane.slots }
-        requires laid { LaidOn self.now (D.trace dev.old) }
+        requires laid { LaidOn self.now (D.device dev.old).trace }
         requires ready { ReadyOn self.now (summary_gate (spare_slot self.now.counts)) core.now.state.records
-            (D.trace dev.old) }
+            (D.device dev.old).trace }
         requires more { self.now.taken < core.now.state.summary.taken }
         requires countable { core.now.state.summary.taken < 10 ^ 18 }
 
         // A crash at any moment leaves an image that recovers what each recovered before, or the state of the core. At
         // Ok, it recovers the state of the core, and the summary has overtaken the lane.
-        ensures any_moment { (def : TagDef) (s : State) → AllRecover def (D.trace dev.old) s
+        ensures any_moment { (def : TagDef) (s : State) → AllRecover def (D.device dev.old).trace s
             → GoesOnFrom def s core.now.step core.now.state
-            → During (D.trace dev.old) (D.trace dev.new) (RecoversEither def s core.now.state) }
-        ensures durable { OnOk result ((def : TagDef) (s : State) → AllRecover def (D.trace dev.old) s
+            → During (D.device dev.old).trace (D.device dev.new).trace (RecoversEither def s core.now.state) }
+        ensures durable { OnOk result ((def : TagDef) (s : State) → AllRecover def (D.device dev.old).trace s
             → GoesOnFrom def s core.now.step core.now.state
-            → AllRecover def (D.trace dev.new) core.now.state) }
-        ensures overrun { IfOk result (λ p. (def : TagDef) (s : State) → AllRecover def (D.trace dev.old) s
-            → GoesOnFrom def s core.now.step core.now.state → OverrunOn p (D.trace dev.new)) }
-        ensures laid { IfOk result (λ p. LaidOn p (D.trace dev.new)) }
+            → AllRecover def (D.device dev.new).trace core.now.state) }
+        ensures overrun { IfOk result (λ p. (def : TagDef) (s : State) → AllRecover def (D.device dev.old).trace s
+            → GoesOnFrom def s core.now.step core.now.state → OverrunOn p (D.device dev.new).trace) }
+        ensures laid { IfOk result (λ p. LaidOn p (D.device dev.new).trace) }
         ensures number { IfOk result (λ p. p.lane.next ≡ core.now.state.summary.taken) }
         ensures same_lane { IfOk result (λ p. (p.lane.slots ≡ self.now.lane.slots)
             × (p.lane.used ≡ self.now.lane.used)) }
         ensures stale { IfOk result (λ p. p.stale ≡ false → p.lane.used ≡ 0) }
         ensures overtaken { IfOk result (λ p. p.stale ≡ true → 0 < p.lane.used) }
         ensures taken { IfOk result (λ p. p.taken ≡ core.now.state.summary.taken) }
-        ensures gates { OnOk result (KeepsPlaces (gate_of 0) (gate_of self.now.lane.slots) (D.trace dev.old) (D.trace dev.new)) }
-        ensures clock { OnOk result (D.ticks dev.new ≡ D.ticks dev.old + 4) }
-        ensures later { D.ticks dev.old ≤ D.ticks dev.new }
-        ensures cause { HasCause (D.fault_count dev.old) (D.fault_count dev.new) result }
-        ensures continues { ComesAfter (D.trace dev.old) (D.trace dev.new) }
-        ensures handed { D.hand_out dev.new ≡ D.hand_out dev.old }
+        ensures gates { OnOk result (KeepsPlaces (gate_of 0) (gate_of self.now.lane.slots) (D.device dev.old).trace (D.device dev.new).trace) }
+        ensures clock { OnOk result (moment (D.device dev.new).trace ≡ moment (D.device dev.old).trace + 4) }
+        ensures later { moment (D.device dev.old).trace ≤ moment (D.device dev.new).trace }
+        ensures cause { HasCause (D.device dev.old).faults (D.device dev.new).faults result }
+        ensures continues { ComesAfter (D.device dev.old).trace (D.device dev.new).trace }
+        ensures handed { (D.device dev.new).handed ≡ (D.device dev.old).handed }
     {
         let slot = self.spare_slot();
         // These calls are made for their contracts alone: the tuning and the records are in range.

@@ -9,6 +9,7 @@ ghost use Rattle.disk_model.specs.Calls.{CountsFault, Shows};
 ghost use Rattle.disk_model.specs.Moments.{ComesAfter};
 ghost use Rattle.archive_file.specs.declared.failure.PutNo.TheVariants.{DeviceFault as PutFault, WantOfMemory as NoMemory};
 ghost use Rattle.event_queue.specs.declared.failure.LaneNo.TheVariants.{LaneFull, DeviceFault as LaneFault};
+ghost use Rattle.disk_model.specs.Traces.{moment};
 
 use crate::seat::Seat;
 use archive_file::PutNo;
@@ -40,7 +41,7 @@ impl<D: Disk> Model for Journal<D> {
       failed = j.failed;
     } };
 
-    ghost invariant = { λ j. IsJournal j.seat j.failed (D.trace j.dev) };
+    ghost invariant = { λ j. IsJournal j.seat j.failed (D.device j.dev).trace };
 }
 
 impl<D: Disk> Journal<D> {
@@ -55,7 +56,7 @@ impl<D: Disk> Journal<D> {
         requires some { 1 ≤ seat.lane.slots }
         requires few { seat.lane.slots ≤ 65536 }
         requires numbered { IsNumbered seat }
-        requires seated { SeatedOn seat (D.trace dev) }
+        requires seated { SeatedOn seat (D.device dev).trace }
         ensures { result ≡ record {
           dev = dev;
           acked = seat.lane.next;
@@ -83,21 +84,21 @@ impl<D: Disk> Journal<D> {
 
         // Let the values find room in what each image recovers. Then a crash at any moment leaves an image that
         // recovers the same, or that and all of these values. At Ok, it recovers all of these values too.
-        ensures crash { (def : TagDef) (s : State) → AllRecover def (D.trace self.old.dev) s
+        ensures crash { (def : TagDef) (s : State) → AllRecover def (D.device self.old.dev).trace s
             → AllFit def.step s (map Raw points.now)
-            → LeavesEither def (D.trace self.old.dev) (D.trace self.new.dev) s
+            → LeavesEither def (D.device self.old.dev).trace (D.device self.new.dev).trace s
             (replay def.step s (map Raw points.now)) result }
 
         ensures done { OnOk result (IsCommitted (length points.now) self.old self.new) }
         ensures lane_full { IsErrOf result LaneFull ↔ (self.old.free ≡ 0) }
         ensures untouched { IsErrOf result LaneFull → self.new ≡ self.old }
         ensures failed { IsErrOf result LaneFault → StaysAs true self.old self.new }
-        ensures ticked { OnOk result (D.ticks self.old.dev < D.ticks self.new.dev) }
-        ensures later { D.ticks self.old.dev ≤ D.ticks self.new.dev }
+        ensures ticked { OnOk result (moment (D.device self.old.dev).trace < moment (D.device self.new.dev).trace) }
+        ensures later { moment (D.device self.old.dev).trace ≤ moment (D.device self.new.dev).trace }
         ensures cause { CountsFault result LaneFault
-            (D.fault_count self.old.dev) (D.fault_count self.new.dev) }
-        ensures continues { ComesAfter (D.trace self.old.dev) (D.trace self.new.dev) }
-        ensures handed { D.hand_out self.new.dev ≡ D.hand_out self.old.dev }
+            (D.device self.old.dev).faults (D.device self.new.dev).faults }
+        ensures continues { ComesAfter (D.device self.old.dev).trace (D.device self.new.dev).trace }
+        ensures handed { (D.device self.new.dev).handed ≡ (D.device self.old.dev).handed }
     {
         if self.seat.is_full() {
             return Err(LaneNo::LaneFull);
@@ -123,9 +124,9 @@ impl<D: Disk> Journal<D> {
         // Then a crash at any moment leaves an image that recovers the same, or the state of the core. At Ok, it
         // recovers the state of the core.
         ensures crash { core.now.state.summary.taken < 10 ^ 18
-            → (def : TagDef) (s : State) → AllRecover def (D.trace self.old.dev) s
+            → (def : TagDef) (s : State) → AllRecover def (D.device self.old.dev).trace s
             → GoesOnFrom def s core.now.step core.now.state
-            → LeavesEither def (D.trace self.old.dev) (D.trace self.new.dev) s core.now.state result }
+            → LeavesEither def (D.device self.old.dev).trace (D.device self.new.dev).trace s core.now.state result }
 
         ensures done { OnOk result (IsCheckpointed core.now.state.summary.taken self.old self.new) }
         ensures idle { self.old.acked ≡ core.now.state.summary.taken → self.old.free ≡ self.old.slots
@@ -133,19 +134,19 @@ impl<D: Disk> Journal<D> {
 
         // Want of memory leaves what each image recovers. If no lane slot is free, it comes before any call.
         ensures kept { IsErrOf result NoMemory → (def : TagDef) (s : State)
-            → AllRecover def (D.trace self.old.dev) s → AllRecover def (D.trace self.new.dev) s }
+            → AllRecover def (D.device self.old.dev).trace s → AllRecover def (D.device self.new.dev).trace s }
         ensures untouched { IsErrOf result NoMemory → self.old.free ≡ 0 → self.new ≡ self.old }
         ensures no_memory { IsErrOf result NoMemory → StaysAs false self.old self.new }
         ensures failed { IsErrOf result PutFault → StaysAs true self.old self.new }
-        ensures calls { OnOk result (self.old.acked < core.now.state.summary.taken → Shows (D.trace self.old.dev)
-            (λ c. D.ticks self.new.dev ≡ D.ticks self.old.dev + checkpoint_calls (length core.now.state.records) c)) }
+        ensures calls { OnOk result (self.old.acked < core.now.state.summary.taken → Shows (D.device self.old.dev).trace
+            (λ c. moment (D.device self.new.dev).trace ≡ moment (D.device self.old.dev).trace + checkpoint_calls (length core.now.state.records) c)) }
         ensures ticked { OnOk result (self.old.acked < core.now.state.summary.taken
-            → D.ticks self.old.dev < D.ticks self.new.dev) }
-        ensures later { D.ticks self.old.dev ≤ D.ticks self.new.dev }
+            → moment (D.device self.old.dev).trace < moment (D.device self.new.dev).trace) }
+        ensures later { moment (D.device self.old.dev).trace ≤ moment (D.device self.new.dev).trace }
         ensures cause { CountsFault result PutFault
-            (D.fault_count self.old.dev) (D.fault_count self.new.dev) }
-        ensures continues { ComesAfter (D.trace self.old.dev) (D.trace self.new.dev) }
-        ensures handed { D.hand_out self.new.dev ≡ D.hand_out self.old.dev }
+            (D.device self.old.dev).faults (D.device self.new.dev).faults }
+        ensures continues { ComesAfter (D.device self.old.dev).trace (D.device self.new.dev).trace }
+        ensures handed { (D.device self.new.dev).handed ≡ (D.device self.old.dev).handed }
     {
         match self.seat.checkpoint(alloc, &mut self.dev, core) {
             Err(PutNo::DeviceFault) => {
@@ -172,14 +173,14 @@ impl<D: Disk> Journal<D> {
 
     /// Returns how many calls the device has counted.
     pub fn clock(&self) -> u64
-        ensures { result ≡ D.ticks self.now.dev }
+        ensures { result ≡ moment (D.device self.now.dev).trace }
     {
         self.dev.clock()
     }
 
     /// Returns how often a call of the device has failed.
     pub fn faults(&self) -> u64
-        ensures { result ≡ D.fault_count self.now.dev }
+        ensures { result ≡ (D.device self.now.dev).faults }
     {
         self.dev.faults()
     }

@@ -5,7 +5,7 @@ ghost use Rattle.trend_num.specs.Limits.{most_records};
 ghost use Rattle.trend_num.specs.declared.tag_def.TagDef.{TagDef};
 ghost use Rattle.trend_num.specs.Ranges.{TuningInRange};
 ghost use Rattle.trend_model.specs.State.{State, nothing_taken};
-ghost use Rattle.disk_model.specs.Traces.{Synced, noted};
+ghost use Rattle.disk_model.specs.Traces.{Synced, noted, moment};
 ghost use Rattle.disk_model.specs.Images.{IsSettled};
 ghost use Rattle.disk_model.specs.Moments.{During};
 ghost use Rattle.disk_model.specs.Calls.{CountsFault};
@@ -63,21 +63,21 @@ pub fn open_tag<D: Disk>(
 
     // A crash at any moment leaves one of three images. The first is one that a crash before might have left. The
     // second recovers what the device recovered at the start. The third recovers that state as it is opened.
-    ensures any_moment { IfOk result (λ o. StaysSame def.now (D.trace dev) (D.trace o.journal.dev)) }
-    ensures any_moment_refused { IfErr result (λ e. StaysSame def.now (D.trace dev) (D.trace e.dev)) }
+    ensures any_moment { IfOk result (λ o. StaysSame def.now (D.device dev).trace (D.device o.journal.dev).trace) }
+    ensures any_moment_refused { IfErr result (λ e. StaysSame def.now (D.device dev).trace (D.device e.dev).trace) }
 
     // The core is what the device recovered. If another tuning than the wanted one was in force, it is retuned.
-    ensures opened { IfOk result (λ o. Shows (D.trace dev) (λ c. (s : State) × Recovers def.now c s
+    ensures opened { IfOk result (λ o. Shows (D.device dev).trace (λ c. (s : State) × Recovers def.now c s
         × IsOpenedAs def.now s o.core.state)) }
-    ensures recovers { IfOk result (λ o. RecoversThen def.now (D.trace dev) (D.trace o.journal.dev) o.core.state) }
+    ensures recovers { IfOk result (λ o. RecoversThen def.now (D.device dev).trace (D.device o.journal.dev).trace o.core.state) }
     ensures recovers_now { IfOk result (λ o. o.core.state.summary.taken < 10 ^ 18
-        → AllRecover def.now (D.trace o.journal.dev) o.core.state) }
+        → AllRecover def.now (D.device o.journal.dev).trace o.core.state) }
     ensures acked { IfOk result (λ o. o.journal.acked ≡ o.core.state.summary.taken) }
-    ensures slots { IfOk result (λ o. Shows (D.trace dev) (HasSlots lane_slots o.journal.slots)) }
-    ensures free { IfOk result (λ o. Shows (D.trace dev) (LeavesFree def.now o.journal.slots o.journal.free)) }
-    ensures made { IfOk result (λ o. MakesLayout def.now lane_slots (D.trace dev) (D.trace o.journal.dev)) }
-    ensures synced { IfOk result (λ o. GainsSync def.now (D.trace dev) (D.trace o.journal.dev)) }
-    ensures moment { IfOk result (λ o. OpensAt def.now (D.trace dev) (D.ticks o.journal.dev)) }
+    ensures slots { IfOk result (λ o. Shows (D.device dev).trace (HasSlots lane_slots o.journal.slots)) }
+    ensures free { IfOk result (λ o. Shows (D.device dev).trace (LeavesFree def.now o.journal.slots o.journal.free)) }
+    ensures made { IfOk result (λ o. MakesLayout def.now lane_slots (D.device dev).trace (D.device o.journal.dev).trace) }
+    ensures synced { IfOk result (λ o. GainsSync def.now (D.device dev).trace (D.device o.journal.dev).trace) }
+    ensures moment { IfOk result (λ o. OpensAt def.now (D.device dev).trace (moment (D.device o.journal.dev).trace)) }
     ensures usable { IfOk result (λ o. o.journal.failed ≡ false) }
     ensures step { IfOk result (λ o. o.core.step ≡ def.now.step) }
     ensures tuning { IfOk result (λ o. o.core.state.summary.tuning ≡ Some def.now.tuning) }
@@ -85,13 +85,13 @@ pub fn open_tag<D: Disk>(
     ensures countable { IfOk result (λ o. o.core.state.summary.taken < 2 ^ 63) }
 
     // A refusal names its cause. One fault is counted if a call of the device has failed, and otherwise none.
-    ensures cause { IfErr result (λ e. IsCause def.now (D.trace dev) e.why) }
-    ensures faultless { IfOk result (λ o. D.fault_count o.journal.dev ≡ D.fault_count dev) }
-    ensures counts { IfErr result (λ e. CountsRefusal e.why (D.fault_count dev) (D.fault_count e.dev)) }
+    ensures cause { IfErr result (λ e. IsCause def.now (D.device dev).trace e.why) }
+    ensures faultless { IfOk result (λ o. (D.device o.journal.dev).faults ≡ (D.device dev).faults) }
+    ensures counts { IfErr result (λ e. CountsRefusal e.why (D.device dev).faults (D.device e.dev).faults) }
 
     // It is the same device.
-    ensures handed { IfOk result (λ o. D.hand_out o.journal.dev ≡ D.hand_out dev) }
-    ensures handed_refused { IfErr result (λ e. D.hand_out e.dev ≡ D.hand_out dev) }
+    ensures handed { IfOk result (λ o. (D.device o.journal.dev).handed ≡ (D.device dev).handed) }
+    ensures handed_refused { IfErr result (λ e. (D.device e.dev).handed ≡ (D.device dev).handed) }
 {
     let mut dev = dev;
     let read = match read_tag::<Brand, D>(alloc, &mut dev, def, lane_slots, room, Blank::new(1)) {
@@ -114,31 +114,31 @@ impl<D: Disk> Opened<D> {
     fn with_checkpoint(self, alloc: Global) -> Result<Opened<D>, OpenFail<D>>
         requires usable { self.journal.failed ≡ false }
         ensures any_moment { IfOk result (λ o. self.core.state.summary.taken < 10 ^ 18
-            → (def : TagDef) (s : State) → AllRecover def (D.trace self.journal.dev) s
+            → (def : TagDef) (s : State) → AllRecover def (D.device self.journal.dev).trace s
             → GoesOnFrom def s self.core.step self.core.state
-            → During (D.trace self.journal.dev) (D.trace o.journal.dev) (RecoversEither def s self.core.state)) }
+            → During (D.device self.journal.dev).trace (D.device o.journal.dev).trace (RecoversEither def s self.core.state)) }
         ensures any_moment_refused { IfErr result (λ e. self.core.state.summary.taken < 10 ^ 18
-            → (def : TagDef) (s : State) → AllRecover def (D.trace self.journal.dev) s
+            → (def : TagDef) (s : State) → AllRecover def (D.device self.journal.dev).trace s
             → GoesOnFrom def s self.core.step self.core.state
-            → During (D.trace self.journal.dev) (D.trace e.dev) (RecoversEither def s self.core.state)) }
+            → During (D.device self.journal.dev).trace (D.device e.dev).trace (RecoversEither def s self.core.state)) }
         ensures durable { IfOk result (λ o. self.core.state.summary.taken < 10 ^ 18
-            → (def : TagDef) (s : State) → AllRecover def (D.trace self.journal.dev) s
+            → (def : TagDef) (s : State) → AllRecover def (D.device self.journal.dev).trace s
             → GoesOnFrom def s self.core.step self.core.state
-            → AllRecover def (D.trace o.journal.dev) self.core.state) }
+            → AllRecover def (D.device o.journal.dev).trace self.core.state) }
         ensures core { IfOk result (λ o. o.core ≡ self.core) }
         ensures acked { IfOk result (λ o. o.journal.acked ≡ self.core.state.summary.taken) }
         ensures slots { IfOk result (λ o. o.journal.slots ≡ self.journal.slots) }
         ensures free { IfOk result (λ o. o.journal.free ≡ o.journal.slots) }
         ensures usable { IfOk result (λ o. o.journal.failed ≡ false) }
-        ensures calls { IfOk result (λ o. self.journal.acked < self.core.state.summary.taken → Shows (D.trace self.journal.dev)
-            (λ c. D.ticks o.journal.dev ≡ D.ticks self.journal.dev + checkpoint_calls (length self.core.state.records) c)) }
+        ensures calls { IfOk result (λ o. self.journal.acked < self.core.state.summary.taken → Shows (D.device self.journal.dev).trace
+            (λ c. moment (D.device o.journal.dev).trace ≡ moment (D.device self.journal.dev).trace + checkpoint_calls (length self.core.state.records) c)) }
         ensures cause { IfErr result (λ e. (e.why ≡ DeviceFault)
             ⊎ (e.why ≡ WantOfMemory)) }
-        ensures faultless { IfOk result (λ o. D.fault_count o.journal.dev ≡ D.fault_count self.journal.dev) }
-        ensures counts { IfErr result (λ e. CountsRefusal e.why (D.fault_count self.journal.dev)
-            (D.fault_count e.dev)) }
-        ensures handed { IfOk result (λ o. D.hand_out o.journal.dev ≡ D.hand_out self.journal.dev) }
-        ensures handed_refused { IfErr result (λ e. D.hand_out e.dev ≡ D.hand_out self.journal.dev) }
+        ensures faultless { IfOk result (λ o. (D.device o.journal.dev).faults ≡ (D.device self.journal.dev).faults) }
+        ensures counts { IfErr result (λ e. CountsRefusal e.why (D.device self.journal.dev).faults
+            (D.device e.dev).faults) }
+        ensures handed { IfOk result (λ o. (D.device o.journal.dev).handed ≡ (D.device self.journal.dev).handed) }
+        ensures handed_refused { IfErr result (λ e. (D.device e.dev).handed ≡ (D.device self.journal.dev).handed) }
     {
         let Opened { mut journal, core } = self;
         match journal.checkpoint(alloc, &core) {
@@ -175,20 +175,20 @@ fn read_tag<L: Ledger, D: Disk>(
     requires some { 1 ≤ lane_slots }
     requires few { lane_slots ≤ 65536 }
     requires tuned { TuningInRange def.now.tuning }
-    ensures any_moment { During (D.trace dev.old) (D.trace dev.new) (IsTagLeftOrSame def.now (D.trace dev.old)) }
+    ensures any_moment { During (D.device dev.old).trace (D.device dev.new).trace (IsTagLeftOrSame def.now (D.device dev.old).trace) }
     ensures opened { IfOk result (λ r.
-        IsReadAs def.now (D.trace dev.old) (D.trace dev.new) r.retuned r.core.state) }
-    ensures seated { IfOk result (λ r. SeatedOn r.seat (D.trace dev.new)) }
+        IsReadAs def.now (D.device dev.old).trace (D.device dev.new).trace r.retuned r.core.state) }
+    ensures seated { IfOk result (λ r. SeatedOn r.seat (D.device dev.new).trace) }
     ensures slots { IfOk result (λ r. (1 ≤ r.seat.lane.slots) × (r.seat.lane.slots ≤ 65536)) }
-    ensures lane { IfOk result (λ r. Shows (D.trace dev.old) (HasSlots lane_slots r.seat.lane.slots)) }
+    ensures lane { IfOk result (λ r. Shows (D.device dev.old).trace (HasSlots lane_slots r.seat.lane.slots)) }
     ensures free { IfOk result (λ r.
-        Shows (D.trace dev.old) (HasFreeAtFirst r.seat.lane.slots (free_in r.seat))) }
-    ensures made { OnOk result (MakesLayout def.now lane_slots (D.trace dev.old) (D.trace dev.new)) }
-    ensures synced { OnOk result (Shows (D.trace dev.old) (λ c. (IsNew c → ⊥)
-        → D.trace dev.new ≡ noted Synced (D.trace dev.old))) }
-    ensures new_calls { OnOk result (Shows (D.trace dev.old) (λ c. IsNew c
-        → D.ticks dev.new ≡ D.ticks dev.old + (layout_calls c + 1))) }
-    ensures calls { OnOk result (Shows (D.trace dev.old) (λ c. (IsNew c → ⊥) → D.ticks dev.new ≡ D.ticks dev.old + 1)) }
+        Shows (D.device dev.old).trace (HasFreeAtFirst r.seat.lane.slots (free_in r.seat))) }
+    ensures made { OnOk result (MakesLayout def.now lane_slots (D.device dev.old).trace (D.device dev.new).trace) }
+    ensures synced { OnOk result (Shows (D.device dev.old).trace (λ c. (IsNew c → ⊥)
+        → (D.device dev.new).trace ≡ noted Synced (D.device dev.old).trace)) }
+    ensures new_calls { OnOk result (Shows (D.device dev.old).trace (λ c. IsNew c
+        → moment (D.device dev.new).trace ≡ moment (D.device dev.old).trace + (layout_calls c + 1))) }
+    ensures calls { OnOk result (Shows (D.device dev.old).trace (λ c. (IsNew c → ⊥) → moment (D.device dev.new).trace ≡ moment (D.device dev.old).trace + 1)) }
     ensures used { IfOk result (λ r. r.seat.lane.used ≤ r.seat.lane.slots) }
     ensures numbered { IfOk result (λ r. IsNumbered r.seat) }
     ensures countable { IfOk result (λ r. r.core.state.summary.taken < 2 ^ 63) }
@@ -197,9 +197,9 @@ fn read_tag<L: Ledger, D: Disk>(
     ensures step { IfOk result (λ r. r.core.step ≡ def.now.step) }
     ensures tuning { IfOk result (λ r. r.core.state.summary.tuning ≡ Some def.now.tuning) }
     ensures room { IfOk result (λ r. 2 * room ≤ r.core.spare) }
-    ensures cause { IfErr result (IsCause def.now (D.trace dev.old)) }
-    ensures counts { CountsFault result DeviceFault (D.fault_count dev.old) (D.fault_count dev.new) }
-    ensures handed { D.hand_out dev.new ≡ D.hand_out dev.old }
+    ensures cause { IfErr result (IsCause def.now (D.device dev.old).trace) }
+    ensures counts { CountsFault result DeviceFault (D.device dev.old).faults (D.device dev.new).faults }
+    ensures handed { (D.device dev.new).handed ≡ (D.device dev.old).handed }
 {
     let Ok(()) = dev.sync() else {
         return Err(OpenNo::DeviceFault);
@@ -223,23 +223,23 @@ fn made<D: Disk>(
     requires some { 1 ≤ lane_slots }
     requires few { lane_slots ≤ 65536 }
     requires tuned { TuningInRange def.now.tuning }
-    requires new { Shows (D.trace dev.old) IsNew }
-    requires settled { IsSettled (D.trace dev.old) }
-    ensures any_moment { During (D.trace dev.old) (D.trace dev.new)
+    requires new { Shows (D.device dev.old).trace IsNew }
+    requires settled { IsSettled (D.device dev.old).trace }
+    ensures any_moment { During (D.device dev.old).trace (D.device dev.new).trace
         (λ c. Recovers def.now c (nothing_taken def.now.tuning)) }
     ensures core { IfOk result (λ r. r.core.state ≡ nothing_taken def.now.tuning) }
-    ensures seated { IfOk result (λ r. SeatedOn r.seat (D.trace dev.new)) }
-    ensures made { OnOk result (Shows (D.trace dev.new) (IsMade def.now lane_slots)) }
+    ensures seated { IfOk result (λ r. SeatedOn r.seat (D.device dev.new).trace) }
+    ensures made { OnOk result (Shows (D.device dev.new).trace (IsMade def.now lane_slots)) }
     ensures free { IfOk result (λ r. free_in r.seat ≡ r.seat.lane.slots) }
     ensures lane { IfOk result (λ r. r.seat.lane ≡ record { slots = lane_slots; used = 0; next = 0 }) }
     ensures numbered { IfOk result (λ r. IsNumbered r.seat) }
     ensures retuned { IfOk result (λ r. r.retuned ≡ false) }
-    ensures calls { OnOk result (Shows (D.trace dev.old) (λ c. D.ticks dev.new ≡ D.ticks dev.old + layout_calls c)) }
+    ensures calls { OnOk result (Shows (D.device dev.old).trace (λ c. moment (D.device dev.new).trace ≡ moment (D.device dev.old).trace + layout_calls c)) }
     ensures step { IfOk result (λ r. r.core.step ≡ def.now.step) }
     ensures room { IfOk result (λ r. r.core.spare ≡ 2 * room) }
-    ensures cause { IfErr result (IsCause def.now (D.trace dev.old)) }
-    ensures counts { CountsFault result DeviceFault (D.fault_count dev.old) (D.fault_count dev.new) }
-    ensures handed { D.hand_out dev.new ≡ D.hand_out dev.old }
+    ensures cause { IfErr result (IsCause def.now (D.device dev.old).trace) }
+    ensures counts { CountsFault result DeviceFault (D.device dev.old).faults (D.device dev.new).faults }
+    ensures handed { (D.device dev.new).handed ≡ (D.device dev.old).handed }
 {
     let Ok(core) = TagCore::new(alloc, def.tuning, def.step, room) else {
         return Err(OpenNo::WantOfMemory);
@@ -274,11 +274,11 @@ fn read_back<L: Ledger, D: Disk>(
     room: u32,
     steps: &mut Steps<L>,
 ) -> Result<Read, OpenNo>
-    requires opened { Shows (D.trace dev.old) IsBegun }
+    requires opened { Shows (D.device dev.old).trace IsBegun }
     requires tuned { TuningInRange def.now.tuning }
-    ensures opened { IfOk result (λ r. Shows (D.trace dev.old) (λ c. (s : State) × IsRecovered def.now c s
+    ensures opened { IfOk result (λ r. Shows (D.device dev.old).trace (λ c. (s : State) × IsRecovered def.now c s
         × OpensAs def.now r.retuned s r.core.state)) }
-    ensures seat { IfOk result (λ r. Shows (D.trace dev.old) (IsSeat r.seat)) }
+    ensures seat { IfOk result (λ r. Shows (D.device dev.old).trace (IsSeat r.seat)) }
     ensures slots { IfOk result (λ r. (1 ≤ r.seat.lane.slots) × (r.seat.lane.slots ≤ 65536)) }
     ensures used { IfOk result (λ r. r.seat.lane.used ≤ r.seat.lane.slots) }
     ensures numbered { IfOk result (λ r. IsNumbered r.seat) }
@@ -288,11 +288,10 @@ fn read_back<L: Ledger, D: Disk>(
     ensures step { IfOk result (λ r. r.core.step ≡ def.now.step) }
     ensures tuning { IfOk result (λ r. r.core.state.summary.tuning ≡ Some def.now.tuning) }
     ensures room { IfOk result (λ r. 2 * room ≤ r.core.spare) }
-    ensures cause { IfErr result (IsCause def.now (D.trace dev.old)) }
-    ensures same { D.trace dev.new ≡ D.trace dev.old }
-    ensures untimed { D.ticks dev.new ≡ D.ticks dev.old }
-    ensures counts { CountsFault result DeviceFault (D.fault_count dev.old) (D.fault_count dev.new) }
-    ensures handed { D.hand_out dev.new ≡ D.hand_out dev.old }
+    ensures cause { IfErr result (IsCause def.now (D.device dev.old).trace) }
+    ensures same { (D.device dev.new).trace ≡ (D.device dev.old).trace }
+    ensures counts { CountsFault result DeviceFault (D.device dev.old).faults (D.device dev.new).faults }
+    ensures handed { (D.device dev.new).handed ≡ (D.device dev.old).handed }
 {
     let header = read_layout(dev, def)?;
     let stored = read_parts(alloc, dev, &header, def.step)?;

@@ -16,19 +16,18 @@ use tag_core::parts_ok;
 // Refuses records and a summary that together cannot be those of a tag. The damage is then placed at the summary's
 // beginning. Before the first checkpoint there are none, and nothing is refused.
 fn test_parts<D: Disk>(dev: &mut D, stored: &Stored, step: bool) -> Result<(), OpenNo>
-    requires long { Reaches (D.trace dev.old) 400 }
+    requires long { Reaches (D.device dev.old).trace 400 }
     requires tuned { TuningInRange stored.now.tuning }
     requires none { stored.now.slot ≡ None
         → (stored.now.summary ≡ no_summary) × (stored.now.recs.items ≡ []) }
     ensures parts { OnOk result
         (ArePartsOk stored.now.tuning step stored.now.recs.items stored.now.summary) }
     ensures cause { (def : TagDef) (slots : ℕ) → def.step ≡ step
-        → Shows (D.trace dev.old) (IsFoundOn def slots stored.now)
-        → IfErr result (IsCause def (D.trace dev.old)) }
-    ensures same { D.trace dev.new ≡ D.trace dev.old }
-    ensures untimed { D.ticks dev.new ≡ D.ticks dev.old }
-    ensures counts { CountsFault result DeviceFault (D.fault_count dev.old) (D.fault_count dev.new) }
-    ensures handed { D.hand_out dev.new ≡ D.hand_out dev.old }
+        → Shows (D.device dev.old).trace (IsFoundOn def slots stored.now)
+        → IfErr result (IsCause def (D.device dev.old).trace) }
+    ensures same { (D.device dev.new).trace ≡ (D.device dev.old).trace }
+    ensures counts { CountsFault result DeviceFault (D.device dev.old).faults (D.device dev.new).faults }
+    ensures handed { (D.device dev.new).handed ≡ (D.device dev.old).handed }
 {
     let Some(slot) = stored.slot else {
         return Ok(());
@@ -48,20 +47,19 @@ pub(crate) fn read_parts<D: Disk>(
     header: &Header,
     step: bool,
 ) -> Result<Stored, OpenNo>
-    requires long { Reaches (D.trace dev.old) 400 }
+    requires long { Reaches (D.device dev.old).trace 400 }
     requires tuned { TuningInRange header.now.def.tuning }
     ensures stored { (def : TagDef) → def.step ≡ step
-        → Shows (D.trace dev.old) (HasLayout def header.now.slots header.now.def.tuning)
-        → IfOk result (λ x. Shows (D.trace dev.old) (IsReadFrom def header.now.slots x)) }
+        → Shows (D.device dev.old).trace (HasLayout def header.now.slots header.now.def.tuning)
+        → IfOk result (λ x. Shows (D.device dev.old).trace (IsReadFrom def header.now.slots x)) }
     ensures tuned { IfOk result (λ x. TuningInRange x.tuning) }
     ensures parts { IfOk result (λ x. ArePartsOk x.tuning step x.recs.items x.summary) }
     ensures cause { (def : TagDef) → def.step ≡ step
-        → Shows (D.trace dev.old) (HasLayout def header.now.slots header.now.def.tuning)
-        → IfErr result (IsCause def (D.trace dev.old)) }
-    ensures same { D.trace dev.new ≡ D.trace dev.old }
-    ensures untimed { D.ticks dev.new ≡ D.ticks dev.old }
-    ensures counts { CountsFault result DeviceFault (D.fault_count dev.old) (D.fault_count dev.new) }
-    ensures handed { D.hand_out dev.new ≡ D.hand_out dev.old }
+        → Shows (D.device dev.old).trace (HasLayout def header.now.slots header.now.def.tuning)
+        → IfErr result (IsCause def (D.device dev.old).trace) }
+    ensures same { (D.device dev.new).trace ≡ (D.device dev.old).trace }
+    ensures counts { CountsFault result DeviceFault (D.device dev.old).faults (D.device dev.new).faults }
+    ensures handed { (D.device dev.new).handed ≡ (D.device dev.old).handed }
 {
     let stored = read_stored(alloc, dev, header)?;
     test_parts(dev, &stored, step)?;

@@ -66,15 +66,14 @@ pub(crate) fn replay<L: Ledger>(
 fn value_place<D: Disk>(dev: &mut D, slots: u32, used: u32, number: usize) -> Result<u64, OpenNo>
     requires some { 1 ≤ slots }
     requires within { used ≤ slots }
-    requires there { Reaches (D.trace dev.old) (400 + 1035 * slots) }
-    ensures place { (taken : ℕ) → Shows (D.trace dev.old) (HoldsValue slots taken used number)
-        → IfOk result (λ a. Shows (D.trace dev.old) (λ c. (j : ℕ) × (i : ℕ) × IsValuePlace slots c taken number a j i)) }
+    requires there { Reaches (D.device dev.old).trace (400 + 1035 * slots) }
+    ensures place { (taken : ℕ) → Shows (D.device dev.old).trace (HoldsValue slots taken used number)
+        → IfOk result (λ a. Shows (D.device dev.old).trace (λ c. (j : ℕ) × (i : ℕ) × IsValuePlace slots c taken number a j i)) }
     ensures end { IfOk result (λ a. a < 400 + 1035 * slots) }
     ensures fault { OnErr result (result ≡ Err DeviceFault) }
-    ensures counts { HasCause (D.fault_count dev.old) (D.fault_count dev.new) result }
-    ensures handed { D.hand_out dev.new ≡ D.hand_out dev.old }
-    ensures same { D.trace dev.new ≡ D.trace dev.old }
-    ensures untimed { D.ticks dev.new ≡ D.ticks dev.old }
+    ensures counts { HasCause (D.device dev.old).faults (D.device dev.new).faults result }
+    ensures handed { (D.device dev.new).handed ≡ (D.device dev.old).handed }
+    ensures same { (D.device dev.new).trace ≡ (D.device dev.old).trace }
 {
     let mut rest = number;
     for j in 0..used {
@@ -91,14 +90,13 @@ fn value_place<D: Disk>(dev: &mut D, slots: u32, used: u32, number: usize) -> Re
 // How many values a lane slot holds. That number is at byte 8 of the slot.
 fn count_at<D: Disk>(dev: &mut D, slots: u32, slot: u32) -> Result<u16, OpenNo>
     requires within { slot < slots }
-    requires there { Reaches (D.trace dev.old) (400 + 1035 * slots) }
-    ensures count { IfOk result (λ n. Shows (D.trace dev.old) (λ c. n ≡ min 64 (count_in (slot_at slots c slot)))) }
+    requires there { Reaches (D.device dev.old).trace (400 + 1035 * slots) }
+    ensures count { IfOk result (λ n. Shows (D.device dev.old).trace (λ c. n ≡ min 64 (count_in (slot_at slots c slot)))) }
     ensures few { IfOk result (λ n. n ≤ 64) }
     ensures fault { OnErr result (result ≡ Err DeviceFault) }
-    ensures counts { HasCause (D.fault_count dev.old) (D.fault_count dev.new) result }
-    ensures handed { D.hand_out dev.new ≡ D.hand_out dev.old }
-    ensures same { D.trace dev.new ≡ D.trace dev.old }
-    ensures untimed { D.ticks dev.new ≡ D.ticks dev.old }
+    ensures counts { HasCause (D.device dev.old).faults (D.device dev.new).faults result }
+    ensures handed { (D.device dev.new).handed ≡ (D.device dev.old).handed }
+    ensures same { (D.device dev.new).trace ≡ (D.device dev.old).trace }
 {
     let bytes = read_part::<2, D>(dev, slot_start(slots, slot) + COUNT)?;
     Ok(u16::from_be_bytes(bytes).min(BATCH_MOST))
@@ -124,13 +122,12 @@ fn overfull<D: Disk>(dev: &mut D, slots: u32, used: u32, number: usize) -> OpenN
     requires some { 1 ≤ slots }
     requires within { used ≤ slots }
     requires few { slots ≤ 65536 }
-    requires there { Reaches (D.trace dev.old) (400 + 1035 * slots) }
-    ensures value { (taken : ℕ) → Shows (D.trace dev.old) (HoldsValue slots taken used number)
-        → IsOverfull (D.trace dev.old) slots taken number result }
-    ensures same { D.trace dev.new ≡ D.trace dev.old }
-    ensures untimed { D.ticks dev.new ≡ D.ticks dev.old }
-    ensures counts { CountsRefusal result (D.fault_count dev.old) (D.fault_count dev.new) }
-    ensures handed { D.hand_out dev.new ≡ D.hand_out dev.old }
+    requires there { Reaches (D.device dev.old).trace (400 + 1035 * slots) }
+    ensures value { (taken : ℕ) → Shows (D.device dev.old).trace (HoldsValue slots taken used number)
+        → IsOverfull (D.device dev.old).trace slots taken number result }
+    ensures same { (D.device dev.new).trace ≡ (D.device dev.old).trace }
+    ensures counts { CountsRefusal result (D.device dev.old).faults (D.device dev.new).faults }
+    ensures handed { (D.device dev.new).handed ≡ (D.device dev.old).handed }
 {
     let at = match value_place(dev, slots, used, number) {
         Ok(at) => at,
@@ -155,13 +152,13 @@ pub(crate) fn read_core<L: Ledger, D: Disk>(
 ) -> Result<(Seat, TagCore), OpenNo>
     requires some { 1 ≤ slots }
     requires few { slots ≤ 65536 }
-    requires there { Reaches (D.trace dev.old) (400 + 1035 * slots) }
+    requires there { Reaches (D.device dev.old).trace (400 + 1035 * slots) }
     requires tuned { TuningInRange stored.tuning }
     requires parts { ArePartsOk stored.tuning step stored.recs.items stored.summary }
-    ensures recovered { (def : TagDef) → def.step ≡ step → Shows (D.trace dev.old) (IsReadFrom def slots stored)
-        → IfOk result (λ r. Shows (D.trace dev.old) (λ c. IsRecovered def c r.1.state)) }
-    ensures seat { (def : TagDef) → Shows (D.trace dev.old) (IsReadFrom def slots stored)
-        → IfOk result (λ r. Shows (D.trace dev.old) (IsSeat r.0)) }
+    ensures recovered { (def : TagDef) → def.step ≡ step → Shows (D.device dev.old).trace (IsReadFrom def slots stored)
+        → IfOk result (λ r. Shows (D.device dev.old).trace (λ c. IsRecovered def c r.1.state)) }
+    ensures seat { (def : TagDef) → Shows (D.device dev.old).trace (IsReadFrom def slots stored)
+        → IfOk result (λ r. Shows (D.device dev.old).trace (IsSeat r.0)) }
     ensures slots { IfOk result (λ r. r.0.lane.slots ≡ slots) }
     ensures used { IfOk result (λ r. r.0.lane.used ≤ slots) }
     ensures next { IfOk result (λ r. r.0.lane.next ≡ r.1.state.summary.taken) }
@@ -169,12 +166,11 @@ pub(crate) fn read_core<L: Ledger, D: Disk>(
     ensures countable { IfOk result (λ r. r.1.state.summary.taken < 2 * 10 ^ 18) }
     ensures step { IfOk result (λ r. r.1.step ≡ step) }
     ensures room { IfOk result (λ r. 2 * room + 2 ≤ r.1.spare) }
-    ensures cause { (def : TagDef) → def.step ≡ step → Shows (D.trace dev.old) (IsReadFrom def slots stored)
-        → IfErr result (IsCause def (D.trace dev.old)) }
-    ensures same { D.trace dev.new ≡ D.trace dev.old }
-    ensures untimed { D.ticks dev.new ≡ D.ticks dev.old }
-    ensures counts { CountsFault result DeviceFault (D.fault_count dev.old) (D.fault_count dev.new) }
-    ensures handed { D.hand_out dev.new ≡ D.hand_out dev.old }
+    ensures cause { (def : TagDef) → def.step ≡ step → Shows (D.device dev.old).trace (IsReadFrom def slots stored)
+        → IfErr result (IsCause def (D.device dev.old).trace) }
+    ensures same { (D.device dev.new).trace ≡ (D.device dev.old).trace }
+    ensures counts { CountsFault result DeviceFault (D.device dev.old).faults (D.device dev.new).faults }
+    ensures handed { (D.device dev.new).handed ≡ (D.device dev.old).handed }
 {
     let scanned = match scan(alloc, dev, slots, stored.summary.taken) {
         Ok(scanned) => scanned,

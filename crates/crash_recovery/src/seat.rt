@@ -12,6 +12,7 @@ ghost use Rattle.event_queue.specs.Slots.{gate_of};
 ghost use Rattle.device_layout.specs.Recovery.{AllFit, Recovers};
 ghost use Rattle.crash_recovery.specs.Journals.{AllRecover, RecoversEither, SeatedOn, IsNumbered, free_in};
 ghost use Rattle.crash_recovery.specs.Seats.{KeepsPlaces, LaidOn, OverrunOn, restarted, stale_calls};
+ghost use Rattle.disk_model.specs.Traces.{moment};
 
 use device_layout::Slot;
 use disk_model::Disk;
@@ -61,7 +62,7 @@ impl Seat {
         points: &[Point],
     ) -> Result<(), DeviceFault>
         requires within { self.old.lane.used ≤ self.old.lane.slots }
-        requires seated { SeatedOn self.old (D.trace dev.old) }
+        requires seated { SeatedOn self.old (D.device dev.old).trace }
         requires free { free_in self.old ≢ 0 }
         requires some { 1 ≤ length points.now }
         requires few { length points.now ≤ 64 }
@@ -70,27 +71,27 @@ impl Seat {
 
         // A crash at any moment leaves an image that recovers what each recovered before, or that and all of these
         // values. At Ok, it recovers all of these values too.
-        ensures any_moment { (def : TagDef) (s : State) → AllRecover def (D.trace dev.old) s
+        ensures any_moment { (def : TagDef) (s : State) → AllRecover def (D.device dev.old).trace s
             → AllFit def.step s (map Raw points.now)
-            → During (D.trace dev.old) (D.trace dev.new)
+            → During (D.device dev.old).trace (D.device dev.new).trace
             (RecoversEither def s (replay def.step s (map Raw points.now))) }
-        ensures durable { OnOk result ((def : TagDef) (s : State) → AllRecover def (D.trace dev.old) s
+        ensures durable { OnOk result ((def : TagDef) (s : State) → AllRecover def (D.device dev.old).trace s
             → AllFit def.step s (map Raw points.now)
-            → AllRecover def (D.trace dev.new) (replay def.step s (map Raw points.now))) }
+            → AllRecover def (D.device dev.new).trace (replay def.step s (map Raw points.now))) }
 
-        ensures seated { OnOk result (SeatedOn self.new (D.trace dev.new)) }
+        ensures seated { OnOk result (SeatedOn self.new (D.device dev.new).trace) }
         ensures number { OnOk result (self.new.lane.next ≡ self.old.lane.next + length points.now) }
         ensures free { OnOk result (free_in self.new + 1 ≡ free_in self.old) }
         ensures numbered { IsNumbered self.old → IsNumbered self.new }
         ensures unmoved { OnErr result (self.new.lane.next ≡ self.old.lane.next) }
         ensures still_free { OnErr result (free_in self.new ≡ free_in self.old) }
-        ensures ticked { OnOk result (D.ticks dev.old < D.ticks dev.new) }
+        ensures ticked { OnOk result (moment (D.device dev.old).trace < moment (D.device dev.new).trace) }
         ensures slots { self.new.lane.slots ≡ self.old.lane.slots }
         ensures within { self.new.lane.used ≤ self.new.lane.slots }
-        ensures later { D.ticks dev.old ≤ D.ticks dev.new }
-        ensures cause { HasCause (D.fault_count dev.old) (D.fault_count dev.new) result }
-        ensures continues { ComesAfter (D.trace dev.old) (D.trace dev.new) }
-        ensures handed { D.hand_out dev.new ≡ D.hand_out dev.old }
+        ensures later { moment (D.device dev.old).trace ≤ moment (D.device dev.new).trace }
+        ensures cause { HasCause (D.device dev.old).faults (D.device dev.new).faults result }
+        ensures continues { ComesAfter (D.device dev.old).trace (D.device dev.new).trace }
+        ensures handed { (D.device dev.new).handed ≡ (D.device dev.old).handed }
     {
         self.close_stale(dev)?;
         match self.lane.append_batch(dev, points) {
@@ -103,24 +104,24 @@ impl Seat {
     // Closes the gates of an overtaken lane. If the lane is not overtaken, it makes no call.
     pub(crate) fn close_stale<D: Disk>(&mut self, dev: &mut D) -> Result<(), DeviceFault>
         requires within { self.old.lane.used ≤ self.old.lane.slots }
-        requires laid { LaidOn self.old (D.trace dev.old) }
+        requires laid { LaidOn self.old (D.device dev.old).trace }
 
         // A crash at any moment leaves an image that recovers what each recovered before.
-        ensures any_moment { (def : TagDef) (s : State) → AllRecover def (D.trace dev.old) s
-            → (self.old.stale ≡ true → OverrunOn self.old (D.trace dev.old))
-            → During (D.trace dev.old) (D.trace dev.new) (λ c. Recovers def c s) }
-        ensures laid { OnOk result (LaidOn self.new (D.trace dev.new)) }
+        ensures any_moment { (def : TagDef) (s : State) → AllRecover def (D.device dev.old).trace s
+            → (self.old.stale ≡ true → OverrunOn self.old (D.device dev.old).trace)
+            → During (D.device dev.old).trace (D.device dev.new).trace (λ c. Recovers def c s) }
+        ensures laid { OnOk result (LaidOn self.new (D.device dev.new).trace) }
         ensures fresh { OnOk result (self.new.stale ≡ false) }
         ensures kept { self.old.stale ≡ false → self.new ≡ self.old }
         ensures idle { self.old.stale ≡ false → dev.new ≡ dev.old }
         ensures restarted { self.old.stale ≡ true → OnOk result (self.new ≡ restarted self.old) }
         ensures unmoved { OnErr result (self.new ≡ self.old) }
-        ensures front { OnOk result (KeepsPlaces 0 (gate_of 0) (D.trace dev.old) (D.trace dev.new)) }
-        ensures calls { OnOk result (Shows (D.trace dev.old) (λ c. D.ticks dev.new ≡ D.ticks dev.old + stale_calls self.old c)) }
-        ensures later { D.ticks dev.old ≤ D.ticks dev.new }
-        ensures cause { HasCause (D.fault_count dev.old) (D.fault_count dev.new) result }
-        ensures continues { ComesAfter (D.trace dev.old) (D.trace dev.new) }
-        ensures handed { D.hand_out dev.new ≡ D.hand_out dev.old }
+        ensures front { OnOk result (KeepsPlaces 0 (gate_of 0) (D.device dev.old).trace (D.device dev.new).trace) }
+        ensures calls { OnOk result (Shows (D.device dev.old).trace (λ c. moment (D.device dev.new).trace ≡ moment (D.device dev.old).trace + stale_calls self.old c)) }
+        ensures later { moment (D.device dev.old).trace ≤ moment (D.device dev.new).trace }
+        ensures cause { HasCause (D.device dev.old).faults (D.device dev.new).faults result }
+        ensures continues { ComesAfter (D.device dev.old).trace (D.device dev.new).trace }
+        ensures handed { (D.device dev.new).handed ≡ (D.device dev.old).handed }
     {
         if !self.stale {
             return Ok(());

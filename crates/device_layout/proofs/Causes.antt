@@ -1,6 +1,6 @@
--- What was read and why it was refused, of a device that may not record its calls.
+-- What was read and why it was refused.
 use Rattle.std.proofs.Common.{◌≡◌, ℕ, ◌<◌, ◌≤◌, Bool, List, length, get_or, nat_eq, nat_le}
-use Rattle.std.proofs.Common.{Option, None, Some, subst, arith}
+use Rattle.std.proofs.Common.{Option, Some, subst, arith}
 use Rattle.std.specs.Int.{w64, from_be_bytes}
 use Rattle.trend_num.specs.declared.archive.Summary.{Summary}
 use Rattle.trend_num.specs.declared.archive.Rec.{Rec}
@@ -26,68 +26,63 @@ use Rattle.device_layout.proofs.Reading.{parts_broken}
 use Rattle.device_layout.proofs.Reading.{is_other, counts_summary, stored_some}
 
 -- the same bytes were read before some calls that changed nothing
-pub reads_before : (o p : Option Trace) (at : ℕ) (bytes : List ℕ) → p ≡ o → Reads p at bytes → Reads o at bytes
+pub reads_before : (o p : Trace) (at : ℕ) (bytes : List ℕ) → p ≡ o → Reads p at bytes → Reads o at bytes
 reads_before o p at bytes same read = subst (λ x. Reads x at bytes) same read
 
 -- a broken header
-pub header_cause : (def : TagDef) (o : Option Trace) (bytes : List ℕ) (len at : ℕ) → length bytes ≡ 128
+pub header_cause : (def : TagDef) (o : Trace) (bytes : List ℕ) (len at : ℕ) → length bytes ≡ 128
     → Reads o 0 bytes
     → HasLength o len → 128 ≤ len → at < 128 → IsHeaderBroken bytes at → Shows o IsBegun
     → Shows o (λ c. IsTagDamage def c at (Some (get_or bytes at 0)))
-header_cause def None bytes len at size read is long within broken opened = tt
-header_cause def (Some t) bytes len at size read is long within broken opened =
-    header_broken def bytes (seen (Some t)) at size read (omega (arith, is, long)) within broken opened.opened
+header_cause def t bytes len at size read is long within broken opened =
+    header_broken def bytes (seen t) at size read (omega (arith, is, long)) within broken opened.opened
 
 -- another tag's device
-pub other_cause : (def : TagDef) (o : Option Trace) (h : Header) → Shows o IsBegun → Shows o (HasHeader h)
+pub other_cause : (def : TagDef) (o : Trace) (h : Header) → Shows o IsBegun → Shows o (HasHeader h)
     → ((h.def.name ≡ def.name) → (h.def.step ≡ def.step) → ⊥) → Shows o (λ c. IsOther def c h.def def)
-other_cause def None h opened has differs = tt
-other_cause def (Some t) h opened has differs = is_other def (seen (Some t)) h opened.opened has differs
+other_cause def t h opened has differs = is_other def (seen t) h opened.opened has differs
 
 -- the slot that counts
-pub counting_shown : (o : Option Trace) (a b d : ℕ) (first second gates : List ℕ) (m n : ℕ) (result : Option Slot)
+pub counting_shown : (o : Trace) (a b d : ℕ) (first second gates : List ℕ) (m n : ℕ) (result : Option Slot)
     → length first ≡ 8 → length second ≡ 8 → length gates ≡ 2 → a ≡ 128 → b ≡ 256 → d ≡ 384
     → Reads o a first → Reads o b second → Reads o d gates → m ≡ from_be_bytes w64 first
     → n ≡ from_be_bytes w64 second
     → result ≡ chosen (nat_eq (get_or gates 0 0) open_byte) (nat_eq (get_or gates 1 0) open_byte) (nat_le n m)
     → Shows o (λ c. counting c ≡ result)
-counting_shown None a b d first second gates m n result fs ss gs at_a at_b at_d fr sr gr m_is n_is is = tt
-counting_shown (Some t) a b d first second gates m n result fs ss gs at_a at_b at_d fr sr gr m_is n_is is =
-    counting_read (seen (Some t)) first second gates m n result fs ss gs (here_at first a 128 (seen (Some t)) at_a fr)
-    (here_at second b 256 (seen (Some t)) at_b sr) (here_at gates d 384 (seen (Some t)) at_d gr) m_is n_is is
+counting_shown t a b d first second gates m n result fs ss gs at_a at_b at_d fr sr gr m_is n_is is =
+    counting_read (seen t) first second gates m n result fs ss gs (here_at first a 128 (seen t) at_a fr)
+    (here_at second b 256 (seen t) at_b sr) (here_at gates d 384 (seen t) at_d gr) m_is n_is is
 
 -- a broken log
-pub records_cause : (def : TagDef) (o : Option Trace) (slots log : ℕ) (i : Slot) (s : Summary) (u : Tuning) (a : ℕ)
+pub records_cause : (def : TagDef) (o : Trace) (slots log : ℕ) (i : Slot) (s : Summary) (u : Tuning) (a : ℕ)
     (byte : Option ℕ) → log ≡ lane_end slots → Shows o (λ c. IsDamage c log s.records a byte)
     → Shows o (CountsSummary def slots i s u) → Shows o (λ c. IsTagDamage def c a byte)
-records_cause def None slots log i s u a byte is damage has = tt
-records_cause def (Some t) slots log i s u a byte is damage has = records_broken def slots i s u (seen
-    (Some t)) a byte
-    (subst (λ n. IsDamage (seen (Some t)) n s.records a byte) is damage) has
+records_cause def t slots log i s u a byte is damage has = records_broken def slots i s u (seen
+    t) a byte
+    (subst (λ n. IsDamage (seen t) n s.records a byte) is damage) has
 
 -- records and a summary that can't be
-pub parts_cause : (def : TagDef) (o : Option Trace) (slots log place : ℕ) (i : Slot) (s : Summary) (u : Tuning)
+pub parts_cause : (def : TagDef) (o : Trace) (slots log place : ℕ) (i : Slot) (s : Summary) (u : Tuning)
     (step : Bool)
     (rs : List Rec) (first : List ℕ) → def.step ≡ step → log ≡ lane_end slots → place ≡ summary_place i
     → Shows o (λ c. HasRecords c log s.records rs) → (ArePartsOk u step rs s → ⊥) → length first ≡ 1
     → Reads o place first
     → Shows o (CountsSummary def slots i s u) → Shows o (λ c. IsTagDamage def c (summary_place i) (Some
     (get_or first 0 0)))
-parts_cause def None slots log place i s u step rs first same_step is at records broken size read has = tt
-parts_cause def (Some t) slots log place i s u step rs first same_step is at records broken size read has =
-    parts_broken def slots i s u step rs first (seen (Some t)) same_step
-    (subst (λ n. HasRecords (seen (Some t)) n s.records rs) is records) broken size
-    (here_at first place (summary_place i) (seen (Some t)) at read) has
+parts_cause def t slots log place i s u step rs first same_step is at records broken size read has =
+    parts_broken def slots i s u step rs first (seen t) same_step
+    (subst (λ n. HasRecords (seen t) n s.records rs) is records) broken size
+    (here_at first place (summary_place i) (seen t) at read) has
 
 -- a summary that counts
-pub counts_shown : (def : TagDef) (o : Option Trace) (slots : ℕ) (made : Tuning) (i : Slot) (s : Summary) (u : Tuning)
+pub counts_shown : (def : TagDef) (o : Trace) (slots : ℕ) (made : Tuning) (i : Slot) (s : Summary) (u : Tuning)
     → Shows o (HasLayout def slots made) → Shows o (λ c. counting c ≡ Some i) → IsSummary s
     → Shows o (λ c. slot_bytes c i ≡ summary_image s) → u ≡ recovered_tuning made s.tuning
     → Shows o (CountsSummary def slots i s u)
 counts_shown def o slots made i s u has counts whole bytes tuning = grind (arith, counts_summary)
 
 -- all that is stored
-pub stored_shown : (def : TagDef) (o : Option Trace) (slots : ℕ) (i : Slot) (s : Summary) (u : Tuning)
+pub stored_shown : (def : TagDef) (o : Trace) (slots : ℕ) (i : Slot) (s : Summary) (u : Tuning)
     (x : Stored)
     → Shows o (CountsSummary def slots i s u)
     → Shows o (λ c. HasRecords c (lane_end slots) s.records x.recs.items)

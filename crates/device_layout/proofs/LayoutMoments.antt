@@ -1,6 +1,6 @@
 -- What a crash leaves while a layout is made: a new device, or the whole layout.
 use Rattle.std.proofs.Common.{◌≡◌, inl, inr, ℕ, ◌+◌, ◌-◌, ◌*◌, ◌<◌, ◌≤◌, List, [], ◌∷◌, ◌++◌, length}
-use Rattle.std.proofs.Common.{get_or, take, drop, replicate, Option, None, Some, IfSome, refl, sym}
+use Rattle.std.proofs.Common.{get_or, take, drop, replicate, refl, sym}
 use Rattle.std.proofs.Common.{◌∙◌, ap}
 use Rattle.std.proofs.Common.{arith, length-append, length-take, length-drop, take-take, take_at}
 use Rattle.std.proofs.Common.{get_or-take, get_or-drop}
@@ -29,11 +29,11 @@ use Rattle.device_layout.proofs.NewLayout.{made_recovers}
 -- ---- the gate is closed
 
 -- where a read gives a new device, so does each image
-pub new_now : (o : Option Trace) → IfSome o (λ t. IsNew (seen (Some t))) → IsSettled o → Now o IsNew
+pub new_now : (o : Trace) → IsNew (seen o) → IsSettled o → Now o IsNew
 new_now o new settled = grind arith
 
 -- until its gate is closed, a new device stays one
-pub new_closed : (o o1 : Option Trace) → IfSome o (λ t. IsNew (seen (Some t))) → IsSettled o → During o o1 (IsLeftOrNew o)
+pub new_closed : (o o1 : Trace) → IsNew (seen o) → IsSettled o → During o o1 (IsLeftOrNew o)
     → During o o1 IsNew
 new_closed o o1 new settled closing = weaker o o1 (IsLeftOrNew o) IsNew either closing
   where
@@ -43,11 +43,11 @@ new_closed o o1 new settled closing = weaker o o1 (IsLeftOrNew o) IsNew either c
 -- ---- the layout is written after it
 
 -- bytes written after the gate begin after it
-pub shut_reached : (o : Option Trace) → Now o (IsShut 0) → Reaches o 1
+pub shut_reached : (o : Trace) → Now o (IsShut 0) → Reaches o 1
 shut_reached o shut = grind (arith, present)
 
 -- a new device recovers that nothing was taken
-pub new_recovers : (def : TagDef) (o o1 : Option Trace) → During o o1 IsNew
+pub new_recovers : (def : TagDef) (o o1 : Trace) → During o o1 IsNew
     → During o o1 (λ c. Recovers def c (nothing_taken def.tuning))
 new_recovers def o o1 closed = grind (arith, weaker)
 
@@ -88,10 +88,10 @@ module _ (def : TagDef) (slots : ℕ) (bytes : List ℕ) (name : IsName def.name
           (length-header_image def slots name) (omega arith)
           ∙ get_or-replicate (272 + 1035 * slots) (i - 1 - 127) 0 0 (omega arith)
 
-  module _ (tuned : TuningInRange def.tuning) (some : 1 ≤ slots) (few : slots ≤ 65536) (o o1 : Option Trace)
+  module _ (tuned : TuningInRange def.tuning) (some : 1 ≤ slots) (few : slots ≤ 65536) (o o1 : Trace)
       (closed : During o o1 IsNew) where
     -- and so does the whole layout
-    pub layout_recovers : (o2 : Option Trace) → During o1 o2 (FromOld o1 (IsGuarded 1 bytes 0))
+    pub layout_recovers : (o2 : Trace) → During o1 o2 (FromOld o1 (IsGuarded 1 bytes 0))
         → During o o2 (λ c. Recovers def c (nothing_taken def.tuning))
     layout_recovers o2 guarded =
         in_turn o o1 o2 (λ c. Recovers def c (nothing_taken def.tuning)) (new_recovers def o o1 closed)
@@ -106,11 +106,10 @@ module _ (def : TagDef) (slots : ℕ) (bytes : List ℕ) (name : IsName def.name
         ]
 
     -- which a read gives in the end
-    pub layout_made : (o2 : Option Trace) → During o1 o2 (FromOld o1 (IsGuarded 1 bytes 0))
+    pub layout_made : (o2 : Trace) → During o1 o2 (FromOld o1 (IsGuarded 1 bytes 0))
         → Sees o2 (written (written (seen o1) 1 bytes) 0 (open_byte ∷ []))
-        → IfSome o2 (λ t. IsMade def slots (seen (Some t)))
-    layout_made None guarded sees = tt
-    layout_made (Some t) guarded sees =
-        let left = during_now o1 (Some t) (FromOld o1 (IsGuarded 1 bytes 0)) guarded in
-        let from = left.each (seen (Some t)) (present t) in
-        guarded_made from.0 (seen (Some t)) from.2 (ap (λ l. get_or l 0 0) sees)
+        → IsMade def slots (seen o2)
+    layout_made t guarded sees =
+        let left = during_now o1 t (FromOld o1 (IsGuarded 1 bytes 0)) guarded in
+        let from = left.each (seen t) (present t) in
+        guarded_made from.0 (seen t) from.2 (ap (λ l. get_or l 0 0) sees)

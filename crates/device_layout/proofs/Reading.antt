@@ -34,14 +34,16 @@ use Rattle.disk_model.specs.Calls.{Shows}
 -- ---- causes
 
 -- the cause of a refusal is one since before some calls that changed nothing
-pub cause_before : (def : TagDef) (o p : Option Trace) (why : OpenNo) → p ≡ o → IsCause def p why → IsCause def o why
+pub cause_before : (def : TagDef) (o p : Trace) (why : OpenNo) → p ≡ o → IsCause def p why → IsCause def o why
 cause_before def o p why same cause = subst (λ x. IsCause def x why) same cause
 
 -- the cause of a scan's refusal
-pub cause_of_scan : (def : TagDef) (o : Option Trace) (why : ScanNo) (result : OpenNo) → result ≡ refusal_of why
+pub cause_of_scan : (def : TagDef) (o : Trace) (why : ScanNo) (result : OpenNo) → result ≡ refusal_of why
     → ((at : ℕ) (byte : Option ℕ) → why ≡ scan.Damaged at byte → Shows o (λ c. IsTagDamage def c at byte))
     → IsCause def o result
-cause_of_scan def o why result is damage = grind arith
+cause_of_scan def o scan.DeviceFault result is damage = subst (IsCause def o) (sym is) tt
+cause_of_scan def o (scan.Damaged at byte) result is damage = subst (IsCause def o) (sym is) (damage at byte refl)
+cause_of_scan def o scan.WantOfMemory result is damage = subst (IsCause def o) (sym is) tt
 
 -- another tag's device
 pub is_other : (def : TagDef) (c : List ℕ) (h : Header) → IsOpen 0 c → HasHeader h c

@@ -1,25 +1,23 @@
--- What a read returns of a device that records its calls.
-use Rattle.std.proofs.Common.{◌≡◌, ℕ, List, Option, None, Some, Result, Ok, Err, IfOk, IfErr, sym, subst}
+-- What a read returns of a device.
+use Rattle.std.proofs.Common.{◌≡◌, ℕ, List, Result, Ok, Err, IfOk, IfErr, sym, subst}
 use Rattle.disk_model.specs.Traces.{Trace, seen}
 use Rattle.disk_model.specs.Calls.{Shows}
 
 -- a fact follows from one other
-pub shows : (o : Option Trace) (P Q : List ℕ → Type 0) → ((c : List ℕ) → P c → Q c) → Shows o P → Shows o Q
-shows None P Q follows p = tt
-shows (Some t) P Q follows p = follows (seen (Some t)) p
+pub shows : (o : Trace) (P Q : List ℕ → Type 0) → ((c : List ℕ) → P c → Q c) → Shows o P → Shows o Q
+shows t P Q follows p = follows (seen t) p
 
 -- from three
-pub shows₃ : (o : Option Trace) (P Q R S : List ℕ → Type 0) → ((c : List ℕ) → P c → Q c → R c → S c)
+pub shows₃ : (o : Trace) (P Q R S : List ℕ → Type 0) → ((c : List ℕ) → P c → Q c → R c → S c)
     → Shows o P → Shows o Q → Shows o R → Shows o S
-shows₃ None P Q R S follows p q r = tt
-shows₃ (Some t) P Q R S follows p q r = follows (seen (Some t)) p q r
+shows₃ t P Q R S follows p q r = follows (seen t) p q r
 
 -- the same device before some calls that changed nothing
-pub shows_before : (o p : Option Trace) (P : List ℕ → Type 0) → p ≡ o → Shows p P → Shows o P
+pub shows_before : (o p : Trace) (P : List ℕ → Type 0) → p ≡ o → Shows p P → Shows o P
 shows_before o p P same s = subst (λ x. Shows x P) same s
 
 -- and after them
-pub shows_after : (o p : Option Trace) (P : List ℕ → Type 0) → p ≡ o → Shows o P → Shows p P
+pub shows_after : (o p : Trace) (P : List ℕ → Type 0) → p ≡ o → Shows o P → Shows p P
 shows_after o p P same s = subst (λ x. Shows x P) (sym same) s
 
 -- a fact of what was answered follows from one other, and from two

@@ -1,5 +1,5 @@
 -- What was read of a tag's device, and why a device is not opened.
-use Rattle.std.specs.Prelude.{◌≡◌, ◌≢◌, ℕ, ◌+◌, ◌<◌, ◌≤◌, List, length, Option}
+use Rattle.std.specs.Prelude.{◌≡◌, ◌≢◌, ℕ, ◌+◌, ◌<◌, ◌≤◌, List, length}
 use Rattle.std.specs.Prelude.{Some, Err}
 use Rattle.trend_num.specs.Limits.{most_records}
 use Rattle.trend_num.specs.declared.archive.Summary.{Summary}
@@ -39,8 +39,8 @@ pub record IsFull (def : TagDef) (c : List ℕ) (records : ℕ) (s : State) : Ty
   pub records_are : records ≡ length s.records
   pub full : most_records < length s.records + 2
 
--- why a device is not opened, if it records its calls
-abbrev pub IsCause : TagDef → Option Trace → OpenNo → Type 0
+-- why a device is not opened
+abbrev pub IsCause : TagDef → Trace → OpenNo → Type 0
 IsCause def o DeviceFault = Unit {0}
 IsCause def o (Damaged a byte) = Shows o (λ c. IsTagDamage def c a byte)
 IsCause def o (OtherTag found wanted) = Shows o (λ c. IsOther def c found wanted)

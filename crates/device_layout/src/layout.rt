@@ -1,9 +1,9 @@
 // The layout of a new device.
-ghost use Rattle.std.specs.Prelude.{◌≡◌, ◌+◌, ◌*◌, ◌≤◌, ◌++◌, replicate, Some, IfSome, IfOk, OnOk, IsErrOf};
+ghost use Rattle.std.specs.Prelude.{◌≡◌, ◌+◌, ◌*◌, ◌≤◌, ◌++◌, replicate, IfOk, OnOk, IsErrOf};
 ghost use Rattle.trend_num.specs.Names.{IsName};
 ghost use Rattle.trend_num.specs.Ranges.{TuningInRange};
 ghost use Rattle.trend_model.specs.State.{nothing_taken};
-ghost use Rattle.disk_model.specs.Traces.{seen};
+ghost use Rattle.disk_model.specs.Traces.{seen, moment};
 ghost use Rattle.disk_model.specs.Images.{IsSettled};
 ghost use Rattle.disk_model.specs.Moments.{During};
 ghost use Rattle.disk_model.specs.Calls.{CountsFault, Shows};
@@ -39,18 +39,18 @@ pub fn make_layout<D: Disk>(
     requires some { 1 ≤ slots }
     requires few { slots ≤ 65536 }
     requires tuned { TuningInRange def.now.tuning }
-    requires new { IfSome (D.trace dev.old) (λ t. IsNew (seen (Some t))) }
-    requires settled { IsSettled (D.trace dev.old) }
-    ensures any_moment { During (D.trace dev.old) (D.trace dev.new)
+    requires new { IsNew (seen (D.device dev.old).trace) }
+    requires settled { IsSettled (D.device dev.old).trace }
+    ensures any_moment { During (D.device dev.old).trace (D.device dev.new).trace
         (λ c. Recovers def.now c (nothing_taken def.now.tuning)) }
-    ensures made { OnOk result (IfSome (D.trace dev.new) (λ t. IsMade def.now slots (seen (Some t)))) }
+    ensures made { OnOk result (IsMade def.now slots (seen (D.device dev.new).trace)) }
     ensures named { OnOk result (IsName def.now.name) }
-    ensures settled { OnOk result (IsSettled (D.trace dev.new)) }
+    ensures settled { OnOk result (IsSettled (D.device dev.new).trace) }
     ensures no_memory { IsErrOf result WantOfMemory → dev.new ≡ dev.old }
-    ensures cause { CountsFault result DeviceFault (D.fault_count dev.old) (D.fault_count dev.new) }
-    ensures handed { D.hand_out dev.new ≡ D.hand_out dev.old }
-    ensures later { D.ticks dev.old ≤ D.ticks dev.new }
-    ensures calls { OnOk result (Shows (D.trace dev.old) (λ c. D.ticks dev.new ≡ D.ticks dev.old + layout_calls c)) }
+    ensures cause { CountsFault result DeviceFault (D.device dev.old).faults (D.device dev.new).faults }
+    ensures handed { (D.device dev.new).handed ≡ (D.device dev.old).handed }
+    ensures later { moment (D.device dev.old).trace ≤ moment (D.device dev.new).trace }
+    ensures calls { OnOk result (Shows (D.device dev.old).trace (λ c. moment (D.device dev.new).trace ≡ moment (D.device dev.old).trace + layout_calls c)) }
 {
     let Ok(bytes) = layout_bytes(alloc, def, slots) else {
         return Err(PutNo::WantOfMemory);

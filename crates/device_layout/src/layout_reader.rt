@@ -56,15 +56,14 @@ pub const LANE: u64 = 400;
 /// or if the device ends before its layout does. It fails with `OtherTag` if the device is another tag's, and with
 /// `DeviceFault` if a call of the device fails.
 pub fn read_layout<D: Disk>(dev: &mut D, def: &TagDef) -> Result<Header, OpenNo>
-    requires { Shows (D.trace dev.old) IsBegun }
-    ensures layout { IfOk result (λ h. Shows (D.trace dev.old) (HasLayout def.now h.slots h.def.tuning)) }
+    requires { Shows (D.device dev.old).trace IsBegun }
+    ensures layout { IfOk result (λ h. Shows (D.device dev.old).trace (HasLayout def.now h.slots h.def.tuning)) }
     ensures tuned { IfOk result (λ h. TuningInRange h.def.tuning) }
     ensures slots { IfOk result (λ h. (1 ≤ h.slots) × (h.slots ≤ 65536)) }
-    ensures cause { IfErr result (IsCause def.now (D.trace dev.old)) }
-    ensures same { D.trace dev.new ≡ D.trace dev.old }
-    ensures untimed { D.ticks dev.new ≡ D.ticks dev.old }
-    ensures counts { CountsFault result DeviceFault (D.fault_count dev.old) (D.fault_count dev.new) }
-    ensures handed { D.hand_out dev.new ≡ D.hand_out dev.old }
+    ensures cause { IfErr result (IsCause def.now (D.device dev.old).trace) }
+    ensures same { (D.device dev.new).trace ≡ (D.device dev.old).trace }
+    ensures counts { CountsFault result DeviceFault (D.device dev.old).faults (D.device dev.new).faults }
+    ensures handed { (D.device dev.new).handed ≡ (D.device dev.old).handed }
 {
     let Ok(len) = dev.len() else {
         return Err(OpenNo::DeviceFault);
@@ -79,16 +78,15 @@ pub fn read_layout<D: Disk>(dev: &mut D, def: &TagDef) -> Result<Header, OpenNo>
 
 // Reads the header of a device of this length.
 fn header_of<D: Disk>(dev: &mut D, len: u64) -> Result<Header, OpenNo>
-    requires { HasLength (D.trace dev.old) len }
-    ensures header { IfOk result (λ h. Shows (D.trace dev.old) (HasHeader h)) }
+    requires { HasLength (D.device dev.old).trace len }
+    ensures header { IfOk result (λ h. Shows (D.device dev.old).trace (HasHeader h)) }
     ensures tuned { IfOk result (λ h. TuningInRange h.def.tuning) }
     ensures slots { IfOk result (λ h. (1 ≤ h.slots) × (h.slots ≤ 65536)) }
-    ensures cause { (def : TagDef) → Shows (D.trace dev.old) IsBegun
-        → IfErr result (IsCause def (D.trace dev.old)) }
-    ensures same { D.trace dev.new ≡ D.trace dev.old }
-    ensures untimed { D.ticks dev.new ≡ D.ticks dev.old }
-    ensures counts { CountsFault result DeviceFault (D.fault_count dev.old) (D.fault_count dev.new) }
-    ensures handed { D.hand_out dev.new ≡ D.hand_out dev.old }
+    ensures cause { (def : TagDef) → Shows (D.device dev.old).trace IsBegun
+        → IfErr result (IsCause def (D.device dev.old).trace) }
+    ensures same { (D.device dev.new).trace ≡ (D.device dev.old).trace }
+    ensures counts { CountsFault result DeviceFault (D.device dev.old).faults (D.device dev.new).faults }
+    ensures handed { (D.device dev.new).handed ≡ (D.device dev.old).handed }
 {
     if len < HEADER_LEN as u64 {
         return Err(ends_at(len));
@@ -135,13 +133,12 @@ fn ends_at(len: u64) -> OpenNo
 
 // Returns the summary slot that counts, if one does.
 fn counting_slot<D: Disk>(dev: &mut D) -> Result<Option<Slot>, OpenNo>
-    requires { Reaches (D.trace dev.old) 400 }
-    ensures slot { IfOk result (λ x. Shows (D.trace dev.old) (λ c. counting c ≡ x)) }
+    requires { Reaches (D.device dev.old).trace 400 }
+    ensures slot { IfOk result (λ x. Shows (D.device dev.old).trace (λ c. counting c ≡ x)) }
     ensures fault { OnErr result (result ≡ Err DeviceFault) }
-    ensures counts { HasCause (D.fault_count dev.old) (D.fault_count dev.new) result }
-    ensures handed { D.hand_out dev.new ≡ D.hand_out dev.old }
-    ensures same { D.trace dev.new ≡ D.trace dev.old }
-    ensures untimed { D.ticks dev.new ≡ D.ticks dev.old }
+    ensures counts { HasCause (D.device dev.old).faults (D.device dev.new).faults result }
+    ensures handed { (D.device dev.new).handed ≡ (D.device dev.old).handed }
+    ensures same { (D.device dev.new).trace ≡ (D.device dev.old).trace }
 {
     let first = u64::from_be_bytes(read_part::<8, D>(dev, Slot::First.place())?);
     let second = u64::from_be_bytes(read_part::<8, D>(dev, Slot::Second.place())?);
@@ -165,16 +162,15 @@ fn chosen(first_open: bool, second_open: bool, first_counts: bool) -> Option<Slo
 
 // Reads the summary in the summary slot that counts.
 fn counted<D: Disk>(dev: &mut D, slot: Slot) -> Result<Summary, OpenNo>
-    requires long { Reaches (D.trace dev.old) 400 }
-    ensures bytes { IfOk result (λ s. Shows (D.trace dev.old) (λ c. slot_bytes c slot ≡ summary_image s)) }
+    requires long { Reaches (D.device dev.old).trace 400 }
+    ensures bytes { IfOk result (λ s. Shows (D.device dev.old).trace (λ c. slot_bytes c slot ≡ summary_image s)) }
     ensures whole { IfOk result IsSummary }
-    ensures cause { (def : TagDef) (slots : ℕ) (made : Tuning) → Shows (D.trace dev.old) (HasLayout def slots made)
-        → Shows (D.trace dev.old) (λ c. counting c ≡ Some slot)
-        → IfErr result (IsCause def (D.trace dev.old)) }
-    ensures same { D.trace dev.new ≡ D.trace dev.old }
-    ensures untimed { D.ticks dev.new ≡ D.ticks dev.old }
-    ensures counts { CountsFault result DeviceFault (D.fault_count dev.old) (D.fault_count dev.new) }
-    ensures handed { D.hand_out dev.new ≡ D.hand_out dev.old }
+    ensures cause { (def : TagDef) (slots : ℕ) (made : Tuning) → Shows (D.device dev.old).trace (HasLayout def slots made)
+        → Shows (D.device dev.old).trace (λ c. counting c ≡ Some slot)
+        → IfErr result (IsCause def (D.device dev.old).trace) }
+    ensures same { (D.device dev.new).trace ≡ (D.device dev.old).trace }
+    ensures counts { CountsFault result DeviceFault (D.device dev.old).faults (D.device dev.new).faults }
+    ensures handed { (D.device dev.new).handed ≡ (D.device dev.old).handed }
 {
     let bytes = read_part::<SUMMARY_LEN, D>(dev, slot.place())?;
     match read_summary(&bytes) {
@@ -190,15 +186,14 @@ fn records_of<D: Disk>(
     slots: u32,
     summary: &Summary,
 ) -> Result<Vec<Rec>, OpenNo>
-    ensures records { IfOk result (λ rs. Shows (D.trace dev.old)
+    ensures records { IfOk result (λ rs. Shows (D.device dev.old).trace
         (λ c. HasRecords c (lane_end slots) summary.now.records rs.items)) }
     ensures cause { (def : TagDef) (slot : Slot) (tuning : Tuning)
-        → Shows (D.trace dev.old) (CountsSummary def slots slot summary.now tuning)
-        → IfErr result (IsCause def (D.trace dev.old)) }
-    ensures same { D.trace dev.new ≡ D.trace dev.old }
-    ensures untimed { D.ticks dev.new ≡ D.ticks dev.old }
-    ensures counts { CountsFault result DeviceFault (D.fault_count dev.old) (D.fault_count dev.new) }
-    ensures handed { D.hand_out dev.new ≡ D.hand_out dev.old }
+        → Shows (D.device dev.old).trace (CountsSummary def slots slot summary.now tuning)
+        → IfErr result (IsCause def (D.device dev.old).trace) }
+    ensures same { (D.device dev.new).trace ≡ (D.device dev.old).trace }
+    ensures counts { CountsFault result DeviceFault (D.device dev.old).faults (D.device dev.new).faults }
+    ensures handed { (D.device dev.new).handed ≡ (D.device dev.old).handed }
 {
     match read_records(alloc, dev, log_start(slots), summary.records) {
         Ok(recs) => Ok(recs),
@@ -229,20 +224,19 @@ fn in_force(made: Tuning, tuning: Option<Tuning>) -> Tuning
 /// Reads the summary that counts, its records, and the tuning in force. It does not test whether records and summary
 /// can be those of a tag.
 pub fn read_stored<D: Disk>(alloc: Global, dev: &mut D, header: &Header) -> Result<Stored, OpenNo>
-    requires long { Reaches (D.trace dev.old) 400 }
+    requires long { Reaches (D.device dev.old).trace 400 }
     requires tuned { TuningInRange header.now.def.tuning }
     ensures found { (def : TagDef)
-        → Shows (D.trace dev.old) (HasLayout def header.now.slots header.now.def.tuning)
-        → IfOk result (λ x. Shows (D.trace dev.old) (IsFoundOn def header.now.slots x)) }
+        → Shows (D.device dev.old).trace (HasLayout def header.now.slots header.now.def.tuning)
+        → IfOk result (λ x. Shows (D.device dev.old).trace (IsFoundOn def header.now.slots x)) }
     ensures tuned { IfOk result (λ x. TuningInRange x.tuning) }
     ensures none { IfOk result (λ x. x.slot ≡ None → (x.summary ≡ no_summary) × (x.recs.items ≡ [])) }
     ensures cause { (def : TagDef)
-        → Shows (D.trace dev.old) (HasLayout def header.now.slots header.now.def.tuning)
-        → IfErr result (IsCause def (D.trace dev.old)) }
-    ensures same { D.trace dev.new ≡ D.trace dev.old }
-    ensures untimed { D.ticks dev.new ≡ D.ticks dev.old }
-    ensures counts { CountsFault result DeviceFault (D.fault_count dev.old) (D.fault_count dev.new) }
-    ensures handed { D.hand_out dev.new ≡ D.hand_out dev.old }
+        → Shows (D.device dev.old).trace (HasLayout def header.now.slots header.now.def.tuning)
+        → IfErr result (IsCause def (D.device dev.old).trace) }
+    ensures same { (D.device dev.new).trace ≡ (D.device dev.old).trace }
+    ensures counts { CountsFault result DeviceFault (D.device dev.old).faults (D.device dev.new).faults }
+    ensures handed { (D.device dev.new).handed ≡ (D.device dev.old).handed }
 {
     let Some(slot) = counting_slot(dev)? else {
         return Ok(Stored {

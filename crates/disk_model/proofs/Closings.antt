@@ -1,5 +1,5 @@
 -- What a crash leaves while gates are closed, one after the other.
-use Rattle.std.proofs.Common.{◌≡◌, ◌≢◌, ◌⊎◌, inl, inr, ⊎_elim, ℕ, ◌+◌, ◌-◌, ◌<◌, ◌≤◌, List, [], ◌∷◌, length, get_or, drop, Option, None, Some, Result, Ok, Err, OnOk, refl, sym, ◌∙◌, ap, subst, arith, add-zero, add-one, cond, ◌==◌}
+use Rattle.std.proofs.Common.{◌≡◌, ◌≢◌, ◌⊎◌, inl, inr, ⊎_elim, ℕ, ◌+◌, ◌-◌, ◌<◌, ◌≤◌, List, [], ◌∷◌, length, get_or, drop, Result, Ok, Err, OnOk, refl, sym, ◌∙◌, ap, subst, arith, add-zero, add-one, cond, ◌==◌}
 use Rattle.std.proofs.lemmas.Bool.{cases_lt, eq-eqb, ne_eqb, cond-true, cond-false}
 use Rattle.std.proofs.lemmas.List.{get_or_past, get_or-take, get_or-drop}
 use Rattle.disk_model.specs.Traces.{Wrote, WroteInPart, Synced, Idle, Trace, seen, noted, written}
@@ -45,26 +45,25 @@ closing_more at n gate a b c low high before now = record {
     beside i (inr above) = inr (omega arith)
 
 -- what a read of one byte says of the bytes that a read gives
-byte_read : (t : Trace) (gate : ℕ) (b : List ℕ) → length b ≡ 1 → Reads (Some t) gate b → get_or b 0 0 ≡ get_or (seen (Some t)) gate 0
+byte_read : (t : Trace) (gate : ℕ) (b : List ℕ) → length b ≡ 1 → Reads t gate b → get_or b 0 0 ≡ get_or (seen t) gate 0
 byte_read t gate b one reads =
-    ap (λ l. get_or l 0 0) reads ∙ get_or-take (length b) (drop gate (seen (Some t))) 0 0 (omega (arith, one)) ∙ get_or-drop gate (seen (Some t)) 0 0
-    ∙ ap (λ k. get_or (seen (Some t)) k 0) (add-zero gate)
+    ap (λ l. get_or l 0 0) reads ∙ get_or-take (length b) (drop gate (seen t)) 0 0 (omega (arith, one)) ∙ get_or-drop gate (seen t) 0 0
+    ∙ ap (λ k. get_or (seen t) k 0) (add-zero gate)
 
 -- nothing was done
-pub closing_kept : (o now : Option Trace) (gate : ℕ) → now ≡ o → During o now (FromOld o (IsClosing gate 1))
+pub closing_kept : (o now : Trace) (gate : ℕ) → now ≡ o → During o now (FromOld o (IsClosing gate 1))
 closing_kept o now gate same =
     subst (λ x. During o x (FromOld o (IsClosing gate 1))) (sym same) (started o (FromOld o (IsClosing gate 1)) (record { each = λ c may. (c, may, closing_self gate 1 c) }))
 
 -- an open gate of each image
-gate_of : (o : Option Trace) (gate : ℕ) (b : List ℕ) → Now o (HasGatesOf (seen o) gate 1) → length b ≡ 1 → Reads o gate b → get_or b 0 0 ≡ open_byte
+gate_of : (o : Trace) (gate : ℕ) (b : List ℕ) → Now o (HasGatesOf (seen o) gate 1) → length b ≡ 1 → Reads o gate b → get_or b 0 0 ≡ open_byte
     → (d : List ℕ) → MayLeave o d → (gate < length d) × (get_or d gate 0 ≡ open_byte)
-gate_of None gate b gates one reads opened d may = absurd may.image
-gate_of (Some t) gate b gates one reads opened d may =
+gate_of t gate b gates one reads opened d may =
     let has = gates.each d may in
     (omega (arith, has.there), has.same gate (omega arith) (omega arith) ∙ sym (byte_read t gate b one reads) ∙ opened)
 
 -- a gate that reads open was written
-pub closing_wrote : {E : Type 0} (o now next : Option Trace) (gate : ℕ) (b : List ℕ) (r : Result (Unit {0}) E) → Now o (HasGatesOf (seen o) gate 1)
+pub closing_wrote : {E : Type 0} (o now next : Trace) (gate : ℕ) (b : List ℕ) (r : Result (Unit {0}) E) → Now o (HasGatesOf (seen o) gate 1)
     → length b ≡ 1 → Reads o gate b → get_or b 0 0 ≡ open_byte → now ≡ o → IsNoted (Wrote gate (0 ∷ [])) (WroteInPart gate (0 ∷ [])) r now next
     → During o next (FromOld o (IsClosing gate 1))
 closing_wrote o now next gate b r gates one reads opened same wrote =
@@ -77,23 +76,21 @@ closing_wrote o now next gate b r gates one reads opened same wrote =
     goes_on (Wrote gate (0 ∷ [])) (WroteInPart gate (0 ∷ [])) r o now next (FromOld o (IsClosing gate 1)) (closing_kept o now gate same) wrote (record { each = closes })
 
 -- and then a read gives a closed gate there, and the same elsewhere
-pub closing_read : (o now next : Option Trace) (gate : ℕ) (b : List ℕ) → Reaches o (gate + 1) → length b ≡ 1 → Reads o gate b → get_or b 0 0 ≡ open_byte
+pub closing_read : (o now next : Trace) (gate : ℕ) (b : List ℕ) → Reaches o (gate + 1) → length b ≡ 1 → Reads o gate b → get_or b 0 0 ≡ open_byte
     → now ≡ o → next ≡ noted (Wrote gate (0 ∷ [])) now → IsClosing gate 1 (seen o) (seen next)
-closing_read None now next gate b room one reads opened same wrote =
-    subst (λ x. IsClosing gate 1 [] (seen x)) (sym (wrote ∙ ap (noted (Wrote gate (0 ∷ []))) same)) (closing_self gate 1 [])
-closing_read (Some t) now next gate b room one reads opened same wrote =
-    let s = seen (Some t) in
+closing_read t now next gate b room one reads opened same wrote =
+    let s = seen t in
     subst (λ x. IsClosing gate 1 s (seen x)) (sym (wrote ∙ ap (noted (Wrote gate (0 ∷ []))) same))
     (closing_torn gate s (written s gate (0 ∷ [])) (omega (arith, room)) (sym (byte_read t gate b one reads) ∙ opened) (torn_written s gate (0 ∷ [])))
 
 -- the same, of whatever the write answered
-pub closing_answered : {E : Type 0} (r : Result (Unit {0}) E) (o now next : Option Trace) (gate : ℕ) (b : List ℕ) → Reaches o (gate + 1) → length b ≡ 1 → Reads o gate b
+pub closing_answered : {E : Type 0} (r : Result (Unit {0}) E) (o now next : Trace) (gate : ℕ) (b : List ℕ) → Reaches o (gate + 1) → length b ≡ 1 → Reads o gate b
     → get_or b 0 0 ≡ open_byte → now ≡ o → IsNoted (Wrote gate (0 ∷ [])) (WroteInPart gate (0 ∷ [])) r now next → OnOk r (IsClosing gate 1 (seen o) (seen next))
 closing_answered (Ok x) o now next gate b room one reads opened same wrote = closing_read o now next gate b room one reads opened same wrote
 closing_answered (Err e) o now next gate b room one reads opened same wrote = tt
 
 -- the first k of count gates are closed
-pub record AreClosed (at count k : ℕ) (o now : Option Trace) : Type 0 where
+pub record AreClosed (at count k : ℕ) (o now : Trace) : Type 0 where
   pub any_moment : During o now (FromOld o (IsClosing at count))
   pub reads : IsClosing at count (seen o) (seen now)
   pub shut : (i : ℕ) → at ≤ i → i < at + k → get_or (seen now) i 0 ≢ open_byte
@@ -102,7 +99,7 @@ pub record AreClosed (at count k : ℕ) (o now : Option Trace) : Type 0 where
   pub room : Reaches now (at + count)
 
 -- none are
-pub none_closed : (at count : ℕ) (o : Option Trace) → Reaches o (at + count) → Now o (HasGatesOf (seen o) at count) → AreClosed at count 0 o o
+pub none_closed : (at count : ℕ) (o : Trace) → Reaches o (at + count) → Now o (HasGatesOf (seen o) at count) → AreClosed at count 0 o o
 none_closed at count o room gates = record {
   any_moment = started o (FromOld o (IsClosing at count)) (record { each = λ c may. (c, may, closing_self at count c) });
   reads = closing_self at count (seen o);
@@ -113,13 +110,10 @@ none_closed at count o room gates = record {
 }
 
 -- a device that comes after another has its length where a read gives as many bytes
-reaches_after : (a b : Option Trace) (n : ℕ) → ComesAfter a b → length (seen b) ≡ length (seen a) → Reaches a n → Reaches b n
-reaches_after None None n later same room = tt
-reaches_after None (Some u) n later same room = absurd later
-reaches_after (Some t) None n later same room = absurd later
-reaches_after (Some t) (Some u) n later same room = omega (arith, same, room)
+reaches_after : (a b : Trace) (n : ℕ) → ComesAfter a b → length (seen b) ≡ length (seen a) → Reaches a n → Reaches b n
+reaches_after t u n later same room = omega (arith, same, room)
 
-module _ (at count k gate : ℕ) (o now next : Option Trace) (before : AreClosed at count k o now) (here : k < count) (is_gate : gate ≡ at + k) (during : During now next (FromOld now (IsClosing gate 1))) where
+module _ (at count k gate : ℕ) (o now next : Trace) (before : AreClosed at count k o now) (here : k < count) (is_gate : gate ≡ at + k) (during : During now next (FromOld now (IsClosing gate 1))) where
   -- through the next one, whatever came of it
   pub closing_goes_on : During o next (FromOld o (IsClosing at count))
   closing_goes_on =
@@ -151,32 +145,30 @@ module _ (at count k gate : ℕ) (o now next : Option Trace) (before : AreClosed
           }
 
 -- through the sync at the end
-pub all_moments : {E : Type 0} (at count k : ℕ) (o now next : Option Trace) (r : Result (Unit {0}) E) → AreClosed at count k o now → IsNoted Synced Idle r now next
+pub all_moments : {E : Type 0} (at count k : ℕ) (o now next : Trace) (r : Result (Unit {0}) E) → AreClosed at count k o now → IsNoted Synced Idle r now next
     → During o next (FromOld o (IsClosing at count))
 all_moments at count k o now next r before synced =
     goes_on Synced Idle r o now next (FromOld o (IsClosing at count)) before.any_moment synced
     (record { each = λ c may. (during_now o now (FromOld o (IsClosing at count)) before.any_moment).each c (synced_now r now next c synced may) })
 
 -- after it a read gives what it gave before
-synced_reads : (now : Option Trace) → seen (noted Synced now) ≡ seen now
-synced_reads None = refl
-synced_reads (Some t) = refl
+synced_reads : (now : Trace) → seen (noted Synced now) ≡ seen now
+synced_reads t = refl
 
-pub all_read : {E : Type 0} (at count k : ℕ) (o now next : Option Trace) (r : Result (Unit {0}) E) → AreClosed at count k o now → IsNoted Synced Idle r now next
+pub all_read : {E : Type 0} (at count k : ℕ) (o now next : Trace) (r : Result (Unit {0}) E) → AreClosed at count k o now → IsNoted Synced Idle r now next
     → OnOk r (IsClosing at count (seen o) (seen next))
 all_read at count k o now next (Ok x) before synced = subst (λ s. IsClosing at count (seen o) s) (sym (ap seen synced ∙ synced_reads now)) before.reads
 all_read at count k o now next (Err e) before synced = tt
 
 -- and each image has all gates closed
-shut_in : (at count k : ℕ) (now : Option Trace) → count ≤ k → Reaches now (at + count) → ((i : ℕ) → at ≤ i → i < at + k → get_or (seen now) i 0 ≢ open_byte)
+shut_in : (at count k : ℕ) (now : Trace) → count ≤ k → Reaches now (at + count) → ((i : ℕ) → at ≤ i → i < at + k → get_or (seen now) i 0 ≢ open_byte)
     → (c : List ℕ) → MayLeave (noted Synced now) c → AreShut at count c
-shut_in at count k None all room shut c may = absurd may.image
-shut_in at count k (Some t) all room shut c may = λ i low high. record {
+shut_in at count k t all room shut c may = λ i low high. record {
   there = omega (arith, ap length may.image, room);
   closed = λ opened. shut i low (omega arith) (sym (ap (λ l. get_or l i 0) may.image) ∙ opened);
 }
 
-pub all_shut : {E : Type 0} (at count k : ℕ) (o now next : Option Trace) (r : Result (Unit {0}) E) → count ≤ k → AreClosed at count k o now → IsNoted Synced Idle r now next
+pub all_shut : {E : Type 0} (at count k : ℕ) (o now next : Trace) (r : Result (Unit {0}) E) → count ≤ k → AreClosed at count k o now → IsNoted Synced Idle r now next
     → OnOk r (Now next (AreShut at count))
 all_shut at count k o now next (Ok x) all before synced =
     record { each = λ c may. shut_in at count k now all before.room before.shut c (subst (λ y. MayLeave y c) synced may) }
@@ -185,47 +177,41 @@ all_shut at count k o now next (Err e) all before synced = tt
 -- ---- how many calls closed them
 
 -- a gate that reads closed took none
-pub shut_counted : (o : Option Trace) (first last gate : ℕ) (b : List ℕ) → length b ≡ 1 → Reads o gate b → get_or b 0 0 ≢ open_byte → last ≡ first
+pub shut_counted : (o : Trace) (first last gate : ℕ) (b : List ℕ) → length b ≡ 1 → Reads o gate b → get_or b 0 0 ≢ open_byte → last ≡ first
     → Shows o (λ c. last ≡ first + open_gate gate c)
-shut_counted None first last gate b one reads shut none = tt
-shut_counted (Some t) first last gate b one reads shut none =
-    let closed : get_or (seen (Some t)) gate 0 ≢ open_byte = λ opened. shut (byte_read t gate b one reads ∙ opened) in
-    let is : open_gate gate (seen (Some t)) ≡ 0 = cond-false _ 1 0 (ne_eqb (get_or (seen (Some t)) gate 0) open_byte closed) in
+shut_counted t first last gate b one reads shut none =
+    let closed : get_or (seen t) gate 0 ≢ open_byte = λ opened. shut (byte_read t gate b one reads ∙ opened) in
+    let is : open_gate gate (seen t) ≡ 0 = cond-false _ 1 0 (ne_eqb (get_or (seen t) gate 0) open_byte closed) in
     omega (arith, none, is)
 
 -- one that reads open took a write
-pub open_counted : {E : Type 0} (r : Result (Unit {0}) E) (o : Option Trace) (first mid last gate : ℕ) (b : List ℕ) → length b ≡ 1 → Reads o gate b
+pub open_counted : {E : Type 0} (r : Result (Unit {0}) E) (o : Trace) (first mid last gate : ℕ) (b : List ℕ) → length b ≡ 1 → Reads o gate b
     → get_or b 0 0 ≡ open_byte → mid ≡ first → IsTimed mid last r → OnOk r (Shows o (λ c. last ≡ first + open_gate gate c))
 open_counted (Err e) o first mid last gate b one reads opened none timed = tt
-open_counted (Ok x) None first mid last gate b one reads opened none timed = tt
-open_counted (Ok x) (Some t) first mid last gate b one reads opened none timed =
-    let is : open_gate gate (seen (Some t)) ≡ 1 =
-    cond-true _ 1 0 (eq-eqb (get_or (seen (Some t)) gate 0) open_byte (sym (byte_read t gate b one reads) ∙ opened)) in
+open_counted (Ok x) t first mid last gate b one reads opened none timed =
+    let is : open_gate gate (seen t) ≡ 1 =
+    cond-true _ 1 0 (eq-eqb (get_or (seen t) gate 0) open_byte (sym (byte_read t gate b one reads) ∙ opened)) in
     omega (arith, none, is, timed.counted, timed.in_time)
 
 -- before the first gate
-pub none_counted : (at first : ℕ) (o : Option Trace) → Shows o (λ c. first ≡ first + open_gates at 0 c)
-none_counted at first None = tt
-none_counted at first (Some t) = sym (add-zero first)
+pub none_counted : (at first : ℕ) (o : Trace) → Shows o (λ c. first ≡ first + open_gates at 0 c)
+none_counted at first t = sym (add-zero first)
 
 -- one gate more
-pub one_counted : (at k gate first mid last : ℕ) (o now : Option Trace) → gate ≡ at + k → ComesAfter o now
+pub one_counted : (at k gate first mid last : ℕ) (o now : Trace) → gate ≡ at + k → ComesAfter o now
     → get_or (seen now) gate 0 ≡ get_or (seen o) gate 0 → Shows o (λ c. mid ≡ first + open_gates at k c)
     → Shows now (λ c. last ≡ mid + open_gate gate c) → Shows o (λ c. last ≡ first + open_gates at (k + 1) c)
-one_counted at k gate first mid last None now is later same before this = tt
-one_counted at k gate first mid last (Some t) None is later same before this = absurd later
-one_counted at k gate first mid last (Some t) (Some u) is later same before this =
-    let here : open_gate gate (seen (Some u)) ≡ open_gate (at + k) (seen (Some t)) =
-    ap (λ n. cond (n == open_byte) 1 0) same ∙ ap (λ g. open_gate g (seen (Some t))) is in
-    let more : open_gates at (k + 1) (seen (Some t)) ≡ open_gates at k (seen (Some t)) + open_gate (at + k) (seen (Some t)) =
-    ap (λ n. open_gates at n (seen (Some t))) (add-one k) in
+one_counted at k gate first mid last t u is later same before this =
+    let here : open_gate gate (seen u) ≡ open_gate (at + k) (seen t) =
+    ap (λ n. cond (n == open_byte) 1 0) same ∙ ap (λ g. open_gate g (seen t)) is in
+    let more : open_gates at (k + 1) (seen t) ≡ open_gates at k (seen t) + open_gate (at + k) (seen t) =
+    ap (λ n. open_gates at n (seen t)) (add-one k) in
     omega (arith, before, this, here, more)
 
 -- and the sync
-pub all_counted : {E : Type 0} (r : Result (Unit {0}) E) (at count k first mid last : ℕ) (o : Option Trace) → k ≡ count → IsTimed mid last r
+pub all_counted : {E : Type 0} (r : Result (Unit {0}) E) (at count k first mid last : ℕ) (o : Trace) → k ≡ count → IsTimed mid last r
     → Shows o (λ c. mid ≡ first + open_gates at k c) → OnOk r (Shows o (λ c. last ≡ first + (open_gates at count c + 1)))
 all_counted (Err e) at count k first mid last o all timed before = tt
-all_counted (Ok x) at count k first mid last None all timed before = tt
-all_counted (Ok x) at count k first mid last (Some t) all timed before =
-    let same = ap (λ n. open_gates at n (seen (Some t))) all in
+all_counted (Ok x) at count k first mid last t all timed before =
+    let same = ap (λ n. open_gates at n (seen t)) all in
     omega (arith, before, same, timed.counted, timed.in_time)

@@ -1,5 +1,5 @@
 -- What a crash leaves in each of the four steps of a guarded write.
-use Rattle.std.proofs.Common.{◌≡◌, ◌≢◌, inl, inr, ℕ, ◌+◌, ◌<◌, ◌≤◌, List, [], ◌∷◌, length, Option, None, Some, Result, refl, sym, ◌∙◌, ap, subst, arith}
+use Rattle.std.proofs.Common.{◌≡◌, ◌≢◌, inl, inr, ℕ, ◌+◌, ◌<◌, ◌≤◌, List, [], ◌∷◌, length, Result, refl, sym, ◌∙◌, ap, subst, arith}
 use Rattle.disk_model.specs.Traces.{Wrote, WroteInPart, Synced, Idle, Trace, seen, noted, written}
 use Rattle.disk_model.specs.Images.{IsOutside, IsTorn, MayLeave, Now, FromOld}
 use Rattle.disk_model.specs.Moments.{During}
@@ -46,51 +46,47 @@ guarded_opening at bytes gate d0 d c apart there long holds before torn = record
     beside (inr above) i low high = inl (omega arith)
 
 -- where each image has the gate, a read gives it
-gate_there : (o : Option Trace) (gate : ℕ) → Now o (IsShut gate) → Reaches o (gate + 1)
-gate_there None gate shut = tt
-gate_there (Some t) gate shut = omega (arith, (shut.each (seen (Some t)) (present t)).there)
+gate_there : (o : Trace) (gate : ℕ) → Now o (IsShut gate) → Reaches o (gate + 1)
+gate_there t gate shut = omega (arith, (shut.each (seen t) (present t)).there)
 
 -- after the first write and a sync the bytes there are whole
-whole_there : (o : Option Trace) (at : ℕ) (bytes d : List ℕ) → Reaches o at → MayLeave (noted Synced (noted (Wrote at bytes) o)) d
+whole_there : (o : Trace) (at : ℕ) (bytes d : List ℕ) → Reaches o at → MayLeave (noted Synced (noted (Wrote at bytes) o)) d
     → (at + length bytes ≤ length d) × Holds at bytes d
-whole_there None at bytes d room may = absurd may.image
-whole_there (Some t) at bytes d room may =
-    let s = seen (Some t) in
+whole_there t at bytes d room may =
+    let s = seen t in
     let is : d ≡ written s at bytes = may.image in
     (omega (arith, ap length is, length-written s at bytes room), subst (λ l. Holds at bytes l) (sym is) (holds_written s at bytes room))
 
 -- the gate is there as well
-pub gate_reached : (o : Option Trace) (at : ℕ) (bytes : List ℕ) (gate : ℕ) → Reaches o at → Now o (IsShut gate) → Reaches (noted Synced (noted (Wrote at bytes) o)) gate
-gate_reached None at bytes gate room shut = tt
-gate_reached (Some t) at bytes gate room shut =
-    omega (arith, length-written (seen (Some t)) at bytes room, (shut.each (seen (Some t)) (present t)).there)
+pub gate_reached : (o : Trace) (at : ℕ) (bytes : List ℕ) (gate : ℕ) → Reaches o at → Now o (IsShut gate) → Reaches (noted Synced (noted (Wrote at bytes) o)) gate
+gate_reached t at bytes gate room shut =
+    omega (arith, length-written (seen t) at bytes room, (shut.each (seen t) (present t)).there)
 
 -- what a read gives after all four calls
-pub all_read : (o : Option Trace) (at : ℕ) (bytes : List ℕ) (gate : ℕ)
+pub all_read : (o : Trace) (at : ℕ) (bytes : List ℕ) (gate : ℕ)
     → Sees (noted Synced (noted (Wrote gate (open_byte ∷ [])) (noted Synced (noted (Wrote at bytes) o)))) (written (written (seen o) at bytes) gate (open_byte ∷ []))
-all_read None at bytes gate = tt
-all_read (Some t) at bytes gate = refl
+all_read t at bytes gate = refl
 
 -- an image from before with the bytes whole and the gate open, or the gate closed
-abbrev Guarded : Option Trace → ℕ → List ℕ → ℕ → List ℕ → Type 0
+abbrev Guarded : Trace → ℕ → List ℕ → ℕ → List ℕ → Type 0
 Guarded o at bytes gate = FromOld o (IsGuarded at bytes gate)
 
-module _ (o : Option Trace) (at : ℕ) (bytes : List ℕ) (gate : ℕ) (room : Reaches o at) (apart : IsOutside at (length bytes) gate) (shut : Now o (IsShut gate)) where
+module _ (o : Trace) (at : ℕ) (bytes : List ℕ) (gate : ℕ) (room : Reaches o at) (apart : IsOutside at (length bytes) gate) (shut : Now o (IsShut gate)) where
   -- through the first write
-  pub first : {E : Type 0} (o1 : Option Trace) (r : Result (Unit {0}) E) → IsNoted (Wrote at bytes) (WroteInPart at bytes) r o o1 → During o o1 (Guarded o at bytes gate)
+  pub first : {E : Type 0} (o1 : Trace) (r : Result (Unit {0}) E) → IsNoted (Wrote at bytes) (WroteInPart at bytes) r o o1 → During o o1 (Guarded o at bytes gate)
   first o1 r wrote =
       goes_on (Wrote at bytes) (WroteInPart at bytes) r o o o1 (Guarded o at bytes gate)
       (started o (Guarded o at bytes gate) (record { each = λ c may. (c, may, guarded_self at bytes gate c (shut.each c may)) })) wrote
       (record { each = λ c may. let from = wrote_now r o o1 at bytes c wrote may in (from.0, from.1, guarded_torn at bytes gate from.0 c apart (shut.each from.0 from.1) from.2) })
 
   -- and the first sync
-  pub second : {E : Type 0} (o1 o2 : Option Trace) (r q : Result (Unit {0}) E) → IsNoted (Wrote at bytes) (WroteInPart at bytes) r o o1 → IsNoted Synced Idle q o1 o2 → During o o2 (Guarded o at bytes gate)
+  pub second : {E : Type 0} (o1 o2 : Trace) (r q : Result (Unit {0}) E) → IsNoted (Wrote at bytes) (WroteInPart at bytes) r o o1 → IsNoted Synced Idle q o1 o2 → During o o2 (Guarded o at bytes gate)
   second o1 o2 r q wrote synced =
       let so_far = first o1 r wrote in
       goes_on Synced Idle q o o1 o2 (Guarded o at bytes gate) so_far synced (record { each = λ c may. (during_now o o1 (Guarded o at bytes gate) so_far).each c (synced_now q o1 o2 c synced may) })
 
   -- once both were done, through the second write
-  pub third : {E : Type 0} (o1 o2 o3 : Option Trace) (r q p : Result (Unit {0}) E) → IsNoted (Wrote at bytes) (WroteInPart at bytes) r o o1 → IsNoted Synced Idle q o1 o2
+  pub third : {E : Type 0} (o1 o2 o3 : Trace) (r q p : Result (Unit {0}) E) → IsNoted (Wrote at bytes) (WroteInPart at bytes) r o o1 → IsNoted Synced Idle q o1 o2
       → o1 ≡ noted (Wrote at bytes) o → o2 ≡ noted Synced o1 → IsNoted (Wrote gate (open_byte ∷ [])) (WroteInPart gate (open_byte ∷ [])) p o2 o3 → During o o3 (Guarded o at bytes gate)
   third o1 o2 o3 r q p wrote synced done synced_done opened =
       let so_far = second o1 o2 r q wrote synced in
@@ -104,7 +100,7 @@ module _ (o : Option Trace) (at : ℕ) (bytes : List ℕ) (gate : ℕ) (room : R
       goes_on (Wrote gate (open_byte ∷ [])) (WroteInPart gate (open_byte ∷ [])) p o o2 o3 (Guarded o at bytes gate) so_far opened (record { each = opens })
 
   -- and the second sync
-  pub fourth : {E : Type 0} (o1 o2 o3 o4 : Option Trace) (r q p s : Result (Unit {0}) E) → IsNoted (Wrote at bytes) (WroteInPart at bytes) r o o1 → IsNoted Synced Idle q o1 o2
+  pub fourth : {E : Type 0} (o1 o2 o3 o4 : Trace) (r q p s : Result (Unit {0}) E) → IsNoted (Wrote at bytes) (WroteInPart at bytes) r o o1 → IsNoted Synced Idle q o1 o2
       → o1 ≡ noted (Wrote at bytes) o → o2 ≡ noted Synced o1 → IsNoted (Wrote gate (open_byte ∷ [])) (WroteInPart gate (open_byte ∷ [])) p o2 o3
       → IsNoted Synced Idle s o3 o4 → During o o4 (Guarded o at bytes gate)
   fourth o1 o2 o3 o4 r q p s wrote synced done synced_done opened ended =

@@ -1,5 +1,5 @@
 -- What a crash may leave after one call more, or after some.
-use Rattle.std.proofs.Common.{◌≡◌, ◌⊎◌, inl, inr, ℕ, ◌<◌, List, [], ◌∷◌, ◌++◌, length, get_or, Option, None, Some, Result, Ok, Err, refl, sym, ◌∙◌, subst, arith}
+use Rattle.std.proofs.Common.{◌≡◌, ◌⊎◌, inl, inr, ℕ, ◌<◌, List, [], ◌∷◌, ◌++◌, length, get_or, Result, Ok, Err, refl, sym, ◌∙◌, subst, arith}
 use Rattle.disk_model.specs.Traces.{DeviceCall, Wrote, WroteInPart, Resized, ResizedInPart, Synced, Idle, Trace, content, seen, noted}
 use Rattle.disk_model.specs.Images.{IsOutside, IsTorn, IsBetween, IsImage, MayLeave, IsSettled, FromOld, IsUntouched, KeepsUntouched}
 use Rattle.disk_model.specs.Calls.{IsNoted}
@@ -15,8 +15,8 @@ honest first (ResizedInPart len ∷ es) = (content first es, honest first es, be
 honest first (Synced ∷ es) = refl
 honest first (Idle ∷ es) = honest first es
 
--- the same of a device that records its calls
-pub present : (t : Trace) → MayLeave (Some t) (seen (Some t))
+-- the same of a device
+pub present : (t : Trace) → MayLeave t (seen t)
 present t = record { image = honest t.first t.calls }
 
 -- a place that a write left alone, and the calls before it too
@@ -61,34 +61,30 @@ kept_since_sync first since before c image =
     let earlier = kept first since (Synced ∷ before) c image in
     subst (λ d. KeepsUntouched since d c) earlier.1 earlier.2
 
--- a device that records its calls records one of four things after one more
-pub cases_noted : {T E : Type 0} (whole part : DeviceCall) (r : Result T E) (old new : Option Trace) → IsNoted whole part r old new
+-- one more call is recorded as one of four things
+pub cases_noted : {T E : Type 0} (whole part : DeviceCall) (r : Result T E) (old new : Trace) → IsNoted whole part r old new
     → (new ≡ noted whole old) ⊎ ((new ≡ noted part old) ⊎ ((new ≡ noted Idle old) ⊎ (new ≡ old)))
 cases_noted whole part (Ok x) old new is = inl is
 cases_noted whole part (Err e) old new is = inr is
 
 -- an image after a write that was done
-after_whole_write : (old : Option Trace) (at : ℕ) (bytes c : List ℕ) → MayLeave (noted (Wrote at bytes) old) c → FromOld old (IsTorn at (length bytes)) c
-after_whole_write None at bytes c may = absurd may.image
-after_whole_write (Some t) at bytes c may = (may.image.0, record { image = may.image.1 }, may.image.2)
+after_whole_write : (old : Trace) (at : ℕ) (bytes c : List ℕ) → MayLeave (noted (Wrote at bytes) old) c → FromOld old (IsTorn at (length bytes)) c
+after_whole_write t at bytes c may = (may.image.0, record { image = may.image.1 }, may.image.2)
 
 -- an image after a write that failed
-after_part_write : (old : Option Trace) (at : ℕ) (bytes c : List ℕ) → MayLeave (noted (WroteInPart at bytes) old) c → FromOld old (IsTorn at (length bytes)) c
-after_part_write None at bytes c may = absurd may.image
-after_part_write (Some t) at bytes c may = (may.image.0, record { image = may.image.1 }, may.image.2)
+after_part_write : (old : Trace) (at : ℕ) (bytes c : List ℕ) → MayLeave (noted (WroteInPart at bytes) old) c → FromOld old (IsTorn at (length bytes)) c
+after_part_write t at bytes c may = (may.image.0, record { image = may.image.1 }, may.image.2)
 
 -- an image after an idle call
-after_idle : (old : Option Trace) (c : List ℕ) → MayLeave (noted Idle old) c → MayLeave old c
-after_idle None c may = absurd may.image
-after_idle (Some t) c may = record { image = may.image }
+after_idle : (old : Trace) (c : List ℕ) → MayLeave (noted Idle old) c → MayLeave old c
+after_idle t c may = record { image = may.image }
 
 -- an image after a sync that was done
-after_sync : (old : Option Trace) (c : List ℕ) → MayLeave (noted Synced old) c → MayLeave old c
-after_sync None c may = absurd may.image
-after_sync (Some t) c may = record { image = subst (IsImage t.first t.calls) (sym may.image) (honest t.first t.calls) }
+after_sync : (old : Trace) (c : List ℕ) → MayLeave (noted Synced old) c → MayLeave old c
+after_sync t c may = record { image = subst (IsImage t.first t.calls) (sym may.image) (honest t.first t.calls) }
 
 -- whatever a write answered, an image after it comes from one before it by a torn write
-pub wrote_now : {T E : Type 0} (r : Result T E) (old new : Option Trace) (at : ℕ) (bytes c : List ℕ)
+pub wrote_now : {T E : Type 0} (r : Result T E) (old new : Trace) (at : ℕ) (bytes c : List ℕ)
     → IsNoted (Wrote at bytes) (WroteInPart at bytes) r old new → MayLeave new c → FromOld old (IsTorn at (length bytes)) c
 wrote_now r old new at bytes c is may = elim (cases_noted (Wrote at bytes) (WroteInPart at bytes) r old new is) [
   | inl whole ↦ after_whole_write old at bytes c (subst (λ o. MayLeave o c) whole may)
@@ -102,7 +98,7 @@ wrote_now r old new at bytes c is may = elim (cases_noted (Wrote at bytes) (Wrot
 ]
 
 -- whatever a sync answered, an image after it was one before it
-pub synced_now : {T E : Type 0} (r : Result T E) (old new : Option Trace) (c : List ℕ) → IsNoted Synced Idle r old new → MayLeave new c → MayLeave old c
+pub synced_now : {T E : Type 0} (r : Result T E) (old new : Trace) (c : List ℕ) → IsNoted Synced Idle r old new → MayLeave new c → MayLeave old c
 synced_now r old new c is may = elim (cases_noted Synced Idle r old new is) [
   | inl whole ↦ after_sync old c (subst (λ o. MayLeave o c) whole may)
   | inr rest ↦ elim rest [
@@ -115,6 +111,5 @@ synced_now r old new c is may = elim (cases_noted Synced Idle r old new is) [
 ]
 
 -- a sync that was done leaves one image
-pub settled : (old : Option Trace) → IsSettled (noted Synced old)
-settled None = record { each = λ c may. absurd may.image }
-settled (Some t) = record { each = λ c may. may.image }
+pub settled : (old : Trace) → IsSettled (noted Synced old)
+settled t = record { each = λ c may. may.image }

@@ -1,5 +1,5 @@
 -- How what a crash at any moment might have left changes from call to call.
-use Rattle.std.proofs.Common.{◌≡◌, ◌⊎◌, inl, inr, ⊎_elim, ℕ, ◌≤◌, List, [], ◌∷◌, ◌++◌, length, Option, None, Some, IfSome, Result, refl, sym, ◌∙◌, ap, subst, arith, append_assoc, length-append}
+use Rattle.std.proofs.Common.{◌≡◌, ◌⊎◌, inl, inr, ⊎_elim, ℕ, ◌≤◌, List, [], ◌∷◌, ◌++◌, length, Result, refl, sym, ◌∙◌, ap, subst, arith, append_assoc, length-append}
 use Rattle.disk_model.specs.Traces.{DeviceCall, Idle, Trace, noted, moment}
 use Rattle.disk_model.specs.Images.{IsImage, MayLeave, Now}
 use Rattle.disk_model.specs.Moments.{WasImageSince, LeftSince, ComesAfter, During}
@@ -11,9 +11,8 @@ present_calls : (first : List ℕ) (es : List DeviceCall) (m : ℕ) (c : List �
 present_calls first [] m c image = image
 present_calls first (e ∷ es) m c image = inl image
 
-pub counts_now : (o : Option Trace) (m : ℕ) (c : List ℕ) → MayLeave o c → LeftSince o m c
-counts_now None m c may = absurd may.image
-counts_now (Some t) m c may = record { image = present_calls t.first t.calls m c may.image }
+pub counts_now : (o : Trace) (m : ℕ) (c : List ℕ) → MayLeave o c → LeftSince o m c
+counts_now t m c may = record { image = present_calls t.first t.calls m c may.image }
 
 -- since this moment there is no other
 pub only_calls : (first : List ℕ) (es : List DeviceCall) (m : ℕ) (c : List ℕ) → length es ≤ m → WasImageSince first es m c → IsImage first es c
@@ -21,34 +20,24 @@ only_calls first [] m c le was = was
 only_calls first (e ∷ es) m c le (inl now) = now
 only_calls first (e ∷ es) m c le (inr before) = absurd (omega (arith, le, before.0))
 
-pub only_now : (o : Option Trace) (c : List ℕ) → LeftSince o (moment o) c → MayLeave o c
-only_now None c left = absurd left.image
-only_now (Some t) c left = record { image = only_calls t.first t.calls (length t.calls) c (omega arith) left.image }
+pub only_now : (o : Trace) (c : List ℕ) → LeftSince o (moment o) c → MayLeave o c
+only_now t c left = record { image = only_calls t.first t.calls (length t.calls) c (omega arith) left.image }
 
 -- nor since any moment that is not before the clock, which counts the calls that the device records
-pub only_since : (o : Option Trace) (ticks m : ℕ) (c : List ℕ) → IfSome o (λ t. length t.calls ≡ ticks) → ticks ≤ m → LeftSince o m c → MayLeave o c
-only_since None ticks m c told le left = absurd left.image
-only_since (Some t) ticks m c told le left = record { image = only_calls t.first t.calls m c (omega (arith, told, le)) left.image }
+pub only_since : (o : Trace) (ticks m : ℕ) (c : List ℕ) → length o.calls ≡ ticks → ticks ≤ m → LeftSince o m c → MayLeave o c
+only_since t ticks m c told le left = record { image = only_calls t.first t.calls m c (omega (arith, told, le)) left.image }
 
 -- a device comes after itself
-pub after_self : (o : Option Trace) → ComesAfter o o
-after_self None = tt
-after_self (Some t) = (refl, [], refl)
+pub after_self : (o : Trace) → ComesAfter o o
+after_self t = (refl, [], refl)
 
 -- it comes after what it came after before one call more
-after_one : (start old : Option Trace) (e : DeviceCall) → ComesAfter start old → ComesAfter start (noted e old)
-after_one None None e later = tt
-after_one None (Some t) e later = absurd later
-after_one (Some s) None e later = absurd later
-after_one (Some s) (Some t) e later = (later.0, e ∷ later.1, ap (λ es. e ∷ es) later.2)
+after_one : (start old : Trace) (e : DeviceCall) → ComesAfter start old → ComesAfter start (noted e old)
+after_one s t e later = (later.0, e ∷ later.1, ap (λ es. e ∷ es) later.2)
 
 -- and it comes after what the earlier one came after
-pub after_both : (a b c : Option Trace) → ComesAfter a b → ComesAfter b c → ComesAfter a c
-after_both None None c ab bc = bc
-after_both None (Some t) c ab bc = absurd ab
-after_both (Some s) None c ab bc = absurd ab
-after_both (Some s) (Some t) None ab bc = absurd bc
-after_both (Some s) (Some t) (Some u) ab bc =
+pub after_both : (a b c : Trace) → ComesAfter a b → ComesAfter b c → ComesAfter a c
+after_both s t u ab bc =
     (bc.0 ∙ ab.0, bc.1 ++ ab.1, bc.2 ∙ ap (λ es. bc.1 ++ es) ab.2 ∙ sym (append_assoc bc.1 ab.1 s.calls))
 
 -- an image since a moment before some calls is one since these calls, or one before them
@@ -60,44 +49,40 @@ parted_calls first (e ∷ es) before m c (inr was) =
     ⊎_elim (λ since. inl (inr (omega (arith, length-append es before), since))) (λ earlier. inr earlier) (parted_calls first es before m c was.1)
 
 -- the same of a device that comes after another
-pub parted : (b c : Option Trace) (m : ℕ) (x : List ℕ) → ComesAfter b c → LeftSince c m x → LeftSince c (moment b) x ⊎ LeftSince b m x
-parted None None m x later left = absurd left.image
-parted None (Some u) m x later left = absurd later
-parted (Some t) None m x later left = absurd later
-parted (Some t) (Some u) m x later left =
+pub parted : (b c : Trace) (m : ℕ) (x : List ℕ) → ComesAfter b c → LeftSince c m x → LeftSince c (moment b) x ⊎ LeftSince b m x
+parted t u m x later left =
     ⊎_elim (λ since. inl (record { image = subst (λ es. WasImageSince u.first es (length t.calls) x) (sym later.2) since }))
     (λ earlier. inr (record { image = subst (λ first. WasImageSince first t.calls m x) later.0 earlier }))
     (parted_calls u.first later.1 t.calls m x (subst (λ es. WasImageSince u.first es m x) later.2 left.image))
 
 -- before the first call
-pub started : (o : Option Trace) (P : List ℕ → Type 0) → Now o P → During o o P
+pub started : (o : Trace) (P : List ℕ → Type 0) → Now o P → During o o P
 started o P now = record { later = after_self o; each = λ c left. now.each c (only_now o c left) }
 
 -- what holds of each image now
-pub during_now : (old new : Option Trace) (P : List ℕ → Type 0) → During old new P → Now new P
+pub during_now : (old new : Trace) (P : List ℕ → Type 0) → During old new P → Now new P
 during_now old new P during = record { each = λ c may. during.each c (counts_now new (moment old) c may) }
 
 -- a weaker fact
-pub weaker : (old new : Option Trace) (P Q : List ℕ → Type 0) → ((c : List ℕ) → P c → Q c) → During old new P → During old new Q
+pub weaker : (old new : Trace) (P Q : List ℕ → Type 0) → ((c : List ℕ) → P c → Q c) → During old new P → During old new Q
 weaker old new P Q follows during = record { later = during.later; each = λ c left. follows c (during.each c left) }
 
 -- two runs, one after the other
-pub in_turn : (a b c : Option Trace) (P : List ℕ → Type 0) → During a b P → During b c P → During a c P
+pub in_turn : (a b c : Trace) (P : List ℕ → Type 0) → During a b P → During b c P → During a c P
 in_turn a b c P ab bc = record {
   later = after_both a b c ab.later bc.later;
   each = λ x left. ⊎_elim (bc.each x) (ab.each x) (parted b c (moment a) x bc.later left);
 }
 
 -- one call more, after which each image has P
-one_more : (start old : Option Trace) (e : DeviceCall) (P : List ℕ → Type 0) → During start old P → Now (noted e old) P → During start (noted e old) P
-one_more start None e P so_far now = record { later = after_one start None e so_far.later; each = λ c left. absurd left.image }
-one_more start (Some t) e P so_far now = record {
-  later = after_one start (Some t) e so_far.later;
+one_more : (start old : Trace) (e : DeviceCall) (P : List ℕ → Type 0) → During start old P → Now (noted e old) P → During start (noted e old) P
+one_more start t e P so_far now = record {
+  later = after_one start t e so_far.later;
   each = λ c left. ⊎_elim (λ image. now.each c (record { image = image })) (λ was. so_far.each c (record { image = was.1 })) left.image;
 }
 
 -- one call, whatever it answered
-pub goes_on : {T E : Type 0} (whole part : DeviceCall) (r : Result T E) (start old new : Option Trace) (P : List ℕ → Type 0) → During start old P
+pub goes_on : {T E : Type 0} (whole part : DeviceCall) (r : Result T E) (start old new : Trace) (P : List ℕ → Type 0) → During start old P
     → IsNoted whole part r old new → Now new P → During start new P
 goes_on whole part r start old new P so_far is now =
     let step : (e : DeviceCall) → new ≡ noted e old → During start new P =

@@ -1,5 +1,5 @@
 -- What the calls of a device answer and do.
-use Rattle.std.specs.Prelude.{◌≡◌, ◌⊎◌, ℕ, ◌+◌, ◌-◌, ◌^◌, ◌<◌, ◌≤◌, min, List, length, take, drop, Option, Result, MatchResult, IfSome, OnOk, OnErr, IsErrOf}
+use Rattle.std.specs.Prelude.{◌≡◌, ◌⊎◌, ℕ, ◌+◌, ◌-◌, ◌^◌, ◌<◌, ◌≤◌, min, List, length, take, drop, Result, MatchResult, OnOk, OnErr, IsErrOf}
 use Rattle.disk_model.specs.Traces.{DeviceCall, Idle, Trace, seen, noted}
 
 -- one more, or the same at the end of the type
@@ -35,27 +35,27 @@ pub record IsTimed {T E : Type 0} (before now : ℕ) (result : Result T E) : Typ
   pub counted : now ≡ next_count before
   pub in_time : OnOk result (before < 2 ^ 64 - 1)
 
--- if the device records its calls, what a read returns of it has P
-abbrev pub Shows : Option Trace → (List ℕ → Type 0) → Type 0
-Shows o P = IfSome o (λ t. P (seen (Option.Some t)))
+-- what a read returns of the device has P
+abbrev pub Shows : Trace → (List ℕ → Type 0) → Type 0
+Shows o P = P (seen o)
 
--- if the device records its calls, a read of all of it returns these bytes
-abbrev pub Sees : Option Trace → List ℕ → Type 0
-Sees o bytes = IfSome o (λ t. seen (Option.Some t) ≡ bytes)
+-- a read of all of the device returns these bytes
+abbrev pub Sees : Trace → List ℕ → Type 0
+Sees o bytes = seen o ≡ bytes
 
--- if the device records its calls, this is its length
-abbrev pub HasLength : Option Trace → ℕ → Type 0
-HasLength o n = IfSome o (λ t. length (seen (Option.Some t)) ≡ n)
+-- the device has this length
+abbrev pub HasLength : Trace → ℕ → Type 0
+HasLength o n = length (seen o) ≡ n
 
--- if the device records its calls, it has at least this many bytes
-abbrev pub Reaches : Option Trace → ℕ → Type 0
-Reaches o n = IfSome o (λ t. n ≤ length (seen (Option.Some t)))
+-- the device has at least this many bytes
+abbrev pub Reaches : Trace → ℕ → Type 0
+Reaches o n = n ≤ length (seen o)
 
--- if the device records its calls, these bytes are at the place
-abbrev pub Reads : Option Trace → ℕ → List ℕ → Type 0
-Reads o at bytes = IfSome o (λ t. bytes ≡ take (length bytes) (drop at (seen (Option.Some t))))
+-- these bytes are at the place
+abbrev pub Reads : Trace → ℕ → List ℕ → Type 0
+Reads o at bytes = bytes ≡ take (length bytes) (drop at (seen o))
 
 -- the trace after one more call: that call is added; if it failed, the same call in part, or an idle one, or, at the
 -- end of the clock, none
-abbrev pub IsNoted : {T E : Type 0} → DeviceCall → DeviceCall → Result T E → Option Trace → Option Trace → Type 0
+abbrev pub IsNoted : {T E : Type 0} → DeviceCall → DeviceCall → Result T E → Trace → Trace → Type 0
 IsNoted whole part result old new = MatchResult result (λ _. new ≡ noted whole old) (λ _. (new ≡ noted part old) ⊎ (new ≡ noted Idle old) ⊎ (new ≡ old))

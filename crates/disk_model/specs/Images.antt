@@ -1,7 +1,7 @@
 -- What a crash may leave of a device. Between two syncs each written range, and all past the old end, may hold any
 -- bytes, and the length is any between the least and the greatest. Other bytes stay. After a sync it leaves what a read
 -- returns.
-use Rattle.std.specs.Prelude.{◌≡◌, ◌⊎◌, ℕ, ◌+◌, ◌<◌, ◌≤◌, min, max, List, [], ◌∷◌, length, slice_index, Option, IsSomeAnd}
+use Rattle.std.specs.Prelude.{◌≡◌, ◌⊎◌, ℕ, ◌+◌, ◌<◌, ◌≤◌, min, max, List, [], ◌∷◌, length, slice_index}
 use Rattle.disk_model.specs.Traces.{DeviceCall, Wrote, WroteInPart, Resized, ResizedInPart, Synced, Idle, Trace, content, seen}
 
 -- a place outside of the n places from at on
@@ -30,20 +30,20 @@ IsImage first (ResizedInPart len ∷ es) c = (d : List ℕ) × IsImage first es 
 IsImage first (Synced ∷ es) c = c ≡ content first es
 IsImage first (Idle ∷ es) c = IsImage first es c
 
--- an image that a crash now may leave; false if the device does not record its calls
-pub record MayLeave (o : Option Trace) (c : List ℕ) : Type 0 where
-  pub image : IsSomeAnd o (λ t. IsImage t.first t.calls c)
+-- an image that a crash now may leave
+pub record MayLeave (o : Trace) (c : List ℕ) : Type 0 where
+  pub image : IsImage o.first o.calls c
 
 -- each image that a crash now may leave has P
-pub record Now (o : Option Trace) (P : List ℕ → Type 0) : Type 0 where
+pub record Now (o : Trace) (P : List ℕ → Type 0) : Type 0 where
   pub each : (c : List ℕ) → MayLeave o c → P c
 
 -- a crash now leaves exactly what a read returns
-abbrev pub IsSettled : Option Trace → Type 0
+abbrev pub IsSettled : Trace → Type 0
 IsSettled o = Now o (λ c. c ≡ seen o)
 
 -- c comes from an image of the earlier device by R
-abbrev pub FromOld : Option Trace → (List ℕ → List ℕ → Type 0) → List ℕ → Type 0
+abbrev pub FromOld : Trace → (List ℕ → List ℕ → Type 0) → List ℕ → Type 0
 FromOld o R c = (d : List ℕ) × MayLeave o d × R d c
 
 -- no call among these wrote at the place or cut it off

@@ -1,5 +1,5 @@
 -- A device, as the bytes that it held at first and the calls on it since.
-use Rattle.std.specs.Prelude.{◌≡◌, IfSome, ℕ, ◌+◌, ◌-◌, List, [], ◌∷◌, ◌++◌, length, take, drop, replicate, Option, None, Some}
+use Rattle.std.specs.Prelude.{◌≡◌, IfSome, ℕ, ◌+◌, ◌-◌, List, [], ◌∷◌, ◌++◌, length, take, drop, replicate, Option}
 
 -- a call that may change what a crash leaves. A call in part answered that it failed, and may have done some of its
 -- work. An idle call did nothing
@@ -26,6 +26,13 @@ pub record HandOut : Type 0 where
 abbrev pub FitsName : List ℕ → HandOut → Type 0
 FitsName name h = IfSome h.name (λ n. n ≡ name)
 
+-- a device, as a proof sees it: how it was handed out, what it held at first and the calls since, and how often a call
+-- has failed
+pub record Device : Type 0 where
+  pub handed : HandOut
+  pub trace : Trace
+  pub faults : ℕ
+
 -- the bytes with others written over them and past their end
 abbrev pub written : List ℕ → ℕ → List ℕ → List ℕ
 written old at bytes = take at old ++ (bytes ++ drop (at + length bytes) old)
@@ -44,17 +51,14 @@ content first (ResizedInPart len ∷ es) = content first es
 content first (Synced ∷ es) = content first es
 content first (Idle ∷ es) = content first es
 
--- what a read returns of a device that records its calls
-abbrev pub seen : Option Trace → List ℕ
-seen None = []
-seen (Some t) = content t.first t.calls
+-- what a read returns of the device
+abbrev pub seen : Trace → List ℕ
+seen t = content t.first t.calls
 
 -- one call more
-abbrev pub noted : DeviceCall → Option Trace → Option Trace
-noted e None = None
-noted e (Some t) = Some (record { first = t.first; calls = e ∷ t.calls })
+abbrev pub noted : DeviceCall → Trace → Trace
+noted e t = record { first = t.first; calls = e ∷ t.calls }
 
--- how many calls the device has recorded
-abbrev pub moment : Option Trace → ℕ
-moment None = 0
-moment (Some t) = length t.calls
+-- how many calls there were
+abbrev pub moment : Trace → ℕ
+moment t = length t.calls

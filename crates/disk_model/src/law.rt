@@ -1,16 +1,16 @@
 // What the disk model implies for every trace of calls.
-ghost use Rattle.std.specs.Prelude.{◌++◌, ◌∷◌, ℕ, List, Some};
+ghost use Rattle.std.specs.Prelude.{◌++◌, ◌∷◌, ℕ, List};
 ghost use Rattle.disk_model.specs.Traces.{DeviceCall, Synced, Trace, content, seen, noted};
 ghost use Rattle.disk_model.specs.Images.{IsImage, MayLeave, IsSettled, KeepsUntouched};
 
 /// What a read returns is one of the images that a crash now may leave.
 pub fn a_read_gives_an_image()
-    ensures { (t : Trace) → MayLeave (Some t) (seen (Some t)) }
+    ensures { (t : Trace) → MayLeave t (seen t) }
 {}
 
 /// After a sync that answered Ok there is one image: what a read returns.
 pub fn a_sync_leaves_one_image()
-    ensures { (t : Trace) → IsSettled (noted Synced (Some t)) }
+    ensures { (t : Trace) → IsSettled (noted Synced t) }
 {}
 
 /// An image of a longer trace is one of a shorter trace, except at the places that were written or cut off since.

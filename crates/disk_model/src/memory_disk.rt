@@ -149,7 +149,7 @@ impl MemDisk {
         ensures name { IfOk result (λ d. d.name ≡ None) }
         ensures trace { IfOk result (λ d. d.trace
             ≡ record { first = picked pick self.now.trace.first self.now.trace.calls; calls = [] }) }
-        ensures image { IfOk result (λ d. MayLeave (Some self.now.trace) d.trace.first) }
+        ensures image { IfOk result (λ d. MayLeave self.now.trace d.trace.first) }
         ensures failing { IfOk result (λ d. d.failing_calls ≡ []) }
         ensures stop { IfOk result (λ d. d.stop ≡ None) }
         ensures shares { IfOk result (λ d. d.shares ≡ false) }
@@ -179,7 +179,7 @@ impl MemDisk {
 
     /// Returns the bytes that it holds.
     pub fn bytes(&self) -> &[u8]
-        ensures { result.now ≡ seen (Some self.now.trace) }
+        ensures { result.now ≡ seen self.now.trace }
     {
         &self.log.content
     }
@@ -236,22 +236,12 @@ fn end(
 
 impl Disk for MemDisk {
     ghost use Rattle.disk_model.specs.Memory.{DiskState, IsToFail, IsCalled, handed_as};
-    ghost use Rattle.std.specs.Prelude.{refl};
 
-    ghost trace = { λ s. Some s.trace };
-
-    ghost ticks = { λ s. length s.trace.calls };
-
-    ghost fault_count = { λ s. s.faults };
-
-    ghost hand_out = { λ s. handed_as s.name };
-
-    ghost told = { λ s. refl };
+    ghost device = { λ s. record { handed = handed_as s.name; trace = s.trace; faults = s.faults } };
 
     fn len(&mut self) -> Result<u64, Failed>
-        ensures length { IfOk result (λ n. length (seen (Some self.old.trace)) ≡ n) }
-        ensures same { Some self.new.trace ≡ Some self.old.trace }
-        ensures untimed { length self.new.trace.calls ≡ length self.old.trace.calls }
+        ensures length { IfOk result (λ n. length (seen self.old.trace) ≡ n) }
+        ensures same { self.new.trace ≡ self.old.trace }
         ensures cause { HasCause self.old.faults self.new.faults result }
         ensures handed { handed_as self.new.name ≡ handed_as self.old.name }
         ensures called { IsCalled self.old self.new result }
@@ -264,10 +254,9 @@ impl Disk for MemDisk {
     }
 
     fn read(&mut self, at: u64, buf: &mut [u8]) -> Result<(), Failed>
-        requires { Reaches (Some self.old.trace) (at + length buf.old) }
-        ensures bytes { OnOk result (Reads (Some self.old.trace) at buf.new) }
-        ensures same { Some self.new.trace ≡ Some self.old.trace }
-        ensures untimed { length self.new.trace.calls ≡ length self.old.trace.calls }
+        requires { Reaches self.old.trace (at + length buf.old) }
+        ensures bytes { OnOk result (Reads self.old.trace at buf.new) }
+        ensures same { self.new.trace ≡ self.old.trace }
         ensures cause { HasCause self.old.faults self.new.faults result }
         ensures handed { handed_as self.new.name ≡ handed_as self.old.name }
         ensures called { IsCalled self.old self.new result }
@@ -284,7 +273,7 @@ impl Disk for MemDisk {
     /// It fails also if there is no memory to note it; then it did nothing. If it is to fail, it is done in part.
     fn write_at(&mut self, at: u64, bytes: &[u8]) -> Result<(), Failed>
         ensures noted { IsNoted (Wrote at bytes.now) (WroteInPart at bytes.now) result
-            (Some self.old.trace) (Some self.new.trace) }
+            self.old.trace self.new.trace }
         ensures clock { IsTimed (length self.old.trace.calls) (length self.new.trace.calls) result }
         ensures cause { HasCause self.old.faults self.new.faults result }
         ensures handed { handed_as self.new.name ≡ handed_as self.old.name }
@@ -301,7 +290,7 @@ impl Disk for MemDisk {
     /// It fails also if there is no memory to note it; then it did nothing. If it is to fail, it is done in part.
     fn cut(&mut self, len: u64) -> Result<(), Failed>
         ensures noted { IsNoted (Resized len) (ResizedInPart len) result
-            (Some self.old.trace) (Some self.new.trace) }
+            self.old.trace self.new.trace }
         ensures clock { IsTimed (length self.old.trace.calls) (length self.new.trace.calls) result }
         ensures cause { HasCause self.old.faults self.new.faults result }
         ensures handed { handed_as self.new.name ≡ handed_as self.old.name }
@@ -317,7 +306,7 @@ impl Disk for MemDisk {
 
     /// It fails also if there is no memory to note it.
     fn sync(&mut self) -> Result<(), Failed>
-        ensures noted { IsNoted Synced Idle result (Some self.old.trace) (Some self.new.trace) }
+        ensures noted { IsNoted Synced Idle result self.old.trace self.new.trace }
         ensures clock { IsTimed (length self.old.trace.calls) (length self.new.trace.calls) result }
         ensures cause { HasCause self.old.faults self.new.faults result }
         ensures handed { handed_as self.new.name ≡ handed_as self.old.name }

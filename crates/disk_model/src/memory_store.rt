@@ -117,7 +117,7 @@ impl Store for MemStore {
 
     type Dev = MemDisk;
 
-    ghost device_at = { λ s name. Some (trace_at s.devices name) };
+    ghost device_at = { λ s name. trace_at s.devices name };
 
     ghost has_place = { λ s name. has_device s.devices name };
 

@@ -7,13 +7,12 @@ use crate::{Disk, Failed, OPEN};
 
 /// Returns the `N` bytes of a device from `at` on. They all lie within the device. `at` counts bytes.
 pub fn read_part<const N: usize, D: Disk>(dev: &mut D, at: u64) -> Result<[u8; N], Failed>
-    requires { Reaches (D.trace dev.old) (at + N) }
-    ensures bytes { IfOk result (λ b. Reads (D.trace dev.old) at b) }
+    requires { Reaches (D.device dev.old).trace (at + N) }
+    ensures bytes { IfOk result (λ b. Reads (D.device dev.old).trace at b) }
     ensures len { IfOk result (λ b. length b ≡ N) }
-    ensures same { D.trace dev.new ≡ D.trace dev.old }
-    ensures untimed { D.ticks dev.new ≡ D.ticks dev.old }
-    ensures counts { HasCause (D.fault_count dev.old) (D.fault_count dev.new) result }
-    ensures handed { D.hand_out dev.new ≡ D.hand_out dev.old }
+    ensures same { (D.device dev.new).trace ≡ (D.device dev.old).trace }
+    ensures counts { HasCause (D.device dev.old).faults (D.device dev.new).faults result }
+    ensures handed { (D.device dev.new).handed ≡ (D.device dev.old).handed }
 {
     let mut bytes = [0; N];
     dev.read(at, &mut bytes)?;
@@ -22,12 +21,11 @@ pub fn read_part<const N: usize, D: Disk>(dev: &mut D, at: u64) -> Result<[u8; N
 
 /// Returns whether no layout was finished on a device: it has at most one byte, or the gate at its beginning is closed.
 pub fn is_new<D: Disk>(dev: &mut D) -> Result<bool, Failed>
-    ensures new { IfOk result (λ b. b ≡ true → Shows (D.trace dev.old) IsNew) }
-    ensures begun { IfOk result (λ b. b ≡ false → Shows (D.trace dev.old) IsBegun) }
-    ensures same { D.trace dev.new ≡ D.trace dev.old }
-    ensures untimed { D.ticks dev.new ≡ D.ticks dev.old }
-    ensures counts { HasCause (D.fault_count dev.old) (D.fault_count dev.new) result }
-    ensures handed { D.hand_out dev.new ≡ D.hand_out dev.old }
+    ensures new { IfOk result (λ b. b ≡ true → Shows (D.device dev.old).trace IsNew) }
+    ensures begun { IfOk result (λ b. b ≡ false → Shows (D.device dev.old).trace IsBegun) }
+    ensures same { (D.device dev.new).trace ≡ (D.device dev.old).trace }
+    ensures counts { HasCause (D.device dev.old).faults (D.device dev.new).faults result }
+    ensures handed { (D.device dev.new).handed ≡ (D.device dev.old).handed }
 {
     let len = dev.len()?;
     if len <= 1 {

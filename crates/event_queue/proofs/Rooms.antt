@@ -1,6 +1,5 @@
 -- The room that a lane needs: what it gives a call, and what calls leave of it.
-use Rattle.std.proofs.Common.{◌≡◌, inl, inr, ⊎_elim, ℕ, ◌+◌, ◌<◌, ◌≤◌, List, Option}
-use Rattle.std.proofs.Common.{None, Some}
+use Rattle.std.proofs.Common.{◌≡◌, inl, inr, ⊎_elim, ℕ, ◌+◌, ◌<◌, ◌≤◌, List}
 use Rattle.std.proofs.Common.{sym, ◌∙◌, subst, arith}
 use Rattle.std.proofs.lemmas.Bool.{cases_lt}
 use Rattle.disk_model.specs.Traces.{Trace, seen}
@@ -14,13 +13,12 @@ use Rattle.event_queue.specs.Slots.{gate_of, place_of, lane_end}
 use Rattle.event_queue.specs.Places.{HasRoom}
 
 -- what a read gives has the whole lane
-pub reaches_lane : (o : Option Trace) (slots used n : ℕ) → Now o (HasRoom slots used) → n ≤ lane_end slots
+pub reaches_lane : (o : Trace) (slots used n : ℕ) → Now o (HasRoom slots used) → n ≤ lane_end slots
     → Reaches o n
-reaches_lane None slots used n room le = tt
-reaches_lane (Some t) slots used n room le = omega (arith, (room.each (seen (Some t)) (present t)).long)
+reaches_lane t slots used n room le = omega (arith, (room.each (seen t) (present t)).long)
 
 -- the next gate is there, and closed
-pub next_shut : (o : Option Trace) (slots used gate : ℕ) → Now o (HasRoom slots used) → used < slots → gate
+pub next_shut : (o : Trace) (slots used gate : ℕ) → Now o (HasRoom slots used) → used < slots → gate
     ≡ gate_of used
     → Now o (IsShut gate)
 next_shut o slots used gate room free is = grind arith
@@ -35,7 +33,7 @@ pub room_guarded : (slots used : ℕ) (bytes d c : List ℕ) → used < slots �
 room_guarded slots used bytes d c free has guarded = grind (arith, gate_outside)
 
 -- so each image has room after it
-pub room_behind : (o new : Option Trace) (slots used at gate : ℕ) (bytes : List ℕ) → used < slots
+pub room_behind : (o new : Trace) (slots used at gate : ℕ) (bytes : List ℕ) → used < slots
     → Now o (HasRoom slots used) → at ≡ place_of slots used → gate ≡ gate_of used
     → During o new (FromOld o (IsGuarded at bytes gate)) → Now new (HasRoom slots (used + 1))
 room_behind o new slots used at gate bytes free room is_at is_gate during = record {
@@ -47,7 +45,7 @@ room_behind o new slots used at gate bytes free room is_at is_gate during = reco
 }
 
 -- gates were closed, and those of the used slots are
-pub room_anew : (o new : Option Trace) (slots used : ℕ) → Now o (HasRoom slots used)
+pub room_anew : (o new : Trace) (slots used : ℕ) → Now o (HasRoom slots used)
     → During o new (FromOld o (IsClosing (gate_of 0) used)) → Now new (AreShut (gate_of 0) used)
     → Now new (HasRoom slots 0)
 room_anew o new slots used room during shut = record {

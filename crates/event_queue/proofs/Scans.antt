@@ -1,7 +1,7 @@
 -- A lane that was read piece by piece.
 use Rattle.std.proofs.Common.{◌≡◌, ◌≢◌, ℕ, zero, suc, ◌+◌, ◌-◌, ◌<◌, ◌≤◌, List, length}
 use Rattle.std.proofs.Common.{get_or, take, drop}
-use Rattle.std.proofs.Common.{Option, None, Some, IfSome, sym, ◌∙◌, ap, subst, arith, add-zero}
+use Rattle.std.proofs.Common.{sym, ◌∙◌, ap, subst, arith, add-zero}
 use Rattle.disk_model.specs.Traces.{Trace, seen}
 use Rattle.disk_model.specs.Calls.{Reads}
 use Rattle.disk_model.specs.Gates.{open_byte}
@@ -14,31 +14,28 @@ use Rattle.event_queue.proofs.Steps.{read_shut}
 
 -- gates and slots that were read from a device with a known trace
 piece_there : (t : Trace) (slots from : ℕ) (gates piece : List ℕ) → length gates ≡ slots
-    → Reads (Some t) (gate_of 0) gates
-    → Reads (Some t) (place_of slots from) piece → IsPiece slots (seen (Some t)) gates from piece
+    → Reads t (gate_of 0) gates
+    → Reads t (place_of slots from) piece → IsPiece slots (seen t) gates from piece
 piece_there t slots from gates piece all gates_read slots_read = grind arith
 
 -- what was read of an equal device at an equal place
-pub moved : (now o : Option Trace) (at to : ℕ) (bytes : List ℕ) → now ≡ o → at ≡ to → Reads now at bytes
+pub moved : (now o : Trace) (at to : ℕ) (bytes : List ℕ) → now ≡ o → at ≡ to → Reads now at bytes
     → Reads o to bytes
 moved now o at to bytes same place reads = grind arith
 
 -- so what follows for any bytes that hold the gates and a piece, and of which the slots before it were read,
 -- follows for
 -- the device's
-pub with_piece : (o : Option Trace) (slots taken n from : ℕ) (gates piece lent_gates lent_piece : List ℕ)
+pub with_piece : (o : Trace) (slots taken n from : ℕ) (gates piece lent_gates lent_piece : List ℕ)
     (s : Scanned) (P : ℕ → List ℕ → Type 0)
     → n ≡ from → s.lane.slots ≡ slots → length gates ≡ slots → Reads o (gate_of 0) gates → lent_gates ≡ gates
     → Reads o (place_of slots from) piece → lent_piece ≡ piece
-    → IfSome o (λ t. IsRead slots taken (seen (Some t)) n s)
+    → IsRead slots taken (seen o) n s
     → ((bytes : List ℕ) → IsPiece s.lane.slots bytes lent_gates from lent_piece
     → IsRead s.lane.slots taken bytes from s → P s.lane.slots bytes)
-    → IfSome o (λ t. P slots (seen (Some t)))
-with_piece None slots taken n from gates piece lent_gates lent_piece s P is same all gates_read lent_g
-    slots_read lent_p read follows = tt
-with_piece (Some t) slots taken n from gates piece lent_gates lent_piece s P is same all gates_read lent_g
-    slots_read lent_p read follows =
-    let bytes = seen (Some t) in
+    → P slots (seen o)
+with_piece t slots taken n from gates piece lent_gates lent_piece s P is same all gates_read lent_g slots_read lent_p read follows =
+    let bytes = seen t in
     let at_piece = subst (λ l. IsPiece slots bytes lent_gates from l) (sym lent_p)
     (rw lent_g
     (piece_there t slots from gates piece all gates_read slots_read)) in
@@ -58,15 +55,14 @@ read_on slots taken bytes used (suc m) s read shut =
     (read_on slots taken bytes used m s read (λ k low below. shut k low (omega arith))))
 
 -- after the last open gate there is nothing
-pub read_all : (o : Option Trace) (slots taken n used : ℕ) (gates lent : List ℕ) (s : Scanned) → n ≡ used
+pub read_all : (o : Trace) (slots taken n used : ℕ) (gates lent : List ℕ) (s : Scanned) → n ≡ used
     → used ≤ slots → length gates ≡ slots
     → Reads o (gate_of 0) gates → lent ≡ gates
     → ((k : ℕ) → used ≤ k → k < length lent → get_or lent k 0 ≢ open_byte)
-    → IfSome o (λ t. IsRead slots taken (seen (Some t)) n s)
-    → IfSome o (λ t. IsRead slots taken (seen (Some t)) slots s)
-read_all None slots taken n used gates lent s is within all gates_read lent_is shut read = tt
-read_all (Some t) slots taken n used gates lent s is within all gates_read lent_is shut read =
-    let bytes = seen (Some t) in
+    → IsRead slots taken (seen o) n s
+    → IsRead slots taken (seen o) slots s
+read_all t slots taken n used gates lent s is within all gates_read lent_is shut read =
+    let bytes = seen t in
     let gate : (k : ℕ) → k < slots → get_or lent k 0 ≡ get_or bytes (gate_of k) 0 =
     λ k there. ap (λ l. get_or l k 0) (lent_is ∙ gates_read ∙ ap (λ m. take m (drop 400 bytes)) all)
     ∙ byte_of bytes 400 slots k there in
@@ -76,9 +72,8 @@ read_all (Some t) slots taken n used gates lent s is within all gates_read lent_
     (gate k (omega (arith, within)) ∙ opened)))
 
 -- before anything was read
-pub read_first : (o : Option Trace) (slots taken n : ℕ) (s : Scanned) → 0 ≡ n
+pub read_first : (o : Trace) (slots taken n : ℕ) (s : Scanned) → 0 ≡ n
     → ((bytes : List ℕ) → IsRead slots taken bytes 0 s)
-    → IfSome o (λ t. IsRead slots taken (seen (Some t)) n s)
-read_first None slots taken n s is read = tt
-read_first (Some t) slots taken n s is read = rw is at
-    (read (seen (Some t)))
+    → IsRead slots taken (seen o) n s
+read_first t slots taken n s is read = rw is at
+    (read (seen t))

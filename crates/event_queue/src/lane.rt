@@ -2,7 +2,7 @@
 ghost use Rattle.std.specs.Prelude.{◌≡◌, ◌↔◌, ◌+◌, ◌<◌, ◌≤◌, ◌^◌, [], ◌∷◌, length, OnOk, OnErr, IsErrOf};
 ghost use Rattle.std.specs.List.{All};
 ghost use Rattle.trend_num.specs.Ranges.{InRange};
-ghost use Rattle.disk_model.specs.Traces.{seen, written};
+ghost use Rattle.disk_model.specs.Traces.{seen, written, moment};
 ghost use Rattle.disk_model.specs.Images.{Now, FromOld, IsSettled};
 ghost use Rattle.disk_model.specs.Moments.{ComesAfter, During};
 ghost use Rattle.disk_model.specs.Calls.{CountsFault, HasCause, Sees, Shows};
@@ -39,12 +39,12 @@ impl Lane {
         requires in_range { All InRange points.now }
         requires number { self.old.next + length points.now < 2 ^ 64 }
         requires used { self.old.used ≤ self.old.slots }
-        requires room { Now (D.trace dev.old) (HasRoom self.old.slots self.old.used) }
+        requires room { Now (D.device dev.old).trace (HasRoom self.old.slots self.old.used) }
 
         // A crash at any moment leaves an image from before in which either this batch is whole and its gate is open,
         // or its gate is closed. All other gates and slots are unchanged.
-        ensures any_moment { self.old.used < self.old.slots → During (D.trace dev.old) (D.trace dev.new)
-            (FromOld (D.trace dev.old) (IsGuarded (place_of self.old.slots self.old.used)
+        ensures any_moment { self.old.used < self.old.slots → During (D.device dev.old).trace (D.device dev.new).trace
+            (FromOld (D.device dev.old).trace (IsGuarded (place_of self.old.slots self.old.used)
             (batch_bytes self.old.next points.now) (gate_of self.old.used))) }
 
         ensures lane_full { IsErrOf result LaneFull ↔ (self.old.used ≡ self.old.slots) }
@@ -54,16 +54,16 @@ impl Lane {
           used = self.old.used + 1;
           next = self.old.next + length points.now;
         }) }
-        ensures reads { OnOk result (Sees (D.trace dev.new) (written (written (seen (D.trace dev.old))
+        ensures reads { OnOk result (Sees (D.device dev.new).trace (written (written (seen (D.device dev.old).trace)
             (place_of self.old.slots self.old.used) (batch_bytes self.old.next points.now))
             (gate_of self.old.used) (open_byte ∷ []))) }
-        ensures settled { OnOk result (IsSettled (D.trace dev.new)) }
-        ensures room_left { OnOk result (Now (D.trace dev.new) (HasRoom self.new.slots self.new.used)) }
-        ensures clock { OnOk result (D.ticks dev.new ≡ D.ticks dev.old + 4) }
-        ensures later { D.ticks dev.old ≤ D.ticks dev.new }
-        ensures cause { CountsFault result Fault (D.fault_count dev.old) (D.fault_count dev.new) }
-        ensures continues { ComesAfter (D.trace dev.old) (D.trace dev.new) }
-        ensures handed { D.hand_out dev.new ≡ D.hand_out dev.old }
+        ensures settled { OnOk result (IsSettled (D.device dev.new).trace) }
+        ensures room_left { OnOk result (Now (D.device dev.new).trace (HasRoom self.new.slots self.new.used)) }
+        ensures clock { OnOk result (moment (D.device dev.new).trace ≡ moment (D.device dev.old).trace + 4) }
+        ensures later { moment (D.device dev.old).trace ≤ moment (D.device dev.new).trace }
+        ensures cause { CountsFault result Fault (D.device dev.old).faults (D.device dev.new).faults }
+        ensures continues { ComesAfter (D.device dev.old).trace (D.device dev.new).trace }
+        ensures handed { (D.device dev.new).handed ≡ (D.device dev.old).handed }
     {
         if self.used == self.slots {
             return Err(LaneNo::LaneFull);
@@ -85,26 +85,26 @@ impl Lane {
     /// DeviceFault: a call of the device failed; the device has to be opened again before it is used.
     pub fn restart<D: Disk>(&mut self, dev: &mut D) -> Result<(), DeviceFault>
         requires used { self.old.used ≤ self.old.slots }
-        requires room { Now (D.trace dev.old) (HasRoom self.old.slots self.old.used) }
-        requires gates { Now (D.trace dev.old) (HasGatesOf (seen (D.trace dev.old)) (gate_of 0) self.old.used) }
+        requires room { Now (D.device dev.old).trace (HasRoom self.old.slots self.old.used) }
+        requires gates { Now (D.device dev.old).trace (HasGatesOf (seen (D.device dev.old).trace) (gate_of 0) self.old.used) }
 
         // A crash at any moment leaves an image from before, in which some of the used slots' open gates are closed or
         // torn.
-        ensures any_moment { During (D.trace dev.old) (D.trace dev.new)
-            (FromOld (D.trace dev.old) (IsClosing (gate_of 0) self.old.used)) }
+        ensures any_moment { During (D.device dev.old).trace (D.device dev.new).trace
+            (FromOld (D.device dev.old).trace (IsClosing (gate_of 0) self.old.used)) }
 
         ensures unmoved { OnErr result (self.new ≡ self.old) }
         ensures moved { OnOk result (self.new ≡ record self.old { used = 0 }) }
         ensures reads { OnOk result
-            (IsClosing (gate_of 0) self.old.used (seen (D.trace dev.old)) (seen (D.trace dev.new))) }
-        ensures settled { OnOk result (IsSettled (D.trace dev.new)) }
-        ensures room_left { OnOk result (Now (D.trace dev.new) (HasRoom self.new.slots self.new.used)) }
-        ensures clock { D.ticks dev.new ≤ D.ticks dev.old + (self.old.used + 1) }
-        ensures calls { OnOk result (Shows (D.trace dev.old)
-            (λ c. D.ticks dev.new ≡ D.ticks dev.old + (open_gates (gate_of 0) self.old.used c + 1))) }
-        ensures later { D.ticks dev.old ≤ D.ticks dev.new }
-        ensures cause { HasCause (D.fault_count dev.old) (D.fault_count dev.new) result }
-        ensures handed { D.hand_out dev.new ≡ D.hand_out dev.old }
+            (IsClosing (gate_of 0) self.old.used (seen (D.device dev.old).trace) (seen (D.device dev.new).trace)) }
+        ensures settled { OnOk result (IsSettled (D.device dev.new).trace) }
+        ensures room_left { OnOk result (Now (D.device dev.new).trace (HasRoom self.new.slots self.new.used)) }
+        ensures clock { moment (D.device dev.new).trace ≤ moment (D.device dev.old).trace + (self.old.used + 1) }
+        ensures calls { OnOk result (Shows (D.device dev.old).trace
+            (λ c. moment (D.device dev.new).trace ≡ moment (D.device dev.old).trace + (open_gates (gate_of 0) self.old.used c + 1))) }
+        ensures later { moment (D.device dev.old).trace ≤ moment (D.device dev.new).trace }
+        ensures cause { HasCause (D.device dev.old).faults (D.device dev.new).faults result }
+        ensures handed { (D.device dev.new).handed ≡ (D.device dev.old).handed }
     {
         let Ok(()) = close_gates(dev, FIRST_GATE, self.used) else {
             return Err(DeviceFault);

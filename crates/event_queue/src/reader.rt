@@ -1,6 +1,6 @@
 // Reading what a lane holds, in large pieces.
 ghost use Rattle.std.specs.Prelude.{◌≡◌, ◌≢◌, ◌↔◌, ◌+◌, ◌*◌, ◌^◌, ◌<◌, ◌≤◌, ℕ, List, length, take, drop};
-ghost use Rattle.std.specs.Prelude.{slice_index, vec_len, Option, IsTrue, IfOk, IfSome, OnOk, OnErr, IsErrOf};
+ghost use Rattle.std.specs.Prelude.{slice_index, vec_len, Option, IsTrue, IfOk, OnOk, OnErr, IsErrOf};
 ghost use Rattle.disk_model.specs.Traces.{seen};
 ghost use Rattle.disk_model.specs.Calls.{CountsFault, HasCause, Reaches, Reads};
 ghost use Rattle.archive_file.specs.declared.failure.ScanNo.TheVariants.{DeviceFault, Damaged, WantOfMemory};
@@ -47,16 +47,15 @@ pub struct Scanned {
 /// Damaged: the first byte of the first field that breaks the layout, slot by slot. DeviceFault: a call of the device
 /// failed. WantOfMemory: there was no memory.
 pub fn scan<D: Disk>(alloc: Global, dev: &mut D, slots: u32, taken: u64) -> Result<Scanned, ScanNo>
-    requires room { Reaches (D.trace dev.old) (lane_end slots) }
+    requires room { Reaches (D.device dev.old).trace (lane_end slots) }
     requires number { taken < 10 ^ 18 }
-    ensures ok { IfOk result (λ s. IfSome (D.trace dev.old) (λ t. IsRead slots taken (seen (Option.Some t)) slots s)) }
+    ensures ok { IfOk result (λ s. IsRead slots taken (seen (D.device dev.old).trace) slots s) }
     ensures within { IfOk result (IsWithin slots taken slots) }
     ensures damaged { (a : ℕ) (byte : Option ℕ) → IsErrOf result (Damaged a byte) →
-        IfSome (D.trace dev.old) (λ t. IsLaneDamage slots (seen (Option.Some t)) taken a byte) }
-    ensures cause { CountsFault result DeviceFault (D.fault_count dev.old) (D.fault_count dev.new) }
-    ensures handed { D.hand_out dev.new ≡ D.hand_out dev.old }
-    ensures same { D.trace dev.new ≡ D.trace dev.old }
-    ensures untimed { D.ticks dev.new ≡ D.ticks dev.old }
+        IsLaneDamage slots (seen (D.device dev.old).trace) taken a byte }
+    ensures cause { CountsFault result DeviceFault (D.device dev.old).faults (D.device dev.new).faults }
+    ensures handed { (D.device dev.new).handed ≡ (D.device dev.old).handed }
+    ensures same { (D.device dev.new).trace ≡ (D.device dev.old).trace }
 {
     let gates = read_bytes(alloc, dev, FIRST_GATE, slots as usize)?;
     let used = used_of(&gates);
@@ -78,14 +77,13 @@ pub fn scan<D: Disk>(alloc: Global, dev: &mut D, slots: u32, taken: u64) -> Resu
 
 // Cuts a piece to `len` bytes, and fills it with the device's bytes from `at` on.
 fn refill<D: Disk>(dev: &mut D, at: u64, len: usize, piece: &mut Vec<u8>) -> Result<(), Failed>
-    requires there { Reaches (D.trace dev.old) (at + len) }
+    requires there { Reaches (D.device dev.old).trace (at + len) }
     requires room { len ≤ vec_len piece.old }
     ensures len { OnOk result (vec_len piece.new ≡ len) }
-    ensures bytes { OnOk result (Reads (D.trace dev.old) at piece.new.items) }
-    ensures same { D.trace dev.new ≡ D.trace dev.old }
-    ensures untimed { D.ticks dev.new ≡ D.ticks dev.old }
-    ensures cause { HasCause (D.fault_count dev.old) (D.fault_count dev.new) result }
-    ensures handed { D.hand_out dev.new ≡ D.hand_out dev.old }
+    ensures bytes { OnOk result (Reads (D.device dev.old).trace at piece.new.items) }
+    ensures same { (D.device dev.new).trace ≡ (D.device dev.old).trace }
+    ensures cause { HasCause (D.device dev.old).faults (D.device dev.new).faults result }
+    ensures handed { (D.device dev.new).handed ≡ (D.device dev.old).handed }
 {
     piece.truncate(len);
     dev.read(at, piece)

@@ -2,7 +2,6 @@
 use Rattle.std.proofs.Common.{◌≡◌, ℕ, zero, suc, ◌≤◌, All, false, List, [], ◌∷◌, length, map, replicate, None, refl, sym, ap, ◌∙◌, subst}
 use Rattle.std.proofs.lemmas.List.{length-replicate}
 use Rattle.trend_num.specs.declared.archive.Rec.{Rec}
-use Rattle.disk_model.specs.Moments.{LeftSince}
 use Rattle.calc_refresh.specs.declared.definition.GroupDefParts.{GroupDefParts}
 use Rattle.calc_refresh.specs.Lists.{lists_of}
 use Rattle.calc_refresh.specs.Refreshed.{fresh}
@@ -12,7 +11,7 @@ use Rattle.group_book.specs.declared.history.GroupOpening.{GroupOpening}
 use Rattle.group_book.specs.Crashes.{IsBookSafe}
 use Rattle.group_book.specs.Histories.{AreRowsEvaluated, AreRowsOver, IsBookLegal}
 use Rattle.group_book.specs.Tapes.{cut}
-use Rattle.group_book.specs.Told.{IsDefined, IsKept, Saved}
+use Rattle.group_book.specs.Told.{IsDefined, IsKept, LeftOf, Saved}
 use Rattle.sheet_law.specs.declared.grid.Grid.{Grid}
 use Rattle.sheet_law.specs.Windows.{complete_windows}
 use Rattle.group_book.proofs.Cuts.{cut-all}
@@ -95,5 +94,5 @@ module _ (def made : GroupDefParts) (same : made ≡ def) (o : GroupOpening) (s 
     cause = λ failed. absurd (cc (failed));
   }
 
-  pub fresh_safe : (text : List ℕ) → IsBookSafe text made.calcs (grid_of made.start made.period) o s.copies [] (LeftSince None)
-  fresh_safe text = record { images = λ t c since left. absurd left.image }
+  pub fresh_safe : (text : List ℕ) → IsBookSafe text made.calcs (grid_of made.start made.period) o s.copies [] (LeftOf None)
+  fresh_safe text = record { images = λ t c since left. absurd left }

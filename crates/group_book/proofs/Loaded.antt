@@ -1,5 +1,5 @@
 -- A book over the device of its group, as it is opened.
-use Rattle.std.proofs.Common.{◌≡◌, inl, inr, ℕ, suc, ◌+◌, ◌^◌, ◌<◌, ◌≤◌, All, false, List, [], ◌∷◌, ◌++◌, Contains, Option, None, Some, IfSome, lit<, Vec, vec_len, length, map, get_or, take, refl, sym, ap, ◌∙◌, subst, arith, length-take}
+use Rattle.std.proofs.Common.{◌≡◌, inl, inr, ℕ, suc, ◌+◌, ◌^◌, ◌<◌, ◌≤◌, All, false, List, [], ◌∷◌, ◌++◌, Contains, Option, Some, lit<, Vec, vec_len, length, map, get_or, take, refl, sym, ap, ◌∙◌, subst, arith, length-take}
 use Rattle.std.specs.declared.alloc.Global.{Global}
 use Rattle.std.proofs.lemmas.Bool.{cases_lt}
 use Rattle.std.proofs.lemmas.List.{get_or-map, length-map, map-append, take_all}
@@ -160,22 +160,16 @@ module _ (text : List ℕ) (def : GroupDefParts) (o : GroupOpening) (copies : Li
       subst (λ rss. AreRowsOver def.calcs (grid_of def.start def.period) o rss saved.rows) (sym (cut_all saved.versions saved_versions))
       (subst (AreRowsOver def.calcs (grid_of def.start def.period) o copies) (sym saved_rows) over)
 
-  -- the values of the opening are those of the blocks
-  in_range : (trace : Option Trace) → IfSome trace (λ t. HoldsBlocks text def saved (seen (Some t)))
-      → IfSome trace (λ t. AreValuesInRange (lists_of o.rows.items))
-  in_range None holds = tt
-  in_range (Some t) holds = subst AreValuesInRange (saved_rows ∙ sym opened_rows) (blocks_range text def saved (seen (Some t)) holds)
-
   pub opened_legal : IsBookLegal def.calcs (grid_of def.start def.period) o [] vs copies rows
   opened_legal = record { turns = tt; last = sym opened; copied = sym copied; scratch = right_rows }
 
-  module _ (trace : Option Trace) (ready : IfSome trace (IsReady saved.end)) (holds : IfSome trace (λ t. HoldsBlocks text def saved (seen (Some t))))
+  module _ (trace : Trace) (ready : IsReady saved.end trace) (holds : HoldsBlocks text def saved (seen trace))
       (ticks faults : ℕ) (moment : o.moment ≡ ticks) where
-    pub opened_kept : length vs ≡ def.inputs → faults ≡ o.faults → IsKept text def o [] copies saved false trace ticks faults
+    pub opened_kept : length vs ≡ def.inputs → faults ≡ o.faults → IsKept text def o [] copies saved false (Some trace) ticks faults
     opened_kept inputs same = record {
       shut = λ usable. ready;
       holds = λ usable. holds;
-      range = in_range trace holds;
+      range = subst AreValuesInRange (saved_rows ∙ sym opened_rows) (blocks_range text def saved (seen trace) holds);
       rows_are = over_saved;
       scratch = right_saved;
       versions = saved_versions ∙ sym opened;
@@ -187,7 +181,7 @@ module _ (text : List ℕ) (def : GroupDefParts) (o : GroupOpening) (copies : Li
       cause = λ failed. absurd (cc (failed));
     }
 
-    pub opened_safe : length def.calcs.inputs ≡ def.inputs → IfSome trace (λ t. length t.calls ≡ ticks)
+    pub opened_safe : length def.calcs.inputs ≡ def.inputs → length trace.calls ≡ ticks
         → IsBookSafe text def.calcs (grid_of def.start def.period) o copies [] (LeftSince trace)
     opened_safe named told = record {
       images = λ t c since left.
@@ -204,11 +198,10 @@ module _ (text : List ℕ) (def : GroupDefParts) (o : GroupOpening) (copies : Li
     }
 
 -- a device on which this was read
-pub loaded_holds : (text : List ℕ) (def : GroupDefParts) (g : SavedGroup) (o : Option Trace)
+pub loaded_holds : (text : List ℕ) (def : GroupDefParts) (g : SavedGroup) (o : Trace)
     → Shows o (λ c. IsReadOf text def.inputs (length def.calcs.calcs) c g)
-    → IfSome o (λ t. HoldsBlocks text def (record { number = g.number; versions = g.versions.items; rows = lists_of g.rows.items; end = g.end }) (seen (Some t)))
-loaded_holds text def g None read = tt
-loaded_holds text def g (Some t) read = record {
+    → HoldsBlocks text def (record { number = g.number; versions = g.versions.items; rows = lists_of g.rows.items; end = g.end }) (seen o)
+loaded_holds text def g t read = record {
   blocks = read.blocks;
   has = read.has;
   number = sym read.number;
@@ -216,15 +209,14 @@ loaded_holds text def g (Some t) read = record {
   end = sym read.end;
 }
 
-pub loaded_ready : (end : ℕ) (o : Option Trace) → IsSettled o → Now o (IsShut end) → IfSome o (IsReady end)
-loaded_ready end None settled ready = tt
-loaded_ready end (Some t) settled ready = record { settled = settled; shut = ready.each (seen (Some t)) (present t) }
+pub loaded_ready : (end : ℕ) (o : Trace) → IsSettled o → Now o (IsShut end) → IsReady end o
+loaded_ready end t settled ready = record { settled = settled; shut = ready.each (seen t) (present t) }
 
 -- ---- why a device is not opened
 
 -- a device could not be read
 pub scan_cause : (text : List ℕ) (def : GroupDefParts) (recovered : List (List Rec)) (calcs : ℕ) → calcs ≡ length def.calcs.calcs
-    → (o : Option Trace) (why : ScanNo)
+    → (o : Trace) (why : ScanNo)
     → ((a : ℕ) (byte : Option ℕ) → why ≡ scan.Damaged a byte → Shows o (λ c. IsGroupDamage text def.inputs calcs c a byte))
     → IsBookCause text def recovered o (scan_refusal why)
 scan_cause text def recovered calcs same o scan.DeviceFault damaged = tt

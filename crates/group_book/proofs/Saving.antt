@@ -8,8 +8,8 @@ use Rattle.trend_num.specs.declared.value.CalcValue.{CalcValue}
 use Rattle.disk_model.specs.Calls.{Rose, Sees}
 use Rattle.disk_model.specs.Gates.{IsGuarded, IsOpen, IsShut, open_byte}
 use Rattle.disk_model.specs.Images.{FromOld, IsSettled, MayLeave, Now}
-use Rattle.disk_model.specs.Moments.{ComesAfter, During, LeftSince}
-use Rattle.disk_model.specs.Traces.{Trace, seen, written}
+use Rattle.disk_model.specs.Moments.{During, LeftSince}
+use Rattle.disk_model.specs.Traces.{Device, Trace, moment, seen, written}
 use Rattle.disk_model.proofs.Bytes.{length-written}
 use Rattle.disk_model.proofs.Images.{present}
 use Rattle.disk_model.proofs.Moments.{during_now, only_since, parted}
@@ -30,10 +30,10 @@ use Rattle.group_book.specs.declared.turn.Turn.{Turn}
 use Rattle.group_book.specs.declared.turn.Turn.TheVariants.{Refresh, Ask, Save}
 use Rattle.group_book.specs.declared.history.GroupOpening.{GroupOpening}
 use Rattle.group_book.specs.Tapes.{BookWalk, after_turn, cut, saved_at, book_start, versions_since, book_walked}
-use Rattle.group_book.specs.Histories.{AreRowsEvaluated, AreRowsOver, AreValuesInRange, IsBookLegal, IsRight, NeverFall}
+use Rattle.group_book.specs.Histories.{AreRowsEvaluated, AreRowsOver, IsBookLegal, IsRight, NeverFall}
 use Rattle.group_book.specs.Crashes.{IsBookSafe, StandsForOne}
 use Rattle.group_book.specs.Saves.{IsListed, IsOther, IsSame, ListsChanges}
-use Rattle.group_book.specs.Told.{AreFlagged, HoldsBlocks, IsDefined, IsKept, IsReady, Saved, count_of, trace_of}
+use Rattle.group_book.specs.Told.{AreFlagged, HoldsBlocks, IsDefined, IsKept, IsReady, LeftOf, Saved, faults_of, moment_of, trace_of}
 use Rattle.group_book.proofs.Cuts.{cut-all, never_refl}
 use Rattle.group_book.proofs.Evaluations.{cut_windows}
 use Rattle.group_book.proofs.Ranges.{rows_range}
@@ -102,51 +102,30 @@ next_block_is def s saved vs vs' old b group grid number versions same windows r
 }
 
 -- what a device keeps that is there, and of which no call failed
-pub kept_there : {D : Type 0} (trace : D → Option Trace) (ticks faults : D → ℕ) (text : List ℕ) (def : GroupDefParts) (o : GroupOpening)
+pub kept_there : {D : Type 0} (device : D → Device) (text : List ℕ) (def : GroupDefParts) (o : GroupOpening)
     (tape : List Turn) (copies : List (List Rec)) (saved : Saved) (failed : Bool) (dev : Option D) (d : D) → dev ≡ Some d → failed ≡ false
-    → IsKept text def o tape copies saved failed (trace_of trace dev) (count_of ticks dev) (count_of faults dev)
-    → IsKept text def o tape copies saved false (trace d) (ticks d) (faults d)
-kept_there trace ticks faults text def o tape copies saved failed dev d there usable kept =
-    subst (λ x. IsKept text def o tape copies saved false (trace_of trace x) (count_of ticks x) (count_of faults x)) there
-    (subst (λ f. IsKept text def o tape copies saved f (trace_of trace dev) (count_of ticks dev) (count_of faults dev)) usable kept)
+    → IsKept text def o tape copies saved failed (trace_of device dev) (moment_of device dev) (faults_of device dev)
+    → IsKept text def o tape copies saved false (Some (device d).trace) (moment (device d).trace) (device d).faults
+kept_there device text def o tape copies saved failed dev d there usable kept =
+    subst (λ x. IsKept text def o tape copies saved false (trace_of device x) (moment_of device x) (faults_of device x)) there
+    (subst (λ f. IsKept text def o tape copies saved f (trace_of device dev) (moment_of device dev) (faults_of device dev)) usable kept)
 
 -- what a device has while it is written
-abbrev pub IsWriting : BlockParts → ℕ → Option Trace → List ℕ → Type 0
+abbrev pub IsWriting : BlockParts → ℕ → Trace → List ℕ → Type 0
 IsWriting b at old = FromOld old (IsGuarded (at + 1) (block_image b ++ 0 ∷ []) at)
 
 -- each image of a device that is ready has what is read
-pub holds_now : (text : List ℕ) (def : GroupDefParts) (saved : Saved) (o : Option Trace) → IfSome o (IsReady saved.end)
-    → IfSome o (λ t. HoldsBlocks text def saved (seen (Some t))) → (d : List ℕ) → MayLeave o d → HoldsBlocks text def saved d
-holds_now text def saved None ready has d may = absurd may.image
-holds_now text def saved (Some t) ready has d may = subst (HoldsBlocks text def saved) (sym (ready.settled.each d may)) has
+pub holds_now : (text : List ℕ) (def : GroupDefParts) (saved : Saved) (o : Trace) → IsReady saved.end o
+    → HoldsBlocks text def saved (seen o) → (d : List ℕ) → MayLeave o d → HoldsBlocks text def saved d
+holds_now text def saved t ready has d may = subst (HoldsBlocks text def saved) (sym (ready.settled.each d may)) has
 
 module _ (text : List ℕ) (def : GroupDefParts) (o : GroupOpening) (tape : List Turn) (versions : List ℕ) (copies : List (List Rec))
-    (rows : List (List CalcValue)) (saved : Saved) (old : Option Trace) (ticks faults : ℕ)
+    (rows : List (List CalcValue)) (saved : Saved) (old : Trace) (ticks faults : ℕ)
     (group : IsGroup def.inputs def.calcs) (grid : IsGrid (grid_of def.start def.period)) (inputs : length copies ≡ def.inputs)
     (legal : IsBookLegal def.calcs (grid_of def.start def.period) o tape versions copies rows)
     (over : AreRowsOver def.calcs (grid_of def.start def.period) o copies rows)
-    (kept : IsKept text def o tape copies saved false old ticks faults)
+    (kept : IsKept text def o tape copies saved false (Some old) ticks faults)
     (b : BlockParts) (is : IsNextBlock saved (length def.calcs.calcs) versions (complete_windows (grid_of def.start def.period) copies) rows b) where
-  -- the values of the opening are in the range of numbers, on a device that may leave an image
-  abbrev IsFine : Type 0
-  IsFine = AreValuesInRange (lists_of o.rows.items)
-
-  fine : (d : List ℕ) → MayLeave old d → IsFine
-  fine d may = by old kept.range may
-    where
-      by : (x : Option Trace) → IfSome x (λ t. IsFine) → MayLeave x d → IsFine
-      by None range may = absurd may.image
-      by (Some t) range may = range
-
-  range_after : (new : Option Trace) → ComesAfter old new → IfSome new (λ t. IsFine)
-  range_after new after = by old new kept.range after
-    where
-      by : (x y : Option Trace) → IfSome x (λ t. IsFine) → ComesAfter x y → IfSome y (λ t. IsFine)
-      by None None range after = tt
-      by None (Some u) range after = absurd after
-      by (Some t) None range after = tt
-      by (Some t) (Some u) range after = range
-
   -- the rows are those over what the versions say
   over_here : AreRowsOver def.calcs (grid_of def.start def.period) o (cut versions copies) rows
   over_here = subst (λ rss. AreRowsOver def.calcs (grid_of def.start def.period) o rss rows)
@@ -167,14 +146,14 @@ module _ (text : List ℕ) (def : GroupDefParts) (o : GroupOpening) (tape : List
       (never_refl o.versions.items)))
 
   -- it may follow the blocks that are there
-  follows : IsFine → (d : List ℕ) → (h : HoldsBlocks text def saved d) → MayFollow (length def.calcs.calcs) (last_of (unsaved def.inputs) h.blocks) b
-  follows right d h = record {
+  follows : (d : List ℕ) → (h : HoldsBlocks text def saved d) → MayFollow (length def.calcs.calcs) (last_of (unsaved def.inputs) h.blocks) b
+  follows d h = record {
     number = is.number ∙ ap (λ n. n + 1) (sym h.number);
     inputs = ap length is.versions_are ∙ low.inputs ∙ ap length (sym h.versions);
     rises = subst (λ vs. (i : ℕ) → i < length vs → get_or vs i 0 ≤ get_or b.versions i 0) (sym h.versions)
         (subst (λ vs. (i : ℕ) → i < length saved.versions → get_or saved.versions i 0 ≤ get_or vs i 0) (sym is.versions_are) low.rises);
     windows = more;
-    rows = is.changes.rows_are (rows_range def.calcs (grid_of def.start def.period) o copies rows over right);
+    rows = is.changes.rows_are (rows_range def.calcs (grid_of def.start def.period) o copies rows over kept.range);
   }
     where
       some : 0 < length saved.rows
@@ -205,12 +184,12 @@ module _ (text : List ℕ) (def : GroupDefParts) (o : GroupOpening) (tape : List
   next_saved = record { number = b.number; versions = versions; rows = rows; end = saved.end + block_size b }
 
   -- after its open gate it is saved
-  holds_next : IsFine → (d c : List ℕ) → HoldsBlocks text def saved d → IsGuarded (saved.end + 1) (block_image b ++ 0 ∷ []) saved.end d c
+  holds_next : (d c : List ℕ) → HoldsBlocks text def saved d → IsGuarded (saved.end + 1) (block_image b ++ 0 ∷ []) saved.end d c
       → IsOpen saved.end c → HoldsBlocks text def next_saved c
-  holds_next right d c h guarded opened = record {
+  holds_next d c h guarded opened = record {
     blocks = h.blocks ++ b ∷ [];
     has = block_opened text d c def.inputs (length def.calcs.calcs) h.blocks saved.rows h.has b saved.end h.end guarded rows opened
-        (follows right d h) (gives d h);
+        (follows d h) (gives d h);
     number = ap (λ (x : BlockParts). x.number) (last_of-push (unsaved def.inputs) h.blocks b);
     versions = ap (λ (x : BlockParts). x.versions) (last_of-push (unsaved def.inputs) h.blocks b) ∙ is.versions_are;
     end = end_of-push (blocks_at (length text)) h.blocks b ∙ ap (λ n. n + block_size b) h.end;
@@ -230,7 +209,7 @@ module _ (text : List ℕ) (def : GroupDefParts) (o : GroupOpening) (tape : List
   either_saved c from =
       let h = holds_now text def saved old (kept.shut refl) (kept.holds refl) from.0 from.1 in
       elim (cases_eq (get_or c saved.end 0) open_byte) [
-        | inl opened ↦ inr (holds_next (fine from.0 from.1) from.0 c h from.2 opened)
+        | inl opened ↦ inr (holds_next from.0 c h from.2 opened)
         | inr closed ↦ inl (record {
           blocks = h.blocks;
           has = block_closed text from.0 c def.inputs (length def.calcs.calcs) h.blocks saved.rows h.has b saved.end h.end from.2 closed;
@@ -242,7 +221,7 @@ module _ (text : List ℕ) (def : GroupDefParts) (o : GroupOpening) (tape : List
 
   -- ---- what a crash leaves
 
-  module _ (safe : IsBookSafe text def.calcs (grid_of def.start def.period) o copies tape (LeftSince old)) (new : Option Trace)
+  module _ (safe : IsBookSafe text def.calcs (grid_of def.start def.period) o copies tape (LeftSince old)) (new : Trace)
       (during : During old new (IsWriting b saved.end old)) where
     stands_one : (t : ℕ) (c : List ℕ) → IsEither c
         → StandsForOne text def.calcs (grid_of def.start def.period) o copies
@@ -279,12 +258,12 @@ module _ (text : List ℕ) (def : GroupDefParts) (o : GroupOpening) (tape : List
 
   -- ---- a save that failed
 
-  pub kept_faulted : (new : Option Trace) (ticks' faults' : ℕ) → ComesAfter old new → ticks ≤ ticks' → Rose faults faults'
-      → IsKept text def o tape copies saved true new ticks' faults'
-  kept_faulted new ticks' faults' after later rose = record {
+  pub kept_faulted : (new : Trace) (ticks' faults' : ℕ) → ticks ≤ ticks' → Rose faults faults'
+      → IsKept text def o tape copies saved true (Some new) ticks' faults'
+  kept_faulted new ticks' faults' later rose = record {
     shut = λ usable. absurd (cc (usable));
     holds = λ usable. absurd (cc (usable));
-    range = range_after new after;
+    range = kept.range;
     rows_are = kept.rows_are;
     scratch = kept.scratch;
     versions = kept.versions;
@@ -298,10 +277,10 @@ module _ (text : List ℕ) (def : GroupDefParts) (o : GroupOpening) (tape : List
 
   -- ---- a save that is done
 
-  module _ (new : Option Trace) (ticks' : ℕ) (later : ticks < ticks') (during : During old new (IsWriting b saved.end old))
+  module _ (new : Trace) (ticks' : ℕ) (later : ticks < ticks') (during : During old new (IsWriting b saved.end old))
       (sees : Sees new (written (written (seen old) (saved.end + 1) (block_image b ++ 0 ∷ [])) saved.end (open_byte ∷ [])))
       (settled : IsSettled new) (ready : Now new (IsShut (saved.end + block_size b)))
-      (told : IfSome new (λ t. length t.calls ≡ ticks')) where
+      (told : length new.calls ≡ ticks') where
     abbrev pub turn : Turn
     turn = Save b.number ticks'
 
@@ -322,29 +301,24 @@ module _ (text : List ℕ) (def : GroupDefParts) (o : GroupOpening) (tape : List
     holds_settled : (c : List ℕ) → MayLeave new c → HoldsBlocks text def next_saved c
     holds_settled c may =
         let from = (during_now old new (IsWriting b saved.end old) during).each c may in
-        holds_next (fine from.0 from.1) from.0 c (holds_now text def saved old (kept.shut refl) (kept.holds refl) from.0 from.1) from.2
-        (opened old new (kept.shut refl) during.later sees settled c may)
+        holds_next from.0 c (holds_now text def saved old (kept.shut refl) (kept.holds refl) from.0 from.1) from.2
+        opened
       where
-        opened : (x y : Option Trace) → IfSome x (IsReady saved.end) → ComesAfter x y → Sees y (written (written (seen x) (saved.end + 1)
-            (block_image b ++ 0 ∷ [])) saved.end (open_byte ∷ [])) → IsSettled y → (c : List ℕ) → MayLeave y c → IsOpen saved.end c
-        opened x None shut after sees settled c may = absurd may.image
-        opened None (Some u) shut after sees settled c may = absurd after
-        opened (Some t) (Some u) shut after sees settled c may =
+        there : saved.end < length (seen old)
+        there = (kept.shut refl).shut.there
+
+        opened : IsOpen saved.end c
+        opened =
             ap (λ l. get_or l saved.end 0) (settled.each c may ∙ sees)
-            ∙ written_byte (written (seen (Some t)) (saved.end + 1) (block_image b ++ 0 ∷ [])) saved.end open_byte
-            (omega (
-              arith,
-              shut.shut.there,
-              length-written (seen (Some t)) (saved.end + 1) (block_image b ++ 0 ∷ [])
-                  (omega (arith, shut.shut.there)),
-            ))
+            ∙ written_byte (written (seen old) (saved.end + 1) (block_image b ++ 0 ∷ [])) saved.end open_byte
+            (omega (arith, there, length-written (seen old) (saved.end + 1) (block_image b ++ 0 ∷ []) (omega (arith, there))))
 
     pub kept_saved : (faults' : ℕ) → faults' ≡ faults
-        → IsKept text def o (tape ++ turn ∷ []) copies next_saved false new ticks' faults'
+        → IsKept text def o (tape ++ turn ∷ []) copies next_saved false (Some new) ticks' faults'
     kept_saved faults' same = record {
-      shut = λ usable. shown new settled ready;
-      holds = λ usable. held new holds_settled;
-      range = range_after new during.later;
+      shut = λ usable. record { settled = settled; shut = ready.each (seen new) (present new) };
+      holds = λ usable. holds_settled (seen new) (present new);
+      range = kept.range;
       rows_are = over_here;
       scratch = scratch_here;
       versions = legal.last ∙ sym (saved-save (book_start o) o.versions.items tape b.number ticks');
@@ -355,16 +329,6 @@ module _ (text : List ℕ) (def : GroupDefParts) (o : GroupOpening) (tape : List
       faultless = λ usable. same ∙ kept.faultless refl;
       cause = λ failed. absurd (cc (failed));
     }
-      where
-        shown : (x : Option Trace) → IsSettled x → Now x (IsShut (saved.end + block_size b))
-            → IfSome x (λ t. IsReady (saved.end + block_size b) t)
-        shown None settled ready = tt
-        shown (Some t) settled ready = record { settled = settled; shut = ready.each (seen (Some t)) (present t) }
-
-        held : (x : Option Trace) → ((c : List ℕ) → MayLeave x c → HoldsBlocks text def next_saved c)
-            → IfSome x (λ t. HoldsBlocks text def next_saved (seen (Some t)))
-        held None has = tt
-        held (Some t) has = has (seen (Some t)) (present t)
 
     pub safe_saved : IsBookSafe text def.calcs (grid_of def.start def.period) o copies tape (LeftSince old)
         → IsBookSafe text def.calcs (grid_of def.start def.period) o copies (tape ++ turn ∷ []) (LeftSince new)
@@ -395,13 +359,13 @@ module _ (text : List ℕ) (def : GroupDefParts) (o : GroupOpening) (tape : List
     pub book_saved : (tape' : List Turn) (next : Saved) (failed : Bool) (faults' : ℕ) → tape' ≡ tape ++ turn ∷ [] → next ≡ next_saved
         → failed ≡ false → faults' ≡ faults → IsBookSafe text def.calcs (grid_of def.start def.period) o copies tape (LeftSince old)
         → IsBookLegal def.calcs (grid_of def.start def.period) o tape' versions copies rows
-        × IsKept text def o tape' copies next failed new ticks' faults'
+        × IsKept text def o tape' copies next failed (Some new) ticks' faults'
         × IsBookSafe text def.calcs (grid_of def.start def.period) o copies tape' (LeftSince new)
     book_saved tape' next failed faults' longer is_next usable same safe = (
       subst (λ l. IsBookLegal def.calcs (grid_of def.start def.period) o l versions copies rows) (sym longer) legal_saved,
-      subst (λ l. IsKept text def o l copies next failed new ticks' faults') (sym longer)
-          (subst (λ x. IsKept text def o (tape ++ turn ∷ []) copies x failed new ticks' faults') (sym is_next)
-          (subst (λ f. IsKept text def o (tape ++ turn ∷ []) copies next_saved f new ticks' faults') (sym usable) (kept_saved faults' same))),
+      subst (λ l. IsKept text def o l copies next failed (Some new) ticks' faults') (sym longer)
+          (subst (λ x. IsKept text def o (tape ++ turn ∷ []) copies x failed (Some new) ticks' faults') (sym is_next)
+          (subst (λ f. IsKept text def o (tape ++ turn ∷ []) copies next_saved f (Some new) ticks' faults') (sym usable) (kept_saved faults' same))),
       subst (λ l. IsBookSafe text def.calcs (grid_of def.start def.period) o copies l (LeftSince new)) (sym longer) (safe_saved safe),
     )
 
@@ -414,7 +378,7 @@ abbrev pub KeepsAll : (text : List ℕ) (def : GroupDefParts) (tags : List ℕ) 
 KeepsAll text def tags o versions sheet saved failed trace ticks faults on tape rows flags = IsDefined def tags sheet
     × IsBookLegal def.calcs (grid_of def.start def.period) o tape versions sheet.copies sheet.rows
     × IsKept text def o tape sheet.copies (record saved { rows = rows }) failed trace ticks faults
-    × IsBookSafe text def.calcs (grid_of def.start def.period) o sheet.copies tape (LeftSince trace)
+    × IsBookSafe text def.calcs (grid_of def.start def.period) o sheet.copies tape (LeftOf trace)
     × on
     × AreRowsEvaluated def.calcs (grid_of def.start def.period) o tape sheet.copies sheet.rows sheet.evals
     × AreFlagged flags rows sheet

@@ -1,5 +1,5 @@
 -- What the opening of a group's device gives, and why a device is not opened.
-use Rattle.std.specs.Prelude.{◌≡◌, ℕ, ◌<◌, ◌≤◌, List, length, map, slice_index, slice_index_or, Option, Some, Err}
+use Rattle.std.specs.Prelude.{◌≡◌, ℕ, ◌<◌, ◌≤◌, List, length, map, slice_index, slice_index_or, Some, Err}
 use Rattle.trend_num.specs.declared.archive.Rec.{Rec}
 use Rattle.trend_num.specs.declared.value.CalcValue.{CalcValue}
 use Rattle.archive_file.specs.declared.failure.ScanNo.{ScanNo}
@@ -22,7 +22,7 @@ abbrev pub StandsForGroup : List ℕ → GroupDefParts → List ℕ → List (Li
 StandsForGroup text def versions rows c = StandsFor text def.inputs (length def.calcs.calcs) c versions rows
 
 -- an image is one that a crash might have left before, or stands for the same
-abbrev pub BookStaysSame : List ℕ → GroupDefParts → Option Trace → List ℕ → Type 0
+abbrev pub BookStaysSame : List ℕ → GroupDefParts → Trace → List ℕ → Type 0
 BookStaysSame text def o c = IsLeftOrSame text def.inputs (length def.calcs.calcs) o c
 
 -- the first input whose version is above the number of records that were recovered
@@ -56,8 +56,8 @@ pub record SavesShape (text : List ℕ) (def : GroupDefParts) (recovered : List 
   pub stands : StandsForGroup text def versions rows c
   pub misshapen : IsMisshapen def recovered versions rows windows size
 
--- why a device is not opened, where its trace is known
-abbrev pub IsBookCause : List ℕ → GroupDefParts → List (List Rec) → Option Trace → LoadNo → Type 0
+-- why a device is not opened
+abbrev pub IsBookCause : List ℕ → GroupDefParts → List (List Rec) → Trace → LoadNo → Type 0
 IsBookCause text def recovered o DeviceFault = Unit {0}
 IsBookCause text def recovered o (Damaged a byte) = Shows o (λ c. IsGroupDamage text def.inputs (length def.calcs.calcs) c a byte)
 IsBookCause text def recovered o (Ahead input version records) = Shows o (SavesAhead text def recovered input version records)

@@ -1,11 +1,11 @@
 -- What a save writes: the rows that changed since the last one.
-use Rattle.std.specs.Prelude.{◌≡◌, ◌≢◌, ℕ, pos, ◌+◌, ◌<◌, ◌≤◌, true, false, List, ◌∷◌, ◌++◌, [], All, AllPairs, length, Option, None, Some}
+use Rattle.std.specs.Prelude.{◌≡◌, ◌≢◌, ℕ, pos, ◌+◌, ◌<◌, ◌≤◌, true, false, List, ◌∷◌, ◌++◌, [], All, AllPairs, length, None, Some}
 use Rattle.trend_num.specs.declared.value.Bad.TheVariants.{NoData, DivZero, Range}
 use Rattle.trend_num.specs.declared.value.CalcValue.{CalcValue}
 use Rattle.trend_num.specs.declared.value.CalcValue.TheVariants.{Num, Bad}
 use Rattle.disk_model.specs.Calls.{Sees}
 use Rattle.disk_model.specs.Gates.{open_byte}
-use Rattle.disk_model.specs.Traces.{Trace, seen, written}
+use Rattle.disk_model.specs.Traces.{seen, written, moment, Device}
 use Rattle.sheet_law.specs.Scratch.{column}
 use Rattle.sheet_law.specs.Windows.{complete_windows}
 use Rattle.group_layout.specs.declared.block.BlockRow.{BlockRow}
@@ -60,15 +60,15 @@ pub record IsBlockOf {D : Type 0} (s : ToldBook D) (b : BlockParts) : Type 0 whe
 
 -- a book on a device has saved its rows as a block. The device then has the block after an open gate, and a later
 -- clock. The tape has the block's number and that clock
-pub record IsSaved {D : Type 0} (trace : D → Option Trace) (ticks : D → ℕ) (before : D) (old new : ToldBook D) : Type 0 where
+pub record IsSaved {D : Type 0} (device : D → Device) (before : D) (old new : ToldBook D) : Type 0 where
   pub after : D
   pub block : BlockParts
   pub block_is : IsBlockOf old block
-  pub later : ticks before < ticks after
-  pub wrote : Sees (trace after) (written (written (seen (trace before)) (old.saved.end + 1) (block_image block ++ 0 ∷ []))
+  pub later : moment (device before).trace < moment (device after).trace
+  pub wrote : Sees (device after).trace (written (written (seen (device before).trace) (old.saved.end + 1) (block_image block ++ 0 ∷ []))
       old.saved.end (open_byte ∷ []))
   pub changed : new ≡ record old {
-    tape = old.tape ++ Save block.number (ticks after) ∷ [];
+    tape = old.tape ++ Save block.number (moment (device after).trace) ∷ [];
     dev = Some after;
     saved = record {
       number = block.number;

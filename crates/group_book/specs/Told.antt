@@ -7,7 +7,7 @@ use Rattle.disk_model.specs.Calls.{Rose}
 use Rattle.disk_model.specs.Gates.{IsShut}
 use Rattle.disk_model.specs.Images.{IsSettled}
 use Rattle.disk_model.specs.Moments.{LeftSince}
-use Rattle.disk_model.specs.Traces.{FitsName, HandOut, Trace, seen}
+use Rattle.disk_model.specs.Traces.{Device, FitsName, Trace, moment, seen}
 use Rattle.tag_cell.specs.declared.entry.Pulled.{Pulled}
 use Rattle.calc_refresh.specs.declared.definition.GroupDefParts.{GroupDefParts}
 use Rattle.calc_refresh.specs.Lists.{lists_of}
@@ -74,17 +74,16 @@ pub record HoldsBlocks (text : List ℕ) (def : GroupDefParts) (saved : Saved) (
 
 -- a device that has settled, with a closed gate where the next block goes
 pub record IsReady (end : ℕ) (t : Trace) : Type 0 where
-  pub settled : IsSettled (Some t)
-  pub shut : IsShut end (seen (Some t))
+  pub settled : IsSettled t
+  pub shut : IsShut end (seen t)
 
 -- As long as no call of the device failed, it has settled on what the last save left: one of the versions of the tape, and
 -- the rows at that version. They are from scratch if the opening is right, and in any case in each window that was due
--- since; in any other window they are those of the opening. A device that tells its calls opens with values in the range
--- of numbers.
+-- since; in any other window they are those of the opening. A book on a device opens with values in the range of numbers.
 pub record IsKept (text : List ℕ) (def : GroupDefParts) (o : GroupOpening) (tape : List Turn) (copies : List (List Rec))
     (saved : Saved) (failed : Bool) (trace : Option Trace) (ticks faults : ℕ) : Type 0 where
   pub shut : failed ≡ false → IfSome trace (λ t. IsReady saved.end t)
-  pub holds : failed ≡ false → IfSome trace (λ t. HoldsBlocks text def saved (seen (Some t)))
+  pub holds : failed ≡ false → IfSome trace (λ t. HoldsBlocks text def saved (seen t))
   pub range : IfSome trace (λ t. AreValuesInRange (lists_of o.rows.items))
   pub rows_are : AreRowsOver def.calcs (grid_of def.start def.period) o (cut saved.versions copies) saved.rows
   pub scratch : IsRight def.calcs (grid_of def.start def.period) o copies
@@ -123,23 +122,33 @@ abbrev pub device_name_of : List ℕ → List ℕ
 device_name_of text = upto_comma text ++ codes ".grp"
 
 -- the device of a book may be kept under the name of its group's device
-abbrev pub IsOwnDevice : {D : Type 0} → (D → HandOut) → List ℕ → Option D → Type 0
-IsOwnDevice hand_out text None = Unit {0}
-IsOwnDevice hand_out text (Some dev) = FitsName (device_name_of text) (hand_out dev)
+abbrev pub IsOwnDevice : {D : Type 0} → (D → Device) → List ℕ → Option D → Type 0
+IsOwnDevice device text None = Unit {0}
+IsOwnDevice device text (Some dev) = FitsName (device_name_of text) (device dev).handed
 
 -- a book with a definition text has a device, and that one may be kept under the name of its group's device
-abbrev pub IsAtHome : {D : Type 0} → (D → HandOut) → List ℕ → Option D → Type 0
-IsAtHome hand_out text dev = IsOnDevice text dev × IsOwnDevice hand_out text dev
-
--- a count of the device, or 0 without a device
-abbrev pub count_of : {D : Type 0} → (D → ℕ) → Option D → ℕ
-count_of count None = 0
-count_of count (Some dev) = count dev
+abbrev pub IsAtHome : {D : Type 0} → (D → Device) → List ℕ → Option D → Type 0
+IsAtHome device text dev = IsOnDevice text dev × IsOwnDevice device text dev
 
 -- the trace of the device, if there is a device
-abbrev pub trace_of : {D : Type 0} → (D → Option Trace) → Option D → Option Trace
-trace_of trace None = None
-trace_of trace (Some dev) = trace dev
+abbrev pub trace_of : {D : Type 0} → (D → Device) → Option D → Option Trace
+trace_of device None = None
+trace_of device (Some dev) = Some (device dev).trace
+
+-- the clock of the device, or 0 without a device
+abbrev pub moment_of : {D : Type 0} → (D → Device) → Option D → ℕ
+moment_of device None = 0
+moment_of device (Some dev) = moment (device dev).trace
+
+-- how often a call of the device has failed, or 0 without a device
+abbrev pub faults_of : {D : Type 0} → (D → Device) → Option D → ℕ
+faults_of device None = 0
+faults_of device (Some dev) = (device dev).faults
+
+-- a crash at a moment or later might have left this image of the device; false without a device
+abbrev pub LeftOf : Option Trace → ℕ → List ℕ → Type 0
+LeftOf None = λ t c. ⊥
+LeftOf (Some trace) = LeftSince trace
 
 -- ---- what a call changes
 
@@ -171,7 +180,7 @@ pub record IsAsked {D : Type 0} (reader row calc k : ℕ) (reply : Option CalcVa
 
 -- ---- what is returned at the end
 
--- the history of a book on a device with this trace, this clock and this count of faults
+-- the history of a book, given the trace of its device, if it has one, the clock and the count of faults
 pub record IsBookHistory (h : GroupHistory) (trace : Option Trace) (ticks faults : ℕ) : Type 0 where
   pub group : IsGroup h.def.inputs h.def.calcs
   pub grid : IsGrid (grid_of h.def.start h.def.period)
@@ -180,7 +189,7 @@ pub record IsBookHistory (h : GroupHistory) (trace : Option Trace) (ticks faults
   pub evaluated : AreRowsEvaluated h.def.calcs (grid_of h.def.start h.def.period) h.opening h.tape.items
       (lists_of h.copies.items) (lists_of h.rows.items) h.evals
   pub safe : IsBookSafe h.text.items h.def.calcs (grid_of h.def.start h.def.period) h.opening (lists_of h.copies.items) h.tape.items
-      (LeftSince trace)
+      (LeftOf trace)
   pub past : (book_walked (book_start h.opening) h.tape.items).moment ≤ ticks
   pub opened_before : h.opening.moment ≤ ticks
   pub faults_since : (faults ≡ h.opening.faults) ⊎ Rose h.opening.faults faults

@@ -4,7 +4,7 @@ ghost use Rattle.disk_model.specs.Calls.{Rose};
 ghost use Rattle.trend_num.specs.declared.archive.Rec.{Rec};
 ghost use Rattle.calc_refresh.specs.Lists.{lists_of};
 ghost use Rattle.calc_refresh.specs.Sheet.{grid_of};
-ghost use Rattle.group_book.specs.Told.{IsBookHistory, IsOnDevice, IsOwnDevice, count_of, trace_of, versions_of};
+ghost use Rattle.group_book.specs.Told.{IsBookHistory, IsOnDevice, IsOwnDevice, faults_of, moment_of, trace_of, versions_of};
 
 use crate::history::{GroupHistory, GroupOpening};
 use crate::turn::Turn;
@@ -44,11 +44,10 @@ impl<D: Disk> Model for Book<D> {
     ghost use Rattle.calc_check.specs.Code.{group_code};
     ghost use Rattle.calc_refresh.specs.Code.{sheet_code};
     ghost use Rattle.calc_refresh.specs.Lists.{lists_of};
-    ghost use Rattle.disk_model.specs.Moments.{LeftSince};
     ghost use Rattle.calc_refresh.specs.Sheet.{grid_of};
     ghost use Rattle.group_book.specs.Crashes.{IsBookSafe};
     ghost use Rattle.group_book.specs.Histories.{AreRowsEvaluated, IsBookLegal};
-    ghost use Rattle.group_book.specs.Told.{ToldBook, AreFlagged, IsAtHome, IsDefined, IsKept, count_of, trace_of};
+    ghost use Rattle.group_book.specs.Told.{ToldBook, AreFlagged, IsAtHome, IsDefined, IsKept, LeftOf, faults_of, moment_of, trace_of};
 
     ghost Value = { ToldBook D };
 
@@ -71,9 +70,9 @@ impl<D: Disk> Model for Book<D> {
         × IsBookLegal b.def.calcs (grid_of b.def.start b.def.period) b.opening b.tape.items b.versions.items b.sheet.copies b.sheet.rows
         × IsKept b.text.items b.def b.opening b.tape.items b.sheet.copies
         (record { number = b.number; versions = b.saved_versions.items; rows = lists_of b.saved_rows.items; end = b.end }) b.failed
-        (trace_of D.trace b.dev) (count_of D.ticks b.dev) (count_of D.fault_count b.dev)
-        × IsBookSafe b.text.items b.def.calcs (grid_of b.def.start b.def.period) b.opening b.sheet.copies b.tape.items (LeftSince (trace_of D.trace b.dev))
-        × IsAtHome D.hand_out b.text.items b.dev
+        (trace_of D.device b.dev) (moment_of D.device b.dev) (faults_of D.device b.dev)
+        × IsBookSafe b.text.items b.def.calcs (grid_of b.def.start b.def.period) b.opening b.sheet.copies b.tape.items (LeftOf (trace_of D.device b.dev))
+        × IsAtHome D.device b.text.items b.dev
         × AreRowsEvaluated b.def.calcs (grid_of b.def.start b.def.period) b.opening b.tape.items b.sheet.copies b.sheet.rows b.sheet.evals
         × AreFlagged b.unsaved.items (lists_of b.saved_rows.items) b.sheet };
 }
@@ -140,7 +139,7 @@ impl<D: Disk> Book<D> {
 
     /// Returns how often a call of the device has failed, or 0 without a device.
     pub fn device_faults(&self) -> u64
-        ensures { result ≡ count_of D.fault_count self.now.dev }
+        ensures { result ≡ faults_of D.device self.now.dev }
     {
         match &self.dev {
             None => 0,
@@ -154,7 +153,7 @@ impl<D: Disk> Book<D> {
     pub fn into_history(self) -> (Option<D>, GroupHistory)
         ensures device { result.0 ≡ self.dev }
         ensures there { IsOnDevice self.text result.0 }
-        ensures own { IsOwnDevice D.hand_out self.text result.0 }
+        ensures own { IsOwnDevice D.device self.text result.0 }
         ensures group { result.1.group ≡ self.group }
         ensures def { result.1.def ≡ self.def }
         ensures text { result.1.text.items ≡ self.text }
@@ -169,9 +168,9 @@ impl<D: Disk> Book<D> {
         ensures same_group { self.sheet.group ≡ self.def.calcs }
         ensures same_grid { self.sheet.grid ≡ grid_of self.def.start self.def.period }
 
-        ensures history { IsBookHistory result.1 (trace_of D.trace result.0) (count_of D.ticks result.0) (count_of D.fault_count result.0) }
-        ensures rose { self.failed ≡ true → Rose self.opening.faults (count_of D.fault_count result.0) }
-        ensures faultless { self.failed ≡ false → count_of D.fault_count result.0 ≡ self.opening.faults }
+        ensures history { IsBookHistory result.1 (trace_of D.device result.0) (moment_of D.device result.0) (faults_of D.device result.0) }
+        ensures rose { self.failed ≡ true → Rose self.opening.faults (faults_of D.device result.0) }
+        ensures faultless { self.failed ≡ false → faults_of D.device result.0 ≡ self.opening.faults }
     {
         let Book {
             group,

@@ -1,5 +1,5 @@
 // A book over the device of its group.
-ghost use Rattle.std.specs.Prelude.{◌≡◌, ◌^◌, ◌<◌, ◌≤◌, [], All, Some, IfErr, IfOk, IsSome, OnOk, false, length, map, replicate, take, vec_len};
+ghost use Rattle.std.specs.Prelude.{◌≡◌, ◌^◌, ◌<◌, ◌≤◌, [], All, Some, IfErr, IfOk, IfSome, IsSome, OnOk, false, length, map, replicate, take, vec_len};
 ghost use Rattle.disk_model.specs.Calls.{Shows};
 ghost use Rattle.disk_model.specs.Moments.{During};
 ghost use Rattle.disk_model.specs.Traces.{FitsName};
@@ -13,7 +13,7 @@ ghost use Rattle.group_book.specs.declared.refusal.LoadNo.TheVariants.{Ahead, Da
 ghost use Rattle.group_book.specs.Openings.{CountsBookRefusal, IsAheadOrMemory, IsBookCause, IsRefused, StandsForGroup, BookStaysSame, scan_refusal};
 ghost use Rattle.group_book.specs.Tapes.{cut};
 ghost use Rattle.sheet_law.specs.Windows.{complete_windows};
-ghost use Rattle.group_book.specs.Told.{HoldsBlocks, count_of, device_name_of, trace_of, versions_of};
+ghost use Rattle.group_book.specs.Told.{HoldsBlocks, device_name_of, faults_of, moment_of, versions_of};
 
 use crate::book::Book;
 use crate::history::GroupOpening;
@@ -61,23 +61,23 @@ pub fn load<D: Disk>(
     requires tags { vec_len tags ≡ def.now.inputs }
     requires inputs { length recovered.now ≡ def.now.inputs }
     requires copied { All IsCopy (lists_of recovered.now) }
-    requires named { FitsName (device_name_of text.now) (D.hand_out dev) }
+    requires named { FitsName (device_name_of text.now) (D.device dev).handed }
 
     // The book has what the device's bytes stood for. A crash at any moment leaves what it might have left before, or
     // what stands for the same.
-    ensures opened { IfOk result (λ b. Shows (D.trace dev)
+    ensures opened { IfOk result (λ b. Shows (D.device dev).trace
         (StandsForGroup text.now def.now b.opening.versions.items (lists_of b.opening.rows.items))) }
     ensures any_moment { IfOk result (λ b. (d : D) → b.dev ≡ Some d
-        → During (D.trace dev) (D.trace d) (BookStaysSame text.now def.now (D.trace dev))) }
-    ensures any_moment_refused { IfErr result (λ e. During (D.trace dev) (D.trace e.dev) (BookStaysSame text.now def.now (D.trace dev))) }
+        → During (D.device dev).trace (D.device d).trace (BookStaysSame text.now def.now (D.device dev).trace)) }
+    ensures any_moment_refused { IfErr result (λ e. During (D.device dev).trace (D.device e.dev).trace (BookStaysSame text.now def.now (D.device dev).trace)) }
 
     // Whether or not the rows are right, the device holds the blocks of the saves so far, and the next block goes after
     // them.
-    ensures held { IfOk result (λ b. Shows (trace_of D.trace b.dev) (HoldsBlocks text.now def.now b.saved)) }
+    ensures held { IfOk result (λ b. IfSome b.dev (λ d. Shows (D.device d).trace (HoldsBlocks text.now def.now b.saved))) }
 
     // A device that has a finished layout of this text, or a damaged one, gains one sync and nothing else.
-    ensures synced { IfOk result (λ b. (d : D) → b.dev ≡ Some d → GainsGroupSync text.now (D.trace dev) (D.trace d)) }
-    ensures synced_refused { IfErr result (λ e. (e.why ≡ DeviceFault → ⊥) → GainsGroupSync text.now (D.trace dev) (D.trace e.dev)) }
+    ensures synced { IfOk result (λ b. (d : D) → b.dev ≡ Some d → GainsGroupSync text.now (D.device dev).trace (D.device d).trace) }
+    ensures synced_refused { IfErr result (λ e. (e.why ≡ DeviceFault → ⊥) → GainsGroupSync text.now (D.device dev).trace (D.device e.dev).trace) }
 
     ensures versions { IfOk result (λ b. b.opening.versions.items ≡ versions_of b) }
     ensures copies { IfOk result (λ b. b.sheet.copies ≡ cut b.opening.versions.items (lists_of recovered.now)) }
@@ -91,16 +91,16 @@ pub fn load<D: Disk>(
     ensures tape { IfOk result (λ b. b.tape ≡ []) }
     ensures device { IfOk result (λ b. IsSome b.dev) }
     ensures usable { IfOk result (λ b. b.failed ≡ false) }
-    ensures moment { IfOk result (λ b. b.opening.moment ≡ count_of D.ticks b.dev) }
-    ensures opened_at { IfOk result (λ b. TextOpensAt (IsUnsaved text.now) (D.trace dev) b.opening.moment) }
-    ensures faults { IfOk result (λ b. b.opening.faults ≡ count_of D.fault_count b.dev) }
+    ensures moment { IfOk result (λ b. b.opening.moment ≡ moment_of D.device b.dev) }
+    ensures opened_at { IfOk result (λ b. TextOpensAt (IsUnsaved text.now) (D.device dev).trace b.opening.moment) }
+    ensures faults { IfOk result (λ b. b.opening.faults ≡ faults_of D.device b.dev) }
 
     // A refusal names its cause. The device counts one fault if a call of it failed, and none otherwise.
-    ensures cause { IfErr result (λ e. IsBookCause text.now def.now (lists_of recovered.now) (D.trace dev) e.why) }
-    ensures faultless { IfOk result (λ b. count_of D.fault_count b.dev ≡ D.fault_count dev) }
-    ensures counts { IfErr result (λ e. CountsBookRefusal e.why (D.fault_count dev) (D.fault_count e.dev)) }
-    ensures handed { IfOk result (λ b. (d : D) → b.dev ≡ Some d → D.hand_out d ≡ D.hand_out dev) }
-    ensures handed_refused { IfErr result (λ e. D.hand_out e.dev ≡ D.hand_out dev) }
+    ensures cause { IfErr result (λ e. IsBookCause text.now def.now (lists_of recovered.now) (D.device dev).trace e.why) }
+    ensures faultless { IfOk result (λ b. faults_of D.device b.dev ≡ (D.device dev).faults) }
+    ensures counts { IfErr result (λ e. CountsBookRefusal e.why (D.device dev).faults (D.device e.dev).faults) }
+    ensures handed { IfOk result (λ b. (d : D) → b.dev ≡ Some d → (D.device d).handed ≡ (D.device dev).handed) }
+    ensures handed_refused { IfErr result (λ e. (D.device e.dev).handed ≡ (D.device dev).handed) }
 {
     let mut dev = dev;
     let calcs = def.calcs.defs().len() as u32;

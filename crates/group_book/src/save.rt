@@ -5,7 +5,7 @@ ghost use Rattle.calc_refresh.specs.Lists.{lists_of};
 ghost use Rattle.sheet_law.specs.Windows.{complete_windows};
 ghost use Rattle.group_book.specs.declared.refusal.SaveNo.TheVariants.{Broken, DeviceFault, WantOfMemory as NoMemory};
 ghost use Rattle.group_book.specs.Saves.{HasAllChanges, IsBookFaulted, IsSaved, ListsChanges};
-ghost use Rattle.group_book.specs.Told.{count_of};
+ghost use Rattle.group_book.specs.Told.{faults_of};
 
 use crate::book::Book;
 use crate::changes::changes;
@@ -42,9 +42,9 @@ impl<D: Disk> Book<D> {
     pub fn save(&mut self) -> Result<(), SaveNo>
         ensures none { self.old.dev ≡ None → IsOk result × (self.new ≡ self.old) }
         ensures broken { IsErrOf result Broken ↔ (self.old.failed ≡ true) }
-        ensures saved { (d : D) → self.old.dev ≡ Some d → OnOk result (IsSaved D.trace D.ticks d self.old self.new) }
+        ensures saved { (d : D) → self.old.dev ≡ Some d → OnOk result (IsSaved D.device d self.old self.new) }
         ensures faulted { IsErrOf result DeviceFault → IsBookFaulted self.old self.new }
-        ensures cause { CountsFault result DeviceFault (count_of D.fault_count self.old.dev) (count_of D.fault_count self.new.dev) }
+        ensures cause { CountsFault result DeviceFault (faults_of D.device self.old.dev) (faults_of D.device self.new.dev) }
         ensures untouched { IsErrOf result NoMemory → self.new ≡ self.old }
         ensures still_broken { IsErrOf result Broken → self.new ≡ self.old }
     {

@@ -1,5 +1,5 @@
 -- What a crash leaves while a group's device is begun, or a block is added.
-use Rattle.std.proofs.Common.{◌≡◌, inl, inr, ℕ, ◌*◌, List, [], ◌∷◌, ◌++◌, length, Option, refl, arith, length-append}
+use Rattle.std.proofs.Common.{◌≡◌, inl, inr, ℕ, ◌*◌, List, [], ◌∷◌, ◌++◌, length, refl, arith, length-append}
 use Rattle.disk_model.specs.Traces.{Trace}
 use Rattle.disk_model.specs.Images.{Now, FromOld, IsSettled}
 use Rattle.disk_model.specs.Moments.{During}
@@ -17,13 +17,13 @@ use Rattle.archive_file.proofs.ReadImages.{shown_now}
 -- ---- a device is begun
 
 -- nothing is saved as long as nothing was called
-pub nothing_yet : (text : List ℕ) (o : Option Trace) → Shows o (IsUnsaved text) → IsSettled o → During o o (SavesNothing text)
+pub nothing_yet : (text : List ℕ) (o : Trace) → Shows o (IsUnsaved text) → IsSettled o → During o o (SavesNothing text)
 nothing_yet text o is settled =
     weaker o o (IsUnsaved text) (SavesNothing text) (λ c unsaved. inl unsaved)
     (started o (IsUnsaved text) (shown_now o (IsUnsaved text) is settled))
 
 -- nor while the layout is begun
-pub saves_nothing : (text : List ℕ) (o o1 : Option Trace) → Shows o (IsUnsaved text) → IsSettled o
+pub saves_nothing : (text : List ℕ) (o o1 : Trace) → Shows o (IsUnsaved text) → IsSettled o
     → During o o1 (IsLeftOrBegun letters text o) → During o o1 (SavesNothing text)
 saves_nothing text o o1 is settled begun = weaker o o1 (IsLeftOrBegun letters text o) (SavesNothing text) each begun
   where
@@ -35,7 +35,7 @@ saves_nothing text o o1 is settled begun = weaker o o1 (IsLeftOrBegun letters te
 -- ---- a block
 
 -- nothing is after a closed gate
-pub shut_guarded : (o : Option Trace) (at : ℕ) (bytes : List ℕ) (gate : ℕ) → Now o (IsShut gate)
+pub shut_guarded : (o : Trace) (at : ℕ) (bytes : List ℕ) (gate : ℕ) → Now o (IsShut gate)
     → During o o (FromOld o (IsGuarded at bytes gate))
 shut_guarded o at bytes gate shut = started o (FromOld o (IsGuarded at bytes gate)) (record {
   each = λ c may. (

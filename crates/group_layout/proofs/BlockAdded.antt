@@ -1,5 +1,5 @@
 -- A block after others: what an image has while it is added.
-use Rattle.std.proofs.Common.{◌≡◌, ◌≢◌, ℕ, ◌+◌, ◌<◌, ◌≤◌, List, [], ◌∷◌, ◌++◌, length, get_or, Option, None, Some, sym, ap, ◌∙◌, subst, arith, length-append}
+use Rattle.std.proofs.Common.{◌≡◌, ◌≢◌, ℕ, ◌+◌, ◌<◌, ◌≤◌, List, [], ◌∷◌, ◌++◌, length, get_or, sym, ap, ◌∙◌, subst, arith, length-append}
 use Rattle.trend_num.specs.declared.value.CalcValue.{CalcValue}
 use Rattle.disk_model.specs.Calls.{Sees}
 use Rattle.disk_model.specs.Images.{FromOld, IsSettled, Now}
@@ -45,25 +45,23 @@ blocks_same n d c calcs b at (x ∷ bs) front within has = (
 -- ---- a block after a gate
 
 -- after a block that was added there is room for the next one
-pub block_ready : (b : BlockParts) (at : ℕ) (o o1 : Option Trace) → Now o (IsShut at)
+pub block_ready : (b : BlockParts) (at : ℕ) (o o1 : Trace) → Now o (IsShut at)
     → During o o1 (FromOld o (IsGuarded (at + 1) (block_image b ++ 0 ∷ []) at))
     → Sees o1 (written (written (seen o) (at + 1) (block_image b ++ 0 ∷ [])) at (open_byte ∷ [])) → IsSettled o1
     → Now o1 (IsShut (at + block_size b))
-block_ready b at o None shut during sees settled = record { each = λ c may. absurd may.image }
-block_ready b at None (Some t) shut during sees settled = absurd during.later
-block_ready b at (Some s) (Some t) shut during sees settled = record {
+block_ready b at s t shut during sees settled = record {
   each = λ c may.
-      let from = (during_now (Some s) (Some t) (FromOld (Some s) (IsGuarded (at + 1) (block_image b ++ 0 ∷ []) at)) during).each c may in
+      let from = (during_now s t (FromOld s (IsGuarded (at + 1) (block_image b ++ 0 ∷ []) at)) during).each c may in
       next_shut (block_image b) at (at + block_size b) from.0 c (ap (λ n. at + n) (length-block_image b)) from.2
       (ap (λ l. get_or l at 0) (settled.each c may ∙ sees)
-      ∙ written_byte (written (seen (Some s)) (at + 1) (block_image b ++ 0 ∷ [])) at open_byte long);
+      ∙ written_byte (written (seen s) (at + 1) (block_image b ++ 0 ∷ [])) at open_byte long);
 }
   where
-    there : at < length (seen (Some s))
-    there = (shut.each (seen (Some s)) (present s)).there
+    there : at < length (seen s)
+    there = (shut.each (seen s) (present s)).there
 
-    long : at ≤ length (written (seen (Some s)) (at + 1) (block_image b ++ 0 ∷ []))
-    long = omega (arith, there, length-written (seen (Some s)) (at + 1) (block_image b ++ 0 ∷ []) (omega (arith, there)))
+    long : at ≤ length (written (seen s) (at + 1) (block_image b ++ 0 ∷ []))
+    long = omega (arith, there, length-written (seen s) (at + 1) (block_image b ++ 0 ∷ []) (omega (arith, there)))
 
 module _ (text d c : List ℕ) (inputs calcs : ℕ) (bs : List BlockParts) (rows : List (List CalcValue)) (has : HasSaved text inputs calcs d bs rows)
     (b : BlockParts) (at : ℕ) (end : end_of (blocks_at (length text)) bs ≡ at)

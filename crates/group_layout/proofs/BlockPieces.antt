@@ -220,7 +220,7 @@ front_count c gate inputs before long =
 -- ---- what is read of a device
 
 -- the front of a block and the block were read of a device of this length
-pub record AreRead (o : Option Trace) (gate inputs len : ℕ) (before : BlockParts) (front piece : List ℕ) : Type 0 where
+pub record AreRead (o : Trace) (gate inputs len : ℕ) (before : BlockParts) (front piece : List ℕ) : Type 0 where
   pub long : HasLength o len
   pub low : gate < len
   pub inputs_are : length before.versions ≡ inputs
@@ -228,30 +228,28 @@ pub record AreRead (o : Option Trace) (gate inputs len : ℕ) (before : BlockPar
   pub piece_is : Shows o (λ c. piece ≡ piece_of c gate (17 + 4 * inputs + 17 * short_at front (13 + 4 * inputs) + 1))
 
 -- the gate is as in the front
-pub gate_shown : (o : Option Trace) (gate size : ℕ) (front : List ℕ) → 0 < size → Shows o (λ c. front ≡ piece_of c gate size)
+pub gate_shown : (o : Trace) (gate size : ℕ) (front : List ℕ) → 0 < size → Shows o (λ c. front ≡ piece_of c gate size)
     → get_or front 0 0 ≡ open_byte → Shows o (IsOpen gate)
 gate_shown o gate size front some front_is opened =
     shows_so o (λ c. front ≡ piece_of c gate size) (IsOpen gate)
     (λ c is. sym (front_gate c gate size some) ∙ ap (λ l. get_or l 0 0) (sym is) ∙ opened) front_is
 
 -- the block is there
-pub block_shown : (o : Option Trace) (calcs gate inputs len : ℕ) (before b : BlockParts) (front piece : List ℕ)
+pub block_shown : (o : Trace) (calcs gate inputs len : ℕ) (before b : BlockParts) (front piece : List ℕ)
     → AreRead o gate inputs len before front piece → get_or front 0 0 ≡ open_byte → MayFollow calcs before b
     → Spells piece 1 (block_image b) (0 + block_size b) → Shows o (λ c. HasBlock c calcs before b gate)
-block_shown None calcs gate inputs len before b front piece read opened follows spelled = tt
-block_shown (Some t) calcs gate inputs len before b front piece read opened follows spelled =
-    piece_block (seen (Some t)) calcs gate (17 + 4 * inputs + 17 * short_at front (13 + 4 * inputs) + 1) before b
+block_shown t calcs gate inputs len before b front piece read opened follows spelled =
+    piece_block (seen t) calcs gate (17 + 4 * inputs + 17 * short_at front (13 + 4 * inputs) + 1) before b
     (omega (arith, read.long, read.low))
-    (gate_shown (Some t) gate (17 + 4 * inputs) front (omega arith) read.front_is opened) follows
+    (gate_shown t gate (17 + 4 * inputs) front (omega arith) read.front_is opened) follows
     (subst (λ p. Spells p 1 (block_image b) (0 + block_size b)) read.piece_is spelled)
 
 -- or it breaks a rule
-pub block_breaks_shown : (o : Option Trace) (calcs gate inputs len : ℕ) (before : BlockParts) (front piece : List ℕ) (a : ℕ) (byte : Option ℕ)
+pub block_breaks_shown : (o : Trace) (calcs gate inputs len : ℕ) (before : BlockParts) (front piece : List ℕ) (a : ℕ) (byte : Option ℕ)
     → AreRead o gate inputs len before front piece → BreaksFirst piece (block_fields piece calcs before 0) a byte
     → Shows o (λ c. BreaksFirst c (block_fields c calcs before gate) (gate + a) byte)
-block_breaks_shown None calcs gate inputs len before front piece a byte read breaks = tt
-block_breaks_shown (Some t) calcs gate inputs len before front piece a byte read breaks =
-    let c = seen (Some t) in
+block_breaks_shown t calcs gate inputs len before front piece a byte read breaks =
+    let c = seen t in
     let count = short_at front (13 + 4 * inputs) in
     let told : count ≡ short_at c (gate + 9 + 4 * length before.versions + 4)
     = ap (λ p. short_at p (13 + 4 * inputs)) read.front_is ∙ front_count c gate inputs before read.inputs_are in

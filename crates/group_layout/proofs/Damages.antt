@@ -11,7 +11,7 @@ use Rattle.group_layout.specs.Images.{IsGroupDamage, letters}
 use Rattle.group_layout.specs.Images.IsGroupDamage.{BadBlock, BadHead, BadRows}
 use Rattle.group_layout.specs.Rows.{IsIncomplete}
 
-module _ (o : Option Trace) (text : List ℕ) (inputs calcs a : ℕ) (byte : Option ℕ) where
+module _ (o : Trace) (text : List ℕ) (inputs calcs a : ℕ) (byte : Option ℕ) where
   -- in its head
   pub head_damage : Shows o IsBegun → Shows o (λ c. BreaksFirst c (head_fields letters c) a byte)
       → Shows o (λ c. IsGroupDamage text inputs calcs c a byte)

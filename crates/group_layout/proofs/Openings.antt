@@ -1,5 +1,5 @@
 -- A group's device while it is opened.
-use Rattle.std.proofs.Common.{◌≡◌, ◌⊎◌, inl, inr, ℕ, zero, suc, All, List, [], ◌∷◌, length, map, replicate, Option, None, Some, Result, Ok, Err, IfOk, refl, sym, ap, ◌∙◌, subst, arith}
+use Rattle.std.proofs.Common.{◌≡◌, ◌⊎◌, inl, inr, ℕ, zero, suc, All, List, [], ◌∷◌, length, map, replicate, Result, Ok, Err, IfOk, refl, sym, ap, ◌∙◌, subst, arith}
 use Rattle.std.proofs.lemmas.List.{length-map, length-replicate}
 use Rattle.std.proofs.lemmas.List.Elements.{All-head, All-tail}
 use Rattle.trend_num.specs.declared.value.CalcValue.{CalcValue}
@@ -71,7 +71,7 @@ saves_same text inputs calcs s c is nothing = record {
 }
 
 -- what is begun after a sync stands for what the device stood for before
-pub left_begun : (text : List ℕ) (inputs calcs : ℕ) (o mid new : Option Trace) → mid ≡ noted Synced o → Shows mid (IsUnsaved text)
+pub left_begun : (text : List ℕ) (inputs calcs : ℕ) (o mid new : Trace) → mid ≡ noted Synced o → Shows mid (IsUnsaved text)
     → During o mid (IsLeftOrSame text inputs calcs o) → During mid new (SavesNothing text)
     → During o new (IsLeftOrSame text inputs calcs o)
 left_begun text inputs calcs o mid new synced is before begun =
@@ -79,50 +79,43 @@ left_begun text inputs calcs o mid new synced is before begun =
     (weaker mid new (SavesNothing text) (IsLeftOrSame text inputs calcs o)
     (λ c nothing. inr (saves_same text inputs calcs (seen o) c (unsaved_seen o mid synced is) nothing)) begun)
   where
-    unsaved_seen : (x y : Option Trace) → y ≡ noted Synced x → Shows y (IsUnsaved text) → IsUnsaved text (seen x)
-    unsaved_seen None y synced is = inl (inl (omega arith))
-    unsaved_seen (Some t) y synced is = subst (λ x. Shows x (IsUnsaved text)) synced is
+    unsaved_seen : (x y : Trace) → y ≡ noted Synced x → Shows y (IsUnsaved text) → IsUnsaved text (seen x)
+    unsaved_seen t y synced is = subst (λ x. Shows x (IsUnsaved text)) synced is
 
 -- blocks were read
-pub read_of : (text : List ℕ) (inputs calcs : ℕ) (o : Option Trace) (f : Found) (g : SavedGroup) → f ≡ Saved g
+pub read_of : (text : List ℕ) (inputs calcs : ℕ) (o : Trace) (f : Found) (g : SavedGroup) → f ≡ Saved g
     → Shows o (IsFound text inputs calcs f) → Shows o (λ c. IsReadOf text inputs calcs c g)
-read_of text inputs calcs None f g is found = tt
-read_of text inputs calcs (Some t) f g is found = subst (λ x. IsFound text inputs calcs x (seen (Some t))) is found
+read_of text inputs calcs t f g is found = subst (λ x. IsFound text inputs calcs x (seen t)) is found
 
 -- what was read of blocks is what they stand for
-pub read_stands : (text : List ℕ) (inputs calcs : ℕ) (o : Option Trace) (f : Found) (g : SavedGroup) → f ≡ Saved g
+pub read_stands : (text : List ℕ) (inputs calcs : ℕ) (o : Trace) (f : Found) (g : SavedGroup) → f ≡ Saved g
     → Shows o (IsFound text inputs calcs f) → Shows o (λ c. StandsFor text inputs calcs c g.versions.items (block_lists_of g.rows.items))
-read_stands text inputs calcs None f g is found = tt
-read_stands text inputs calcs (Some t) f g is found =
-    let read = read_of text inputs calcs (Some t) f g is found in
+read_stands text inputs calcs t f g is found =
+    let read = read_of text inputs calcs t f g is found in
     ByBlocks read.blocks read.has read.versions
 
 -- where no blocks were found nothing is saved
-pub found_unsaved : (text : List ℕ) (inputs calcs : ℕ) (o : Option Trace) (f : Found) → (f ≡ New) ⊎ (f ≡ Other)
+pub found_unsaved : (text : List ℕ) (inputs calcs : ℕ) (o : Trace) (f : Found) → (f ≡ New) ⊎ (f ≡ Other)
     → Shows o (IsFound text inputs calcs f) → Shows o (IsUnsaved text)
-found_unsaved text inputs calcs None f is found = tt
-found_unsaved text inputs calcs (Some t) f (inl is) found = inl (subst (λ x. IsFound text inputs calcs x (seen (Some t))) is found)
-found_unsaved text inputs calcs (Some t) f (inr is) found = inr (subst (λ x. IsFound text inputs calcs x (seen (Some t))) is found)
+found_unsaved text inputs calcs t f (inl is) found = inl (subst (λ x. IsFound text inputs calcs x (seen t)) is found)
+found_unsaved text inputs calcs t f (inr is) found = inr (subst (λ x. IsFound text inputs calcs x (seen t)) is found)
 
 -- so it stands for version 0
-pub unsaved_stands : {E : Type 0} (text : List ℕ) (inputs calcs : ℕ) (o : Option Trace) (r : Result SavedGroup E) → Shows o (IsUnsaved text)
+pub unsaved_stands : {E : Type 0} (text : List ℕ) (inputs calcs : ℕ) (o : Trace) (r : Result SavedGroup E) → Shows o (IsUnsaved text)
     → IfOk r (λ g. g.versions.items ≡ replicate inputs 0) → IfOk r (λ g. block_lists_of g.rows.items ≡ replicate calcs [])
     → IfOk r (λ g. Shows o (λ c. StandsFor text inputs calcs c g.versions.items (block_lists_of g.rows.items)))
 unsaved_stands text inputs calcs o (Err e) is versions rows = tt
-unsaved_stands text inputs calcs None (Ok g) is versions rows = tt
-unsaved_stands text inputs calcs (Some t) (Ok g) is versions rows = ByNothing is versions rows
+unsaved_stands text inputs calcs t (Ok g) is versions rows = ByNothing is versions rows
 
 -- ---- a sync and nothing else
 
 -- a device that was synced and read gained a sync
-pub gains_sync : (text : List ℕ) (o new : Option Trace) → new ≡ noted Synced o → GainsGroupSync text o new
-gains_sync text None new synced = tt
-gains_sync text (Some t) new synced = λ saved. synced
+pub gains_sync : (text : List ℕ) (o new : Trace) → new ≡ noted Synced o → GainsGroupSync text o new
+gains_sync text t new synced = λ saved. synced
 
 -- nothing is said of a device with nothing saved
-pub gains_nothing : (text : List ℕ) (o new : Option Trace) → Shows o (IsUnsaved text) → GainsGroupSync text o new
-gains_nothing text None new is = tt
-gains_nothing text (Some t) new is = λ saved. absurd (saved is)
+pub gains_nothing : (text : List ℕ) (o new : Trace) → Shows o (IsUnsaved text) → GainsGroupSync text o new
+gains_nothing text t new is = λ saved. absurd (saved is)
 
 -- ---- when the opening ends
 

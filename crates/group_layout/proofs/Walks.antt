@@ -1,5 +1,5 @@
 -- Blocks one after the other, and one more.
-use Rattle.std.proofs.Common.{◌≡◌, inr, ℕ, suc, ◌+◌, ◌-◌, ◌<◌, ◌≤◌, List, [], ◌∷◌, ◌++◌, map, length, get_or, Option, None, Some, refl, sym, ap, ◌∙◌, subst, arith}
+use Rattle.std.proofs.Common.{◌≡◌, inr, ℕ, suc, ◌+◌, ◌-◌, ◌<◌, ◌≤◌, List, [], ◌∷◌, ◌++◌, map, length, get_or, Option, refl, sym, ap, ◌∙◌, subst, arith}
 use Rattle.disk_model.specs.Calls.{Shows}
 use Rattle.disk_model.specs.Gates.{IsOpen}
 use Rattle.disk_model.specs.Traces.{Trace, seen}
@@ -55,7 +55,7 @@ walk_breaks c calcs inputs at next bs before a byte last end has opened breaks =
 
 -- ---- of a device
 
-pub walk_on_shown : (o : Option Trace) (calcs inputs at next : ℕ) (bs : List Block) (x : Block) (before : BlockParts)
+pub walk_on_shown : (o : Trace) (calcs inputs at next : ℕ) (bs : List Block) (x : Block) (before : BlockParts)
     → before ≡ last_of (unsaved inputs) (map parts_of bs) → next ≡ end_of at (map parts_of bs)
     → Shows o (λ c. HasBlocks c calcs (unsaved inputs) at (map parts_of bs)) → Shows o (λ c. HasBlock c calcs before (parts_of x) next)
     → Shows o (λ c. HasBlocks c calcs (unsaved inputs) at (map parts_of (bs ++ x ∷ [])))
@@ -64,13 +64,12 @@ walk_on_shown o calcs inputs at next bs x before last end has one =
     (λ c. HasBlocks c calcs (unsaved inputs) at (map parts_of (bs ++ x ∷ [])))
     (λ c first second. walk_on c calcs inputs at next bs x before last end first second) has one
 
-pub walk_breaks_shown : (o : Option Trace) (calcs inputs at next : ℕ) (bs : List Block) (before : BlockParts) (a : ℕ) (byte : Option ℕ)
+pub walk_breaks_shown : (o : Trace) (calcs inputs at next : ℕ) (bs : List Block) (before : BlockParts) (a : ℕ) (byte : Option ℕ)
     → before ≡ last_of (unsaved inputs) (map parts_of bs) → next ≡ end_of at (map parts_of bs)
     → Shows o (λ c. HasBlocks c calcs (unsaved inputs) at (map parts_of bs)) → Shows o (IsOpen next)
     → Shows o (λ c. BreaksFirst c (block_fields c calcs before next) a byte) → Shows o (λ c. AreDamaged c calcs inputs at a byte)
-walk_breaks_shown None calcs inputs at next bs before a byte last end has opened breaks = tt
-walk_breaks_shown (Some t) calcs inputs at next bs before a byte last end has opened breaks =
-    walk_breaks (seen (Some t)) calcs inputs at next bs before a byte last end has opened breaks
+walk_breaks_shown t calcs inputs at next bs before a byte last end has opened breaks =
+    walk_breaks (seen t) calcs inputs at next bs before a byte last end has opened breaks
 
 -- the last block that was read has as many versions as there are inputs
 pub walk_versions : (calcs inputs : ℕ) (bs : List Block) (x : Block) (before : BlockParts) → before ≡ last_of (unsaved inputs) (map parts_of bs)

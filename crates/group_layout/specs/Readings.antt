@@ -1,5 +1,5 @@
 -- What was found on a group's device, and what a device is begun with.
-use Rattle.std.specs.Prelude.{◌≡◌, ◌⊎◌, ℕ, ◌^◌, ◌<◌, All, List, Option, length}
+use Rattle.std.specs.Prelude.{◌≡◌, ◌⊎◌, ℕ, ◌^◌, ◌<◌, All, List, length}
 use Rattle.trend_num.specs.declared.value.CalcValue.{CalcValue}
 use Rattle.disk_model.specs.Gates.{IsNew}
 use Rattle.disk_model.specs.Images.{MayLeave}
@@ -62,9 +62,9 @@ pub record StandsSame (text : List ℕ) (inputs calcs : ℕ) (before c : List �
   pub stands : StandsFor text inputs calcs c versions rows
 
 -- an image is one that a crash might have left before, or stands for the same
-abbrev pub IsLeftOrSame : List ℕ → ℕ → ℕ → Option Trace → List ℕ → Type 0
+abbrev pub IsLeftOrSame : List ℕ → ℕ → ℕ → Trace → List ℕ → Type 0
 IsLeftOrSame text inputs calcs o c = MayLeave o c ⊎ StandsSame text inputs calcs (seen o) c
 
 -- a device that has a finished layout of this text, or a damaged one, gains one sync and nothing else
-abbrev pub GainsGroupSync : List ℕ → Option Trace → Option Trace → Type 0
+abbrev pub GainsGroupSync : List ℕ → Trace → Trace → Type 0
 GainsGroupSync text old new = Shows old (λ c. (IsUnsaved text c → ⊥) → new ≡ noted Synced old)

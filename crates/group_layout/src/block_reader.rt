@@ -23,15 +23,14 @@ pub fn read_blocks<D: Disk>(
     inputs: u32,
     calcs: u32,
 ) -> Result<Blocks, ScanNo>
-    ensures blocks { IfOk result (λ b. Shows (D.trace dev.old) (λ c. AreBlocks c calcs inputs at (map parts_of b.list.items))) }
+    ensures blocks { IfOk result (λ b. Shows (D.device dev.old).trace (λ c. AreBlocks c calcs inputs at (map parts_of b.list.items))) }
     ensures end { IfOk result (λ b. b.end ≡ end_of at (map parts_of b.list.items)) }
     ensures versions { IfOk result (λ b. length (last_of (unsaved inputs) (map parts_of b.list.items)).versions ≡ inputs) }
     ensures damaged { (a : ℕ) (byte : Option ℕ) → IsErrOf result (Damaged a byte)
-        → Shows (D.trace dev.old) (λ c. AreDamaged c calcs inputs at a byte) }
-    ensures cause { CountsFault result DeviceFault (D.fault_count dev.old) (D.fault_count dev.new) }
-    ensures handed { D.hand_out dev.new ≡ D.hand_out dev.old }
-    ensures same { D.trace dev.new ≡ D.trace dev.old }
-    ensures untimed { D.ticks dev.new ≡ D.ticks dev.old }
+        → Shows (D.device dev.old).trace (λ c. AreDamaged c calcs inputs at a byte) }
+    ensures cause { CountsFault result DeviceFault (D.device dev.old).faults (D.device dev.new).faults }
+    ensures handed { (D.device dev.new).handed ≡ (D.device dev.old).handed }
+    ensures same { (D.device dev.new).trace ≡ (D.device dev.old).trace }
 {
     let Ok(len) = dev.len() else {
         return Err(ScanNo::DeviceFault);
@@ -73,21 +72,20 @@ fn read_next<D: Disk>(
     calcs: u32,
     before: &Block,
 ) -> Result<Option<Block>, ScanNo>
-    requires length { HasLength (D.trace dev.old) len }
+    requires length { HasLength (D.device dev.old).trace len }
     requires gate { gate < len }
     requires inputs { length (parts_of before.now).versions ≡ inputs }
-    ensures shut { IfOk result (λ found. IfNone found (Shows (D.trace dev.old) (IsShut gate))) }
+    ensures shut { IfOk result (λ found. IfNone found (Shows (D.device dev.old).trace (IsShut gate))) }
     ensures block { IfOk result (λ found. IfSome found (λ b.
-        Shows (D.trace dev.old) (λ c. HasBlock c calcs (parts_of before.now) (parts_of b) gate))) }
+        Shows (D.device dev.old).trace (λ c. HasBlock c calcs (parts_of before.now) (parts_of b) gate))) }
     ensures follows { IfOk result (λ found. IfSome found (λ b. MayFollow calcs (parts_of before.now) (parts_of b))) }
     ensures next { IfOk result (λ found. IfSome found (λ b. gate + block_size (parts_of b) < len)) }
-    ensures opened { (a : ℕ) (byte : Option ℕ) → IsErrOf result (Damaged a byte) → Shows (D.trace dev.old) (IsOpen gate) }
+    ensures opened { (a : ℕ) (byte : Option ℕ) → IsErrOf result (Damaged a byte) → Shows (D.device dev.old).trace (IsOpen gate) }
     ensures damaged { (a : ℕ) (byte : Option ℕ) → IsErrOf result (Damaged a byte)
-        → Shows (D.trace dev.old) (λ c. BreaksFirst c (block_fields c calcs (parts_of before.now) gate) a byte) }
-    ensures cause { CountsFault result DeviceFault (D.fault_count dev.old) (D.fault_count dev.new) }
-    ensures handed { D.hand_out dev.new ≡ D.hand_out dev.old }
-    ensures same { D.trace dev.new ≡ D.trace dev.old }
-    ensures untimed { D.ticks dev.new ≡ D.ticks dev.old }
+        → Shows (D.device dev.old).trace (λ c. BreaksFirst c (block_fields c calcs (parts_of before.now) gate) a byte) }
+    ensures cause { CountsFault result DeviceFault (D.device dev.old).faults (D.device dev.new).faults }
+    ensures handed { (D.device dev.new).handed ≡ (D.device dev.old).handed }
+    ensures same { (D.device dev.new).trace ≡ (D.device dev.old).trace }
 {
     let front_size = 17 + 4 * u64::from(inputs);
     let front = read_piece(alloc, dev, len, gate, front_size)?;

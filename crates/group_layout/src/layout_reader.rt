@@ -55,15 +55,14 @@ pub fn read_group<D: Disk>(
     inputs: u32,
     calcs: u32,
 ) -> Result<Found, ScanNo>
-    ensures found { IfOk result (λ f. Shows (D.trace dev.old) (IsFound text.now inputs calcs f)) }
+    ensures found { IfOk result (λ f. Shows (D.device dev.old).trace (IsFound text.now inputs calcs f)) }
     ensures shape { IfOk result (IsShaped inputs calcs) }
     ensures few { IfOk result HasFewWindows }
     ensures damaged { (a : ℕ) (byte : Option ℕ) → IsErrOf result (Damaged a byte)
-        → Shows (D.trace dev.old) (λ c. IsGroupDamage text.now inputs calcs c a byte) }
-    ensures cause { CountsFault result DeviceFault (D.fault_count dev.old) (D.fault_count dev.new) }
-    ensures handed { D.hand_out dev.new ≡ D.hand_out dev.old }
-    ensures same { D.trace dev.new ≡ D.trace dev.old }
-    ensures untimed { D.ticks dev.new ≡ D.ticks dev.old }
+        → Shows (D.device dev.old).trace (λ c. IsGroupDamage text.now inputs calcs c a byte) }
+    ensures cause { CountsFault result DeviceFault (D.device dev.old).faults (D.device dev.new).faults }
+    ensures handed { (D.device dev.new).handed ≡ (D.device dev.old).handed }
+    ensures same { (D.device dev.new).trace ≡ (D.device dev.old).trace }
 {
     let Some(found) = read_text(alloc, dev, LETTERS)? else {
         return Ok(Found::New);
@@ -83,16 +82,15 @@ fn read_saved<D: Disk>(
     inputs: u32,
     calcs: u32,
 ) -> Result<SavedGroup, ScanNo>
-    requires { Shows (D.trace dev.old) (IsOfText letters text.now) }
-    ensures saved { IfOk result (λ g. Shows (D.trace dev.old) (λ c. IsReadOf text.now inputs calcs c g)) }
+    requires { Shows (D.device dev.old).trace (IsOfText letters text.now) }
+    ensures saved { IfOk result (λ g. Shows (D.device dev.old).trace (λ c. IsReadOf text.now inputs calcs c g)) }
     ensures shape { IfOk result (HasShape inputs calcs) }
     ensures few { IfOk result (λ g. g.windows < 2 ^ 32) }
     ensures damaged { (a : ℕ) (byte : Option ℕ) → IsErrOf result (Damaged a byte)
-        → Shows (D.trace dev.old) (λ c. IsGroupDamage text.now inputs calcs c a byte) }
-    ensures cause { CountsFault result DeviceFault (D.fault_count dev.old) (D.fault_count dev.new) }
-    ensures handed { D.hand_out dev.new ≡ D.hand_out dev.old }
-    ensures same { D.trace dev.new ≡ D.trace dev.old }
-    ensures untimed { D.ticks dev.new ≡ D.ticks dev.old }
+        → Shows (D.device dev.old).trace (λ c. IsGroupDamage text.now inputs calcs c a byte) }
+    ensures cause { CountsFault result DeviceFault (D.device dev.old).faults (D.device dev.new).faults }
+    ensures handed { (D.device dev.new).handed ≡ (D.device dev.old).handed }
+    ensures same { (D.device dev.new).trace ≡ (D.device dev.old).trace }
 {
     let at = 9 + text.len();
     let blocks = read_blocks(alloc, dev, at as u64, inputs, calcs)?;

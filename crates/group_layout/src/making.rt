@@ -1,6 +1,6 @@
 // Beginning a group's device, and adding a block.
 ghost use Rattle.std.specs.Prelude.{◌≡◌, ◌+◌, ◌<◌, ◌≤◌, ◌∷◌, ◌++◌, [], IfOk, IsErrOf, OnOk, length};
-ghost use Rattle.disk_model.specs.Traces.{seen, written};
+ghost use Rattle.disk_model.specs.Traces.{seen, written, moment};
 ghost use Rattle.disk_model.specs.Images.{FromOld, IsSettled, Now};
 ghost use Rattle.disk_model.specs.Moments.{During};
 ghost use Rattle.disk_model.specs.Calls.{CountsFault, Sees, Shows};
@@ -26,17 +26,17 @@ pub(crate) const LETTERS: [u8; 4] = *b"PHG1";
 /// the device fails. Returns `WantOfMemory` if no memory is found, or if the text has 2^32 bytes or more. This error
 /// comes before any call of the device.
 pub fn make_group<D: Disk>(alloc: Global, dev: &mut D, text: &[u8]) -> Result<(), PutNo>
-    requires unsaved { Shows (D.trace dev.old) (IsUnsaved text.now) }
-    requires settled { IsSettled (D.trace dev.old) }
-    ensures any_moment { During (D.trace dev.old) (D.trace dev.new) (SavesNothing text.now) }
-    ensures made { OnOk result (Shows (D.trace dev.new) (IsEmpty letters text.now)) }
-    ensures settled { OnOk result (IsSettled (D.trace dev.new)) }
-    ensures ready { OnOk result (Now (D.trace dev.new) (IsShut (blocks_at (length text.now)))) }
+    requires unsaved { Shows (D.device dev.old).trace (IsUnsaved text.now) }
+    requires settled { IsSettled (D.device dev.old).trace }
+    ensures any_moment { During (D.device dev.old).trace (D.device dev.new).trace (SavesNothing text.now) }
+    ensures made { OnOk result (Shows (D.device dev.new).trace (IsEmpty letters text.now)) }
+    ensures settled { OnOk result (IsSettled (D.device dev.new).trace) }
+    ensures ready { OnOk result (Now (D.device dev.new).trace (IsShut (blocks_at (length text.now)))) }
     ensures no_memory { IsErrOf result NoMemory → dev.new ≡ dev.old }
-    ensures cause { CountsFault result DeviceFault (D.fault_count dev.old) (D.fault_count dev.new) }
-    ensures handed { D.hand_out dev.new ≡ D.hand_out dev.old }
-    ensures later { D.ticks dev.old ≤ D.ticks dev.new }
-    ensures calls { OnOk result (Shows (D.trace dev.old) (λ c. D.ticks dev.new ≡ D.ticks dev.old + layout_calls c)) }
+    ensures cause { CountsFault result DeviceFault (D.device dev.old).faults (D.device dev.new).faults }
+    ensures handed { (D.device dev.new).handed ≡ (D.device dev.old).handed }
+    ensures later { moment (D.device dev.old).trace ≤ moment (D.device dev.new).trace }
+    ensures calls { OnOk result (Shows (D.device dev.old).trace (λ c. moment (D.device dev.new).trace ≡ moment (D.device dev.old).trace + layout_calls c)) }
 {
     begin_layout(alloc, dev, LETTERS, text)
 }
@@ -46,19 +46,19 @@ pub fn make_group<D: Disk>(alloc: Global, dev: &mut D, text: &[u8]) -> Result<()
 /// `DeviceFault` if a call of the device fails. Returns `WantOfMemory` if no memory is found, or if the block would end
 /// beyond 2^64 bytes. This error comes before any call of the device.
 pub fn put_block<D: Disk>(alloc: Global, dev: &mut D, at: u64, b: &Block) -> Result<u64, PutNo>
-    requires { Now (D.trace dev.old) (IsShut at) }
-    ensures any_moment { During (D.trace dev.old) (D.trace dev.new)
-        (FromOld (D.trace dev.old) (IsGuarded (at + 1) (block_image (parts_of b.now) ++ 0 ∷ []) at)) }
-    ensures reads { OnOk result (Sees (D.trace dev.new)
-        (written (written (seen (D.trace dev.old)) (at + 1) (block_image (parts_of b.now) ++ 0 ∷ [])) at (open_byte ∷ []))) }
-    ensures settled { OnOk result (IsSettled (D.trace dev.new)) }
-    ensures ready { IfOk result (λ next. Now (D.trace dev.new) (IsShut next)) }
+    requires { Now (D.device dev.old).trace (IsShut at) }
+    ensures any_moment { During (D.device dev.old).trace (D.device dev.new).trace
+        (FromOld (D.device dev.old).trace (IsGuarded (at + 1) (block_image (parts_of b.now) ++ 0 ∷ []) at)) }
+    ensures reads { OnOk result (Sees (D.device dev.new).trace
+        (written (written (seen (D.device dev.old).trace) (at + 1) (block_image (parts_of b.now) ++ 0 ∷ [])) at (open_byte ∷ []))) }
+    ensures settled { OnOk result (IsSettled (D.device dev.new).trace) }
+    ensures ready { IfOk result (λ next. Now (D.device dev.new).trace (IsShut next)) }
     ensures next { IfOk result (λ next. next ≡ at + block_size (parts_of b.now)) }
-    ensures clock { OnOk result (D.ticks dev.new ≡ D.ticks dev.old + 4) }
+    ensures clock { OnOk result (moment (D.device dev.new).trace ≡ moment (D.device dev.old).trace + 4) }
     ensures no_memory { IsErrOf result NoMemory → dev.new ≡ dev.old }
-    ensures cause { CountsFault result DeviceFault (D.fault_count dev.old) (D.fault_count dev.new) }
-    ensures handed { D.hand_out dev.new ≡ D.hand_out dev.old }
-    ensures later { D.ticks dev.old ≤ D.ticks dev.new }
+    ensures cause { CountsFault result DeviceFault (D.device dev.old).faults (D.device dev.new).faults }
+    ensures handed { (D.device dev.new).handed ≡ (D.device dev.old).handed }
+    ensures later { moment (D.device dev.old).trace ≤ moment (D.device dev.new).trace }
 {
     let Ok(bytes) = block_bytes(alloc, b) else {
         return Err(PutNo::WantOfMemory);

@@ -9,6 +9,7 @@ ghost use Rattle.archive_file.specs.declared.failure.ScanNo.TheVariants.{Damaged
 ghost use Rattle.group_layout.specs.Images.{IsGroupDamage, IsUnsaved, StandsFor};
 ghost use Rattle.group_layout.specs.Readings.{GainsGroupSync, HasShape, IsLeftOrSame, IsReadOf, SavesNothing};
 ghost use Rattle.group_layout.specs.Rows.{block_lists_of};
+ghost use Rattle.disk_model.specs.Traces.{moment};
 
 use crate::block::Blocks;
 use crate::layout_reader::{Found, SavedGroup, gather, read_group};
@@ -29,21 +30,21 @@ pub fn open_group<D: Disk>(
     inputs: u32,
     calcs: u32,
 ) -> Result<SavedGroup, ScanNo>
-    ensures stood { IfOk result (λ g. Shows (D.trace dev.old)
+    ensures stood { IfOk result (λ g. Shows (D.device dev.old).trace
         (λ c. StandsFor text.now inputs calcs c g.versions.items (block_lists_of g.rows.items))) }
-    ensures holds { IfOk result (λ g. Shows (D.trace dev.new) (λ c. IsReadOf text.now inputs calcs c g)) }
+    ensures holds { IfOk result (λ g. Shows (D.device dev.new).trace (λ c. IsReadOf text.now inputs calcs c g)) }
     ensures shape { IfOk result (HasShape inputs calcs) }
     ensures few { IfOk result (λ g. g.windows < 2 ^ 32) }
-    ensures ready { IfOk result (λ g. Now (D.trace dev.new) (IsShut g.end)) }
-    ensures settled { OnOk result (IsSettled (D.trace dev.new)) }
-    ensures synced { (IsErrOf result DeviceFault → ⊥) → GainsGroupSync text.now (D.trace dev.old) (D.trace dev.new) }
-    ensures moment { OnOk result (TextOpensAt (IsUnsaved text.now) (D.trace dev.old) (D.ticks dev.new)) }
-    ensures any_moment { During (D.trace dev.old) (D.trace dev.new) (IsLeftOrSame text.now inputs calcs (D.trace dev.old)) }
+    ensures ready { IfOk result (λ g. Now (D.device dev.new).trace (IsShut g.end)) }
+    ensures settled { OnOk result (IsSettled (D.device dev.new).trace) }
+    ensures synced { (IsErrOf result DeviceFault → ⊥) → GainsGroupSync text.now (D.device dev.old).trace (D.device dev.new).trace }
+    ensures moment { OnOk result (TextOpensAt (IsUnsaved text.now) (D.device dev.old).trace (moment (D.device dev.new).trace)) }
+    ensures any_moment { During (D.device dev.old).trace (D.device dev.new).trace (IsLeftOrSame text.now inputs calcs (D.device dev.old).trace) }
     ensures damaged { (a : ℕ) (byte : Option ℕ) → IsErrOf result (Damaged a byte)
-        → Shows (D.trace dev.old) (λ c. IsGroupDamage text.now inputs calcs c a byte) }
-    ensures cause { CountsFault result DeviceFault (D.fault_count dev.old) (D.fault_count dev.new) }
-    ensures handed { D.hand_out dev.new ≡ D.hand_out dev.old }
-    ensures later { D.ticks dev.old ≤ D.ticks dev.new }
+        → Shows (D.device dev.old).trace (λ c. IsGroupDamage text.now inputs calcs c a byte) }
+    ensures cause { CountsFault result DeviceFault (D.device dev.old).faults (D.device dev.new).faults }
+    ensures handed { (D.device dev.new).handed ≡ (D.device dev.old).handed }
+    ensures later { moment (D.device dev.old).trace ≤ moment (D.device dev.new).trace }
 {
     let Ok(()) = dev.sync() else {
         return Err(ScanNo::DeviceFault);
@@ -63,21 +64,21 @@ fn begin<D: Disk>(
     inputs: u32,
     calcs: u32,
 ) -> Result<SavedGroup, ScanNo>
-    requires unsaved { Shows (D.trace dev.old) (IsUnsaved text.now) }
-    requires settled { IsSettled (D.trace dev.old) }
+    requires unsaved { Shows (D.device dev.old).trace (IsUnsaved text.now) }
+    requires settled { IsSettled (D.device dev.old).trace }
     ensures versions { IfOk result (λ g. g.versions.items ≡ replicate inputs 0) }
     ensures rows { IfOk result (λ g. block_lists_of g.rows.items ≡ replicate calcs []) }
-    ensures holds { IfOk result (λ g. Shows (D.trace dev.new) (λ c. IsReadOf text.now inputs calcs c g)) }
+    ensures holds { IfOk result (λ g. Shows (D.device dev.new).trace (λ c. IsReadOf text.now inputs calcs c g)) }
     ensures shape { IfOk result (HasShape inputs calcs) }
     ensures few { IfOk result (λ g. g.windows < 2 ^ 32) }
-    ensures ready { IfOk result (λ g. Now (D.trace dev.new) (IsShut g.end)) }
-    ensures settled { OnOk result (IsSettled (D.trace dev.new)) }
-    ensures any_moment { During (D.trace dev.old) (D.trace dev.new) (SavesNothing text.now) }
+    ensures ready { IfOk result (λ g. Now (D.device dev.new).trace (IsShut g.end)) }
+    ensures settled { OnOk result (IsSettled (D.device dev.new).trace) }
+    ensures any_moment { During (D.device dev.old).trace (D.device dev.new).trace (SavesNothing text.now) }
     ensures undamaged { (a : ℕ) (byte : Option ℕ) → IsErrOf result (Damaged a byte) → ⊥ }
-    ensures cause { CountsFault result DeviceFault (D.fault_count dev.old) (D.fault_count dev.new) }
-    ensures handed { D.hand_out dev.new ≡ D.hand_out dev.old }
-    ensures later { D.ticks dev.old ≤ D.ticks dev.new }
-    ensures calls { OnOk result (Shows (D.trace dev.old) (λ c. D.ticks dev.new ≡ D.ticks dev.old + layout_calls c)) }
+    ensures cause { CountsFault result DeviceFault (D.device dev.old).faults (D.device dev.new).faults }
+    ensures handed { (D.device dev.new).handed ≡ (D.device dev.old).handed }
+    ensures later { moment (D.device dev.old).trace ≤ moment (D.device dev.new).trace }
+    ensures calls { OnOk result (Shows (D.device dev.old).trace (λ c. moment (D.device dev.new).trace ≡ moment (D.device dev.old).trace + layout_calls c)) }
 {
     let at = 9 + text.len();
     let none = Blocks {

@@ -1,9 +1,9 @@
 -- Logs whose tapes are longer by commits.
 use Rattle.std.proofs.Common.{◌≡◌, ℕ, zero, suc, ◌<◌, Bool, false, true, List, [], ◌∷◌, ◌++◌, length, refl, sym, ◌∙◌, ap, arith, append_assoc, length-append}
-use Rattle.std.specs.Prelude.{Option, Result, Ok, Err, IsErrOf}
+use Rattle.std.specs.Prelude.{Result, Ok, Err, IsErrOf}
 use Rattle.std.proofs.lemmas.List.{append-nil}
 use Rattle.std.proofs.lemmas.List.Elements.{All-nil, All-push, All-append}
-use Rattle.disk_model.specs.Traces.{Trace}
+use Rattle.disk_model.specs.Traces.{moment, Device}
 use Rattle.commit_log.specs.declared.history.LogAcked.{LogAcked}
 use Rattle.commit_log.specs.declared.history.LogTurn.{LogTurn}
 use Rattle.commit_log.specs.declared.history.LogTurn.TheVariants.{Commit}
@@ -55,11 +55,11 @@ committed_on a b c first last = record {
 }
 
 -- one commit
-one_committed : {D : Type 0} (trace : D → Option Trace) (ticks : D → ℕ) (a : LogAcked) (old new : ToldLog D)
-    → AreRowsAcknowledged trace ticks a old new → IsCommitted old new
-one_committed trace ticks a old new is = record {
-  more = Commit (ticks new.dev) a.acked ∷ [];
-  each = All-push IsCommit [] (Commit (ticks new.dev) a.acked) (All-nil IsCommit) tt;
+one_committed : {D : Type 0} (device : D → Device) (a : LogAcked) (old new : ToldLog D)
+    → AreRowsAcknowledged device a old new → IsCommitted old new
+one_committed device a old new is = record {
+  more = Commit (moment (device new.dev).trace) a.acked ∷ [];
+  each = All-push IsCommit [] (Commit (moment (device new.dev).trace) a.acked) (All-nil IsCommit) tt;
   tape = ap (λ (l : ToldLog _). l.tape) is.changed;
   same = record {
     plant = ap (λ (l : ToldLog _). l.plant) is.changed;
@@ -72,12 +72,12 @@ one_committed trace ticks a old new is = record {
 }
 
 -- what rows_waiting after it
-one_waits : {D : Type 0} (trace : D → Option Trace) (ticks : D → ℕ) (a : LogAcked) (old new : ToldLog D)
-    → AreRowsAcknowledged trace ticks a old new → rows_waiting new ≡ a.waiting
-one_waits trace ticks a old new is =
+one_waits : {D : Type 0} (device : D → Device) (a : LogAcked) (old new : ToldLog D)
+    → AreRowsAcknowledged device a old new → rows_waiting new ≡ a.waiting
+one_waits device a old new is =
     let opening : length new.opening ≡ length old.opening = ap (λ (l : ToldLog _). length l.opening) is.changed in
     let rows : length (puts new.tape) ≡ length (puts old.tape) =
-    ap (λ (l : ToldLog _). length (puts l.tape)) is.changed ∙ (ap length (puts-append old.tape (Commit (ticks new.dev) a.acked ∷ []))
+    ap (λ (l : ToldLog _). length (puts l.tape)) is.changed ∙ (ap length (puts-append old.tape (Commit (moment (device new.dev).trace) a.acked ∷ []))
     ∙ omega (arith, length-append (puts old.tape) [])) in
     let acked : new.acked ≡ a.acked = ap (λ (l : ToldLog _). l.acked) is.changed in
     omega (arith, opening, rows, acked, is.acked_are, is.waiting_are)
@@ -98,9 +98,9 @@ pub record Goes {D : Type 0} (a : LogAcked) (first old new : ToldLog D) : Type 0
   pub waiting : rows_waiting new ≡ a.waiting
   pub fewer : 0 < a.waiting → rows_waiting new < rows_waiting old
 
-pub goes : {D : Type 0} (trace : D → Option Trace) (ticks : D → ℕ) (a : LogAcked) (first old new : ToldLog D) → IsCommitted first old
-    → old.failed ≡ false → (rows_waiting old ≡ 0 → (a.waiting ≡ 0) × (new ≡ old)) → (0 < rows_waiting old → AreRowsAcknowledged trace ticks a old new) → Goes a first old new
-goes {D} trace ticks a first old new before usable idle busy = by_waits (rows_waiting old) refl
+pub goes : {D : Type 0} (device : D → Device) (a : LogAcked) (first old new : ToldLog D) → IsCommitted first old
+    → old.failed ≡ false → (rows_waiting old ≡ 0 → (a.waiting ≡ 0) × (new ≡ old)) → (0 < rows_waiting old → AreRowsAcknowledged device a old new) → Goes a first old new
+goes {D} device a first old new before usable idle busy = by_waits (rows_waiting old) refl
   where
     by_waits : (n : ℕ) → rows_waiting old ≡ n → Goes a first old new
     by_waits zero none =
@@ -112,22 +112,22 @@ goes {D} trace ticks a first old new before usable idle busy = by_waits (rows_wa
           fewer = λ some. absurd (omega (arith, some, is.0));
         }
     by_waits (suc n) some =
-        let is : AreRowsAcknowledged trace ticks a old new = busy (omega (arith, some)) in
-        let left : rows_waiting new ≡ a.waiting = one_waits trace ticks a old new is in
+        let is : AreRowsAcknowledged device a old new = busy (omega (arith, some)) in
+        let left : rows_waiting new ≡ a.waiting = one_waits device a old new is in
         record {
-          committed = committed_on first old new before (one_committed trace ticks a old new is);
+          committed = committed_on first old new before (one_committed device a old new is);
           usable = ap (λ (l : ToldLog D). l.failed) is.changed ∙ usable;
           waiting = left;
           fewer = λ more. omega (arith, left, is.waiting_are, some, more);
         }
 
 -- the same, by what a commit ensures
-pub goes_of : {D : Type 0} (trace : D → Option Trace) (ticks : D → ℕ) (r : Result LogAcked LogCommitNo) (a : LogAcked) (first old new : ToldLog D)
+pub goes_of : {D : Type 0} (device : D → Device) (r : Result LogAcked LogCommitNo) (a : LogAcked) (first old new : ToldLog D)
     → IsCommitted first old → r ≡ Ok a → (old.failed ≡ true → IsErrOf r Broken)
     → (old.failed ≡ false → rows_waiting old ≡ 0 → (r ≡ Ok (record { acked = old.acked; waiting = 0 })) × (new ≡ old))
-    → (0 < rows_waiting old → AreRowsAcknowledged trace ticks a old new) → Goes a first old new
-goes_of {D} trace ticks r a first old new before was broken idle busy = by_failed old.failed refl
+    → (0 < rows_waiting old → AreRowsAcknowledged device a old new) → Goes a first old new
+goes_of {D} device r a first old new before was broken idle busy = by_failed old.failed refl
   where
     by_failed : (b : Bool) → old.failed ≡ b → Goes a first old new
     by_failed true is = absurd (err_is_not r a was (broken is))
-    by_failed false is = goes trace ticks a first old new before is (λ none. let same = idle is none in (ap (λ (r : LogAcked). r.waiting) (ok_is r a _ was same.0), same.1)) busy
+    by_failed false is = goes device a first old new before is (λ none. let same = idle is none in (ap (λ (r : LogAcked). r.waiting) (ok_is r a _ was same.0), same.1)) busy

@@ -2,7 +2,7 @@
 use Rattle.std.proofs.Common.{◌≡◌, ℕ, List, length, Option, None, Some, Result, Ok, Err, String, refl, sym, subst, inl, inr}
 use Rattle.std.specs.Prelude.{◌≢◌, ◌⊎◌, IfErr, IfSome}
 use Rattle.std.specs.declared.alloc.Global.{Global}
-use Rattle.disk_model.specs.Traces.{Trace}
+use Rattle.disk_model.specs.Traces.{Device}
 use Rattle.tag_base.specs.declared.definition.Base.{Base}
 use Rattle.value_rows.specs.declared.raw.RawRow.{RawRow}
 use Rattle.plant_files.specs.Reading.{faults_after, faults_told}
@@ -59,8 +59,8 @@ no_opening base rows old new before now why is of = by_cause is.cause
     by_cause (inr same) = subst IsOfOthers same of
 
 -- nor is one that was held
-module _ {D : Type 0} (faults : D → ℕ) (files : List (List RawRow)) (notes : List LogNote) (known : KnownLog) (l : ToldLog D) where
-  no_settling : (why : Status) → IsSettlingRefusal faults files notes known l why → IsOfOthers why → ⊥
+module _ {D : Type 0} (device : D → Device) (files : List (List RawRow)) (notes : List LogNote) (known : KnownLog) (l : ToldLog D) where
+  no_settling : (why : Status) → IsSettlingRefusal device files notes known l why → IsOfOthers why → ⊥
   no_settling Done (OfOpening is) of = is.first
   no_settling Done (OfFinding kept is) of = is
   no_settling Done (OfRest kept (OfStop is)) of = is
@@ -81,20 +81,20 @@ module _ {D : Type 0} (faults : D → ℕ) (files : List (List RawRow)) (notes :
   no_settling WriteFault (OfMemory same) of = cc same
   no_settling other is of = absurd of
 
-  no_undone : (base : Base) (h : LogHistory) (why : Status) → IsUndone faults base files notes known l h why → IsOfOthers why → ⊥
+  no_undone : (base : Base) (h : LogHistory) (why : Status) → IsUndone device base files notes known l h why → IsOfOthers why → ⊥
   no_undone base h why (OfSettling is) of = no_settling why is of
   no_undone base h Done (OfReport ended made is) of = is
   no_undone base h BadWords (OfReport ended made is) of = is
   no_undone base h WriteFault (OfReport ended made is) of = is
   no_undone base h other (OfReport ended made is) of = absurd of
 
-pub no_run : {D : Type 0} (trace : D → Option Trace) (ticks faults : D → ℕ) (base : Base) (rows : List (List RawRow)) (old new : TracesByName)
+pub no_run : {D : Type 0} (device : D → Device) (base : Base) (rows : List (List RawRow)) (old new : TracesByName)
     (before now stops_before stops_now : ℕ) (answer : Result (String Global) Status) (h : LogHistory)
-    → IsRun trace ticks faults base rows old new before now stops_before stops_now answer h
+    → IsRun device base rows old new before now stops_before stops_now answer h
     → IfErr answer (λ why. IsOfOthers why → ⊥)
-no_run trace ticks faults base rows old new before now stops_before stops_now (Ok text) h is = tt
-no_run trace ticks faults base rows old new before now stops_before stops_now (Err why) h is =
-    no_undone faults rows is.notes is.known is.log base h why is.undone
+no_run device base rows old new before now stops_before stops_now (Ok text) h is = tt
+no_run device base rows old new before now stops_before stops_now (Err why) h is =
+    no_undone device rows is.notes is.known is.log base h why is.undone
 
 -- what follows of a refusal
 pub err_weaker : {T E : Type 0} {P Q : E → Type 0} (r : Result T E) → ((e : E) → P e → Q e) → IfErr r P → IfErr r Q
@@ -140,14 +140,14 @@ after_unopened base rows old new before now (Err why) n is = by_cause is.cause
     by_cause (inr memory) = subst (λ (s : Status). faults_told s n ≡ n) (sym memory) refl
 
 -- what the whole command returns
-pub understood : {D : Type 0} (trace : D → Option Trace) (ticks faults : D → ℕ) (base : Base) (rows : List (List RawRow)) (old new : TracesByName)
+pub understood : {D : Type 0} (device : D → Device) (base : Base) (rows : List (List RawRow)) (old new : TracesByName)
     (before now stops_before stops_now : ℕ) (answer : Result (String Global) Status) (log : Option LogHistory)
-    → IfSome log (IsRun trace ticks faults base rows old new before now stops_before stops_now answer)
+    → IfSome log (IsRun device base rows old new before now stops_before stops_now answer)
     → (log ≡ None → IfErr answer (IsUnopened base (total_rows rows) old new before now)) → IfErr answer (λ why. IsOfOthers why → ⊥)
-understood trace ticks faults base rows old new before now stops_before stops_now answer None run unopened =
+understood device base rows old new before now stops_before stops_now answer None run unopened =
     err_weaker answer (λ why is. no_opening base (total_rows rows) old new before now why is) (unopened refl)
-understood trace ticks faults base rows old new before now stops_before stops_now answer (Some h) run unopened =
-    no_run trace ticks faults base rows old new before now stops_before stops_now answer h run
+understood device base rows old new before now stops_before stops_now answer (Some h) run unopened =
+    no_run device base rows old new before now stops_before stops_now answer h run
 
 -- what follows of what is there
 pub some_weaker : {X : Type 0} {P Q : X → Type 0} (o : Option X) → ((x : X) → P x → Q x) → IfSome o P → IfSome o Q

@@ -1,14 +1,14 @@
 -- What `log` results in: the history of the log, or why no log was opened.
-use Rattle.std.specs.Prelude.{◌≡◌, ◌≢◌, ◌⊎◌, ℕ, ◌+◌, ◌-◌, ◌^◌, ◌<◌, ◌≤◌, List, length, Option, Result, Err, IfErr, IfOk, OnOk, String, string_bytes}
+use Rattle.std.specs.Prelude.{◌≡◌, ◌≢◌, ◌⊎◌, ℕ, ◌+◌, ◌-◌, ◌^◌, ◌<◌, ◌≤◌, List, length, Result, Err, IfErr, IfOk, OnOk, String, string_bytes}
 use Rattle.std.specs.declared.alloc.Global.{Global}
 use Rattle.disk_model.specs.Calls.{Rose, Shows}
-use Rattle.disk_model.specs.Traces.{Trace}
+use Rattle.disk_model.specs.Traces.{Device, Trace, moment}
 use Rattle.tag_base.specs.declared.definition.Base.{Base}
 use Rattle.tag_base.specs.declared.schedule.Plan.{Plan}
 use Rattle.value_rows.specs.declared.raw.RawRow.{RawRow}
 use Rattle.plant_status.specs.declared.status.Status.{Status}
 use Rattle.plant_status.specs.declared.status.Status.TheVariants.{BadWords, DeviceFault, Done, WantOfMemory, WriteFault}
-use Rattle.plant_status.specs.declared.unit.Unit.{Unit as Device}
+use Rattle.plant_status.specs.declared.unit.Unit.{Unit as UnitOf}
 use Rattle.plant_status.specs.declared.unit.Unit.TheVariants.{Log as LogUnit}
 use Rattle.plant_files.specs.RowFiles.{ToldFiles}
 use Rattle.plant_files.specs.PlanRows.{IsCollected, IsCollectingRefusal}
@@ -46,20 +46,20 @@ pub record IsHistoryOfLog {D : Type 0} (l : ToldLog D) (h : LogHistory) : Type 0
 -- rows that these had to put; or there is a refusal. `known` is the copy of its opening. Unless the refusal is a
 -- mismatch of the opening, the log still agrees with that copy. Unless the answer admits a put of no file, the log has
 -- of each collector only its first rows, in order, and no other put.
-pub record IsEnded {D : Type 0} (trace : D → Option Trace) (ticks faults : D → ℕ) (files : List (List RawRow)) (known : KnownLog)
+pub record IsEnded {D : Type 0} (device : D → Device) (files : List (List RawRow)) (known : KnownLog)
     (before now : ℕ) (e : EndedLog D) : Type 0 where
   pub log : ToldLog D
   pub notes : List LogNote
-  pub device : e.dev ≡ log.dev
+  pub same_device : e.dev ≡ log.dev
   pub history_is : IsHistoryOfLog log e.history
-  pub history : IsHandedOut e.history (trace e.dev) (ticks e.dev) (faults e.dev)
+  pub history : IsHandedOut e.history (device e.dev).trace (moment (device e.dev).trace) (device e.dev).faults
   pub notes_are : AreNotes D files before now notes
   pub ended : OnOk e.answer (AreUnstopped notes)
   pub made : OnOk e.answer (ArePutsMade files log)
-  pub faultless : OnOk e.answer (faults e.dev ≡ log.faults)
+  pub faultless : OnOk e.answer ((device e.dev).faults ≡ log.faults)
   pub begun : (AdmitsForeignPut e.answer → ⊥) → ArePutsBegun files log.tape
   pub as_known : (IsOfOpening e.answer → ⊥) → IsAsKnown log known
-  pub refused : IfErr e.answer (IsSettlingRefusal faults files notes known log)
+  pub refused : IfErr e.answer (IsSettlingRefusal device files notes known log)
 
 -- ---- no log
 
@@ -91,7 +91,7 @@ pub record IsDone (base : Base) (rows : List (List RawRow)) (h : LogHistory) (te
 
 -- The log is that of the base, and its opening has the rows for which its device stood before. The opening ends one call
 -- after those that the device had made, or, if the device was new, a few more (`TextOpensAt`).
-pub record IsLogOpenedAs (base : Base) (before : Option Trace) (h : LogHistory) : Type 0 where
+pub record IsLogOpenedAs (base : Base) (before : Trace) (h : LogHistory) : Type 0 where
   pub plant : h.plant.items ≡ plant_text base.tags.items
   pub tags : h.tags ≡ length base.tags.items
   pub opened_at : TextOpensAt IsNew before h.moment
@@ -99,11 +99,11 @@ pub record IsLogOpenedAs (base : Base) (before : Option Trace) (h : LogHistory) 
 
 -- Why a log is not done. Either it was refused after its workers had ended. Or only its report is missing: there was no
 -- memory, or a tag could get too many records.
-pub data IsUndone {D : Type 0} (faults : D → ℕ) (base : Base) (rows : List (List RawRow)) (notes : List LogNote) (known : KnownLog)
+pub data IsUndone {D : Type 0} (device : D → Device) (base : Base) (rows : List (List RawRow)) (notes : List LogNote) (known : KnownLog)
     (l : ToldLog D) (h : LogHistory) (why : Status) : Type 0 where
-  OfSettling : IsSettlingRefusal faults rows notes known l why → IsUndone faults base rows notes known l h why
+  OfSettling : IsSettlingRefusal device rows notes known l why → IsUndone device base rows notes known l h why
   OfReport : AreUnstopped notes → ArePutsMade rows l → IsReportRefusal base.tags.items (log_rows h) why
-      → IsUndone faults base rows notes known l h why
+      → IsUndone device base rows notes known l h why
 
 -- a count has risen, or is the largest value of its type
 abbrev pub HasLogCountRisen : ℕ → ℕ → Type 0
@@ -114,7 +114,7 @@ HasLogCountRisen before now = (before < now) ⊎ (now ≡ 2 ^ 64 - 1)
 -- opening, it rises by one at most. If there is a text, it has not risen.
 pub record CountsLog (answer : Result (String Global) Status) (before now : ℕ) : Type 0 where
   pub later : before ≤ now
-  pub told : IfErr answer (λ why. (unit : Device) → why ≡ DeviceFault unit → HasLogCountRisen before now)
+  pub told : IfErr answer (λ why. (unit : UnitOf) → why ≡ DeviceFault unit → HasLogCountRisen before now)
   pub once : (IsOfOpening answer → ⊥) → (now ≡ before) ⊎ Rose before now
   pub faultless : OnOk answer (now ≡ before)
 
@@ -128,36 +128,36 @@ pub record CountsLog (answer : Result (String Global) Status) (before now : ℕ)
 -- admits a put of no file, the log has of each collector only its first rows, in order, and no other put. The log is
 -- done, or there is a cause. If it is done, no pass stopped a worker, and each worker found memory. The store counted
 -- `before` faults before it, and counts `now` after it.
-pub record IsRun {D : Type 0} (trace : D → Option Trace) (ticks faults : D → ℕ) (base : Base) (rows : List (List RawRow))
+pub record IsRun {D : Type 0} (device : D → Device) (base : Base) (rows : List (List RawRow))
     (old new : TracesByName) (before now : ℕ) (stops_before stops_now : ℕ) (answer : Result (String Global) Status) (h : LogHistory)
     : Type 0 where
   pub first : ToldLog D
-  pub opened : IsLogOpened trace ticks faults (plant_text base.tags.items) (length base.tags.items) (total_rows rows) (old log_name) first
+  pub opened : IsLogOpened device (plant_text base.tags.items) (length base.tags.items) (total_rows rows) (old log_name) first
   pub known : KnownLog
   pub kept : IsAsKnown first known
   pub log : ToldLog D
   pub notes : List LogNote
   pub history_is : IsHistoryOfLog log h
-  pub device : new log_name ≡ trace log.dev
-  pub history : IsHandedOut h (new log_name) (ticks log.dev) (faults log.dev)
+  pub given : new log_name ≡ (device log.dev).trace
+  pub history : IsHandedOut h (new log_name) (moment (device log.dev).trace) (device log.dev).faults
   pub opened_as : (IsOfOpening answer → ⊥) → IsLogOpenedAs base (old log_name) h
   pub notes_are : AreNotes D rows stops_before stops_now notes
   pub begun : (AdmitsForeignPut answer → ⊥) → ArePutsBegun rows h.tape.items
   pub ended : OnOk answer (AreUnstopped notes)
   pub done : IfOk answer (λ text. IsDone base rows h (string_bytes text))
-  pub undone : IfErr answer (IsUndone faults base rows notes known log h)
+  pub undone : IfErr answer (IsUndone device base rows notes known log h)
   pub others : AreOthersSame old new
   pub counts : before < 2 ^ 64 → CountsLog answer before now
 
 -- the log of the plan in one file over the base in another, and what came of it
-pub record IsLogged {D : Type 0} (trace : D → Option Trace) (ticks faults : D → ℕ) (name plan_name : List ℕ) (told : ToldFiles)
+pub record IsLogged {D : Type 0} (device : D → Device) (name plan_name : List ℕ) (told : ToldFiles)
     (old new : TracesByName) (before now : ℕ) (stops_before stops_now : ℕ) (answer : Result (String Global) Status) (h : LogHistory)
     : Type 0 where
   pub base : Base
   pub plan : Plan
   pub rows : List (List RawRow)
   pub collected : IsCollected name plan_name told base plan rows
-  pub run : IsRun trace ticks faults base rows old new before now stops_before stops_now answer h
+  pub run : IsRun device base rows old new before now stops_before stops_now answer h
 
 -- The command's answer for a log that ended so. If the log is done, it is a line for each tag, or why these cannot be
 -- made. Otherwise it is the log's own refusal.

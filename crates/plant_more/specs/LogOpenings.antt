@@ -1,9 +1,9 @@
 -- Opening the device of a plant's log, and why it fails.
-use Rattle.std.specs.Prelude.{◌≡◌, ◌≢◌, ◌⊎◌, ℕ, ◌^◌, ◌<◌, List, [], false, Option, Result, Ok, Err}
+use Rattle.std.specs.Prelude.{◌≡◌, ◌≢◌, ◌⊎◌, ℕ, ◌^◌, ◌<◌, List, [], false, Result, Ok, Err}
 use Rattle.disk_model.specs.Calls.{Rose, Shows, sum_of_counts}
 use Rattle.disk_model.specs.Moments.{During}
 use Rattle.disk_model.specs.Gates.{IsNew}
-use Rattle.disk_model.specs.Traces.{Synced, Trace, noted}
+use Rattle.disk_model.specs.Traces.{Device, Synced, Trace, moment, noted}
 use Rattle.trend_num.specs.declared.refusal.What.TheVariants.{Rows}
 use Rattle.plant_status.specs.declared.unit.Unit.TheVariants.{Log as LogUnit}
 use Rattle.plant_status.specs.declared.status.Status.{Status}
@@ -18,7 +18,7 @@ use Rattle.commit_log.specs.Devices.{log_name}
 
 -- the traces of a store's devices by name
 abbrev pub TracesByName : Type 0
-TracesByName = List ℕ → Option Trace
+TracesByName = List ℕ → Trace
 
 -- no device but the log's has changed
 abbrev pub AreOthersSame : TracesByName → TracesByName → Type 0
@@ -28,18 +28,18 @@ AreOthersSame old new = (n : List ℕ) → n ≢ log_name → new n ≡ old n
 -- It has the rows for which the device's bytes stood. A crash at any moment since left an image that a crash might have
 -- left before, or one that stands for the same rows. If the device was not new, it has gained one sync, and nothing
 -- else. The moment of the opening follows from its bytes.
-pub record IsLogOpened {D : Type 0} (trace : D → Option Trace) (ticks faults : D → ℕ) (text : List ℕ) (tags room : ℕ) (before : Option Trace)
+pub record IsLogOpened {D : Type 0} (device : D → Device) (text : List ℕ) (tags room : ℕ) (before : Trace)
     (l : ToldLog D) : Type 0 where
   pub plant : l.plant ≡ text
   pub tags_are : l.tags ≡ tags
   pub room_is : l.room ≡ room
   pub rows : Shows before (λ c. StandsForRows text tags c l.opening)
-  pub any_moment : During before (trace l.dev) (IsLeftOrStands text tags l.opening before)
-  pub synced : GainsLogSync before (trace l.dev)
-  pub moment : l.moment ≡ ticks l.dev
+  pub any_moment : During before (device l.dev).trace (IsLeftOrStands text tags l.opening before)
+  pub synced : GainsLogSync before (device l.dev).trace
+  pub moment : l.moment ≡ moment (device l.dev).trace
   pub opened_at : TextOpensAt IsNew before l.moment
   pub faults_are : l.faults ≡ 0
-  pub faultless : faults l.dev ≡ 0
+  pub faultless : (device l.dev).faults ≡ 0
   pub tape : l.tape ≡ []
   pub usable : l.failed ≡ false
 
@@ -50,16 +50,16 @@ pub record IsLogKept (text : List ℕ) (tags : ℕ) (old new : TracesByName) : T
   pub others : AreOthersSame old new
 
 -- a device that is not new is unchanged, or has gained one sync and nothing else
-abbrev pub GainsSyncAtMost : Option Trace → Option Trace → Type 0
+abbrev pub GainsSyncAtMost : Trace → Trace → Type 0
 GainsSyncAtMost old new = Shows old (λ c. (IsNew c → ⊥) → (new ≡ old) ⊎ (new ≡ noted Synced old))
 
 -- the store has the log's device back under its name, has added the device's faults to its own, and no other device has
 -- changed
-pub record IsGivenBack {D : Type 0} (trace : D → Option Trace) (faults : D → ℕ) (l : ToldLog D) (old new : TracesByName) (before now : ℕ)
+pub record IsGivenBack {D : Type 0} (device : D → Device) (l : ToldLog D) (old new : TracesByName) (before now : ℕ)
     : Type 0 where
-  pub device : new log_name ≡ trace l.dev
+  pub given : new log_name ≡ (device l.dev).trace
   pub others : AreOthersSame old new
-  pub counted : now ≡ sum_of_counts before (faults l.dev)
+  pub counted : now ≡ sum_of_counts before (device l.dev).faults
 
 -- the status for a log that is not opened
 abbrev pub status_of : LogNo → Status
@@ -71,7 +71,7 @@ status_of no.WantOfMemory = WantOfMemory
 
 -- why a log is not opened on a device with this trace, with room for so many puts; the store counted `before` faults
 -- before it, and counts `now` after it
-pub record IsOpeningRefusal (text : List ℕ) (tags room : ℕ) (o : Option Trace) (before now : ℕ) (why : Status) : Type 0 where
+pub record IsOpeningRefusal (text : List ℕ) (tags room : ℕ) (o : Trace) (before now : ℕ) (why : Status) : Type 0 where
   pub reason : LogNo
   pub told : why ≡ status_of reason
   pub cause : IsLogCause text tags room o reason

@@ -2,7 +2,7 @@
 use Rattle.std.specs.Prelude.{◌≡◌, ◌≢◌, ℕ, ◌^◌, ◌<◌, List, None, Some, Option, Result, String, IfErr, IfOk, IfSome, OnOk, string_bytes}
 use Rattle.std.specs.Option.{IsSome}
 use Rattle.std.specs.declared.alloc.Global.{Global}
-use Rattle.disk_model.specs.Traces.{Trace}
+use Rattle.disk_model.specs.Traces.{Device}
 use Rattle.plant_status.specs.declared.status.Status.{Status}
 use Rattle.plant_status.specs.declared.status.Status.TheVariants.{BadWords}
 use Rattle.plant_files.specs.Faults.{IsFaultOfPlanned}
@@ -18,11 +18,11 @@ use Rattle.plant_more.specs.Endings.{IsUnread, Scene}
 -- If collectors were started, the outcome has the log's history, however the command ended. If none was started, no
 -- worker was stopped, and there is a cause, which is never bad words. In that case the counts of failed reads and of
 -- failed device calls rise exactly as the status reports. The failed file is the one that the status names.
-pub record IsLogSo {D : Type 0} (trace : D → Option Trace) (ticks faults : D → ℕ) (base plan : List ℕ) (before now : Scene)
+pub record IsLogSo {D : Type 0} (device : D → Device) (base plan : List ℕ) (before now : Scene)
     (stops_before stops_now : ℕ) (o : LogOutcome) : Type 0 where
   pub answer : Result (String Global) Status
   pub held : OnOk answer (IsSome o.log)
-  pub log : IfSome o.log (IsLogged trace ticks faults base plan before.files before.devices now.devices before.device_faults
+  pub log : IfSome o.log (IsLogged device base plan before.files before.devices now.devices before.device_faults
       now.device_faults stops_before stops_now answer)
   pub unlogged : o.log ≡ None → IfErr answer (IsUnlogged base plan before.files before.devices now.devices before.device_faults
       now.device_faults)
@@ -43,8 +43,8 @@ pub record IsNoPlan (before now : Scene) (stops_before stops_now : ℕ) (o : Log
   pub unstopped : stops_now ≡ stops_before
 
 -- `log` results in this; its words name this base and this plan, or none
-abbrev pub EndsOfLog : {D : Type 0} → (D → Option Trace) → (D → ℕ) → (D → ℕ) → Option (List ℕ × List ℕ) → Scene → Scene → ℕ → ℕ
+abbrev pub EndsOfLog : {D : Type 0} → (D → Device) → Option (List ℕ × List ℕ) → Scene → Scene → ℕ → ℕ
     → LogOutcome → Type 0
-EndsOfLog trace ticks faults None before now stops_before stops_now o = IsNoPlan before now stops_before stops_now o
-EndsOfLog trace ticks faults (Some named) before now stops_before stops_now o =
-    IsLogSo trace ticks faults named.0 named.1 before now stops_before stops_now o
+EndsOfLog device None before now stops_before stops_now o = IsNoPlan before now stops_before stops_now o
+EndsOfLog device (Some named) before now stops_before stops_now o =
+    IsLogSo device named.0 named.1 before now stops_before stops_now o

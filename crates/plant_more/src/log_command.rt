@@ -35,7 +35,7 @@ pub fn log<F: Files, O: Sink, S: Store, P: Passes, R: Threads + Wait + Sync>(
     store: &mut S,
     passes: &mut P,
 ) -> LogOutcome
-    ensures ends { EndsOfLog S.Dev.trace S.Dev.ticks S.Dev.fault_count (log_words (map string_bytes words.now))
+    ensures ends { EndsOfLog S.Dev.device (log_words (map string_bytes words.now))
         (scene (O.meaning out.old) (F.told files.old) (F.fault_count files.old) (F.failed_name files.old)
         (S.device_at store.old) (S.fault_count store.old))
         (scene (O.meaning out.new) (F.told files.new) (F.fault_count files.new) (F.failed_name files.new)

@@ -14,7 +14,7 @@ pub(crate) fn commit_waiting<D: Disk>(log: &mut Log<D>) -> Result<(), LogCommitN
     ensures usable { OnOk result (log.new.failed ≡ false) }
     ensures committed { IsCommitted log.old log.new }
     ensures broken { IfErr result (λ no. no ≢ NoMemory → log.new.failed ≡ true) }
-    ensures cause { IfErr result (λ no. no ≢ NoMemory → 0 < D.fault_count log.new.dev) }
+    ensures cause { IfErr result (λ no. no ≢ NoMemory → 0 < (D.device log.new.dev).faults) }
 {
     loop {
         let done = log.commit()?;

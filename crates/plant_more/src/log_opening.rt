@@ -24,7 +24,7 @@ pub(crate) fn take_log<S: Store>(
     tags: u32,
     room: u32,
 ) -> Result<Log<S::Dev>, Status>
-    ensures opened { IfOk result (IsLogOpened S.Dev.trace S.Dev.ticks S.Dev.fault_count plant.now tags room (S.device_at store.old log_name)) }
+    ensures opened { IfOk result (IsLogOpened S.Dev.device plant.now tags room (S.device_at store.old log_name)) }
     ensures place { OnOk result (IsTrue (S.has_place store.new log_name)) }
     ensures refused { IfErr result (IsOpeningRefusal plant.now tags room (S.device_at store.old log_name)
         (S.fault_count store.old) (S.fault_count store.new)) }

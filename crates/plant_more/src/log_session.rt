@@ -37,9 +37,9 @@ pub(crate) fn hold<D: Disk + Send, P: Passes, R: Threads + Wait + Sync>(
     requires few { length files.now < 2 ^ 32 }
     requires rows { AreRowsFor known.now.tags (row_lists_of files.now) }
     requires small { total_rows (row_lists_of files.now) < 2 ^ 64 }
-    ensures ended { IfOk result (IsEnded D.trace D.ticks D.fault_count (row_lists_of files.now) known.now
+    ensures ended { IfOk result (IsEnded D.device (row_lists_of files.now) known.now
         (P.stops passes.old) (P.stops passes.new)) }
-    ensures named { IfOk result (λ e. FitsName log_name (D.hand_out e.dev)) }
+    ensures named { IfOk result (λ e. FitsName log_name (D.device e.dev).handed) }
     ensures unbegun { OnErr result (P.stops passes.new ≡ P.stops passes.old) }
     ensures unchanged { IfErr result (λ back. back ≡ log) }
 {

@@ -68,7 +68,7 @@ pub(crate) fn log_plan<F: Files, S: Store, P: Passes, R: Threads + Wait + Sync>(
     plan: &str,
 ) -> Logged
     ensures held { OnOk result.answer (IsSome result.log) }
-    ensures log { IfSome result.log (IsLogged S.Dev.trace S.Dev.ticks S.Dev.fault_count base.now plan.now (F.told files.old)
+    ensures log { IfSome result.log (IsLogged S.Dev.device base.now plan.now (F.told files.old)
         (S.device_at store.old) (S.device_at store.new) (S.fault_count store.old) (S.fault_count store.new)
         (P.stops passes.old) (P.stops passes.new) result.answer) }
     ensures unlogged { result.log ≡ None → IfErr result.answer (IsUnlogged base.now plan.now (F.told files.old)
@@ -105,7 +105,7 @@ fn log_read<S: Store, P: Passes, R: Threads + Wait + Sync>(
     requires rows { AreRowsOfBase read.now.base (row_lists_of read.now.rows.items) }
     requires few { total_rows (row_lists_of read.now.rows.items) ≤ most_collector_rows }
     ensures held { OnOk result.answer (IsSome result.log) }
-    ensures run { IfSome result.log (IsRun S.Dev.trace S.Dev.ticks S.Dev.fault_count read.now.base (row_lists_of read.now.rows.items)
+    ensures run { IfSome result.log (IsRun S.Dev.device read.now.base (row_lists_of read.now.rows.items)
         (S.device_at store.old) (S.device_at store.new) (S.fault_count store.old) (S.fault_count store.new)
         (P.stops passes.old) (P.stops passes.new) result.answer) }
     ensures unopened { result.log ≡ None → IfErr result.answer (IsUnopened read.now.base (total_rows (row_lists_of read.now.rows.items))
@@ -161,7 +161,7 @@ fn unready<S: Store>(store: &mut S, log: Log<S::Dev>) -> Logged
     requires place { IsTrue (S.has_place store.old log_name) }
     ensures answer { result.answer ≡ Err Status.WantOfMemory }
     ensures none { result.log ≡ None }
-    ensures back { IsGivenBack S.Dev.trace S.Dev.fault_count log (S.device_at store.old) (S.device_at store.new)
+    ensures back { IsGivenBack S.Dev.device log (S.device_at store.old) (S.device_at store.new)
         (S.fault_count store.old) (S.fault_count store.new) }
 {
     let (dev, _) = log.into_history();
@@ -189,15 +189,15 @@ fn log_open<S: Store, P: Passes, R: Threads + Wait + Sync>(
     requires tags { known.now.tags ≡ length base.now.tags.items }
     requires place { IsTrue (S.has_place store.old log_name) }
     ensures run { (old : TracesByName) → AreOthersSame old (S.device_at store.old)
-        → IsLogOpened S.Dev.trace S.Dev.ticks S.Dev.fault_count (plant_text base.now.tags.items) (length base.now.tags.items)
+        → IsLogOpened S.Dev.device (plant_text base.now.tags.items) (length base.now.tags.items)
         (total_rows (row_lists_of rows.now)) (old log_name) log
-        → IfSome result.log (IsRun S.Dev.trace S.Dev.ticks S.Dev.fault_count base.now (row_lists_of rows.now)
+        → IfSome result.log (IsRun S.Dev.device base.now (row_lists_of rows.now)
         old (S.device_at store.new) (S.fault_count store.old) (S.fault_count store.new)
         (P.stops passes.old) (P.stops passes.new) result.answer) }
 
     // The rest is about a log on which no collector was started.
     ensures answer { result.log ≡ None → result.answer ≡ Err Status.WantOfMemory }
-    ensures back { result.log ≡ None → IsGivenBack S.Dev.trace S.Dev.fault_count log (S.device_at store.old) (S.device_at store.new)
+    ensures back { result.log ≡ None → IsGivenBack S.Dev.device log (S.device_at store.old) (S.device_at store.new)
         (S.fault_count store.old) (S.fault_count store.new) }
     ensures unstopped { result.log ≡ None → P.stops passes.new ≡ P.stops passes.old }
 {

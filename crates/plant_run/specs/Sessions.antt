@@ -3,7 +3,7 @@
 use Rattle.std.specs.Prelude.{◌≡◌, ◌⊎◌, ◌^◌, ◌<◌, ℕ, List, [], None, Some, Option, Result, Ok, Err, String, IfErr, IfSome, OnOk, string_bytes}
 use Rattle.std.specs.Option.{IsSome}
 use Rattle.std.specs.declared.alloc.Global.{Global}
-use Rattle.disk_model.specs.Traces.{Trace}
+use Rattle.disk_model.specs.Traces.{Device}
 use Rattle.plant_status.specs.Status.{code_of}
 use Rattle.plant_status.specs.declared.status.Status.{Status}
 use Rattle.plant_status.specs.declared.status.Status.TheVariants.{WantOfMemory}
@@ -65,10 +65,10 @@ IsHandedOn log session = ⊥
 
 -- The logging of a plan over a base, from their files, if the words name them. The outcome has the status of `log` and
 -- its log. The input is left alone.
-pub record IsLogHandedOn {D : Type 0} (trace : D → Option Trace) (ticks faults : D → ℕ) (named : Option (List ℕ × List ℕ))
+pub record IsLogHandedOn {D : Type 0} (device : D → Device) (named : Option (List ℕ × List ℕ))
     (before now : World) (stops_before stops_now : ℕ) (o : Outcome) : Type 0 where
   pub came : LogOutcome
-  pub logged : EndsOfLog trace ticks faults named before.scene now.scene stops_before stops_now came
+  pub logged : EndsOfLog device named before.scene now.scene stops_before stops_now came
   pub status : o.status ≡ came.status
   pub session : IsHandedOn came.log o.session
   pub input : now.input ≡ before.input
@@ -96,14 +96,14 @@ pub record IsAnswered (form : Form) (before now : World) (stops_before stops_now
   pub unstopped : stops_now ≡ stops_before
 
 -- the outcome of a command line of this form
-abbrev pub ComesOf : {D : Type 0} → (D → Option Trace) → (D → ℕ) → (D → ℕ) → Form → World → World → ℕ → ℕ → Outcome → Type 0
-ComesOf trace ticks faults (Run base plan) before now stops_before stops_now o =
+abbrev pub ComesOf : {D : Type 0} → (D → Device) → Form → World → World → ℕ → ℕ → Outcome → Type 0
+ComesOf device (Run base plan) before now stops_before stops_now o =
     IsRunSo base plan before now stops_before stops_now o
-ComesOf trace ticks faults (Log named) before now stops_before stops_now o =
-    IsLogHandedOn trace ticks faults named before now stops_before stops_now o
-ComesOf trace ticks faults (Drill number tags events) before now stops_before stops_now o =
+ComesOf device (Log named) before now stops_before stops_now o =
+    IsLogHandedOn device named before now stops_before stops_now o
+ComesOf device (Drill number tags events) before now stops_before stops_now o =
     IsDrillSo number tags events before now stops_before stops_now o
-ComesOf trace ticks faults form before now stops_before stops_now o = IsAnswered form before now stops_before stops_now o
+ComesOf device form before now stops_before stops_now o = IsAnswered form before now stops_before stops_now o
 
 -- the line of this status is printed, the exit code is that of the status, and nothing else has changed
 pub record IsUnrun (status : Status) (before now : World) (stops_before stops_now code : ℕ) : Type 0 where
@@ -114,8 +114,8 @@ pub record IsUnrun (status : Status) (before now : World) (stops_before stops_no
   pub unstopped : stops_now ≡ stops_before
 
 -- the outcome of a command line of these words, with this exit code; or there was no memory for the words
-abbrev pub ComesWithCode : {D : Type 0} → (D → Option Trace) → (D → ℕ) → (D → ℕ) → List (List ℕ) → World → World → ℕ → ℕ → ℕ
+abbrev pub ComesWithCode : {D : Type 0} → (D → Device) → List (List ℕ) → World → World → ℕ → ℕ → ℕ
     → Type 0
-ComesWithCode trace ticks faults words before now stops_before stops_now code =
-    ((o : Outcome) × (code ≡ code_of o.status) × ComesOf trace ticks faults (form_of words) before now stops_before stops_now o)
+ComesWithCode device words before now stops_before stops_now code =
+    ((o : Outcome) × (code ≡ code_of o.status) × ComesOf device (form_of words) before now stops_before stops_now o)
     ⊎ IsUnrun WantOfMemory before now stops_before stops_now code

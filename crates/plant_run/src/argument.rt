@@ -35,7 +35,7 @@ pub fn run_args<R: Threads + Wait + Sync, I: Source, F: Files, O: Sink, S: Store
     passes: &mut P,
 ) -> ExitCode
     // The words are the arguments after the first.
-    ensures comes { IfOk args (λ given. ComesWithCode S.Dev.trace S.Dev.ticks S.Dev.fault_count
+    ensures comes { IfOk args (λ given. ComesWithCode S.Dev.device
         (map string_bytes (drop 1 (into_iter_items given)))
         (world (I.meaning input.old) (O.meaning out.old) (F.told files.old) (F.fault_count files.old) (F.failed_name files.old)
         (S.device_at store.old) (S.fault_count store.old))

@@ -56,7 +56,7 @@ pub fn run<R: Threads + Wait + Sync, I: Source, F: Files, O: Sink, S: Store, P: 
     passes: &mut P,
 ) -> Outcome
     // The command did what the words ask for.
-    ensures comes { ComesOf S.Dev.trace S.Dev.ticks S.Dev.fault_count (form_of (map string_bytes words.now))
+    ensures comes { ComesOf S.Dev.device (form_of (map string_bytes words.now))
         (world (I.meaning input.old) (O.meaning out.old) (F.told files.old) (F.fault_count files.old) (F.failed_name files.old)
         (S.device_at store.old) (S.fault_count store.old))
         (world (I.meaning input.new) (O.meaning out.new) (F.told files.new) (F.fault_count files.new) (F.failed_name files.new)

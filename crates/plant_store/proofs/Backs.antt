@@ -1,11 +1,11 @@
 -- How a plant's devices come back.
-use Rattle.std.proofs.Common.{◌≡◌, ℕ, ◌^◌, ◌<◌, ◌≤◌, List, [], length, get_or, Option, sym, ◌∙◌, arith}
+use Rattle.std.proofs.Common.{◌≡◌, ℕ, ◌^◌, ◌<◌, ◌≤◌, List, [], length, get_or, sym, ◌∙◌, arith}
 use Rattle.std.specs.Prelude.{All, true, string_bytes}
 use Rattle.std.proofs.lemmas.List.{get_or-map, length-map}
 use Rattle.std.proofs.lemmas.List.Elements.{All-weaker}
-use Rattle.disk_model.specs.Traces.{Trace}
+use Rattle.disk_model.specs.Traces.{Device}
 use Rattle.tag_cell.specs.Told.{ToldCell as Cell}
-use Rattle.group_book.specs.Told.{ToldBook as Book, count_of}
+use Rattle.group_book.specs.Told.{ToldBook as Book, faults_of}
 use Rattle.plant_store.specs.CellClosings.{AreGivenBack, CountsCells, HasRisen}
 use Rattle.plant_store.specs.CellNames.{texts}
 use Rattle.plant_store.specs.BookEndings.{AreGivenBack as AreBooksBack, counts_after}
@@ -18,12 +18,12 @@ use Rattle.plant_store.specs.Closings.{AreDevicesBack, CountsClosed}
 use Rattle.plant_store.specs.Shelves.{IsShelf}
 
 -- the devices of the books are given back, and then those of the cells
-pub all_back : {D : Type 0} (trace : D → Option Trace) (shelf : Shelf) (cells : List (Cell D)) (books : List (Book D))
+pub all_back : {D : Type 0} (device : D → Device) (shelf : Shelf) (cells : List (Cell D)) (books : List (Book D))
     (old mid new : DeviceTraces) → IsShelf shelf → length shelf.group_names.items ≡ length books
-    → AreBooksBack trace shelf.group_names.items books old mid
+    → AreBooksBack device shelf.group_names.items books old mid
     → AreOtherNamesSame (length shelf.group_names.items) shelf.group_names.items old mid
-    → AreGivenBack trace (texts shelf.tag_names.items) cells mid new → AreDevicesBack trace shelf cells books old new
-all_back trace shelf cells books old mid new is many given rest back =
+    → AreGivenBack device (texts shelf.tag_names.items) cells mid new → AreDevicesBack device shelf cells books old new
+all_back device shelf cells books old mid new is many given rest back =
     let names = shelf.group_names.items in
     let as_many = length-map names string_bytes in
     record {
@@ -38,13 +38,13 @@ all_back trace shelf cells books old mid new is many given rest back =
     }
 
 -- the faults of the books' devices are counted, and then those of the cells'
-pub all_counted : {D : Type 0} (faults : D → ℕ) (cells : List (Cell D)) (books : List (Book D)) (before mid now : ℕ) → before < 2 ^ 64
-    → mid ≡ counts_after faults books before → before ≤ mid
-    → ((i : ℕ) (b : Book D) → i < length books → 0 < count_of faults (get_or books i b).dev → HasRisen before mid)
-    → (All (λ (b : Book D). count_of faults b.dev ≡ 0) books → mid ≡ before)
-    → (mid < 2 ^ 64 → CountsCells faults cells mid now) → CountsClosed faults cells books before now
-all_counted {D} faults cells books before mid now small is later rose none closed =
-    let counts = closed (omega (arith, is, counts_small faults books before small)) in
+pub all_counted : {D : Type 0} (device : D → Device) (cells : List (Cell D)) (books : List (Book D)) (before mid now : ℕ) → before < 2 ^ 64
+    → mid ≡ counts_after device books before → before ≤ mid
+    → ((i : ℕ) (b : Book D) → i < length books → 0 < faults_of device (get_or books i b).dev → HasRisen before mid)
+    → (All (λ (b : Book D). faults_of device b.dev ≡ 0) books → mid ≡ before)
+    → (mid < 2 ^ 64 → CountsCells device cells mid now) → CountsClosed device cells books before now
+all_counted {D} device cells books before mid now small is later rose none closed =
+    let counts = closed (omega (arith, is, counts_small device books before small)) in
     record {
       later = omega (arith, later, counts.later);
       of_cells = All-weaker (λ (c : Cell D). c.journal.failed ≡ true → HasRisen mid now)

@@ -1,9 +1,9 @@
 -- Facts about groups over some traces, if other traces are the same at the devices of groups.
-use Rattle.std.proofs.Common.{◌≡◌, ℕ, ◌^◌, ◌<◌, List, get_or, Option, sym, subst}
+use Rattle.std.proofs.Common.{◌≡◌, ℕ, ◌^◌, ◌<◌, List, get_or, sym, subst}
 use Rattle.trend_num.specs.declared.archive.Rec.{Rec}
 use Rattle.disk_model.specs.Calls.{Rose}
 use Rattle.disk_model.specs.Moments.{During}
-use Rattle.disk_model.specs.Traces.{Trace}
+use Rattle.disk_model.specs.Traces.{Trace, Device}
 use Rattle.plant_status.specs.declared.status.Status.{Status}
 use Rattle.tag_base.specs.declared.definition.GroupDef.{GroupDef}
 use Rattle.group_book.specs.declared.history.GroupOpening.{GroupOpening}
@@ -16,10 +16,10 @@ use Rattle.plant_store.proofs.BookTurns.{untouched}
 -- `mid` are the traces of the given facts, and `old` those before
 module _ (gs : List GroupDef) (records : List (List Rec)) (old mid : DeviceTraces) (same : (g : GroupDef) → group_trace_at mid g ≡ group_trace_at old g) where
   -- books are opened so over the traces before
-  pub books_before : {D : Type 0} (trace : D → Option Trace) (ticks faults : D → ℕ) (books : List (ToldBook D))
-      → AreBooksOpened trace ticks faults gs records mid books → AreBooksOpened trace ticks faults gs records old books
-  books_before trace ticks faults books opened = record {
-    each = λ i g b below. subst (λ o. IsBookOpened trace ticks faults i (get_or gs i g) (input_records_of records (get_or gs i g)) o
+  pub books_before : {D : Type 0} (device : D → Device) (books : List (ToldBook D))
+      → AreBooksOpened device gs records mid books → AreBooksOpened device gs records old books
+  books_before device books opened = record {
+    each = λ i g b below. subst (λ o. IsBookOpened device i (get_or gs i g) (input_records_of records (get_or gs i g)) o
         (get_or books i b)) (same (get_or gs i g)) (opened.each i g b below);
   }
 
@@ -31,8 +31,8 @@ module _ (gs : List GroupDef) (records : List (List Rec)) (old mid : DeviceTrace
       (opened k g x below)
 
   -- a group is the first that is refused so
-  at_before : (i : ℕ) (P Q : GroupDef → List (List Rec) → Option Trace → Type 0)
-      → ((g : GroupDef) (recovered : List (List Rec)) (o : Option Trace) → P g recovered o → Q g recovered o)
+  at_before : (i : ℕ) (P Q : GroupDef → List (List Rec) → Trace → Type 0)
+      → ((g : GroupDef) (recovered : List (List Rec)) (o : Trace) → P g recovered o → Q g recovered o)
       → IsRefusedAt gs records mid i P → IsRefusedAt gs records old i Q
   at_before i P Q follows at = record {
     g = at.g;

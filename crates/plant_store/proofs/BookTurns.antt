@@ -1,50 +1,44 @@
 -- Groups that are opened one after the other.
 use Rattle.std.proofs.Common.{◌≡◌, ◌≢◌, inl, inr, ℕ, ◌+◌, ◌<◌, ◌≤◌, List, [], ◌∷◌, ◌++◌, length, length-append, get_or, string_bytes, Option, None, Some, refl, sym, ◌∙◌, ap, subst, arith}
-use Rattle.std.specs.Prelude.{IsSome, String}
+use Rattle.std.specs.Prelude.{IfSome, String}
 use Rattle.std.specs.declared.alloc.Global.{Global}
 use Rattle.std.proofs.lemmas.Bool.{cases_eq, cases_order}
 use Rattle.std.proofs.lemmas.List.{get_or_append_left, get_or_default}
 use Rattle.std.proofs.Math.Seq.{get_or-append_seam}
 use Rattle.trend_num.specs.declared.archive.Rec.{Rec}
 use Rattle.disk_model.specs.Moments.{During}
-use Rattle.disk_model.specs.Traces.{Trace}
+use Rattle.disk_model.specs.Traces.{Trace, Device}
 use Rattle.tag_base.specs.declared.definition.GroupDef.{GroupDef}
 use Rattle.group_book.specs.declared.refusal.LoadNo.{LoadNo}
 use Rattle.group_book.specs.Openings.{IsBookCause, BookStaysSame}
-use Rattle.group_book.specs.Told.{ToldBook, trace_of}
+use Rattle.group_book.specs.Told.{ToldBook}
 use Rattle.disk_model.proofs.Moments.{started}
 use Rattle.plant_store.specs.Groups.{AreBooksOpened, AreDistinct, AreNamesOf, AreOtherGroupsSame, DeviceTraces, IsBookOpened, device_name, group_parts_of, input_records_of, group_definition_text, group_trace_at}
 use Rattle.plant_store.specs.BookSteps.{AreOtherNamesSame, IsCauseAt, RestStaysSame, StaysSameOf}
 use Rattle.plant_store.proofs.BookNames.{apart, as_many, named_at}
 
 -- of a device that is as it was a crash leaves what one before might have left
-pub still : (g : GroupDef) (o : Option Trace) → During o o (BookStaysSame (group_definition_text g) (group_parts_of g) o)
+pub still : (g : GroupDef) (o : Trace) → During o o (BookStaysSame (group_definition_text g) (group_parts_of g) o)
 still g o = started o _ (record { each = λ c may. inl may })
 
-pub untouched : (g : GroupDef) (old new : Option Trace) → new ≡ old → During old new (BookStaysSame (group_definition_text g) (group_parts_of g) old)
+pub untouched : (g : GroupDef) (old new : Trace) → new ≡ old → During old new (BookStaysSame (group_definition_text g) (group_parts_of g) old)
 untouched g old new same = subst (λ o. During old o (BookStaysSame (group_definition_text g) (group_parts_of g) old)) (sym same) (still g old)
 
--- what holds of the trace of the device of a book that has one
-pub held_by : {D : Type 0} (trace : D → Option Trace) (dev : Option D) (P : Option Trace → Type 0) → IsSome dev
-    → ((d : D) → dev ≡ Some d → P (trace d)) → P (trace_of trace dev)
-held_by trace None P there each = absurd (cc (there))
-held_by trace (Some d) P there each = each d refl
-
--- and since it was given out
-pub same_of : {D : Type 0} (trace : D → Option Trace) (dev : Option D) (o : Option Trace) (P : List ℕ → Type 0) → IsSome dev
-    → ((d : D) → dev ≡ Some d → During o (trace d) P) → During o (trace_of trace dev) P
-same_of trace dev o P = held_by trace dev (λ new. During o new P)
+-- what holds of the device of a book, if it has one
+pub held_by : {D : Type 0} (dev : Option D) (P : D → Type 0) → ((d : D) → dev ≡ Some d → P d) → IfSome dev P
+held_by None P each = tt
+held_by (Some d) P each = each d refl
 
 -- the first groups are opened, and no device but theirs has changed
-pub record IsSoFar {D : Type 0} (trace : D → Option Trace) (ticks faults : D → ℕ) (groups : List GroupDef)
+pub record IsSoFar {D : Type 0} (device : D → Device) (groups : List GroupDef)
     (names : List (String Global)) (records : List (List Rec)) (old now : DeviceTraces) (books : List (ToldBook D)) : Type 0 where
-  pub opened : AreBooksOpened trace ticks faults groups records old books
+  pub opened : AreBooksOpened device groups records old books
   pub others : AreOtherNamesSame (length books) names old now
 
 -- before the first one
-pub begun : {D : Type 0} (trace : D → Option Trace) (ticks faults : D → ℕ) (groups : List GroupDef) (names : List (String Global))
-    (records : List (List Rec)) (old : DeviceTraces) → IsSoFar trace ticks faults groups names records old old []
-begun trace ticks faults groups names records old = record {
+pub begun : {D : Type 0} (device : D → Device) (groups : List GroupDef) (names : List (String Global))
+    (records : List (List Rec)) (old : DeviceTraces) → IsSoFar device groups names records old old []
+begun device groups names records old = record {
   opened = record { each = λ i g b below. absurd (omega (arith, below)) };
   others = λ n none. refl;
 }
@@ -73,20 +67,20 @@ one_more_name names many s old now new others below turn n none =
     turn n (none many s (omega arith)) ∙ others n (λ k t before. none k t (omega (arith, before)))
 
 -- one group more
-pub next : {D : Type 0} (trace : D → Option Trace) (ticks faults : D → ℕ) (groups : List GroupDef) (names : List (String Global))
+pub next : {D : Type 0} (device : D → Device) (groups : List GroupDef) (names : List (String Global))
     (records : List (List Rec)) (old now new : DeviceTraces) (books : List (ToldBook D)) (g : GroupDef) (s : String Global) (b : ToldBook D)
-    → IsSoFar trace ticks faults groups names records old now books → AreNamesOf groups names → AreDistinct groups
+    → IsSoFar device groups names records old now books → AreNamesOf groups names → AreDistinct groups
     → length books < length groups
-    → IsBookOpened trace ticks faults (length books) (get_or groups (length books) g)
+    → IsBookOpened device (length books) (get_or groups (length books) g)
     (input_records_of records (get_or groups (length books) g)) (now (string_bytes (get_or names (length books) s))) b
     → ((n : List ℕ) → n ≢ string_bytes (get_or names (length books) s) → new n ≡ now n)
-    → IsSoFar trace ticks faults groups names records old new (books ++ b ∷ [])
-next {D} trace ticks faults groups names records old now new books g s b so_far are distinct below opened turn = record {
+    → IsSoFar device groups names records old new (books ++ b ∷ [])
+next {D} device groups names records old now new books g s b so_far are distinct below opened turn = record {
   opened = record {
     each = λ i d e within. elim (cases_eq i k) [
-      | inl same ↦ subst (λ j. IsBookOpened trace ticks faults j (get_or groups j d) (input_records_of records (get_or groups j d))
+      | inl same ↦ subst (λ j. IsBookOpened device j (get_or groups j d) (input_records_of records (get_or groups j d))
           (group_trace_at old (get_or groups j d)) (get_or (books ++ b ∷ []) j e)) (sym same) (last d e)
-      | inr differ ↦ subst (λ x. IsBookOpened trace ticks faults i (get_or groups i d) (input_records_of records (get_or groups i d))
+      | inr differ ↦ subst (λ x. IsBookOpened device i (get_or groups i d) (input_records_of records (get_or groups i d))
           (group_trace_at old (get_or groups i d)) x) (sym (get_or_append_left books (b ∷ []) e i (earlier i within differ)))
           (so_far.opened.each i d e (earlier i within differ))
     ];
@@ -105,18 +99,18 @@ next {D} trace ticks faults groups names records old now new books g s b so_far 
       | inr (inr behind) ↦ absurd (omega (arith, within, behind, length-append books (b ∷ [])))
     ]
 
-    last : (d : GroupDef) (e : ToldBook D) → IsBookOpened trace ticks faults (length books) (get_or groups (length books) d)
+    last : (d : GroupDef) (e : ToldBook D) → IsBookOpened device (length books) (get_or groups (length books) d)
         (input_records_of records (get_or groups (length books) d)) (group_trace_at old (get_or groups (length books) d))
         (get_or (books ++ b ∷ []) (length books) e)
     last d e =
         let trace_is = ap now (named_at groups names (length books) g s are below)
         ∙ unreached groups names (length books) (length books) g old now are distinct (omega arith) below so_far.others in
-        subst (λ (x : GroupDef). IsBookOpened trace ticks faults (length books) x (input_records_of records x) (group_trace_at old x)
+        subst (λ (x : GroupDef). IsBookOpened device (length books) x (input_records_of records x) (group_trace_at old x)
         (get_or (books ++ b ∷ []) (length books) e)) (get_or_default groups (length books) g d below)
-        (subst (λ y. IsBookOpened trace ticks faults (length books) (get_or groups (length books) g)
+        (subst (λ y. IsBookOpened device (length books) (get_or groups (length books) g)
         (input_records_of records (get_or groups (length books) g)) (group_trace_at old (get_or groups (length books) g)) y)
         (sym (get_or-append_seam books b [] e))
-        (subst (λ o. IsBookOpened trace ticks faults (length books) (get_or groups (length books) g)
+        (subst (λ o. IsBookOpened device (length books) (get_or groups (length books) g)
         (input_records_of records (get_or groups (length books) g)) o b) trace_is opened))
 
 -- the devices from a place on stay the same where the first of them does, and no other was changed
@@ -175,19 +169,19 @@ was_at groups names i g n old now are distinct at others =
     (unreached groups names i i g old now are distinct (omega arith) at.there others)
 
 -- one group more
-pub next_at : {D : Type 0} (trace : D → Option Trace) (ticks faults : D → ℕ) (groups : List GroupDef) (names : List (String Global))
+pub next_at : {D : Type 0} (device : D → Device) (groups : List GroupDef) (names : List (String Global))
     (records : List (List Rec)) (old now new : DeviceTraces) (books : List (ToldBook D)) (i : ℕ) (g : GroupDef) (n : List ℕ) (s : String Global)
-    (b : ToldBook D) → IsSoFar trace ticks faults groups names records old now books → AreNamesOf groups names → AreDistinct groups
-    → length books ≡ i → IsAt groups names i g n → IsBookOpened trace ticks faults i g (input_records_of records g) (now n) b
+    (b : ToldBook D) → IsSoFar device groups names records old now books → AreNamesOf groups names → AreDistinct groups
+    → length books ≡ i → IsAt groups names i g n → IsBookOpened device i g (input_records_of records g) (now n) b
     → ((m : List ℕ) → m ≢ n → new m ≡ now m)
-    → IsSoFar trace ticks faults groups names records old new (books ++ b ∷ [])
-next_at trace ticks faults groups names records old now new books i g n s b so_far are distinct count at opened turn =
-    next trace ticks faults groups names records old now new books g s b so_far are distinct (omega (arith, count, at.there))
-    (subst (λ k. IsBookOpened trace ticks faults k (get_or groups k g) (input_records_of records (get_or groups k g))
+    → IsSoFar device groups names records old new (books ++ b ∷ [])
+next_at device groups names records old now new books i g n s b so_far are distinct count at opened turn =
+    next device groups names records old now new books g s b so_far are distinct (omega (arith, count, at.there))
+    (subst (λ k. IsBookOpened device k (get_or groups k g) (input_records_of records (get_or groups k g))
     (now (string_bytes (get_or names k s))) b) (sym count)
-    (subst (λ m. IsBookOpened trace ticks faults i (get_or groups i g) (input_records_of records (get_or groups i g)) (now m) b)
+    (subst (λ m. IsBookOpened device i (get_or groups i g) (input_records_of records (get_or groups i g)) (now m) b)
     (name_is groups names i g n s are at)
-    (subst (λ (x : GroupDef). IsBookOpened trace ticks faults i x (input_records_of records x) (now n) b) at.is opened)))
+    (subst (λ (x : GroupDef). IsBookOpened device i x (input_records_of records x) (now n) b) at.is opened)))
     (λ m other. turn m (λ same. other (same ∙ name_is groups names i g n s are at ∙ ap (λ k. string_bytes (get_or names k s)) (sym count))))
 
 -- its device stays the same, and no other was changed

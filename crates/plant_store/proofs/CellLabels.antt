@@ -1,12 +1,12 @@
 -- The names of the devices of tags.
-use Rattle.std.proofs.Common.{◌≡◌, ◌≢◌, ℕ, ◌+◌, ◌<◌, ◌≤◌, List, [], ◌∷◌, length, take, get_or, Option, sym, ◌∙◌, ap, subst, arith}
+use Rattle.std.proofs.Common.{◌≡◌, ◌≢◌, ℕ, ◌+◌, ◌<◌, ◌≤◌, List, [], ◌∷◌, length, take, get_or, sym, ◌∙◌, ap, subst, arith}
 use Rattle.std.specs.Prelude.{Bool, IsTrue, All, String, string_bytes}
 use Rattle.std.specs.declared.alloc.Global.{Global}
 use Rattle.std.specs.List.{AllZip}
 use Rattle.std.proofs.lemmas.List.{get_or-map, get_or-take, length-map, length-take-le, take_all, take-map}
 use Rattle.std.proofs.lemmas.List.Elements.{All-map, All-more, All-weaker}
 use Rattle.trend_num.specs.declared.tag_def.TagDef.{TagDef}
-use Rattle.disk_model.specs.Traces.{Trace}
+use Rattle.disk_model.specs.Traces.{Trace, Device}
 use Rattle.tag_cell.specs.Told.{ToldCell}
 use Rattle.tag_cell.specs.Devices.{device_name}
 use Rattle.plant_store.specs.Tags.{tag_trace_of, AreDistinct, AreOtherTagsSame}
@@ -64,21 +64,20 @@ apart_front names n apart within i j d before there =
     (sym (get_or-take n names i d (omega (arith, before, below))) ∙ (same ∙ get_or-take n names j d below))
 
 -- devices that are given back under the first names are those of the first tags
-pub given_of : {D : Type 0} (trace : D → Option Trace) (ticks faults : D → ℕ) (names : List (String Global)) (tags : List TagDef)
-    (cells : List (ToldCell D)) (old now new : List ℕ → Option Trace) → texts names ≡ device_names_of tags
-    → AreCellsOpened trace ticks faults (take (length cells) tags) old cells
-    → AreGivenBack trace (texts (take (length cells) names)) cells now new
-    → AreOtherTagsSame (take (length cells) tags) now new × AreTold trace tags cells new
-given_of {D} trace ticks faults names tags cells old now new same opened back =
+pub given_of : {D : Type 0} (device : D → Device) (names : List (String Global)) (tags : List TagDef)
+    (cells : List (ToldCell D)) (old now new : List ℕ → Trace) → texts names ≡ device_names_of tags
+    → AreCellsOpened device (take (length cells) tags) old cells
+    → AreGivenBack device (texts (take (length cells) names)) cells now new
+    → AreOtherTagsSame (take (length cells) tags) now new × AreTold device tags cells new
+given_of {D} device names tags cells old now new same opened back =
     let front = names_front names tags (length cells) same in (
       λ n none. back.others n (none_named (take (length cells) names) (take (length cells) tags) n front none),
-      zip_follows (λ def (c : ToldCell D). IsCellOpened def (tag_trace_of old def) (trace c.journal.dev) (ticks c.journal.dev)
-          (faults c.journal.dev) c) (λ def (c : ToldCell D). IsBackAt trace new (device_name def.name) c)
-          (λ def (c : ToldCell D). tag_trace_of new def ≡ trace c.journal.dev)
+      zip_follows (λ def (c : ToldCell D). IsCellOpened def (tag_trace_of old def) (device c.journal.dev) c) (λ def (c : ToldCell D). IsBackAt device new (device_name def.name) c)
+          (λ def (c : ToldCell D). tag_trace_of new def ≡ (device c.journal.dev).trace)
           (λ def c is told. told (ap (λ (d : TagDef). device_name d.name) (sym is.def_is))) (take (length cells) tags) cells opened
-          (zip_seen (λ name (c : ToldCell D). IsBackAt trace new name c) (λ (def : TagDef). device_name def.name)
+          (zip_seen (λ name (c : ToldCell D). IsBackAt device new name c) (λ (def : TagDef). device_name def.name)
           (take (length cells) tags) cells
-          (subst (λ l. AllZip (λ name (c : ToldCell D). IsBackAt trace new name c) l cells) front back.given)),
+          (subst (λ l. AllZip (λ name (c : ToldCell D). IsBackAt device new name c) l cells) front back.given)),
     )
 
 -- the bytes of the text at a place

@@ -1,5 +1,5 @@
 -- How the opening of a plant ends.
-use Rattle.std.proofs.Common.{◌≡◌, inl, inr, ℕ, ◌^◌, ◌<◌, ◌≤◌, List, [], ◌∷◌, map, Option, Err, refl, sym, ◌∙◌, ap, subst, arith}
+use Rattle.std.proofs.Common.{◌≡◌, inl, inr, ℕ, ◌^◌, ◌<◌, ◌≤◌, List, [], ◌∷◌, map, Err, refl, sym, ◌∙◌, ap, subst, arith}
 use Rattle.std.specs.Prelude.{String}
 use Rattle.std.specs.declared.alloc.Global.{Global}
 use Rattle.std.specs.List.{AllZip}
@@ -7,7 +7,7 @@ use Rattle.trend_num.specs.Limits.{most_stored}
 use Rattle.trend_num.specs.declared.tag_def.TagDef.{TagDef}
 use Rattle.trend_model.specs.State.{State}
 use Rattle.disk_model.specs.Calls.{Rose}
-use Rattle.disk_model.specs.Traces.{Trace}
+use Rattle.disk_model.specs.Traces.{Device}
 use Rattle.crash_recovery.specs.Opening.{StaysSame}
 use Rattle.plant_status.specs.declared.status.Status.{Status}
 use Rattle.plant_status.specs.declared.unit.Unit.TheVariants.{Tag, Group}
@@ -33,35 +33,34 @@ use Rattle.plant_store.proofs.Labels.{groups_same}
 -- ---- the tags that were opened
 
 -- the opened tags have the records of their cells
-pub records_same : {D : Type 0} (trace : D → Option Trace) (ticks faults : D → ℕ) (ts : List TagDef) (old : DeviceTraces)
-    (cells : List (ToldCell D)) → AreCellsOpened trace ticks faults ts old cells
+pub records_same : {D : Type 0} (device : D → Device) (ts : List TagDef) (old : DeviceTraces)
+    (cells : List (ToldCell D)) → AreCellsOpened device ts old cells
     → cell_records_in cells ≡ opened_records_of (map (λ (c : ToldCell D). core_of c) cells)
-records_same trace ticks faults [] old [] opened = refl
-records_same trace ticks faults [] old (c ∷ cs) opened = absurd opened
-records_same trace ticks faults (t ∷ ts) old [] opened = absurd opened
-records_same trace ticks faults (t ∷ ts) old (c ∷ cs) opened =
+records_same device [] old [] opened = refl
+records_same device [] old (c ∷ cs) opened = absurd opened
+records_same device (t ∷ ts) old [] opened = absurd opened
+records_same device (t ∷ ts) old (c ∷ cs) opened =
     ap (λ (s : State). s.records ∷ cell_records_in cs) opened.0.state_is
-    ∙ ap (λ l. (core_of c).state.records ∷ l) (records_same trace ticks faults ts old cs opened.1)
+    ∙ ap (λ l. (core_of c).state.records ∷ l) (records_same device ts old cs opened.1)
 
 -- once the devices are back, each stays the same
-pub tags_kept : {D : Type 0} (trace : D → Option Trace) (ticks faults : D → ℕ) (names : List (String Global)) (ts : List TagDef)
-    (cells : List (ToldCell D)) (old mid new : DeviceTraces) → texts names ≡ device_names_of ts → AreCellsOpened trace ticks faults ts old cells
-    → AreGivenBack trace (texts names) cells mid new → tag.AllStaySame ts old new
-tags_kept {D} trace ticks faults names ts cells old mid new same opened back =
-    zip_both (λ def (c : ToldCell D). IsCellOpened def (tag.tag_trace_of old def) (trace c.journal.dev) (ticks c.journal.dev)
-    (faults c.journal.dev) c) (λ def (c : ToldCell D). IsBackAt trace new (device_name def.name) c)
+pub tags_kept : {D : Type 0} (device : D → Device) (names : List (String Global)) (ts : List TagDef)
+    (cells : List (ToldCell D)) (old mid new : DeviceTraces) → texts names ≡ device_names_of ts → AreCellsOpened device ts old cells
+    → AreGivenBack device (texts names) cells mid new → tag.AllStaySame ts old new
+tags_kept {D} device names ts cells old mid new same opened back =
+    zip_both (λ def (c : ToldCell D). IsCellOpened def (tag.tag_trace_of old def) (device c.journal.dev) c) (λ def (c : ToldCell D). IsBackAt device new (device_name def.name) c)
     (λ def. StaysSame def (tag.tag_trace_of old def) (tag.tag_trace_of new def))
     (λ def c is told. subst (λ o. StaysSame def (tag.tag_trace_of old def) o)
     (sym (told (ap (λ (d : TagDef). device_name d.name) (sym is.def_is)))) is.same) ts cells opened
-    (zip_seen (λ name (c : ToldCell D). IsBackAt trace new name c) (λ (def : TagDef). device_name def.name) ts cells
-    (subst (λ l. AllZip (λ name (c : ToldCell D). IsBackAt trace new name c) l cells) same back.given))
+    (zip_seen (λ name (c : ToldCell D). IsBackAt device new name c) (λ (def : TagDef). device_name def.name) ts cells
+    (subst (λ l. AllZip (λ name (c : ToldCell D). IsBackAt device new name c) l cells) same back.given))
 
 -- ---- the devices that are given back under the names of tags
 
 -- what no tag's device is called is as it was
-pub others_kept : {D : Type 0} (trace : D → Option Trace) (names : List (String Global)) (ts : List TagDef) (cells : List (ToldCell D))
-    (old new : DeviceTraces) → texts names ≡ device_names_of ts → AreGivenBack trace (texts names) cells old new → tag.AreOtherTagsSame ts old new
-others_kept trace names ts cells old new same back n none = back.others n (none_named names ts n same none)
+pub others_kept : {D : Type 0} (device : D → Device) (names : List (String Global)) (ts : List TagDef) (cells : List (ToldCell D))
+    (old new : DeviceTraces) → texts names ≡ device_names_of ts → AreGivenBack device (texts names) cells old new → tag.AreOtherTagsSame ts old new
+others_kept device names ts cells old new same back n none = back.others n (none_named names ts n same none)
 
 -- no device but those of the base has changed
 pub rest_same : (base : Base) (old mid after new : DeviceTraces) → tag.AreOtherTagsSame base.tags.items old mid
@@ -94,39 +93,39 @@ within before now why small (inl same) = omega (arith, same, small)
 within before now why small (inr rose) = omega (arith, rose.2, small)
 
 -- and the cells that are given back add nothing to it
-pub count_kept : {D : Type 0} (trace : D → Option Trace) (ticks faults : D → ℕ) (ts : List TagDef) (old : DeviceTraces)
-    (cells : List (ToldCell D)) (before first last now : ℕ) (why : Status) → AreCellsOpened trace ticks faults ts old cells
-    → first ≡ before → (first < 2 ^ 64 → GroupsCount why first last) → (last < 2 ^ 64 → CountsCells faults cells last now)
+pub count_kept : {D : Type 0} (device : D → Device) (ts : List TagDef) (old : DeviceTraces)
+    (cells : List (ToldCell D)) (before first last now : ℕ) (why : Status) → AreCellsOpened device ts old cells
+    → first ≡ before → (first < 2 ^ 64 → GroupsCount why first last) → (last < 2 ^ 64 → CountsCells device cells last now)
     → before < 2 ^ 64 → now ≡ last
-count_kept trace ticks faults ts old cells before first last now why opened same counts closed small =
+count_kept device ts old cells before first last now why opened same counts closed small =
     let low : first < 2 ^ 64 = omega (arith, same, small) in
-    (closed (within first last why low (counts low))).faultless (all_faultless trace ticks faults ts old cells opened)
+    (closed (within first last why low (counts low))).faultless (all_faultless device ts old cells opened)
 
 -- ---- a refusal of the groups, once all devices are back
 
 -- it is one of the plant, over the devices before
-pub given_up_refused : {D : Type 0} (trace : D → Option Trace) (ticks faults : D → ℕ) (base : Base) (cells : List (ToldCell D))
-    (old mid new : DeviceTraces) (before first last now : ℕ) (why : Status) → AreCellsOpened trace ticks faults base.tags.items old cells
+pub given_up_refused : {D : Type 0} (device : D → Device) (base : Base) (cells : List (ToldCell D))
+    (old mid new : DeviceTraces) (before first last now : ℕ) (why : Status) → AreCellsOpened device base.tags.items old cells
     → records_opened cells ≤ most_stored → tag.AreOtherTagsSame base.tags.items old mid → first ≡ before
     → (before < 2 ^ 64 → now ≡ last)
     → groups.IsRefusal base.groups.items (cell_records_in cells) mid first last why → IsPlantRefusal base old new before now why
-given_up_refused trace ticks faults base cells old mid new before first last now why opened few others passed kept refused =
-    OfGroups (map (λ c. core_of c) cells) (cores_opened trace ticks faults base.tags.items old cells opened)
+given_up_refused device base cells old mid new before first last now why opened few others passed kept refused =
+    OfGroups (map (λ c. core_of c) cells) (cores_opened device base.tags.items old cells opened)
     (omega (arith, records_are cells, few))
     (subst (λ l. groups.IsRefusal base.groups.items l old before now why)
-    (records_same trace ticks faults base.tags.items old cells opened)
+    (records_same device base.tags.items old cells opened)
     (refusal_before base.groups.items (cell_records_in cells) old mid (groups_same base.tags.items old mid others) before now first last why
     (λ was small. subst (λ n. Rose before n) (sym (kept small))
     (subst (λ n. Rose n last) passed (was (omega (arith, passed, small))))) refused))
 
 -- the devices of groups stay the same
-pub given_up_groups : {D : Type 0} (trace : D → Option Trace) (base : Base) (names : List (String Global)) (cells : List (ToldCell D))
+pub given_up_groups : {D : Type 0} (device : D → Device) (base : Base) (names : List (String Global)) (cells : List (ToldCell D))
     (old mid after new : DeviceTraces) → texts names ≡ device_names_of base.tags.items → tag.AreOtherTagsSame base.tags.items old mid
-    → AreGivenBack trace (texts names) cells after new → group.AllStaySame base.groups.items mid after
+    → AreGivenBack device (texts names) cells after new → group.AllStaySame base.groups.items mid after
     → group.AllStaySame base.groups.items old new
-given_up_groups trace base names cells old mid after new same others back kept =
+given_up_groups device base names cells old mid after new same others back kept =
     same_before base.groups.items [] old mid (groups_same base.tags.items old mid others) after new
-    (groups_same base.tags.items after new (others_kept trace names base.tags.items cells after new same back)) kept
+    (groups_same base.tags.items after new (others_kept device names base.tags.items cells after new same back)) kept
 
 -- and its fault is counted
 pub given_up_counts : (before first last now : ℕ) (why : Status) → first ≡ before → (before < 2 ^ 64 → now ≡ last)

@@ -1,5 +1,5 @@
 -- The refusal of a base's tags, and how many records these have.
-use Rattle.std.proofs.Common.{◌≡◌, inl, inr, ℕ, ◌^◌, ◌<◌, ◌≤◌, List, All, length, Option, Result, Ok, Err, refl, subst, arith}
+use Rattle.std.proofs.Common.{◌≡◌, inl, inr, ℕ, ◌^◌, ◌<◌, ◌≤◌, List, All, length, Result, Ok, Err, refl, subst, arith}
 use Rattle.std.specs.Prelude.{◌≢◌}
 use Rattle.std.proofs.lemmas.List.Sums.{get_or-le-sum_by}
 use Rattle.trend_num.specs.Limits.{most_stored}
@@ -23,7 +23,7 @@ no_file_fault i DeviceFault n = refl
 no_file_fault i other n = refl
 
 -- the refusal of a tag is no read fault
-pub tag_is_no_fault : (tags : List TagDef) (old new : List ℕ → Option Trace) (before now : ℕ) (why : Status)
+pub tag_is_no_fault : (tags : List TagDef) (old new : List ℕ → Trace) (before now : ℕ) (why : Status)
     → IsRefusal tags old new before now why → (which : FileId) → why ≢ ReadFault which
 tag_is_no_fault tags old new before now why is which same = subst (IsRefusal tags old new before now) same is
 

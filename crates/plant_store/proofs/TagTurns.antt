@@ -1,5 +1,5 @@
 -- Tags that are opened one after the other.
-use Rattle.std.proofs.Common.{◌≡◌, ◌≢◌, ◌⊎◌, inl, inr, ℕ, suc, ◌+◌, ◌<◌, ◌≤◌, List, All, [], ◌∷◌, ◌++◌, length, take, get_or, codes, Option, refl, sym, ◌∙◌, ap, subst, arith}
+use Rattle.std.proofs.Common.{◌≡◌, ◌≢◌, ◌⊎◌, inl, inr, ℕ, suc, ◌+◌, ◌<◌, ◌≤◌, List, All, [], ◌∷◌, ◌++◌, length, take, get_or, codes, refl, sym, ◌∙◌, ap, subst, arith}
 use Rattle.std.proofs.lemmas.List.{get_or-take, get_or_default, take_more, append_cancel_right, length-take-le}
 use Rattle.std.specs.List.{AllZip}
 use Rattle.std.proofs.lemmas.Bool.{cases_order}
@@ -14,7 +14,7 @@ use Rattle.plant_store.proofs.TagDevices.{still}
 use Rattle.plant_store.proofs.CellLists.{all_before, all_last}
 
 -- the first i tags are opened
-pub record IsSoFar (tags : List TagDef) (i : ℕ) (old now : List ℕ → Option Trace)
+pub record IsSoFar (tags : List TagDef) (i : ℕ) (old now : List ℕ → Trace)
     (cores : List Core) : Type 0 where
   pub opened : AreDistinct tags → AreTagsOpened (take i tags) old cores
   pub others : AreOtherTagsSame (take i tags) old now
@@ -27,12 +27,12 @@ pub record IsTag (tags : List TagDef) (i : ℕ) (def : TagDef) : Type 0 where
   pub is : def ≡ get_or tags i def
 
 -- the opening of its device changes no other device
-pub record IsTurn (def : TagDef) (now new : List ℕ → Option Trace) : Type 0 where
+pub record IsTurn (def : TagDef) (now new : List ℕ → Trace) : Type 0 where
   pub others : (n : List ℕ) → n ≢ device_name def.name → new n ≡ now n
   pub same : StaysSame def (tag_trace_of now def) (tag_trace_of new def)
 
 -- before the first tag
-pub begun : (tags : List TagDef) (old : List ℕ → Option Trace) → IsSoFar tags 0 old old []
+pub begun : (tags : List TagDef) (old : List ℕ → Trace) → IsSoFar tags 0 old old []
 begun tags old = record {
   opened = λ distinct. tt;
   others = λ n apart. refl;
@@ -74,12 +74,12 @@ beyond tags i k def distinct tag from j e below =
     (ap (λ (x : TagDef). device_name x.name) (sym (get_or-take i tags j e before)) ∙ sym same)
 
 -- so the device of one that was not reached is as it was
-pub not_reached : (tags : List TagDef) (i k : ℕ) (def : TagDef) (old now : List ℕ → Option Trace) → AreOtherTagsSame (take i tags) old now
+pub not_reached : (tags : List TagDef) (i k : ℕ) (def : TagDef) (old now : List ℕ → Trace) → AreOtherTagsSame (take i tags) old now
     → AreDistinct tags → IsTag tags k def → i ≤ k → tag_trace_of now def ≡ tag_trace_of old def
 not_reached tags i k def old now others distinct tag from = others (device_name def.name) (beyond tags i k def distinct tag from)
 
 -- what none of the first tags has, nor the next one, is as it was
-pub reached : (tags : List TagDef) (i : ℕ) (def : TagDef) (old now new : List ℕ → Option Trace) → AreOtherTagsSame (take i tags) old now
+pub reached : (tags : List TagDef) (i : ℕ) (def : TagDef) (old now new : List ℕ → Trace) → AreOtherTagsSame (take i tags) old now
     → IsTag tags i def → ((n : List ℕ) → n ≢ device_name def.name → new n ≡ now n) → AreOtherTagsSame (take (i + 1) tags) old new
 reached tags i def old now new others tag step n none =
     let both = subst (All (λ (d : TagDef). n ≢ device_name d.name)) (one_longer tags i def tag) none in
@@ -87,7 +87,7 @@ reached tags i def old now new others tag step n none =
     ∙ others n (all_before (λ (d : TagDef). n ≢ device_name d.name) (take i tags) def both)
 
 -- each device stays the same, as that of the next tag does and no other was changed
-one_same : (tags : List TagDef) (i : ℕ) (def : TagDef) (old now new : List ℕ → Option Trace)
+one_same : (tags : List TagDef) (i : ℕ) (def : TagDef) (old now new : List ℕ → Trace)
     → AreDistinct tags → AllStaySame tags old now
     → IsTag tags i def → tag_trace_of now def ≡ tag_trace_of old def → IsTurn def now new → (k : ℕ) (d : TagDef)
     → k < length tags
@@ -96,14 +96,14 @@ one_same : (tags : List TagDef) (i : ℕ) (def : TagDef) (old now new : List ℕ
 one_same tags i def old now new distinct kept tag was turn k d in' (inl e) =
     let this : get_or tags k d ≡ def = ap (λ j. get_or tags j d) e ∙ any_default tags i def d tag in
     subst (λ (x : TagDef). StaysSame x (tag_trace_of old x) (tag_trace_of new x)) (sym this)
-    (subst (λ (o : Option Trace). StaysSame def o (tag_trace_of new def)) was turn.same)
+    (subst (λ (o : Trace). StaysSame def o (tag_trace_of new def)) was turn.same)
 one_same tags i def old now new distinct kept tag was turn k d in' (inr other) =
     let unchanged = turn.others (device_name (get_or tags k d).name)
     (apart tags k i def d distinct tag in' other) in
-    subst (λ (o : Option Trace). StaysSame (get_or tags k d) (tag_trace_of old (get_or tags k d)) o)
+    subst (λ (o : Trace). StaysSame (get_or tags k d) (tag_trace_of old (get_or tags k d)) o)
     (sym unchanged) (kept k d in')
 
-pub all_same : (tags : List TagDef) (i : ℕ) (def : TagDef) (old now new : List ℕ → Option Trace)
+pub all_same : (tags : List TagDef) (i : ℕ) (def : TagDef) (old now new : List ℕ → Trace)
     (cores : List Core)
     → IsSoFar tags i old now cores → AreDistinct tags → IsTag tags i def → IsTurn def now new
     → AllStaySame tags old new
@@ -113,7 +113,7 @@ all_same tags i def old now new cores so_far distinct tag turn = λ k d in'.
     k d in' (cases_order k i)
 
 -- one tag more
-one_more : (tags : List TagDef) (i : ℕ) (def : TagDef) (old : List ℕ → Option Trace) (cores : List Core)
+one_more : (tags : List TagDef) (i : ℕ) (def : TagDef) (old : List ℕ → Trace) (cores : List Core)
     (core : Core)
     → AreTagsOpened (take i tags) old cores → IsTag tags i def → IsOpened def (tag_trace_of old def) core
     → AreTagsOpened (take (i + 1) tags) old (cores ++ core ∷ [])
@@ -135,7 +135,7 @@ zip_weaker P Q (x ∷ xs) (y ∷ ys) follows all = (
 )
 
 -- the devices of the first tags are left as they were, and that of the next one is left
-pub one_left : (tags : List TagDef) (i : ℕ) (def : TagDef) (old now new : List ℕ → Option Trace) (cores : List Core)
+pub one_left : (tags : List TagDef) (i : ℕ) (def : TagDef) (old now new : List ℕ → Trace) (cores : List Core)
     (core : Core)
     → AreDistinct tags → AreLeft (take i tags) old now cores → IsTag tags i def → IsTurn def now new
     → IsLeft def (tag_trace_of old def) (tag_trace_of new def) core
@@ -153,22 +153,22 @@ one_left tags i def old now new cores core distinct front tag turn left =
     let unchanged = turn.others (device_name (get_or (take i tags) k d).name)
     (λ e. apart tags k i def d distinct tag (omega (arith, before, tag.there)) (inl before)
     (ap (λ (x : TagDef). device_name x.name) (sym place) ∙ e)) in
-    subst (λ (o : Option Trace). IsLeft (get_or (take i tags) k d) (tag_trace_of old (get_or (take i tags) k d)) o c)
+    subst (λ (o : Trace). IsLeft (get_or (take i tags) k d) (tag_trace_of old (get_or (take i tags) k d)) o c)
     (sym unchanged) was) front)
     left)
 
-pub next : (tags : List TagDef) (i : ℕ) (def : TagDef) (old now new : List ℕ → Option Trace)
+pub next : (tags : List TagDef) (i : ℕ) (def : TagDef) (old now new : List ℕ → Trace)
     (cores : List Core) (core : Core)
     → IsSoFar tags i old now cores → IsTag tags i def → IsTurn def now new
     → IsOpened def (tag_trace_of now def) core → IsLeft def (tag_trace_of now def) (tag_trace_of new def) core
     → IsSoFar tags (i + 1) old new (cores ++ core ∷ [])
 next tags i def old now new cores core so_far tag turn opened left = record {
   opened = λ distinct. one_more tags i def old cores core (so_far.opened distinct) tag
-      (subst (λ (o : Option Trace). IsOpened def o core)
+      (subst (λ (o : Trace). IsOpened def o core)
       (not_reached tags i i def old now so_far.others distinct tag (omega arith)) opened);
   others = reached tags i def old now new so_far.others tag turn.others;
   left = λ distinct. one_left tags i def old now new cores core distinct (so_far.left distinct) tag turn
-      (subst (λ (o : Option Trace). IsLeft def o (tag_trace_of new def) core)
+      (subst (λ (o : Trace). IsLeft def o (tag_trace_of new def) core)
       (not_reached tags i i def old now so_far.others distinct tag (omega arith)) left);
   same = λ distinct. all_same tags i def old now new cores so_far distinct tag turn;
 }

@@ -1,17 +1,17 @@
 -- Books whose devices are given back, and the histories that they leave.
-use Rattle.std.specs.Prelude.{◌≡◌, ℕ, ◌<◌, true, false, List, [], ◌∷◌, length, slice_index_or, string_bytes, Option, None, Some, IfSome, String}
+use Rattle.std.specs.Prelude.{◌≡◌, ℕ, ◌<◌, true, false, List, [], ◌∷◌, length, slice_index_or, string_bytes, Option, None, Some, String}
 use Rattle.std.specs.declared.alloc.Global.{Global}
 use Rattle.disk_model.specs.Calls.{Rose, sum_of_counts}
-use Rattle.disk_model.specs.Traces.{Trace}
+use Rattle.disk_model.specs.Traces.{Trace, Device}
 use Rattle.calc_refresh.specs.Lists.{lists_of}
 use Rattle.calc_refresh.specs.Sheet.{grid_of}
 use Rattle.group_book.specs.declared.history.GroupHistory.{GroupHistory}
-use Rattle.group_book.specs.Told.{IsBookHistory, IsOnDevice, ToldBook, count_of, device_name_of, trace_of, versions_of}
+use Rattle.group_book.specs.Told.{IsBookHistory, IsOnDevice, ToldBook, device_name_of, trace_of, versions_of, moment_of, faults_of}
 use Rattle.plant_store.specs.Groups.{DeviceTraces}
 
--- This is the history of the group of a book, on the book's device, whose clock is the number of its calls, if these are
--- known. The book's sheet is that of its definition. If the book has failed, the device has counted one fault since the opening. Otherwise it has counted none.
-pub record IsHistoryOfBook {D : Type 0} (trace : D → Option Trace) (ticks faults : D → ℕ) (b : ToldBook D) (h : GroupHistory) : Type 0 where
+-- This is the history of the group of a book, on the book's device. The book's sheet is that of its definition. If the
+-- book has failed, the device has counted one fault since the opening. Otherwise it has counted none.
+pub record IsHistoryOfBook {D : Type 0} (device : D → Device) (b : ToldBook D) (h : GroupHistory) : Type 0 where
   pub group : h.group ≡ b.group
   pub def : h.def ≡ b.def
   pub text : h.text.items ≡ b.text
@@ -23,41 +23,40 @@ pub record IsHistoryOfBook {D : Type 0} (trace : D → Option Trace) (ticks faul
   pub evals : h.evals ≡ b.sheet.evals
   pub same_group : b.sheet.group ≡ b.def.calcs
   pub same_grid : b.sheet.grid ≡ grid_of b.def.start b.def.period
-  pub history : IsBookHistory h (trace_of trace b.dev) (count_of ticks b.dev) (count_of faults b.dev)
-  pub clock : IfSome (trace_of trace b.dev) (λ t. length t.calls ≡ count_of ticks b.dev)
+  pub history : IsBookHistory h (trace_of device b.dev) (moment_of device b.dev) (faults_of device b.dev)
   pub there : IsOnDevice b.text b.dev
-  pub rose : b.failed ≡ true → Rose b.opening.faults (count_of faults b.dev)
-  pub faultless : b.failed ≡ false → count_of faults b.dev ≡ b.opening.faults
+  pub rose : b.failed ≡ true → Rose b.opening.faults (faults_of device b.dev)
+  pub faultless : b.failed ≡ false → faults_of device b.dev ≡ b.opening.faults
 
 -- there is one history for each book, at the same place
-pub record AreHistoriesOf {D : Type 0} (trace : D → Option Trace) (ticks faults : D → ℕ) (books : List (ToldBook D))
+pub record AreHistoriesOf {D : Type 0} (device : D → Device) (books : List (ToldBook D))
     (histories : List GroupHistory) : Type 0 where
   pub as_many : length histories ≡ length books
   pub each : (i : ℕ) (b : ToldBook D) (h : GroupHistory) → i < length books
-      → IsHistoryOfBook trace ticks faults (slice_index_or books i b) (slice_index_or histories i h)
+      → IsHistoryOfBook device (slice_index_or books i b) (slice_index_or histories i h)
 
 -- the trace under a name after a book's device was given back under it; the old trace if the book has no device
-abbrev pub trace_after : {D : Type 0} → (D → Option Trace) → Option D → Option Trace → Option Trace
-trace_after trace None old = old
-trace_after trace (Some dev) old = trace dev
+abbrev pub trace_after : {D : Type 0} → (D → Device) → Option D → Trace → Trace
+trace_after device None old = old
+trace_after device (Some dev) old = (device dev).trace
 
 -- the device of a book was given back under this name, if it is the name of the device of the book's group; these are the
 -- traces under the name before and after
-abbrev pub IsBackUnder : {D : Type 0} → (D → Option Trace) → ToldBook D → List ℕ → Option Trace → Option Trace → Type 0
-IsBackUnder trace b name old new = name ≡ device_name_of b.text → new ≡ trace_after trace b.dev old
+abbrev pub IsBackUnder : {D : Type 0} → (D → Device) → ToldBook D → List ℕ → Trace → Trace → Type 0
+IsBackUnder device b name old new = name ≡ device_name_of b.text → new ≡ trace_after device b.dev old
 
 -- the device of each book was given back under the name at its place
-abbrev pub AreGivenBack : {D : Type 0} → (D → Option Trace) → List (String Global) → List (ToldBook D) → DeviceTraces → DeviceTraces → Type 0
-AreGivenBack {D} trace names books old new = (i : ℕ) (b : ToldBook D) (s : String Global) → i < length books
-    → IsBackUnder trace (slice_index_or books i b) (string_bytes (slice_index_or names i s))
+abbrev pub AreGivenBack : {D : Type 0} → (D → Device) → List (String Global) → List (ToldBook D) → DeviceTraces → DeviceTraces → Type 0
+AreGivenBack {D} device names books old new = (i : ℕ) (b : ToldBook D) (s : String Global) → i < length books
+    → IsBackUnder device (slice_index_or books i b) (string_bytes (slice_index_or names i s))
     (old (string_bytes (slice_index_or names i s))) (new (string_bytes (slice_index_or names i s)))
 
 -- a count of faults plus those of a device, if there is one
-abbrev pub count_after : {D : Type 0} → (D → ℕ) → Option D → ℕ → ℕ
-count_after faults None before = before
-count_after faults (Some dev) before = sum_of_counts before (faults dev)
+abbrev pub count_after : {D : Type 0} → (D → Device) → Option D → ℕ → ℕ
+count_after device None before = before
+count_after device (Some dev) before = sum_of_counts before (device dev).faults
 
 -- a count of faults plus those of the devices of these books, in order
-abbrev pub counts_after : {D : Type 0} → (D → ℕ) → List (ToldBook D) → ℕ → ℕ
-counts_after faults [] before = before
-counts_after faults (b ∷ bs) before = counts_after faults bs (count_after faults b.dev before)
+abbrev pub counts_after : {D : Type 0} → (D → Device) → List (ToldBook D) → ℕ → ℕ
+counts_after device [] before = before
+counts_after device (b ∷ bs) before = counts_after device bs (count_after device b.dev before)

@@ -27,7 +27,7 @@ status_of i no.WantOfMemory = WantOfMemory
 -- Group i is the first that is refused; those before it are opened. P holds of the group, of the records of its inputs,
 -- and of the trace of its device.
 pub record IsRefusedAt (groups : List GroupDef) (records : List (List Rec)) (old : DeviceTraces) (i : ℕ)
-    (P : GroupDef → List (List Rec) → Option Trace → Type 0) : Type 0 where
+    (P : GroupDef → List (List Rec) → Trace → Type 0) : Type 0 where
   pub g : GroupDef
   pub openings : List GroupOpening
   pub there : i < length groups

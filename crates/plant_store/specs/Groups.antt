@@ -1,10 +1,10 @@
 -- The groups of a base, opened as books over a store of devices.
-use Rattle.std.specs.Prelude.{◌≡◌, ◌≢◌, ℕ, ◌<◌, List, [], ◌++◌, length, map, codes, string_bytes, slice_index_or, Option, IsSome, false, All, AllPairs, String}
+use Rattle.std.specs.Prelude.{◌≡◌, ◌≢◌, ℕ, ◌<◌, List, [], ◌++◌, length, map, codes, string_bytes, slice_index_or, IfSome, IsSome, false, All, AllPairs, String}
 use Rattle.std.specs.declared.alloc.Global.{Global}
 use Rattle.trend_num.specs.declared.archive.Rec.{Rec}
 use Rattle.disk_model.specs.Calls.{Shows}
 use Rattle.disk_model.specs.Moments.{During}
-use Rattle.disk_model.specs.Traces.{Trace}
+use Rattle.disk_model.specs.Traces.{Trace, Device}
 use Rattle.calc_refresh.specs.declared.definition.GroupDefParts.{GroupDefParts}
 use Rattle.calc_refresh.specs.Lists.{lists_of}
 use Rattle.calc_refresh.specs.Sheet.{AreRowsWhole}
@@ -16,18 +16,18 @@ use Rattle.tag_base.specs.declared.definition.GroupDef.{GroupDef}
 use Rattle.group_book.specs.declared.history.GroupOpening.{GroupOpening}
 use Rattle.group_book.specs.Openings.{StandsForGroup, BookStaysSame}
 use Rattle.group_book.specs.Tapes.{cut}
-use Rattle.group_book.specs.Told.{ToldBook, count_of, device_name_of, trace_of, versions_of}
+use Rattle.group_book.specs.Told.{ToldBook, device_name_of, versions_of, moment_of, faults_of}
 
 -- the traces of a store's devices by name
 abbrev pub DeviceTraces : Type 0
-DeviceTraces = List ℕ → Option Trace
+DeviceTraces = List ℕ → Trace
 
 -- the name of a group's device
 abbrev pub device_name : List ℕ → List ℕ
 device_name name = name ++ codes ".grp"
 
 -- the trace of a group's device, from these traces by name
-abbrev pub group_trace_at : DeviceTraces → GroupDef → Option Trace
+abbrev pub group_trace_at : DeviceTraces → GroupDef → Trace
 group_trace_at traces g = traces (device_name g.name)
 
 -- these are the names of the groups' devices, in order
@@ -52,7 +52,7 @@ input_records_of records g = map (λ tag. slice_index_or records tag []) g.input
 
 -- A group is opened with these versions and rows: its device stood for them, and no version is above the number of
 -- records of its tag. The opening ends one call after those that the device had made, or, if it was begun, a few more.
-pub record IsGroupOpening (g : GroupDef) (recovered : List (List Rec)) (o : Option Trace) (opening : GroupOpening) : Type 0 where
+pub record IsGroupOpening (g : GroupDef) (recovered : List (List Rec)) (o : Trace) (opening : GroupOpening) : Type 0 where
   pub stood : Shows o (StandsForGroup (group_definition_text g) (group_parts_of g) opening.versions.items (lists_of opening.rows.items))
   pub within : map length (cut opening.versions.items recovered) ≡ opening.versions.items
   pub faults : opening.faults ≡ 0
@@ -68,15 +68,15 @@ AreGroupsOpened many groups records old openings = (k : ℕ) (g : GroupDef) (x :
 -- its tags. It has a row for each calculation, with one value for each complete window. A device that had a finished
 -- layout of this group has gained one sync and nothing else. A crash at any moment since left of the device what a crash
 -- might have left before, or what stands for the same.
-pub record IsBookOpened {D : Type 0} (trace : D → Option Trace) (ticks faults : D → ℕ) (i : ℕ) (g : GroupDef)
-    (recovered : List (List Rec)) (o : Option Trace) (b : ToldBook D) : Type 0 where
+pub record IsBookOpened {D : Type 0} (device : D → Device) (i : ℕ) (g : GroupDef)
+    (recovered : List (List Rec)) (o : Trace) (b : ToldBook D) : Type 0 where
   pub group : b.group ≡ i
   pub def : b.def ≡ group_parts_of g
   pub text : b.text ≡ group_definition_text g
   pub named : device_name_of b.text ≡ device_name g.name
   pub tags : b.tags ≡ g.inputs.items
   pub opening : IsGroupOpening g recovered o b.opening
-  pub moment : b.opening.moment ≡ count_of ticks b.dev
+  pub moment : b.opening.moment ≡ moment_of device b.dev
   pub versions : b.opening.versions.items ≡ versions_of b
   pub copies : b.sheet.copies ≡ cut b.opening.versions.items recovered
   pub rows : b.sheet.rows ≡ lists_of b.opening.rows.items
@@ -84,16 +84,16 @@ pub record IsBookOpened {D : Type 0} (trace : D → Option Trace) (ticks faults 
   pub evals : b.sheet.evals ≡ 0
   pub tape : b.tape ≡ []
   pub usable : b.failed ≡ false
-  pub device : IsSome b.dev
-  pub faultless : count_of faults b.dev ≡ 0
-  pub synced : GainsGroupSync (group_definition_text g) o (trace_of trace b.dev)
-  pub same : During o (trace_of trace b.dev) (BookStaysSame (group_definition_text g) (group_parts_of g) o)
+  pub has_device : IsSome b.dev
+  pub faultless : faults_of device b.dev ≡ 0
+  pub synced : IfSome b.dev (λ dev. GainsGroupSync (group_definition_text g) o (device dev).trace)
+  pub same : IfSome b.dev (λ dev. During o (device dev).trace (BookStaysSame (group_definition_text g) (group_parts_of g) o))
 
 -- the books are those of the first groups, each at its place
-pub record AreBooksOpened {D : Type 0} (trace : D → Option Trace) (ticks faults : D → ℕ) (groups : List GroupDef)
+pub record AreBooksOpened {D : Type 0} (device : D → Device) (groups : List GroupDef)
     (records : List (List Rec)) (old : DeviceTraces) (books : List (ToldBook D)) : Type 0 where
   pub each : (i : ℕ) (g : GroupDef) (b : ToldBook D) → i < length books
-      → IsBookOpened trace ticks faults i (slice_index_or groups i g) (input_records_of records (slice_index_or groups i g))
+      → IsBookOpened device i (slice_index_or groups i g) (input_records_of records (slice_index_or groups i g))
       (group_trace_at old (slice_index_or groups i g)) (slice_index_or books i b)
 
 -- a crash at any moment since left of the device of each group what a crash might have left before, or what stands for

@@ -1,5 +1,5 @@
 -- Why the tags of a base are not opened.
-use Rattle.std.specs.Prelude.{◌≡◌, ◌⊎◌, ℕ, ◌+◌, ◌^◌, ◌<◌, ◌≤◌, List, length, take, slice_index_or, Option, Result, Ok, Err}
+use Rattle.std.specs.Prelude.{◌≡◌, ◌⊎◌, ℕ, ◌+◌, ◌^◌, ◌<◌, ◌≤◌, List, length, take, slice_index_or, Result, Ok, Err}
 use Rattle.trend_num.specs.declared.tag_def.TagDef.{TagDef}
 use Rattle.trend_num.specs.declared.refusal.What.TheVariants.{Records, StoreRecords}
 use Rattle.trend_model.specs.State.{State}
@@ -26,8 +26,8 @@ status_of tag no.WantOfMemory = WantOfMemory
 
 -- Tag i is the first that is refused. Those before it are opened, and do not have too many records. P holds of their
 -- cores, of tag i, and of the trace of its device. No device has changed except theirs and that of tag i.
-pub record IsRefusedAt (tags : List TagDef) (old new : List ℕ → Option Trace) (i : ℕ)
-    (P : List Core → TagDef → Option Trace → Type 0) : Type 0 where
+pub record IsRefusedAt (tags : List TagDef) (old new : List ℕ → Trace) (i : ℕ)
+    (P : List Core → TagDef → Trace → Type 0) : Type 0 where
   pub def : TagDef
   pub cores : List Core
   pub there : i < length tags
@@ -38,14 +38,14 @@ pub record IsRefusedAt (tags : List TagDef) (old new : List ℕ → Option Trace
   pub rest : AreOtherTagsSame (take (i + 1) tags) old new
 
 -- the tag is opened, and with its records the opened tags have too many
-pub record IsTooMuch (number : ℕ) (cores : List Core) (def : TagDef) (o : Option Trace) : Type 0 where
+pub record IsTooMuch (number : ℕ) (cores : List Core) (def : TagDef) (o : Trace) : Type 0 where
   pub core : Core
   pub opened : IsOpened def o core
   pub number_is : number ≡ tag_records_in cores + length core.state.records
   pub many : most_stored < number
 
 -- why the tags are not opened; the store counted `before` faults before it, and counts `now` after it
-abbrev pub IsRefusal : List TagDef → (List ℕ → Option Trace) → (List ℕ → Option Trace) → ℕ → ℕ → Status
+abbrev pub IsRefusal : List TagDef → (List ℕ → Trace) → (List ℕ → Trace) → ℕ → ℕ → Status
     → Type 0
 IsRefusal tags old new before now (DeviceFault (Tag i)) =
     IsRefusedAt tags old new i (λ cores def o. before < 2 ^ 64 → Rose before now)

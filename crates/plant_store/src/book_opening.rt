@@ -36,7 +36,7 @@ pub fn open_books<S: Store>(
     requires copied { All (λ r. IsCopy r.now) records.now }
 
     // Each book is that of its group, with what its device and its tags have.
-    ensures opened { IfOk result (λ books. AreBooksOpened S.Dev.trace S.Dev.ticks S.Dev.fault_count groups.now
+    ensures opened { IfOk result (λ books. AreBooksOpened S.Dev.device groups.now
         (map (λ r. r.now) records.now) (S.device_at store.old) books.items) }
     ensures as_many { IfOk result (λ books. length books.items ≡ length groups.now) }
     ensures places { OnOk result (HavePlaces (length groups.now) names.now (S.has_place store.new)) }
@@ -83,7 +83,7 @@ fn open_all<S: Store>(
     requires copied { All (λ r. IsCopy r.now) records.now }
     requires none { books.old.items ≡ [] }
     requires room { length groups.now ≤ vec_capacity books.old }
-    ensures opened { AreBooksOpened S.Dev.trace S.Dev.ticks S.Dev.fault_count groups.now
+    ensures opened { AreBooksOpened S.Dev.device groups.now
         (map (λ r. r.now) records.now) (S.device_at store.old) books.new.items }
     ensures all { OnOk result (length books.new.items ≡ length groups.now) }
     ensures some { OnErr result (length books.new.items < length groups.now) }

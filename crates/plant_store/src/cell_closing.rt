@@ -21,12 +21,12 @@ pub fn close_cells<S: Store>(
     requires room { vec_len cells ≤ vec_capacity histories.old }
     requires apart { AreApart (texts names.now) }
     requires places { HasPlaces (S.has_place store.old) (texts names.now) }
-    ensures histories { AreHistoriesOf S.Dev.trace S.Dev.ticks S.Dev.fault_count cells.items histories.new.items }
+    ensures histories { AreHistoriesOf S.Dev.device cells.items histories.new.items }
     ensures devices { AreHistoriesAt (S.device_at store.new) (texts names.now) histories.new.items }
-    ensures given_back { AreGivenBack S.Dev.trace (texts names.now) cells.items (S.device_at store.old) (S.device_at store.new) }
+    ensures given_back { AreGivenBack S.Dev.device (texts names.now) cells.items (S.device_at store.old) (S.device_at store.new) }
     ensures kept_places { (n : List ℕ) → IsTrue (S.has_place store.old n) → IsTrue (S.has_place store.new n) }
     ensures counts { S.fault_count store.old < 2 ^ 64
-        → CountsCells S.Dev.fault_count cells.items (S.fault_count store.old) (S.fault_count store.new) }
+        → CountsCells S.Dev.device cells.items (S.fault_count store.old) (S.fault_count store.new) }
 {
     let mut rest = cells.into_iter();
     while let Some(cell) = rest.next() {
@@ -39,13 +39,12 @@ pub fn close_cells<S: Store>(
 // Gives the device of a cell back under this name, and returns what happened to its tag.
 pub(crate) fn close_cell<S: Store>(store: &mut S, name: &str, cell: Cell<S::Dev>) -> TagHistory
     requires { IsTrue (S.has_place store.old name.now) }
-    ensures history { IsHistoryOfCell (S.Dev.trace cell.journal.dev) (S.Dev.ticks cell.journal.dev)
-        (S.Dev.fault_count cell.journal.dev) cell result }
-    ensures told { name.now ≡ device_name cell.def.name → S.device_at store.new name.now ≡ S.Dev.trace cell.journal.dev }
+    ensures history { IsHistoryOfCell (S.Dev.device cell.journal.dev) cell result }
+    ensures told { name.now ≡ device_name cell.def.name → S.device_at store.new name.now ≡ (S.Dev.device cell.journal.dev).trace }
     ensures others { (n : List ℕ) → n ≢ name.now → S.device_at store.new n ≡ S.device_at store.old n }
     ensures places { (n : List ℕ) → IsTrue (S.has_place store.old n) → IsTrue (S.has_place store.new n) }
-    ensures counted { S.fault_count store.new ≡ sum_of_counts (S.fault_count store.old) (S.Dev.fault_count cell.journal.dev) }
-    ensures faulty { cell.journal.failed ≡ true → 1 ≤ S.Dev.fault_count cell.journal.dev }
+    ensures counted { S.fault_count store.new ≡ sum_of_counts (S.fault_count store.old) (S.Dev.device cell.journal.dev).faults }
+    ensures faulty { cell.journal.failed ≡ true → 1 ≤ (S.Dev.device cell.journal.dev).faults }
 {
     let (dev, history) = cell.into_history();
     store.give_back(name, dev);

@@ -43,7 +43,7 @@ pub fn open_cells<S: Store, R: Wait>(
     requires places { length tags.now ≤ length (arc_value board.now) }
 
     // Each cell is what its tag's device recovers, and has its room. The store keeps a place for each device.
-    ensures opened { IfOk result (λ cells. AreCellsOpened S.Dev.trace S.Dev.ticks S.Dev.fault_count tags.now
+    ensures opened { IfOk result (λ cells. AreCellsOpened S.Dev.device tags.now
         (S.device_at store.old) cells.items) }
     ensures as_many { IfOk result (λ cells. length cells.items ≡ length tags.now) }
     ensures rooms { IfOk result (λ cells. map (λ c. c.room) cells.items ≡ rooms.now) }

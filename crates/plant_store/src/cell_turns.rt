@@ -50,7 +50,7 @@ pub(crate) fn open_all<S: Store, R: Wait>(
     requires places { length tags.now ≤ length (arc_value board.now) }
     requires none { cells.old.items ≡ [] }
     requires room { length tags.now ≤ vec_capacity cells.old }
-    ensures opened { AreCellsOpened S.Dev.trace S.Dev.ticks S.Dev.fault_count (take (length cells.new.items) tags.now)
+    ensures opened { AreCellsOpened S.Dev.device (take (length cells.new.items) tags.now)
         (S.device_at store.old) cells.new.items }
     ensures within { length cells.new.items ≤ length tags.now }
     ensures places { HasPlaces (S.has_place store.new) (take (length cells.new.items) (texts names.now)) }
@@ -60,7 +60,7 @@ pub(crate) fn open_all<S: Store, R: Wait>(
     ensures rooms { OnOk result (map (λ c. c.room) cells.new.items ≡ rooms.now) }
     ensures few_records { OnOk result (records_opened cells.new.items ≤ most_stored) }
     ensures passed { OnOk result (S.fault_count store.new ≡ S.fault_count store.old) }
-    ensures stopped { IfErr result (IsStopped S.Dev.trace tags.now cells.new.items (S.device_at store.old)
+    ensures stopped { IfErr result (IsStopped S.Dev.device tags.now cells.new.items (S.device_at store.old)
         (S.device_at store.new) (S.fault_count store.old) (S.fault_count store.new)) }
 {
     let mut posters = posters.into_iter();
@@ -100,8 +100,7 @@ fn open_one<S: Store, R: Wait>(
     requires here { PostsTo (arc_value board.now) poster }
     requires unposted { poster.last ≡ nothing }
     requires named { name.now ≡ device_name def.now.name }
-    ensures opened { IfOk result (λ c. IsCellOpened def.now (S.device_at store.old name.now) (S.Dev.trace c.journal.dev)
-        (S.Dev.ticks c.journal.dev) (S.Dev.fault_count c.journal.dev) c) }
+    ensures opened { IfOk result (λ c. IsCellOpened def.now (S.device_at store.old name.now) (S.Dev.device c.journal.dev) c) }
     ensures room { IfOk result (λ c. c.room ≡ room) }
     ensures place { OnOk result (IsTrue (S.has_place store.new name.now)) }
     ensures passed { OnOk result (S.fault_count store.new ≡ S.fault_count store.old) }

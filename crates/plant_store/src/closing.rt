@@ -27,16 +27,16 @@ pub fn close_plant<S: Store>(
     requires places { HasPlacesOf shelf (S.has_place store.old) }
 
     // There is one history for each cell and each book, at the same place.
-    ensures tags { AreHistoriesOf S.Dev.trace S.Dev.ticks S.Dev.fault_count plant.cells.items result.0.items }
-    ensures groups { AreGroupHistoriesOf S.Dev.trace S.Dev.ticks S.Dev.fault_count plant.books.items result.1.items }
+    ensures tags { AreHistoriesOf S.Dev.device plant.cells.items result.0.items }
+    ensures groups { AreGroupHistoriesOf S.Dev.device plant.books.items result.1.items }
 
     // The device of each is back under its name, and no other device has changed.
-    ensures back { AreDevicesBack S.Dev.trace shelf plant.cells.items plant.books.items (S.device_at store.old)
+    ensures back { AreDevicesBack S.Dev.device shelf plant.cells.items plant.books.items (S.device_at store.old)
         (S.device_at store.new) }
     ensures devices { AreHistoriesAt (S.device_at store.new) (texts shelf.tag_names.items) result.0.items }
 
     // The faults of the devices are added to the store's.
-    ensures counts { S.fault_count store.old < 2 ^ 64 → CountsClosed S.Dev.fault_count plant.cells.items plant.books.items
+    ensures counts { S.fault_count store.old < 2 ^ 64 → CountsClosed S.Dev.device plant.cells.items plant.books.items
         (S.fault_count store.old) (S.fault_count store.new) }
 {
     let Shelf {

@@ -22,8 +22,8 @@
 //! - An opening stops at the first tag or group that is refused, or at the tag with which the tags together have too
 //!   many records. It returns that refusal, and no device is out then.
 //! - A crash at any moment leaves of each device an image that a crash might have left before, or one that recovers or
-//!   stands for the same, or, of a tag, one that recovers that state as it is opened. This covers devices with a known
-//!   trace of calls, and fewer than 10^18 events.
+//!   stands for the same, or, of a tag, one that recovers that state as it is opened. For a tag this covers fewer
+//!   than 10^18 events.
 //! - Once the tags are open, a crash leaves what recovers them.
 //! - The device of a group that had a finished layout gains one sync as its book is opened, and nothing else. If
 //!   [`open_book`] refuses a group for damage, a version or its rows, the device gains the same one sync.

@@ -60,9 +60,9 @@ pub fn open_plant<S: Store, R: Wait>(
 
     // Each cell is what its tag's device recovers. Each book has what its group's device stands for, over the records
     // of the cells. The store keeps a place for each device.
-    ensures tags { IfOk result (λ plant. AreCellsOpened S.Dev.trace S.Dev.ticks S.Dev.fault_count base.now.tags.items
+    ensures tags { IfOk result (λ plant. AreCellsOpened S.Dev.device base.now.tags.items
         (S.device_at store.old) plant.cells.items) }
-    ensures groups { IfOk result (λ plant. AreBooksOpened S.Dev.trace S.Dev.ticks S.Dev.fault_count base.now.groups.items
+    ensures groups { IfOk result (λ plant. AreBooksOpened S.Dev.device base.now.groups.items
         (cell_records_in plant.cells.items) (S.device_at store.old) plant.books.items) }
     ensures as_many_cells { IfOk result (λ plant. length plant.cells.items ≡ length base.now.tags.items) }
     ensures as_many_books { IfOk result (λ plant. length plant.books.items ≡ length base.now.groups.items) }
@@ -107,7 +107,7 @@ fn open_groups<S: Store>(
     requires sound { All (IsSoundGroup (length cells.now)) base.now.groups.items }
     requires distinct { AreDistinctGroups base.now.groups.items }
     requires names { AreNamesOf base.now.groups.items names.now }
-    ensures opened { IfOk result (λ books. AreBooksOpened S.Dev.trace S.Dev.ticks S.Dev.fault_count base.now.groups.items
+    ensures opened { IfOk result (λ books. AreBooksOpened S.Dev.device base.now.groups.items
         (cell_records_in cells.now) (S.device_at store.old) books.items) }
     ensures as_many { IfOk result (λ books. length books.items ≡ length base.now.groups.items) }
     ensures places { OnOk result (HavePlaces (length base.now.groups.items) names.now (S.has_place store.new)) }

@@ -33,7 +33,7 @@ pub fn open_book<S: Store>(
     requires named { name.now ≡ device_name group.now.name }
 
     // The book is that of the group, with what its device and its tags have.
-    ensures opened { IfOk result (IsBookOpened S.Dev.trace S.Dev.ticks S.Dev.fault_count place group.now
+    ensures opened { IfOk result (IsBookOpened S.Dev.device place group.now
         (input_records_of (map (λ r. r.now) records.now) group.now) (S.device_at store.old name.now)) }
 
     // A refusal states its cause. A crash at any moment then leaves of the device what a crash might have left before, or
@@ -78,11 +78,11 @@ pub fn open_book<S: Store>(
 /// memory. The faults of the device are added to those of the store.
 pub fn close_book<S: Store>(store: &mut S, name: &str, book: Book<S::Dev>) -> GroupHistory
     requires place { IsTrue (S.has_place store.old name.now) }
-    ensures history { IsHistoryOfBook S.Dev.trace S.Dev.ticks S.Dev.fault_count book result }
-    ensures given { IsBackUnder S.Dev.trace book name.now (S.device_at store.old name.now) (S.device_at store.new name.now) }
+    ensures history { IsHistoryOfBook S.Dev.device book result }
+    ensures given { IsBackUnder S.Dev.device book name.now (S.device_at store.old name.now) (S.device_at store.new name.now) }
     ensures places { (n : List ℕ) → IsTrue (S.has_place store.old n) → IsTrue (S.has_place store.new n) }
     ensures others { (n : List ℕ) → n ≢ name.now → S.device_at store.new n ≡ S.device_at store.old n }
-    ensures counted { S.fault_count store.new ≡ count_after S.Dev.fault_count book.dev (S.fault_count store.old) }
+    ensures counted { S.fault_count store.new ≡ count_after S.Dev.device book.dev (S.fault_count store.old) }
 {
     let (dev, history) = book.into_history();
     if let Some(dev) = dev {

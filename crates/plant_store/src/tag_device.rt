@@ -57,12 +57,12 @@ pub(crate) fn device_name(alloc: Global, name: &Name) -> Result<String, AllocErr
 // Returns the device, and the tag that it holds or why it is not opened.
 fn open_core<D: Disk>(alloc: Global, dev: D, def: &TagDef) -> (D, Result<TagCore, OpenNo>)
     requires tuned { TuningInRange def.now.tuning }
-    ensures same { StaysSame def.now (D.trace dev) (D.trace result.0) }
-    ensures opened { IfOk result.1 (IsOpened def.now (D.trace dev)) }
-    ensures left { IfOk result.1 (IsLeft def.now (D.trace dev) (D.trace result.0)) }
-    ensures cause { IfErr result.1 (IsCause def.now (D.trace dev)) }
-    ensures counts { CountsFault result.1 DeviceFault (D.fault_count dev) (D.fault_count result.0) }
-    ensures handed { D.hand_out result.0 ≡ D.hand_out dev }
+    ensures same { StaysSame def.now (D.device dev).trace (D.device result.0).trace }
+    ensures opened { IfOk result.1 (IsOpened def.now (D.device dev).trace) }
+    ensures left { IfOk result.1 (IsLeft def.now (D.device dev).trace (D.device result.0).trace) }
+    ensures cause { IfErr result.1 (IsCause def.now (D.device dev).trace) }
+    ensures counts { CountsFault result.1 DeviceFault (D.device dev).faults (D.device result.0).faults }
+    ensures handed { (D.device result.0).handed ≡ (D.device dev).handed }
 {
     match open_tag(alloc, dev, def, LANE_SLOTS, 0) {
         Ok(Opened { journal, core }) => (journal.into_device(), Ok(core)),

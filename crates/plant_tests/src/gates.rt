@@ -1,5 +1,4 @@
 // Passes that hold a reader, and a device whose sync waits for it.
-ghost use Rattle.std.specs.Prelude.{length, Some, refl};
 ghost use Rattle.disk_model.specs.Memory.{handed_as};
 
 use disk_model::{Disk, Failed, MemDisk, MemStore, Store};
@@ -83,15 +82,7 @@ pub struct GateDisk<'a> {
 }
 
 impl<'a> Disk for GateDisk<'a> {
-    ghost trace = { λ d. Some d.disk.trace };
-
-    ghost ticks = { λ d. length d.disk.trace.calls };
-
-    ghost fault_count = { λ d. d.disk.faults };
-
-    ghost hand_out = { λ d. handed_as d.disk.name };
-
-    ghost told = { λ d. refl };
+    ghost device = { λ d. record { handed = handed_as d.disk.name; trace = d.disk.trace; faults = d.disk.faults } };
 
     fn len(&mut self) -> Result<u64, Failed> {
         self.disk.len()
@@ -140,7 +131,7 @@ impl<'a> Store for GateStore<'a> {
 
     type Dev = GateDisk<'a>;
 
-    ghost device_at = { λ s name. Some (trace_at s.store.devices name) };
+    ghost device_at = { λ s name. trace_at s.store.devices name };
 
     ghost has_place = { λ s name. has_device s.store.devices name };
 

@@ -11,7 +11,7 @@ use Rattle.trend_num.specs.Limits.{most_stored}
 use Rattle.trend_model.specs.State.{State}
 use Rattle.trend_num.specs.declared.archive.Rec.{Rec}
 use Rattle.trend_num.specs.declared.tag_def.TagDef.{TagDef}
-use Rattle.disk_model.specs.Traces.{Trace}
+use Rattle.disk_model.specs.Traces.{moment, Device}
 use Rattle.calc_refresh.specs.declared.definition.GroupDefParts.{GroupDefParts}
 use Rattle.calc_refresh.specs.declared.refusal.SheetNo.TheVariants as sheet
 use Rattle.calc_refresh.specs.Lists.{lists_of, total_length}
@@ -160,7 +160,7 @@ limit_copies cells records n told = by (nat_lt most_cells cells) (nat_lt most_co
         (sym number, subst (λ m. most_copies < m) number (ltb-true most_copies records too), ltb-false most_cells cells is)
     by false false is too same = absurd (cc same)
 
-module _ {D : Type 0} (trace : D → Option Trace) (ticks faults : D → ℕ) (base : Base)
+module _ {D : Type 0} (device : D → Device) (base : Base)
     (old new : DeviceTraces) where
   -- ---- openings
 
@@ -177,16 +177,16 @@ module _ {D : Type 0} (trace : D → Option Trace) (ticks faults : D → ℕ) (b
 
   -- what was kept of cells is what their devices stood for
   known_tags : (defs : List TagDef) (opened_cells : List (Cell D)) (known : List Kept)
-      → AreCellsOpened trace ticks faults defs old opened_cells → AllZip IsCellCopied opened_cells known
+      → AreCellsOpened device defs old opened_cells → AllZip IsCellCopied opened_cells known
       → AllZip (λ def (k : Kept). IsTagOpened def (tag_trace_of old def) k.def k.opening) defs known
   known_tags = zip_on
-      (λ def (c : Cell D). IsCellOpened def (tag_trace_of old def) (trace c.journal.dev) (ticks c.journal.dev) (faults c.journal.dev) c)
+      (λ def (c : Cell D). IsCellOpened def (tag_trace_of old def) (device c.journal.dev) c)
       IsCellCopied (λ def (k : Kept). IsTagOpened def (tag_trace_of old def) k.def k.opening)
-      (λ def c k is copy. tag_opened trace ticks faults def (tag_trace_of old def) c k.def k.opening is copy.def copy.records
+      (λ def c k is copy. tag_opened device def (tag_trace_of old def) c k.def k.opening is copy.def copy.records
       copy.summary copy.moment copy.faults)
 
   -- the records of the copies
-  known_lists : (defs : List TagDef) (cells : List (Cell D)) (known : List Kept) → AreCellsOpened trace ticks faults defs old cells
+  known_lists : (defs : List TagDef) (cells : List (Cell D)) (known : List Kept) → AreCellsOpened device defs old cells
       → AllZip IsCellCopied cells known → cell_records_in cells ≡ map (λ (k : Kept). k.opening.recs.items) known
   known_lists [] [] [] was copied = refl
   known_lists [] [] (k ∷ ks) was copied = absurd copied
@@ -212,7 +212,7 @@ module _ {D : Type 0} (trace : D → Option Trace) (ticks faults : D → ℕ) (b
 
   -- what was kept of a book is what its device stood for
   known_group : (opened_cells : List (Cell D)) (opened_books first : List (Book D)) (known : List KeptGroup) (group : ℕ) (k : KeptGroup)
-      (records : List (List Rec)) → cell_records_in opened_cells ≡ records → AreUnitsOpen trace ticks faults base old opened_cells opened_books → AllZip IsContinuedGroup opened_books first
+      (records : List (List Rec)) → cell_records_in opened_cells ≡ records → AreUnitsOpen device base old opened_cells opened_books → AllZip IsContinuedGroup opened_books first
       → AllZip IsBookCopied first known → slice_get known group ≡ Some k
       → (def : GroupDef) × (slice_get base.groups.items group ≡ Some def)
       × IsGroupOpened group def (group_trace_at old def) (input_records_of records def) k.group k.def k.text.items k.opening
@@ -233,7 +233,7 @@ module _ {D : Type 0} (trace : D → Option Trace) (ticks faults : D → ℕ) (b
       copy.rows ∙ cont.rows ∙ ap (λ (x : Book D). lists_of x.opening.rows.items) (sym here) in (
         def,
         slice_get-get_or base.groups.items group d of_base,
-        group_opened trace ticks faults group def (group_trace_at old def) (input_records_of (cell_records_in opened_cells) def)
+        group_opened device group def (group_trace_at old def) (input_records_of (cell_records_in opened_cells) def)
             (input_records_of records def) (get_or opened_books group a.0) k.group k.def k.text.items k.opening (ap (λ l. input_records_of l def) same) book
             (copy.group ∙ cont.group ∙ ap (λ (x : Book D). x.group) (sym here)) (copy.def ∙ cont.def ∙ ap (λ (x : Book D). x.def) (sym here))
             (copy.text ∙ cont.text ∙ ap (λ (x : Book D). x.text) (sym here)) first_versions first_rows
@@ -243,7 +243,7 @@ module _ {D : Type 0} (trace : D → Option Trace) (ticks faults : D → ℕ) (b
 
   -- what was kept of all of them
   as_kept : (opened_cells first_cells : List (Cell D)) (opened_books first_books : List (Book D)) (known : List Kept)
-      (known_groups : List KeptGroup) → AreUnitsOpen trace ticks faults base old opened_cells opened_books
+      (known_groups : List KeptGroup) → AreUnitsOpen device base old opened_cells opened_books
       → AllZip IsContinued opened_cells first_cells → AllZip IsContinuedGroup opened_books first_books
       → AllZip IsCellCopied first_cells known → AllZip IsBookCopied first_books known_groups → AreKept base old known known_groups
   as_kept opened_cells first_cells opened_books first_books known known_groups was on on_books copied copied_books =
@@ -265,13 +265,13 @@ module _ {D : Type 0} (trace : D → Option Trace) (ticks faults : D → ℕ) (b
         few = subst (λ n. n ≤ most_stored) (sym (known_many opened_cells known copies)) was.few;
       }
 
-  module _ (g : Given) (cells : List (Cell D)) (books : List (Book D)) (s : Session) (is : IsOver trace ticks faults base old new cells books s)
+  module _ (g : Given) (cells : List (Cell D)) (books : List (Book D)) (s : Session) (is : IsOver device base old new cells books s)
       (earlier phases : ℕ) (rows : List (List RawRow)) (queries : List (List Query)) (refreshers : List Refresher)
       (good : IsGoodBase base) (given : IsWorkIn base earlier phases rows queries refreshers g) where
     -- ---- histories
 
     abbrev IsOfCell : Cell D → TagHistory → Type 0
-    IsOfCell c t = IsHistoryOfCell (trace c.journal.dev) (ticks c.journal.dev) (faults c.journal.dev) c t
+    IsOfCell c t = IsHistoryOfCell (device c.journal.dev) c t
 
     tag_at : (tag : ℕ) (c : Cell D) → slice_get cells tag ≡ Some c
         → (t : TagHistory) × (slice_get s.tags.items tag ≡ Some t) × IsOfCell c t
@@ -282,9 +282,9 @@ module _ {D : Type 0} (trace : D → Option Trace) (ticks faults : D → ℕ) (b
     cell_of i c t below = zip_at IsOfCell cells s.tags.items i c t is.tags (omega (arith, below, zip_length IsOfCell cells s.tags.items is.tags))
 
     group_at : (group : ℕ) (b : Book D) → slice_get books group ≡ Some b
-        → (h : GroupHistory) × (slice_get s.groups.items group ≡ Some h) × IsHistoryOfBook trace ticks faults b h
-    group_at group b there = zip_right (IsHistoryOfBook trace ticks faults) books s.groups.items group b
-        (zip_each (IsHistoryOfBook trace ticks faults) books s.groups.items is.groups.as_many is.groups.each) there
+        → (h : GroupHistory) × (slice_get s.groups.items group ≡ Some h) × IsHistoryOfBook device b h
+    group_at group b there = zip_right (IsHistoryOfBook device) books s.groups.items group b
+        (zip_each (IsHistoryOfBook device) books s.groups.items is.groups.as_many is.groups.each) there
 
     group_inside : (group : ℕ) (b : Book D) → slice_get books group ≡ Some b → group < length base.groups.items
     group_inside group b there = omega (arith, slice_get_within books group b there, is.as_many_groups)
@@ -381,7 +381,7 @@ module _ {D : Type 0} (trace : D → Option Trace) (ticks faults : D → ℕ) (b
       -- the turns that a group is given
       turns_at : (group : ℕ) → group < length base.groups.items → get_or g.turns.items group 0 ≡ turns_of group
       turns_at group below =
-          turns_of_group trace ticks faults base old new g cells books s is earlier phases rows queries refreshers given group below
+          turns_of_group device base old new g cells books s is earlier phases rows queries refreshers given group below
           ∙ sym (same_turns group)
 
       turns_within : IsWithinTurns g.turns.items books → AreTurnsWithin turns_of s
@@ -399,10 +399,10 @@ module _ {D : Type 0} (trace : D → Option Trace) (ticks faults : D → ℕ) (b
       tape_cause why refused = by (found_at g cells books why refused)
         where
           shown_takes : AreCellTakesBegun g cells → AreTakesBegun (phase_item earlier) rows s
-          shown_takes = begun_takes trace ticks faults base old new g cells books s is earlier phases rows queries refreshers given
+          shown_takes = begun_takes device base old new g cells books s is earlier phases rows queries refreshers given
 
           shown_asks : AreCellAsksBegun g cells → AreAsksBegun queries s
-          shown_asks = begun_asks trace ticks faults base old new g cells books s is earlier phases rows queries refreshers given
+          shown_asks = begun_asks device base old new g cells books s is earlier phases rows queries refreshers given
 
           by : Finding g cells books why → IsTapeCause (phase_item earlier) turns_of rows queries s why
           by (AtTake works tag at kept told same over differs) =
@@ -426,7 +426,7 @@ module _ {D : Type 0} (trace : D → Option Trace) (ticks faults : D → ℕ) (b
           by (AtTurns was group kept told same above) =
               let h = group_at group above.book above.there in
               subst (IsTapeCause (phase_item earlier) turns_of rows queries s) (sym same) (
-                begun trace ticks faults base old new g cells books s is earlier phases rows queries refreshers given was,
+                begun device base old new g cells books s is earlier phases rows queries refreshers given was,
                 record {
                   its = h.0;
                   there = h.1;
@@ -482,7 +482,7 @@ module _ {D : Type 0} (trace : D → Option Trace) (ticks faults : D → ℕ) (b
             tag = tag;
             told = same;
             there = below;
-            front = λ k t before. acknowledged trace ticks faults base old new g cells books s is k t (omega (arith, before, below))
+            front = λ k t before. acknowledged device base old new g cells books s is k t (omega (arith, before, below))
                 (λ d. (front k d before).none_waits);
           }
 
@@ -495,15 +495,15 @@ module _ {D : Type 0} (trace : D → Option Trace) (ticks faults : D → ℕ) (b
             → IsGroupRefreshed (get_or base.groups.items k d) (turns_of k) s (get_or s.groups.items k h)
         refreshed_at k d h b below to =
             subst (λ n. IsGroupRefreshed (get_or base.groups.items k d) n s (get_or s.groups.items k h)) (sym (same_turns k))
-            (refreshed trace ticks faults base old new g cells books s is earlier phases rows queries refreshers good given committed was k d
+            (refreshed device base old new g cells books s is earlier phases rows queries refreshers good given committed was k d
             h b below to)
 
-        module _ (group : ℕ) (def : GroupDef) (h : GroupHistory) (b : Book D) (of : IsHistoryOfBook trace ticks faults b h)
+        module _ (group : ℕ) (def : GroupDef) (h : GroupHistory) (b : Book D) (of : IsHistoryOfBook device b h)
             (tags : List ℕ) (same_tags : tags ≡ def.inputs.items) (known : All (λ tag. tag < length s.tags.items) def.inputs.items) where
           -- the records that the group would take into account are those of the tags
           lists : lists_at (durable_lists cells) tags ≡ map (tag_records_of s) def.inputs.items
           lists = ap (lists_at (durable_lists cells)) same_tags
-              ∙ records_of_tags trace ticks faults base old new g cells books s is def.inputs.items known none_wait
+              ∙ records_of_tags device base old new g cells books s is def.inputs.items known none_wait
 
           copies : longer b.sheet.copies (uncut (versions_of b) (lists_at (durable_lists cells) tags)) ≡ copies_with_all s def h
           copies = λ i. longer ((sym of.copies) i) (uncut ((sym of.versions) i) (lists i))
@@ -560,7 +560,7 @@ module _ {D : Type 0} (trace : D → Option Trace) (ticks faults : D → ℕ) (b
             let d = element base.groups.items r.group inside in
             let def = get_or base.groups.items r.group d in
             let h = group_at r.group r.book r.there in
-            let tags = tags_of trace ticks faults base old new g cells books s is r.group d good given.inputs inside in
+            let tags = tags_of device base old new g cells books s is r.group d good given.inputs inside in
             elim (refresh_cause r.group def h.0 r.book h.2 (get_or (lists_of g.inputs.items) r.group []) tags.0 tags.1 why r.refused) [
               | inl found ↦ inl (record {
                 group = r.group;
@@ -579,7 +579,7 @@ module _ {D : Type 0} (trace : D → Option Trace) (ticks faults : D → ℕ) (b
 
         -- what a cell and a book show of a pull, their histories show
         pulled_on : (i k : ℕ) (c : Cell D) (t : TagHistory) (b : Book D) (h : GroupHistory) → IsOfCell c t
-            → IsHistoryOfBook trace ticks faults b h → IsInputPulled i k c.tape c.state.records b.tape b.sheet.copies → HasPulled i k t h
+            → IsHistoryOfBook device b h → IsInputPulled i k c.tape c.state.records b.tape b.sheet.copies → HasPulled i k t h
         pulled_on i k c t b h of_cell of_book pulled =
             subst (λ l. IsInputPulled i k l t.recs.items h.tape.items (lists_of h.copies.items)) (sym of_cell.tape_is)
             (subst (λ l. IsInputPulled i k c.tape l h.tape.items (lists_of h.copies.items)) (sym of_cell.records_are)
@@ -595,7 +595,7 @@ module _ {D : Type 0} (trace : D → Option Trace) (ticks faults : D → ℕ) (b
               (get_or books i b).sheet.copies)
               → HasPulled i k (get_or s.tags.items (get_or (get_or base.groups.items i d).inputs.items k 0) t) (get_or s.groups.items i h)
           pulled_before i k d h t b there below pulled =
-              let tags = tags_of trace ticks faults base old new g cells books s is i d good given.inputs
+              let tags = tags_of device base old new g cells books s is i d good given.inputs
               (omega (arith, there, is.as_many_groups)) in
               let tag = get_or (get_or base.groups.items i d).inputs.items k 0 in
               let known : tag < length s.tags.items = tags.1 k 0 below in
@@ -613,7 +613,7 @@ module _ {D : Type 0} (trace : D → Option Trace) (ticks faults : D → ℕ) (b
             | inl less ↦
                 let there : i < length books = omega (arith, less, slice_get_within books m.group m.book m.there) in
                 let b = element books i there in
-                let tags = tags_of trace ticks faults base old new g cells books s is i d good given.inputs
+                let tags = tags_of device base old new g cells books s is i d good given.inputs
                 (omega (arith, there, is.as_many_groups)) in
                 pulled_before i k d h t b there below
                 (λ c. (m.front i b less).each k c (subst (λ l. k < length l) (sym tags.0) below))
@@ -638,7 +638,7 @@ module _ {D : Type 0} (trace : D → Option Trace) (ticks faults : D → ℕ) (b
               let h = group_at m.group m.book m.there in
               let of = m.differs in
               let t = tag_at (get_or (get_or (lists_of g.inputs.items) m.group []) of.input 0) of.cell of.there in
-              let tags = tags_of trace ticks faults base old new g cells books s is m.group d good given.inputs inside in
+              let tags = tags_of device base old new g cells books s is m.group d good given.inputs inside in
               record {
                 group = m.group;
                 input = of.input;
@@ -685,14 +685,14 @@ module _ {D : Type 0} (trace : D → Option Trace) (ticks faults : D → ℕ) (b
       rest_cause notes quiet why was calm (OfMaking ended (OfTaking taking)) = cause.OfStep ended (cause.OfTake (take_cause why taking))
       rest_cause notes quiet why was calm (OfMaking ended (OfCommit tapes (cell.OfFault tag same so front))) =
           cause.OfStep ended (cause.OfCommit
-          (on_tapes trace ticks faults base old new g cells books s is earlier phases rows queries refreshers given tapes)
+          (on_tapes device base old new g cells books s is earlier phases rows queries refreshers given tapes)
           (commit_cause tag so.cell why same so.there front))
       rest_cause notes quiet why was calm (OfMaking ended (OfCommit tapes (cell.OfMemory same))) = cause.OfMemory same
       rest_cause notes quiet why was calm (OfMaking ended (OfRefresh tapes committed r)) =
           let opened = was (no_opening r.group r.book (get_or (lists_of g.inputs.items) r.group []) why r.refused) in
           elim (group_cause committed opened why r) [
             | inl found ↦ cause.OfStep ended (cause.OfRefresh
-                (recorded trace ticks faults base old new g cells books s is earlier phases rows queries refreshers given tapes committed) found)
+                (recorded device base old new g cells books s is earlier phases rows queries refreshers given tapes committed) found)
             | inr memory ↦ cause.OfMemory memory
           ]
       rest_cause notes quiet why was calm (OfMaking ended (OfMemory same)) = cause.OfMemory same
@@ -701,7 +701,7 @@ module _ {D : Type 0} (trace : D → Option Trace) (ticks faults : D → ℕ) (b
           m.differs.differs in
           let opened = was apart in
           cause.OfStep ended (cause.OfPull
-          (recorded trace ticks faults base old new g cells books s is earlier phases rows queries refreshers given made.tapes made.committed)
+          (recorded device base old new g cells books s is earlier phases rows queries refreshers given made.tapes made.committed)
           (λ k d h below.
           let there : k < length books = omega (arith, below, is.groups.as_many) in
           let b = element books k there in
@@ -710,7 +710,7 @@ module _ {D : Type 0} (trace : D → Option Trace) (ticks faults : D → ℕ) (b
       rest_cause notes quiet why was calm (OfWant same) = cause.OfMemory same
 
       pub refusal_cause : (opened_cells first : List (Cell D)) (opened_books first_books : List (Book D)) (notes : List WorkerNote) (quiet : Type 0) (why : Status)
-          → AreUnitsOpen trace ticks faults base old opened_cells opened_books → AllZip IsContinued opened_cells first
+          → AreUnitsOpen device base old opened_cells opened_books → AllZip IsContinued opened_cells first
           → AllZip IsContinuedGroup opened_books first_books → ((IsOpening why → ⊥) → AreUnitsOpened base old s)
           → ((IsOpening why → ⊥) → AreStepsMade g cells books → quiet)
           → IsUndone g first first_books cells books notes why

@@ -1,12 +1,12 @@
 -- A fault of a device that a session reports is one that the store counts.
-use Rattle.std.proofs.Common.{◌≡◌, ◌+◌, ◌-◌, ◌<◌, ℕ, List, [], ◌∷◌, All, Option, Some, Result, Ok, Err, String, arith, subst, min, length, ◌∙◌}
+use Rattle.std.proofs.Common.{◌≡◌, ◌+◌, ◌-◌, ◌<◌, ℕ, List, [], ◌∷◌, All, Some, Result, Ok, Err, String, arith, subst, min, length, ◌∙◌}
 use Rattle.std.specs.Prelude.{◌^◌, IfErr, slice_get, true}
 use Rattle.std.specs.declared.alloc.Global.{Global}
-use Rattle.disk_model.specs.Traces.{Trace}
 use Rattle.tag_cell.specs.Told.{ToldCell as Cell}
 use Rattle.plant_status.specs.declared.status.Status.{Status}
 use Rattle.plant_status.specs.declared.status.Status.TheVariants.{DeviceFault}
-use Rattle.plant_status.specs.declared.unit.Unit.{Unit as Device}
+use Rattle.disk_model.specs.Traces.{Device}
+use Rattle.plant_status.specs.declared.unit.Unit.{Unit as PlantUnit}
 use Rattle.session_audit.proofs.Walking.{at_place}
 use Rattle.group_book.specs.Told.{ToldBook as Book}
 use Rattle.group_book.specs.declared.refusal.RefreshNo.TheVariants as refresh
@@ -40,9 +40,9 @@ use Rattle.collector_pool.specs.declared.note.WorkerNote.{WorkerNote}
 some_count : (n m : ℕ) → m ≡ min (n + 1) (2 ^ 64 - 1) → 0 < m
 some_count n m same = omega (arith, same)
 
-module _ {D : Type 0} (trace : D → Option Trace) (ticks faults : D → ℕ) (base : Base) (old new : DeviceTraces) (before now : ℕ)
-    (cells : List (Cell D)) (books : List (Book D)) (s : Session) (is : IsOver trace ticks faults base old new cells books s)
-    (counts : CountsClosed faults cells books before now) where
+module _ {D : Type 0} (device : D → Device) (base : Base) (old new : DeviceTraces) (before now : ℕ)
+    (cells : List (Cell D)) (books : List (Book D)) (s : Session) (is : IsOver device base old new cells books s)
+    (counts : CountsClosed device cells books before now) where
   -- a cell whose journal has failed
   of_cell : (tag : ℕ) → IsSo cells tag (λ c. c.journal.failed ≡ true) → HasRisen before now
   of_cell tag so = at_place (λ (c : Cell D). c.journal.failed ≡ true → HasRisen before now) cells tag so.cell counts.of_cells so.there so.so
@@ -54,13 +54,13 @@ module _ {D : Type 0} (trace : D → Option Trace) (ticks faults : D → ℕ) (b
       (λ i d below down. counts.of_books i d below (some_count _ _ ((is.groups.each i d (element s.groups.items i (omega (arith, is.groups.as_many, below))) below).rose down)))
       there failed
 
-  of_save : (group : ℕ) (b : Book D) (unit : Device) (why : SaveNo) → slice_get books group ≡ Some b → IsSaveCause b why
+  of_save : (group : ℕ) (b : Book D) (unit : PlantUnit) (why : SaveNo) → slice_get books group ≡ Some b → IsSaveCause b why
       → DeviceFault unit ≡ save_status group why → HasRisen before now
   of_save group b unit save.Broken there cause same = of_book group b there cause
   of_save group b unit save.DeviceFault there cause same = of_book group b there cause
   of_save group b unit save.WantOfMemory there cause same = absurd (cc same)
 
-  of_refresh : (group : ℕ) (b : Book D) (durables : List (List Rec)) (tags : List ℕ) (unit : Device) → slice_get books group ≡ Some b
+  of_refresh : (group : ℕ) (b : Book D) (durables : List (List Rec)) (tags : List ℕ) (unit : PlantUnit) → slice_get books group ≡ Some b
       → IsBookRefusal durables tags group b (DeviceFault unit) → HasRisen before now
   of_refresh group b durables tags unit there (OfRefresh (refresh.Ahead input version records) cause same) = absurd (cc same)
   of_refresh group b durables tags unit there (OfRefresh (refresh.CellLimit n) cause same) = absurd (cc same)
@@ -69,7 +69,7 @@ module _ {D : Type 0} (trace : D → Option Trace) (ticks faults : D → ℕ) (b
   of_refresh group b durables tags unit there (OfSave refused) = of_save group b unit refused.why there refused.cause refused.told
 
   module _ (g : Given) where
-    of_making : (unit : Device) → IsMakingRefusal g cells books (DeviceFault unit) → HasRisen before now
+    of_making : (unit : PlantUnit) → IsMakingRefusal g cells books (DeviceFault unit) → HasRisen before now
     of_making unit (OfTaking (OfBroken tag same so)) = of_cell tag (record { cell = so.cell; there = so.there; so = so.so.0 })
     of_making unit (OfTaking (OfRoom tag takes rows same so)) = absurd (cc same)
     of_making unit (OfTaking (OfLimit tag number same so)) = absurd (cc same)
@@ -78,7 +78,7 @@ module _ {D : Type 0} (trace : D → Option Trace) (ticks faults : D → ℕ) (b
     of_making unit (OfRefreshing tapes committed so) = of_refresh so.group so.book (durable_lists cells) _ unit so.there so.refused
     of_making unit (OfMemory same) = absurd (cc same)
 
-    of_rest : (notes : List WorkerNote) (unit : Device) → IsRefused g notes cells books (DeviceFault unit) → HasRisen before now
+    of_rest : (notes : List WorkerNote) (unit : PlantUnit) → IsRefused g notes cells books (DeviceFault unit) → HasRisen before now
     of_rest notes unit (OfFinding (OfTake works over unfound so)) = absurd so
     of_rest notes unit (OfFinding (OfAsk takes works over unfound so)) = absurd so
     of_rest notes unit (OfFinding (OfRowAsk takes asks works over unfound so)) = absurd so
@@ -88,7 +88,7 @@ module _ {D : Type 0} (trace : D → Option Trace) (ticks faults : D → ℕ) (b
     of_rest notes unit (OfPull ended made so) = absurd so.differs.differs
     of_rest notes unit (OfWant same) = absurd (cc same)
 
-    pub of_undone : (opened : List (Cell D)) (opened_books : List (Book D)) (notes : List WorkerNote) (unit : Device)
+    pub of_undone : (opened : List (Cell D)) (opened_books : List (Book D)) (notes : List WorkerNote) (unit : PlantUnit)
         → IsUndone g opened opened_books cells books notes (DeviceFault unit) → HasRisen before now
     of_undone opened opened_books notes unit (OfSettling known known_groups copied groups_copied (OfTag so)) = absurd so
     of_undone opened opened_books notes unit (OfSettling known known_groups copied groups_copied (OfGroup kept so)) = absurd so
@@ -103,24 +103,24 @@ module _ {D : Type 0} (trace : D → Option Trace) (ticks faults : D → ℕ) (b
         of_undone opened opened_books notes unit (subst (IsUndone g opened opened_books cells books notes) same undone)
 
 -- where all steps are made no device has failed, and no fault is counted
-module _ {D : Type 0} (trace : D → Option Trace) (ticks faults : D → ℕ) (base : Base) (old new : DeviceTraces)
-    (cells : List (Cell D)) (books : List (Book D)) (s : Session) (is : IsOver trace ticks faults base old new cells books s)
-    (opened : List (Cell D)) (opened_books : List (Book D)) (opening : AreUnitsOpen trace ticks faults base old opened opened_books)
+module _ {D : Type 0} (device : D → Device) (base : Base) (old new : DeviceTraces)
+    (cells : List (Cell D)) (books : List (Book D)) (s : Session) (is : IsOver device base old new cells books s)
+    (opened : List (Cell D)) (opened_books : List (Book D)) (opening : AreUnitsOpen device base old opened opened_books)
     (same : AllZip IsContinued opened cells) (same_books : AllZip IsContinuedGroup opened_books books) where
   -- a cell that has not failed counts no fault of its device
-  sound_cells : (defs : List TagDef) (first last : List (Cell D)) (ts : List TagHistory) → AreCellsOpened trace ticks faults defs old first
-      → AllZip IsContinued first last → AreHistoriesOf trace ticks faults last ts → All IsCommittedCell last
-      → All (λ (c : Cell D). faults c.journal.dev ≡ 0) last
+  sound_cells : (defs : List TagDef) (first last : List (Cell D)) (ts : List TagHistory) → AreCellsOpened device defs old first
+      → AllZip IsContinued first last → AreHistoriesOf device last ts → All IsCommittedCell last
+      → All (λ (c : Cell D). (device c.journal.dev).faults ≡ 0) last
   sound_cells defs first [] ts was same is committed = λ i d below. absurd (omega (arith, below))
   sound_cells defs [] (c ∷ cs) ts was same is committed = absurd same
   sound_cells [] (e ∷ es) (c ∷ cs) ts was same is committed = absurd was
   sound_cells (d ∷ ds) (e ∷ es) (c ∷ cs) [] was same is committed = absurd is
   sound_cells (d ∷ ds) (e ∷ es) (c ∷ cs) (t ∷ ts) was same is committed =
-      All-cons (λ (x : Cell D). faults x.journal.dev ≡ 0) c cs
+      All-cons (λ (x : Cell D). (device x.journal.dev).faults ≡ 0) c cs
       (is.0.faultless (All-head IsCommittedCell c cs committed).usable ∙ same.0.faults ∙ was.0.opened_faultless)
       (sound_cells ds es cs ts was.1 same.1 is.1 (All-tail IsCommittedCell c cs committed))
 
-  pub none_counted : (g : Given) → AreStepsMade g cells books → (before now : ℕ) → CountsClosed faults cells books before now → now ≡ before
+  pub none_counted : (g : Given) → AreStepsMade g cells books → (before now : ℕ) → CountsClosed device cells books before now → now ≡ before
   none_counted g made before now counts =
       counts.faultless (sound_cells base.tags.items opened cells s.tags.items opening.tags same is.tags made.committed)
       (λ i b below.

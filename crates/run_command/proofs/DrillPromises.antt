@@ -12,7 +12,7 @@ use Rattle.run_command.specs.declared.work.Given.{Given}
 use Rattle.run_command.specs.Copies.{AreCopied, AsItCame, AsUncopied, IsChecked, MayBeUncopied}
 use Rattle.run_command.specs.DrillPhases.{IsUndoneOfBoth, OfFirst, OfFirstPull, OfReport, OfSecond}
 use Rattle.run_command.specs.DrillRows.{drill_rows_of}
-use Rattle.run_command.specs.Drills.{InFirst, InPull, InReport, InSecond, IsDrillBase, IsDrillCause, IsDrilled, IsPhaseCause, IsRunInPhases, drill_status, fresh_devices, memory_faults, memory_ticks, memory_trace}
+use Rattle.run_command.specs.Drills.{InFirst, InPull, InReport, InSecond, IsDrillBase, IsDrillCause, IsDrilled, IsPhaseCause, IsRunInPhases, drill_status, fresh_devices, memory_device}
 use Rattle.run_command.specs.Runs.{IsWorkIn}
 use Rattle.plant_files.specs.PlanRows.{IsGoodBase}
 use Rattle.run_command.specs.Headline.{IsDoneSo}
@@ -44,13 +44,13 @@ pub record IsDrill (number tags events stops_before stops_now : ℕ) (answer : R
   pub new : DeviceTraces
   pub now : ℕ
   pub work : IsDrillWork number tags events base first second
-  pub run : IsRunInPhases memory_trace memory_ticks memory_faults base first second fresh_devices new 0 now stops_before stops_now
+  pub run : IsRunInPhases memory_device base first second fresh_devices new 0 now stops_before stops_now
       answer s
 
 -- this work makes such a session
 pub as_drill : (number tags events stops_before stops_now : ℕ) (answer : Result (String Global) Status) (s : Session) (base : Base)
     (first second : Given) → IsDrillWork number tags events base first second
-    → ((new : DeviceTraces) × (now : ℕ) × IsRunInPhases memory_trace memory_ticks memory_faults base first second fresh_devices new 0 now
+    → ((new : DeviceTraces) × (now : ℕ) × IsRunInPhases memory_device base first second fresh_devices new 0 now
     stops_before stops_now answer s)
     → IsDrill number tags events stops_before stops_now answer s
 as_drill number tags events stops_before stops_now answer s base first second work is = record {
@@ -71,30 +71,30 @@ phase_of : (number tags events stops_before stops_now : ℕ) (why came cause : S
 phase_of number tags events stops_before stops_now why came cause s is told checked (OfFirst notes undone) =
     let run = is.run.held in
     InFirst notes (reported is.base s (phase_item 0) (λ i. 0) fresh_devices (drill_rows_of number tags 0 (events / 2)) [] ⊤ s.workers.items
-    came cause (refusal_cause memory_trace memory_ticks memory_faults is.base fresh_devices is.new is.first run.cells
+    came cause (refusal_cause memory_device is.base fresh_devices is.new is.first run.cells
     run.books s run.over 0 0 (drill_rows_of number tags 0 (events / 2)) [] [] is.work.good is.work.first_is (λ i. 0) (λ i. refl) run.opened
     run.opened run.opened_books run.opened_books s.workers.items ⊤ came run.opening (still run.opened) (groups_still run.opened_books)
-    (λ none. held_opened memory_trace memory_ticks memory_faults is.base is.second fresh_devices is.new 0 is.now (Err why) s run
+    (λ none. held_opened memory_device is.base is.second fresh_devices is.new 0 is.now (Err why) s run
     (λ of. none (opening_reported is.base s came cause checked (opening_back cause (subst IsOpening told of))))) (λ none made. tt) undone) checked)
 phase_of number tags events stops_before stops_now why came cause s is told checked (OfSecond between between_books front notes ended same same_books made undone) =
     let run = is.run.held in
     InSecond front undone.more undone.behind notes ended (reported is.base s (phase_item (events / 2)) (λ i. 1) fresh_devices
-    (drill_rows_of number tags 0 events) [] ⊤ undone.more came cause (refusal_cause memory_trace memory_ticks memory_faults is.base
+    (drill_rows_of number tags 0 events) [] ⊤ undone.more came cause (refusal_cause memory_device is.base
     fresh_devices is.new is.second run.cells run.books s run.over (events / 2) 1 (drill_rows_of number tags 0 events) [] [] is.work.good
     is.work.second_is (λ i. 1) (λ i. refl) run.opened between run.opened_books between_books undone.more ⊤ came run.opening same same_books
-    (λ none. held_opened memory_trace memory_ticks memory_faults is.base is.second fresh_devices is.new 0 is.now (Err why) s run
+    (λ none. held_opened memory_device is.base is.second fresh_devices is.new 0 is.now (Err why) s run
     (λ of. none (opening_reported is.base s came cause checked (opening_back cause (subst IsOpening told of))))) (λ none made. tt)
     undone.undone) checked)
 phase_of number tags events stops_before stops_now why came cause s is told (AsItCame same copied) (OfFirstPull notes ended made pulled elsewhere) =
     let run = is.run.held in
     let mismatch = subst (IsFirstPullMismatch is.first.rooms.items run.cells) (sym same) elsewhere in
-    let opened = held_opened memory_trace memory_ticks memory_faults is.base is.second fresh_devices is.new 0 is.now (Err why) s
+    let opened = held_opened memory_device is.base is.second fresh_devices is.new 0 is.now (Err why) s
     run (λ of. subst IsOpening mismatch.told (opening_back cause (subst IsOpening told of))) in
-    InPull notes ended (mixed memory_trace memory_ticks memory_faults is.base fresh_devices is.new is.second run.cells run.books s run.over
+    InPull notes ended (mixed memory_device is.base fresh_devices is.new is.second run.cells run.books s run.over
     (events / 2) 1 (drill_rows_of number tags 0 events) [] [] is.work.good is.work.second_is made pulled)
-    (up_to_date memory_trace memory_ticks memory_faults is.base fresh_devices is.new is.second run.cells run.books s
+    (up_to_date memory_device is.base fresh_devices is.new is.second run.cells run.books s
     run.over (events / 2) 1 (drill_rows_of number tags 0 events) [] [] is.work.good is.work.second_is made pulled opened)
-    (pulled_elsewhere memory_trace memory_ticks memory_faults is.base fresh_devices is.new run.cells run.books s run.over is.first
+    (pulled_elsewhere memory_device is.base fresh_devices is.new run.cells run.books s run.over is.first
     (drill_rows_of number tags 0 (events / 2)) is.work.first_is cause mismatch)
 phase_of number tags events stops_before stops_now why came cause s is told (AsUncopied none apart) (OfFirstPull notes ended made pulled elsewhere) =
     absurd (none (subst MayBeUncopied (sym elsewhere.told) tt))
@@ -131,24 +131,24 @@ pub promised : (number tags events stops_before stops_now : ℕ) (answer : Resul
 promised number tags events stops_before stops_now answer s is =
     let run = is.run.held in
     let work = is.work in
-    let opened_as = held_opened memory_trace memory_ticks memory_faults is.base is.second fresh_devices is.new 0 is.now answer s
+    let opened_as = held_opened memory_device is.base is.second fresh_devices is.new 0 is.now answer s
     run in
     record {
       base = is.base;
       devices = is.new;
       base_is = work.base_is;
       tags_are = sound_tags is.new is.base.tags.items s.tags.items run.over.devices;
-      groups = sound_groups memory_trace memory_ticks memory_faults is.base fresh_devices is.new run.cells run.books s run.over;
+      groups = sound_groups memory_device is.base fresh_devices is.new run.cells run.books s run.over;
       opened_as = opened_as;
       new = λ none. all_new is.base s (opened_as none);
       begun = λ none. elim (is.run.begun none) [
-        | inl was ↦ inl (begun memory_trace memory_ticks memory_faults is.base fresh_devices is.new is.first run.cells run.books s run.over
+        | inl was ↦ inl (begun memory_device is.base fresh_devices is.new is.first run.cells run.books s run.over
             0 0 (drill_rows_of number tags 0 (events / 2)) [] [] work.first_is was)
-        | inr was ↦ inr (begun memory_trace memory_ticks memory_faults is.base fresh_devices is.new is.second run.cells run.books s run.over
+        | inr was ↦ inr (begun memory_device is.base fresh_devices is.new is.second run.cells run.books s run.over
             (events / 2) 1 (drill_rows_of number tags 0 events) [] [] work.second_is was)
       ];
       done = if_done answer opened_as
-          (λ was text it. once _ is.base _ (string_bytes text) (done memory_trace memory_ticks memory_faults is.base fresh_devices is.new is.second run.cells run.books s run.over
+          (λ was text it. once _ is.base _ (string_bytes text) (done memory_device is.base fresh_devices is.new is.second run.cells run.books s run.over
           _ 1 _ [] [] (string_bytes text) work.good work.second_is was it)) run.done;
       cause = cause_of number tags events stops_before stops_now answer s is;
       copied = copied_in number tags events stops_before stops_now answer s is;
@@ -158,7 +158,7 @@ promised number tags events stops_before stops_now answer s is =
       second_is = work.second_is.its;
       notes = is.run.notes;
       ran = is.run.ran;
-      apart = on_ok_weaker answer (apart memory_trace memory_ticks memory_faults is.base fresh_devices is.new run.cells run.books s run.over
+      apart = on_ok_weaker answer (apart memory_device is.base fresh_devices is.new run.cells run.books s run.over
           is.first (drill_rows_of number tags 0 (events / 2)) work.first_is) is.run.apart;
       no_log = run.over.no_log;
     }

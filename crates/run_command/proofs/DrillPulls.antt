@@ -1,7 +1,7 @@
 -- The first pulls of a drill: what cells show, their histories show.
-use Rattle.std.proofs.Common.{◌≡◌, ◌∙◌, ℕ, ◌<◌, List, [], Option, Result, Ok, Err, OnOk, IfErr, arith, ap, ap₂, length, get_or, refl, sym, subst}
+use Rattle.std.proofs.Common.{◌≡◌, ◌∙◌, ℕ, ◌<◌, List, [], Result, Ok, Err, OnOk, IfErr, arith, ap, ap₂, length, get_or, refl, sym, subst}
 use Rattle.std.proofs.lemmas.Option.{slice_get_within}
-use Rattle.disk_model.specs.Traces.{Trace}
+use Rattle.disk_model.specs.Traces.{Device}
 use Rattle.plant_status.proofs.Elements.{element}
 use Rattle.plant_status.specs.declared.status.Status.{Status}
 use Rattle.plant_store.specs.CellClosings.{IsHistoryOfCell}
@@ -43,11 +43,11 @@ refused_by {X} {E} {P} {Q} {R} (Err why) now same p q first then = subst (λ r. 
 
 -- ---- histories
 
-module _ {D : Type 0} (trace : D → Option Trace) (ticks faults : D → ℕ) (base : Base) (old new : DeviceTraces) (cells : List (Cell D))
-    (books : List (Book D)) (s : Session) (is : IsOver trace ticks faults base old new cells books s) (first : Given)
+module _ {D : Type 0} (device : D → Device) (base : Base) (old new : DeviceTraces) (cells : List (Cell D))
+    (books : List (Book D)) (s : Session) (is : IsOver device base old new cells books s) (first : Given)
     (rows : List (List RawRow)) (given : IsWorkIn base 0 0 rows [] [] first) where
   abbrev IsOfCell : Cell D → TagHistory → Type 0
-  IsOfCell c t = IsHistoryOfCell (trace c.journal.dev) (ticks c.journal.dev) (faults c.journal.dev) c t
+  IsOfCell c t = IsHistoryOfCell (device c.journal.dev) c t
 
   -- the rooms of the first phase are the numbers of its rows
   rooms_are : (tag : ℕ) → tag < length base.tags.items → get_or first.rooms.items tag 0 ≡ tag_rows tag rows

@@ -1,9 +1,9 @@
 -- What the phases of a drill come to, and what the drill answers.
-use Rattle.std.proofs.Common.{◌≡◌, ◌⊎◌, inl, inr, ◌≤◌, ℕ, List, false, Option, Result, Ok, Err, OnOk, IfErr, String, Global, arith, ap, length, refl, sym, subst}
+use Rattle.std.proofs.Common.{◌≡◌, ◌⊎◌, inl, inr, ◌≤◌, ℕ, List, false, Result, Ok, Err, OnOk, IfErr, String, Global, arith, ap, length, refl, sym, subst}
 use Rattle.std.specs.Result.{is_err}
-use Rattle.disk_model.specs.Traces.{Trace}
 use Rattle.plant_status.specs.declared.status.Status.{Status}
-use Rattle.plant_status.specs.declared.unit.Unit.{Unit as Device}
+use Rattle.disk_model.specs.Traces.{Device}
+use Rattle.plant_status.specs.declared.unit.Unit.{Unit as PlantUnit}
 use Rattle.plant_status.specs.declared.status.Status.TheVariants.{DeviceFault}
 use Rattle.tag_base.specs.declared.definition.Base.{Base}
 use Rattle.tag_cell.specs.Told.{ToldCell as Cell}
@@ -41,7 +41,7 @@ all_or_none w before now notes (OfAll are stops) = inl are
 all_or_none w before now notes (OfNone none stops) = inr none
 
 -- a drill reports each cause but that of a fault as it is
-pub kept_or_fault : (why : Status) → (drill_status why ≡ why) ⊎ ((unit : Device) × (why ≡ DeviceFault unit))
+pub kept_or_fault : (why : Status) → (drill_status why ≡ why) ⊎ ((unit : PlantUnit) × (why ≡ DeviceFault unit))
 kept_or_fault (DeviceFault unit) = inr (unit, refl)
 kept_or_fault other = inl refl
 
@@ -86,17 +86,17 @@ both_told base first second s opened opened_books cells books (Err why) (Err now
     record { came = why; undone = undone; checked = is.refused }
 
 -- what a drill comes to that was held so
-pub phases_told : {D : Type 0} (trace : D → Option Trace) (ticks faults : D → ℕ) (base : Base) (first second : Given) (old new : DeviceTraces)
+pub phases_told : {D : Type 0} (device : D → Device) (base : Base) (first second : Given) (old new : DeviceTraces)
     (before now stops_before stops_now : ℕ) (told : Result (String Global) Status) (s : Session)
-    → (held : IsSessionHeld trace ticks faults base second old new before now told s)
+    → (held : IsSessionHeld device base second old new before now told s)
     → AreNotesOfBoth first.work second.work stops_before stops_now s.workers.items
     → OnOk told (AreNotesOfAllBoth first.work second.work s.workers.items) → OnOk told (HaveFirstPulls first.rooms.items held.cells)
     → ((AdmitsForeign told → ⊥) → AreBegun first held.cells held.books ⊎ AreBegun second held.cells held.books)
     → IfErr told (IsRefusedInPhases base first second s held.opened held.opened_books held.cells held.books)
-    → IsRunInPhases trace ticks faults base first second old new before now stops_before stops_now (drill_answer told) s
-phases_told trace ticks faults base first second old new before now stops_before stops_now (Ok text) s held notes ran apart begun undone =
+    → IsRunInPhases device base first second old new before now stops_before stops_now (drill_answer told) s
+phases_told device base first second old new before now stops_before stops_now (Ok text) s held notes ran apart begun undone =
     record { held = held; notes = notes; ran = ran; apart = apart; begun = begun; undone = tt }
-phases_told trace ticks faults base first second old new before now stops_before stops_now (Err why) s held notes ran apart begun undone = record {
+phases_told device base first second old new before now stops_before stops_now (Err why) s held notes ran apart begun undone = record {
   held = record {
     opened = held.opened;
     opened_books = held.opened_books;

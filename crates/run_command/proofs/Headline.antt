@@ -1,5 +1,5 @@
 -- The promise of a session, from its cells and books.
-use Rattle.std.proofs.Common.{◌≡◌, ◌∙◌, ◌<◌, ◌≤◌, ◌+◌, ℕ, Bool, List, [], ◌∷◌, ◌++◌, All, Option, None, Some, IfSome, Result, Ok, Err, IfErr, IfOk, String, arith, ap, ap₂, sym, subst, refl, length, map, take, get_or}
+use Rattle.std.proofs.Common.{◌≡◌, ◌∙◌, ◌<◌, ◌≤◌, ◌+◌, ℕ, Bool, List, [], ◌∷◌, ◌++◌, All, Option, Result, Ok, Err, IfErr, IfOk, String, arith, ap, ap₂, sym, subst, refl, length, map, take, get_or}
 use Rattle.std.specs.Prelude.{◌≢◌, ◌*◌, ◌^◌, nat_eq, if◌then◌else◌}
 use Rattle.std.specs.List.{AllZip, fold, sum_by}
 use Rattle.std.specs.declared.alloc.Global.{Global}
@@ -14,7 +14,7 @@ use Rattle.trend_model.specs.History.{Raw}
 use Rattle.trend_model.specs.State.{State, followed}
 use Rattle.trend_model.proofs.BoundLaw.{bounded}
 use Rattle.disk_model.specs.Calls.{Shows}
-use Rattle.disk_model.specs.Traces.{Trace}
+use Rattle.disk_model.specs.Traces.{Trace, moment, Device}
 use Rattle.tag_cell.specs.declared.entry.Entry.{Entry}
 use Rattle.tag_cell.specs.declared.entry.Entry.TheVariants.{Take, Ask, Pull, Commit}
 use Rattle.tag_cell.specs.declared.history.TagHistory.{TagHistory}
@@ -85,16 +85,11 @@ use Rattle.plant_status.proofs.Elements.{element}
 
 -- ---- tags
 
--- what is not above a device's clock is not above the number of its calls
-made_by : (o : Option Trace) (many ticks : ℕ) → many ≤ ticks → IfSome o (λ t. length t.calls ≡ ticks) → HasMade many o
-made_by None many ticks low clock = tt
-made_by (Some t) many ticks low clock = omega (arith, low, clock)
-
 -- the history of a cell is sound
-sound_tag : (def : TagDef) (trace : Option Trace) (t : TagHistory) → IsHistoryAt (device_name def.name) trace t → IsTagSound def t trace
+sound_tag : (def : TagDef) (trace : Trace) (t : TagHistory) → IsHistoryAt (device_name def.name) trace t → IsTagSound def t trace
 sound_tag def trace t at =
     let is = at.is in
-    let own : t.def.name ≡ def.name → at.trace ≡ trace = λ same. sym (at.back (ap device_name (sym same))) in
+    let own : t.def.name ≡ def.name → at.dev.trace ≡ trace = λ same. sym (at.back (ap device_name (sym same))) in
     let s : State = record { records = t.recs.items; summary = t.summary } in
     record {
       replayed = is.replayed;
@@ -103,9 +98,8 @@ sound_tag def trace t at =
         bounded = bounded org (followed h (map Raw (taken t.tape.items)));
       };
       safe = λ same. subst (λ o. IsSafe t.def t.opening t.tape.items (LeftSince o)) (own same) is.safe;
-      clocked = λ same. subst (HasMade (cell_walked (cell_start t.opening) t.tape.items).moment) (own same)
-          (made_by at.trace _ at.ticks is.past at.clock);
-      opened_before = λ same. subst (HasMade t.opening.moment) (own same) (made_by at.trace _ at.ticks is.opened_before at.clock);
+      clocked = λ same. subst (HasMade (cell_walked (cell_start t.opening) t.tape.items).moment) (own same) is.past;
+      opened_before = λ same. subst (HasMade t.opening.moment) (own same) is.opened_before;
       pulled = pulls_durable t.def t.opening t.tape.items s t.acked is.replayed;
     }
 
@@ -117,12 +111,12 @@ sound_tags new (d ∷ ds) [] is = absurd is
 sound_tags new (d ∷ ds) (t ∷ ts) is = (sound_tag d (tag_trace_of new d) t is.0, sound_tags new ds ts is.1)
 
 -- what has the definition and the opening of a cell was opened as the cell was
-pub tag_opened : {D : Type 0} (trace : D → Option Trace) (ticks faults : D → ℕ) → (def : TagDef) (before : Option Trace)
+pub tag_opened : {D : Type 0} (device : D → Device) → (def : TagDef) (before : Trace)
     (c : Cell D) (its : TagDef) (o : TagOpening)
-    → IsCellOpened def before (trace c.journal.dev) (ticks c.journal.dev) (faults c.journal.dev) c → its ≡ c.def
+    → IsCellOpened def before (device c.journal.dev) c → its ≡ c.def
     → o.recs.items ≡ c.opening.recs.items → o.summary ≡ c.opening.summary → o.moment ≡ c.opening.moment → o.faults ≡ c.opening.faults
     → IsTagOpened def before its o
-tag_opened trace ticks faults def before c its o was same records summary moment faults_same =
+tag_opened device def before c its o was same records summary moment faults_same =
     let core : core_of c.def c.opening ≡ core_of its o = λ i. record {
       state = record { records = (sym records) i; summary = (sym summary) i };
       step = (sym (ap (λ (x : TagDef). x.step) same)) i;
@@ -135,10 +129,10 @@ tag_opened trace ticks faults def before c its o was same records summary moment
       faultless = faults_same ∙ was.opened_faultless;
     }
 
-module _ {D : Type 0} (trace : D → Option Trace) (ticks faults : D → ℕ) (old : DeviceTraces) where
+module _ {D : Type 0} (device : D → Device) (old : DeviceTraces) where
   -- each was opened as its device stood
   pub opened_tags : (defs : List TagDef) (first last : List (Cell D)) (ts : List TagHistory)
-      → AreCellsOpened trace ticks faults defs old first → AllZip IsContinued first last → AreHistoriesOf trace ticks faults last ts
+      → AreCellsOpened device defs old first → AllZip IsContinued first last → AreHistoriesOf device last ts
       → AllZip (λ def (t : TagHistory). IsTagOpened def (tag_trace_of old def) t.def t.opening) defs ts
   opened_tags [] [] [] [] was same is = tt
   opened_tags [] [] [] (t ∷ ts) was same is = absurd is
@@ -148,7 +142,7 @@ module _ {D : Type 0} (trace : D → Option Trace) (ticks faults : D → ℕ) (o
   opened_tags (d ∷ ds) (c ∷ cs) [] ts was same is = absurd same
   opened_tags (d ∷ ds) (c ∷ cs) (e ∷ es) [] was same is = absurd is
   opened_tags (d ∷ ds) (c ∷ cs) (e ∷ es) (t ∷ ts) was same is = (
-    tag_opened trace ticks faults d (tag_trace_of old d) c t.def t.opening was.0 (is.0.def_is ∙ same.0.def)
+    tag_opened device d (tag_trace_of old d) c t.def t.opening was.0 (is.0.def_is ∙ same.0.def)
         (ap (λ (o : TagOpening). o.recs.items) is.0.opening_is ∙ same.0.records)
         (ap (λ (o : TagOpening). o.summary) is.0.opening_is ∙ same.0.summary)
         (ap (λ (o : TagOpening). o.moment) is.0.opening_is ∙ same.0.moment)
@@ -158,7 +152,7 @@ module _ {D : Type 0} (trace : D → Option Trace) (ticks faults : D → ℕ) (o
 
   -- the records with which they were opened
   pub opened_lists : (defs : List TagDef) (first last : List (Cell D)) (ts : List TagHistory)
-      → AreCellsOpened trace ticks faults defs old first → AllZip IsContinued first last → AreHistoriesOf trace ticks faults last ts
+      → AreCellsOpened device defs old first → AllZip IsContinued first last → AreHistoriesOf device last ts
       → cell_records_in first ≡ map (λ (t : TagHistory). t.opening.recs.items) ts
   opened_lists [] [] [] [] was same is = refl
   opened_lists [] [] [] (t ∷ ts) was same is = absurd is
@@ -174,7 +168,7 @@ module _ {D : Type 0} (trace : D → Option Trace) (ticks faults : D → ℕ) (o
 
   -- all tags together have as many records at their openings as were opened
   pub opened_records : (first last : List (Cell D)) (ts : List TagHistory) → AllZip IsContinued first last
-      → AreHistoriesOf trace ticks faults last ts
+      → AreHistoriesOf device last ts
       → ◌≡◌ {A = ℕ} (sum_by (λ (t : TagHistory). length t.opening.recs.items) ts) (records_opened first)
   opened_records [] [] [] same is = refl
   opened_records [] [] (t ∷ ts) same is = absurd is
@@ -243,9 +237,9 @@ module _ {C T E A : Type 0} (tape_of : C → List E) (told_of : T → List E) (w
   }
 
 -- the records of a cell whose history has all acknowledged are such as no crash takes away
-durable_all : {D : Type 0} (trace : Option Trace) (ticks faults : ℕ) (c : Cell D) (t : TagHistory) → IsHistoryOfCell trace ticks faults c t
+durable_all : {D : Type 0} (d : Device) (c : Cell D) (t : TagHistory) → IsHistoryOfCell d c t
     → takes_waiting c ≡ 0 → durable_records c ≡ t.recs.items
-durable_all trace ticks faults c t is none =
+durable_all d c t is none =
     let s : State = record { records = t.recs.items; summary = t.summary } in
     (λ i. durable_in ((sym is.def_is) i) ((sym is.opening_is) i) ((sym is.tape_is) i))
     ∙ all_durable t.def t.opening t.tape.items s t.acked is.history.replayed
@@ -278,12 +272,12 @@ some_text [] byte back none = absurd (cc none)
 some_text (x ∷ front) byte back none = absurd (cc none)
 
 -- what has the definition and the opening of a book was opened as the book was
-pub group_opened : {D : Type 0} (trace : D → Option Trace) (ticks faults : D → ℕ) → (i : ℕ) (d : GroupDef)
-    (before : Option Trace) (recovered records : List (List Rec)) (b : Book D) (group : ℕ) (def : GroupDefParts) (text : List ℕ)
-    (o : GroupOpening) → recovered ≡ records → IsBookOpened trace ticks faults i d recovered before b → group ≡ b.group → def ≡ b.def
+pub group_opened : {D : Type 0} (device : D → Device) → (i : ℕ) (d : GroupDef)
+    (before : Trace) (recovered records : List (List Rec)) (b : Book D) (group : ℕ) (def : GroupDefParts) (text : List ℕ)
+    (o : GroupOpening) → recovered ≡ records → IsBookOpened device i d recovered before b → group ≡ b.group → def ≡ b.def
     → text ≡ b.text → o.versions.items ≡ b.opening.versions.items → lists_of o.rows.items ≡ lists_of b.opening.rows.items
     → o.moment ≡ b.opening.moment → o.faults ≡ b.opening.faults → IsGroupOpened i d before records group def text o
-group_opened trace ticks faults i d before recovered records b group def text o same was group_is def_is text_is versions rows moment
+group_opened device i d before recovered records b group def text o same was group_is def_is text_is versions rows moment
     faults_same = record {
       number = group_is ∙ was.group;
       def_is = def_is ∙ was.def;
@@ -299,8 +293,8 @@ group_opened trace ticks faults i d before recovered records b group def text o 
       };
     }
 
-module _ {D : Type 0} (trace : D → Option Trace) (ticks faults : D → ℕ) (base : Base) (old new : DeviceTraces) where
-  pub sound_groups : (cells : List (Cell D)) (books : List (Book D)) (s : Session) → IsOver trace ticks faults base old new cells books s
+module _ {D : Type 0} (device : D → Device) (base : Base) (old new : DeviceTraces) where
+  pub sound_groups : (cells : List (Cell D)) (books : List (Book D)) (s : Session) → IsOver device base old new cells books s
       → AreGroupsSound base new s
   sound_groups cells books s is =
       let many : length s.groups.items ≡ length books = is.groups.as_many in
@@ -309,25 +303,20 @@ module _ {D : Type 0} (trace : D → Option Trace) (ticks faults : D → ℕ) (b
         each = λ i d g below.
             let there : i < length books = omega (arith, many, below) in
             let its = (is.groups.each i (element books i there) g there).history in
-            let trace = group_trace_at new (get_or base.groups.items i d) in
             record {
               defined = (its.group, its.grid);
               kept = its.legal;
               evaluated = its.evaluated;
               safe = λ some. (is.group_devices.each i d g below some).is.safe;
-              clocked = λ some.
-                  let at = is.group_devices.each i d g below some in
-                  made_by trace _ at.ticks at.is.past at.clock;
-              opened_before = λ some.
-                  let at = is.group_devices.each i d g below some in
-                  made_by trace _ at.ticks at.is.opened_before at.clock;
+              clocked = λ some. (is.group_devices.each i d g below some).is.past;
+              opened_before = λ some. (is.group_devices.each i d g below some).is.opened_before;
             };
       }
 
   -- each was opened as what its device stood for
   opened_groups : (first last_cells : List (Cell D)) (opened last : List (Book D)) (s : Session)
-      → AreBooksOpened trace ticks faults base.groups.items (cell_records_in first) old opened → AllZip IsContinuedGroup opened last
-      → IsOver trace ticks faults base old new last_cells last s → cell_records_in first ≡ opening_records_of s
+      → AreBooksOpened device base.groups.items (cell_records_in first) old opened → AllZip IsContinuedGroup opened last
+      → IsOver device base old new last_cells last s → cell_records_in first ≡ opening_records_of s
       → (i : ℕ) (d : GroupDef) (g : GroupHistory) → i < length s.groups.items
       → IsGroupOpened i (get_or base.groups.items i d) (group_trace_at old (get_or base.groups.items i d))
       (input_records_of (opening_records_of s) (get_or base.groups.items i d)) (get_or s.groups.items i g).group
@@ -345,7 +334,7 @@ module _ {D : Type 0} (trace : D → Option Trace) (ticks faults : D → ℕ) (b
       ap (λ (o : GroupOpening). o.versions.items) history.opening ∙ continued.versions in
       let rows : lists_of (get_or s.groups.items i g).opening.rows.items ≡ lists_of (get_or opened i a).opening.rows.items =
       ap (λ (o : GroupOpening). lists_of o.rows.items) history.opening ∙ continued.rows in
-      group_opened trace ticks faults i def (group_trace_at old def) (input_records_of (cell_records_in first) def)
+      group_opened device i def (group_trace_at old def) (input_records_of (cell_records_in first) def)
       (input_records_of (opening_records_of s) def) (get_or opened i a) (get_or s.groups.items i g).group (get_or s.groups.items i g).def
       (get_or s.groups.items i g).text.items (get_or s.groups.items i g).opening (ap (λ l. input_records_of l def) lists) book
       (history.group ∙ continued.group) (history.def ∙ continued.def) (history.text ∙ continued.text) versions rows
@@ -354,15 +343,15 @@ module _ {D : Type 0} (trace : D → Option Trace) (ticks faults : D → ℕ) (b
 
   -- ---- a session that is done
 
-  module _ (g : Given) (cells : List (Cell D)) (books : List (Book D)) (s : Session) (is : IsOver trace ticks faults base old new cells books s) where
+  module _ (g : Given) (cells : List (Cell D)) (books : List (Book D)) (s : Session) (is : IsOver device base old new cells books s) where
     pub tags_many : length s.tags.items ≡ length cells
     tags_many = zip_length _ cells s.tags.items is.tags
 
     -- the history of the cell at a place
     pub history_at : (i : ℕ) (c : Cell D) (t : TagHistory) → i < length s.tags.items
-        → IsHistoryOfCell (trace (get_or cells i c).journal.dev) (ticks (get_or cells i c).journal.dev) (faults (get_or cells i c).journal.dev)
+        → IsHistoryOfCell (device (get_or cells i c).journal.dev)
         (get_or cells i c) (get_or s.tags.items i t)
-    history_at i c t below = zip_at (λ (x : Cell D) h. IsHistoryOfCell (trace x.journal.dev) (ticks x.journal.dev) (faults x.journal.dev) x h)
+    history_at i c t below = zip_at (λ (x : Cell D) h. IsHistoryOfCell (device x.journal.dev) x h)
         cells s.tags.items i c t is.tags below
 
     -- what the workers left are first rows of their files: takes, questions about tags, and all of them
@@ -461,7 +450,7 @@ module _ {D : Type 0} (trace : D → Option Trace) (ticks faults : D → ℕ) (b
         let of = history_at tag c t below in (
           get_or-map (λ (x : TagHistory). x.recs.items) s.tags.items tag t [] below ∙ of.records_are,
           get_or-map durable_records cells tag c [] there
-              ∙ durable_all _ _ _ (get_or cells tag c) (get_or s.tags.items tag t) of (none tag c there) ∙ of.records_are,
+              ∙ durable_all _ (get_or cells tag c) (get_or s.tags.items tag t) of (none tag c there) ∙ of.records_are,
         )
 
     -- what a group has of an input are the records of its tag
@@ -621,33 +610,33 @@ if_done (Ok text) opened follows x = follows (opened (λ none. none)) text x
 if_done (Err why) opened follows x = tt
 
 -- unless the answer reports a changed opening, each tag and group of a session was opened as what its device stood for
-pub held_opened : {D : Type 0} (trace : D → Option Trace) (ticks faults : D → ℕ) → (base : Base) (g : Given) (old new : DeviceTraces)
-    (before now : ℕ) (answer : Result (String Global) Status) (s : Session) → IsSessionHeld trace ticks faults base g old new before now answer s
+pub held_opened : {D : Type 0} (device : D → Device) → (base : Base) (g : Given) (old new : DeviceTraces)
+    (before now : ℕ) (answer : Result (String Global) Status) (s : Session) → IsSessionHeld device base g old new before now answer s
     → (IsOfOpening answer → ⊥) → AreUnitsOpened base old s
-held_opened trace ticks faults base g old new before now answer s is none = record {
-  tags = opened_tags trace ticks faults old base.tags.items is.opened is.cells s.tags.items is.opening.tags (is.same_tags none)
+held_opened device base g old new before now answer s is none = record {
+  tags = opened_tags device old base.tags.items is.opened is.cells s.tags.items is.opening.tags (is.same_tags none)
       is.over.tags;
-  groups = opened_groups trace ticks faults base old new is.opened is.cells is.opened_books is.books s is.opening.groups
+  groups = opened_groups device base old new is.opened is.cells is.opened_books is.books s is.opening.groups
       (is.same_groups none) is.over
-      (opened_lists trace ticks faults old base.tags.items is.opened is.cells s.tags.items is.opening.tags (is.same_tags none) is.over.tags);
-  few = subst (λ n. n ≤ most_stored) (sym (opened_records trace ticks faults old is.opened is.cells s.tags.items (is.same_tags none) is.over.tags))
+      (opened_lists device old base.tags.items is.opened is.cells s.tags.items is.opening.tags (is.same_tags none) is.over.tags);
+  few = subst (λ n. n ≤ most_stored) (sym (opened_records device old is.opened is.cells s.tags.items (is.same_tags none) is.over.tags))
       is.opening.few;
 }
 
 -- what a session counts of the faults of its devices
-pub session_counts : {D : Type 0} (trace : D → Option Trace) (ticks faults : D → ℕ) (base : Base) (g : Given) (old new : DeviceTraces)
+pub session_counts : {D : Type 0} (device : D → Device) (base : Base) (g : Given) (old new : DeviceTraces)
     (before now : ℕ) (answer : Result (String Global) Status) (s : Session)
-    → (run : IsSessionHeld trace ticks faults base g old new before now answer s)
+    → (run : IsSessionHeld device base g old new before now answer s)
     → IfErr answer (IsRefusedSo base g run.opened run.opened_books run.cells run.books s) → before < 2 ^ 64
     → CountsFaults before now answer
-session_counts trace ticks faults base g old new before now (Ok text) s run undone few =
-    none_counted trace ticks faults base old new run.cells run.books s run.over run.opened run.opened_books run.opening
+session_counts device base g old new before now (Ok text) s run undone few =
+    none_counted device base old new run.cells run.books s run.over run.opened run.opened_books run.opening
     (run.same_tags (λ none. none)) (run.same_groups (λ none. none)) g run.done.made before now (run.counts few)
-session_counts trace ticks faults base g old new before now (Err why) s run undone few =
+session_counts device base g old new before now (Err why) s run undone few =
     ((run.counts few).later, by undone.checked)
   where
     by : IsChecked base s undone.came why → IsFaultCounted before now why
-    by (AsItCame same copied) = faults_counted trace ticks faults base old new before now run.cells run.books s run.over (run.counts few) g
+    by (AsItCame same copied) = faults_counted device base old new before now run.cells run.books s run.over (run.counts few) g
         run.opened run.opened_books s.workers.items (Err why)
         (subst (IsUndone g run.opened run.opened_books run.cells run.books s.workers.items) (sym same) undone.undone)
     by (AsUncopied none apart) = λ unit same. absurd (cc (same, apart.differs.why_is))

@@ -3,7 +3,7 @@ use Rattle.std.proofs.Common.{◌≡◌, ◌<◌, ℕ, List, Option, None, Some,
 use Rattle.std.specs.Prelude.{◌^◌, IfSome}
 use Rattle.std.specs.List.{AllZip}
 use Rattle.std.specs.declared.alloc.Global.{Global}
-use Rattle.disk_model.specs.Traces.{Trace}
+use Rattle.disk_model.specs.Traces.{Device}
 use Rattle.plant_status.specs.declared.status.Status.{Status}
 use Rattle.tag_base.specs.declared.definition.Base.{Base}
 use Rattle.calc_refresh.specs.Lists.{lists_of}
@@ -71,24 +71,24 @@ ran_told P base g s (Err why) (Ok text) is p = absurd (is.refused)
 ran_told P base g s (Err why) (Err e) is p = tt
 
 -- where an opening counted no fault, those counted since are all that were counted since before it
-pub counted_since : {D : Type 0} (faults : D → ℕ) (cells : List (Cell D)) (books : List (Book D)) (before opened now : ℕ)
-    → (before < 2 ^ 64 → opened ≡ before) → (opened < 2 ^ 64 → CountsClosed faults cells books opened now) → before < 2 ^ 64
-    → CountsClosed faults cells books before now
-counted_since faults cells books before opened now same counts few =
-    subst (λ n. CountsClosed faults cells books n now) (same few) (counts (subst (λ n. n < 2 ^ 64) (sym (same few)) few))
+pub counted_since : {D : Type 0} (device : D → Device) (cells : List (Cell D)) (books : List (Book D)) (before opened now : ℕ)
+    → (before < 2 ^ 64 → opened ≡ before) → (opened < 2 ^ 64 → CountsClosed device cells books opened now) → before < 2 ^ 64
+    → CountsClosed device cells books before now
+counted_since device cells books before opened now same counts few =
+    subst (λ n. CountsClosed device cells books n now) (same few) (counts (subst (λ n. n < 2 ^ 64) (sym (same few)) few))
 
 -- the answer of a session that ended like this, whose devices were opened and are given back
-abbrev pub held_told : {D : Type 0} (trace : D → Option Trace) (ticks faults : D → ℕ) (base : Base) (g : Given) (old new : DeviceTraces)
+abbrev pub held_told : {D : Type 0} (device : D → Device) (base : Base) (g : Given) (old new : DeviceTraces)
     (before opening now : ℕ) (opened : List (Cell D)) (opened_books : List (Book D)) (e : EndedPhase D) (told : Result (String Global) Status)
-    (s : Session) → AreUnitsOpen trace ticks faults base old opened opened_books
-    → IsOver trace ticks faults base old new e.cells.items e.books.items s → (before < 2 ^ 64 → opening ≡ before)
-    → (opening < 2 ^ 64 → CountsClosed faults e.cells.items e.books.items opening now)
+    (s : Session) → AreUnitsOpen device base old opened opened_books
+    → IsOver device base old new e.cells.items e.books.items s → (before < 2 ^ 64 → opening ≡ before)
+    → (opening < 2 ^ 64 → CountsClosed device e.cells.items e.books.items opening now)
     → ((IsOfOpening e.answer → ⊥) → AllZip IsContinued opened e.cells.items)
     → ((IsOfOpening e.answer → ⊥) → AllZip IsContinuedGroup opened_books e.books.items)
     → OnOk e.answer (HaveAllEnded s.workers.items) → OnOk e.answer (AreStepsMade g e.cells.items e.books.items)
     → OnOk e.answer (ArePulled (lists_of g.inputs.items) e.cells.items e.books.items) → IsReported base g s e.answer told
-    → IsSessionHeld trace ticks faults base g old new before now told s
-held_told trace ticks faults base g old new before opening now opened opened_books e told s was over same counts tags groups ended made pulled is =
+    → IsSessionHeld device base g old new before now told s
+held_told device base g old new before opening now opened opened_books e told s was over same counts tags groups ended made pulled is =
     record {
       opened = opened;
       opened_books = opened_books;
@@ -96,7 +96,7 @@ held_told trace ticks faults base g old new before opening now opened opened_boo
       books = e.books.items;
       opening = was;
       over = over;
-      counts = counted_since faults e.cells.items e.books.items before opening now same counts;
+      counts = counted_since device e.cells.items e.books.items before opening now same counts;
       same_tags = λ none. tags (λ of. none (opening_told base g s e.answer told is of));
       same_groups = λ none. groups (λ of. none (opening_told base g s e.answer told is of));
       done = done_told base g s e.cells.items e.books.items e.answer told is ended made pulled;

@@ -1,12 +1,12 @@
 -- What a drill comes to: its session, or why there is none.
-use Rattle.std.specs.Prelude.{◌≡◌, ◌≢◌, ◌⊎◌, ℕ, ◌/◌, ◌<◌, List, [], ◌++◌, All, length, replicate, slice_get, slice_index_or, Option, None, Some, Result, Ok, Err, IfErr, IfOk, OnOk, String, string_bytes, ⊤}
+use Rattle.std.specs.Prelude.{◌≡◌, ◌≢◌, ◌⊎◌, ℕ, ◌/◌, ◌<◌, List, [], ◌++◌, All, length, replicate, slice_get, slice_index_or, None, Some, Result, Ok, Err, IfErr, IfOk, OnOk, String, string_bytes, ⊤}
 use Rattle.std.specs.List.{AllZip}
 use Rattle.std.specs.declared.alloc.Global.{Global}
 use Rattle.trend_num.specs.declared.tag_def.TagDef.{TagDef}
 use Rattle.trend_model.specs.State.{Stands}
-use Rattle.disk_model.specs.Memory.{DiskState}
+use Rattle.disk_model.specs.Memory.{DiskState, handed_as}
 use Rattle.disk_model.specs.Stores.{empty_trace}
-use Rattle.disk_model.specs.Traces.{Trace}
+use Rattle.disk_model.specs.Traces.{Device}
 use Rattle.tag_base.specs.declared.definition.Base.{Base}
 use Rattle.tag_base.specs.declared.definition.GroupDef.{GroupDef}
 use Rattle.tag_cell.specs.declared.history.TagHistory.{TagHistory}
@@ -50,7 +50,7 @@ pub record IsDrillBase (tags : ℕ) (base : Base) : Type 0 where
 
 -- the devices of a new store in memory: each name has one that holds nothing
 abbrev pub fresh_devices : DeviceTraces
-fresh_devices name = Some empty_trace
+fresh_devices name = empty_trace
 
 -- a device in memory fails only for want of memory, so the drill reports that
 abbrev pub drill_status : Status → Status
@@ -76,25 +76,19 @@ pub record IsDrillUndone {D : Type 0} (base : Base) (first second : Given) (open
 -- there is a text, there is a note of each worker, and each tag had as many takes acknowledged as it has rows in the first
 -- phase, when a group first pulled from it. Unless the answer admits a take of no file, each tape shows only first rows of
 -- its last phase. There is a report, or the answer has a cause.
-pub record IsRunInPhases {D : Type 0} (trace : D → Option Trace) (ticks faults : D → ℕ) (base : Base) (first second : Given)
+pub record IsRunInPhases {D : Type 0} (device : D → Device) (base : Base) (first second : Given)
     (old new : DeviceTraces) (before now stops_before stops_now : ℕ) (answer : Result (String Global) Status) (s : Session)
     : Type 0 where
-  pub held : IsSessionHeld trace ticks faults base second old new before now answer s
+  pub held : IsSessionHeld device base second old new before now answer s
   pub notes : AreNotesOfBoth first.work second.work stops_before stops_now s.workers.items
   pub ran : OnOk answer (AreNotesOfAllBoth first.work second.work s.workers.items)
   pub apart : OnOk answer (HaveFirstPulls first.rooms.items held.cells)
   pub begun : (AdmitsForeign answer → ⊥) → AreBegun first held.cells held.books ⊎ AreBegun second held.cells held.books
   pub undone : IfErr answer (IsDrillUndone base first second held.opened held.opened_books held.cells held.books s)
 
--- what a device in memory records: its calls, their number, and how many of them have failed
-abbrev pub memory_trace : DiskState → Option Trace
-memory_trace d = Some d.trace
-
-abbrev pub memory_ticks : DiskState → ℕ
-memory_ticks d = length d.trace.calls
-
-abbrev pub memory_faults : DiskState → ℕ
-memory_faults d = d.faults
+-- a device in memory, as a proof sees it
+abbrev pub memory_device : DiskState → Device
+memory_device d = record { handed = handed_as d.name; trace = d.trace; faults = d.faults }
 
 -- ---- what is promised of it
 

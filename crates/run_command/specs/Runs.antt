@@ -1,9 +1,9 @@
 -- What a run of a plan comes to: its session, or why there is none.
-use Rattle.std.specs.Prelude.{◌≡◌, ◌≢◌, ℕ, ◌^◌, ◌<◌, ◌≤◌, List, length, map, Option, None, Result, OnOk, IfErr, IfOk, IfSome, IsErrAnd, String, string_bytes, slice_index_or}
+use Rattle.std.specs.Prelude.{◌≡◌, ◌≢◌, ℕ, ◌^◌, ◌<◌, ◌≤◌, List, length, map, None, Some, Result, OnOk, IfErr, IfOk, IsErrAnd, String, string_bytes, slice_index_or}
 use Rattle.std.specs.List.{AllZip}
 use Rattle.std.specs.declared.alloc.Global.{Global}
 use Rattle.trend_num.specs.Limits.{most_stored}
-use Rattle.disk_model.specs.Traces.{Trace}
+use Rattle.disk_model.specs.Traces.{Trace, moment, Device}
 use Rattle.tag_base.specs.declared.definition.Base.{Base}
 use Rattle.tag_base.specs.declared.definition.GroupDef.{GroupDef}
 use Rattle.tag_base.specs.declared.schedule.Plan.{Plan}
@@ -86,10 +86,10 @@ pub record IsWorkIn (base : Base) (earlier phases : ℕ) (rows : List (List RawR
 
 -- the devices of a base's tags and groups were opened as these cells and books; all tags together had not too many
 -- records
-pub record AreUnitsOpen {D : Type 0} (trace : D → Option Trace) (ticks faults : D → ℕ) (base : Base) (old : DeviceTraces)
+pub record AreUnitsOpen {D : Type 0} (device : D → Device) (base : Base) (old : DeviceTraces)
     (cells : List (Cell D)) (books : List (Book D)) : Type 0 where
-  pub tags : AreCellsOpened trace ticks faults base.tags.items old cells
-  pub groups : AreBooksOpened trace ticks faults base.groups.items (cell_records_in cells) old books
+  pub tags : AreCellsOpened device base.tags.items old cells
+  pub groups : AreBooksOpened device base.groups.items (cell_records_in cells) old books
   pub as_many_tags : length cells ≡ length base.tags.items
   pub as_many_groups : length books ≡ length base.groups.items
   pub few : records_opened cells ≤ most_stored
@@ -99,12 +99,10 @@ abbrev pub AreDefined : {D : Type 0} → List GroupDef → List (Book D) → Typ
 AreDefined {D} groups books = (i : ℕ) (g : GroupDef) (b : Book D) → i < length books
     → (slice_index_or books i b).def ≡ group_parts_of (slice_index_or groups i g)
 
--- a history is that of a group's device, which records these calls; its clock is their number
-pub record IsGroupHistoryAt (trace : Option Trace) (g : GroupHistory) : Type 0 where
-  pub ticks : ℕ
+-- a history is that of a group's device, which has made these calls
+pub record IsGroupHistoryAt (trace : Trace) (g : GroupHistory) : Type 0 where
   pub faults : ℕ
-  pub clock : IfSome trace (λ t. length t.calls ≡ ticks)
-  pub is : IsGroupHistory g trace ticks faults
+  pub is : IsGroupHistory g (Some trace) (moment trace) faults
 
 -- each history of a group that has the group's text is that of the device that a store has under the group's name
 pub record AreGroupHistoriesAt (groups : List GroupDef) (traces : DeviceTraces) (histories : List GroupHistory) : Type 0 where
@@ -113,10 +111,10 @@ pub record AreGroupHistoriesAt (groups : List GroupDef) (traces : DeviceTraces) 
 
 -- The histories of a session are those of these cells and books. Each is that of the device under its name. No device
 -- but those of the base's tags and groups has changed, and no log was written.
-pub record IsOver {D : Type 0} (trace : D → Option Trace) (ticks faults : D → ℕ) (base : Base) (old new : DeviceTraces)
+pub record IsOver {D : Type 0} (device : D → Device) (base : Base) (old new : DeviceTraces)
     (cells : List (Cell D)) (books : List (Book D)) (s : Session) : Type 0 where
-  pub tags : AreHistoriesOf trace ticks faults cells s.tags.items
-  pub groups : AreGroupHistoriesOf trace ticks faults books s.groups.items
+  pub tags : AreHistoriesOf device cells s.tags.items
+  pub groups : AreGroupHistoriesOf device books s.groups.items
   pub as_many_tags : length cells ≡ length base.tags.items
   pub as_many_groups : length books ≡ length base.groups.items
   pub devices : AreHistoriesAt new (device_names_of base.tags.items) s.tags.items
@@ -171,15 +169,15 @@ pub record IsReported (base : Base) (g : Given) (s : Session) (came : Result Uni
 -- A session over a base, and what came of it. The devices were opened, and are given back. Each cell and book is the
 -- one that was opened, unless the answer reports that an opening has changed. If there is a text, the session is done.
 -- The store counts the faults of the devices: so many before, and so many now.
-pub record IsSessionHeld {D : Type 0} (trace : D → Option Trace) (ticks faults : D → ℕ) (base : Base) (g : Given) (old new : DeviceTraces)
+pub record IsSessionHeld {D : Type 0} (device : D → Device) (base : Base) (g : Given) (old new : DeviceTraces)
     (before now : ℕ) (answer : Result (String Global) Status) (s : Session) : Type 0 where
   pub opened : List (Cell D)
   pub opened_books : List (Book D)
   pub cells : List (Cell D)
   pub books : List (Book D)
-  pub opening : AreUnitsOpen trace ticks faults base old opened opened_books
-  pub over : IsOver trace ticks faults base old new cells books s
-  pub counts : before < 2 ^ 64 → CountsClosed faults cells books before now
+  pub opening : AreUnitsOpen device base old opened opened_books
+  pub over : IsOver device base old new cells books s
+  pub counts : before < 2 ^ 64 → CountsClosed device cells books before now
   pub same_tags : (IsOfOpening answer → ⊥) → AllZip IsContinued opened cells
   pub same_groups : (IsOfOpening answer → ⊥) → AllZip IsContinuedGroup opened_books books
   pub done : IfOk answer (λ text. IsDone base g cells books s (string_bytes text))
@@ -194,9 +192,9 @@ pub record IsRefusedSo {D : Type 0} (base : Base) (g : Given) (opened : List (Ce
 -- A session of this work over a base, and what came of it. The passes counted as many stops as workers were stopped.
 -- Unless the answer admits a take or a question of no file, there is a note of each worker, and each tape shows only
 -- first rows of the files. The session is done, or the answer has a cause.
-pub record IsRun {D : Type 0} (trace : D → Option Trace) (ticks faults : D → ℕ) (base : Base) (g : Given) (old new : DeviceTraces)
+pub record IsRun {D : Type 0} (device : D → Device) (base : Base) (g : Given) (old new : DeviceTraces)
     (before now : ℕ) (stops_before stops_now : ℕ) (answer : Result (String Global) Status) (s : Session) : Type 0 where
-  pub held : IsSessionHeld trace ticks faults base g old new before now answer s
+  pub held : IsSessionHeld device base g old new before now answer s
   pub notes : AreNotes g.work stops_before stops_now s.workers.items
   pub ran : (AdmitsForeign answer → ⊥) → AreNotesOfAll g.work s.workers.items
   pub begun : (AdmitsForeign answer → ⊥) → AreBegun g held.cells held.books

@@ -1,5 +1,5 @@
 -- The tags and groups of a session: how they were opened, what holds of each, and what was done with them.
-use Rattle.std.specs.Prelude.{◌≡◌, ℕ, ◌+◌, ◌*◌, ◌<◌, ◌≤◌, List, [], All, length, map, nat_eq, slice_index_or, Option, IfSome, if◌then◌else◌}
+use Rattle.std.specs.Prelude.{◌≡◌, ℕ, ◌+◌, ◌*◌, ◌<◌, ◌≤◌, List, [], All, length, map, nat_eq, slice_index_or, Option, if◌then◌else◌}
 use Rattle.std.specs.List.{AllZip, sum_by}
 use Rattle.trend_num.specs.Limits.{most_stored}
 use Rattle.trend_num.specs.declared.archive.Rec.{Rec}
@@ -8,7 +8,7 @@ use Rattle.trend_model.specs.Bound.{IsBounded}
 use Rattle.trend_model.specs.History.{Event, Origin, Raw}
 use Rattle.trend_model.specs.State.{Stands, followed}
 use Rattle.disk_model.specs.Moments.{LeftSince}
-use Rattle.disk_model.specs.Traces.{Trace}
+use Rattle.disk_model.specs.Traces.{Trace, moment}
 use Rattle.tag_cell.specs.declared.entry.Entry.{Entry}
 use Rattle.tag_cell.specs.declared.history.TagHistory.{TagHistory}
 use Rattle.tag_cell.specs.Crashes.{IsSafe}
@@ -53,15 +53,15 @@ pub record IsKeptFor (org : Origin) (h : List Event) (t : TagHistory) : Type 0 w
   pub legal : IsLegal org h t.def t.opening t.tape.items (record { records = t.recs.items; summary = t.summary }) t.acked
   pub bounded : IsBounded org (followed h (map Raw (taken t.tape.items)))
 
--- a device with these calls, if they are known, has made at least so many
-abbrev pub HasMade : ℕ → Option Trace → Type 0
-HasMade many trace = IfSome trace (λ t. many ≤ length t.calls)
+-- a device with these calls has made at least so many
+abbrev pub HasMade : ℕ → Trace → Type 0
+HasMade many t = many ≤ moment t
 
 -- Replaying the takes from the opening gives each entry of the tape, and the state at the end. The tag is kept for every
 -- history for which its opening stands. After a crash at any moment since the opening, the tag's device, with these calls,
 -- has the oldest values that were taken since, among them all acknowledged ones. No moment of its opening or of a commit
 -- is above the number of these calls. Each pull of a group ended where the acknowledged records ended then.
-pub record IsTagSound (def : TagDef) (t : TagHistory) (trace : Option Trace) : Type 0 where
+pub record IsTagSound (def : TagDef) (t : TagHistory) (trace : Trace) : Type 0 where
   pub replayed : IsTapeReplayed t.def t.opening t.tape.items (record { records = t.recs.items; summary = t.summary }) t.acked
   pub kept : (org : Origin) (h : List Event) → org.step ≡ t.def.step → Stands org h (opened t.opening) → IsKeptFor org h t
   pub safe : t.def.name ≡ def.name → IsSafe t.def t.opening t.tape.items (LeftSince trace)
@@ -75,7 +75,7 @@ core_of def o = record { state = opened o; step = def.step; spare = 0 }
 
 -- A tag is that of a base, and was opened as what its device, with these calls, recovered. No call of the device had failed
 -- then. How many calls the opening makes follows from the device's bytes (`OpensAt`).
-pub record IsTagOpened (def : TagDef) (before : Option Trace) (its : TagDef) (o : TagOpening) : Type 0 where
+pub record IsTagOpened (def : TagDef) (before : Trace) (its : TagDef) (o : TagOpening) : Type 0 where
   pub def_is : its ≡ def
   pub found : IsOpened def before (core_of its o)
   pub opened_at : OpensAt def before o.moment
@@ -86,14 +86,14 @@ pub record IsTagOpened (def : TagDef) (before : Option Trace) (its : TagDef) (o 
 abbrev pub grid : GroupHistory → Grid
 grid g = grid_of g.def.start g.def.period
 
--- A group whose device has these calls, if they are known. Its inputs, calculations and windows are allowed. If the
--- opening's rows are those from scratch on the records of its tags, the group's rows and all replies are from scratch too,
--- at the version that each had then. The other facts hold in any case. There is one value of each calculation for each
+-- A group on a device with these calls. Its inputs, calculations and windows are allowed. If the opening's rows are those
+-- from scratch on the records of its tags, the group's rows and all replies are from scratch too, at the version that each
+-- had then. The other facts hold in any case. There is one value of each calculation for each
 -- complete window. Rows and replies are from scratch in each window that was due since the opening, and in any other those
 -- of the opening. As many values were evaluated as the refreshes had due. After a crash at any moment since the opening,
 -- the device of a group with a definition text has one of the versions since the last save before the crash, with its rows.
 -- No moment of the opening or of a save is above the number of calls of the device.
-pub record IsGroupSound (d : GroupDef) (g : GroupHistory) (trace : Option Trace) : Type 0 where
+pub record IsGroupSound (d : GroupDef) (g : GroupHistory) (trace : Trace) : Type 0 where
   pub defined : IsGroup g.def.inputs g.def.calcs × IsGrid (grid g)
   pub kept : IsGroupLegal g.def.calcs (grid g) g.opening g.tape.items g.versions.items (lists_of g.copies.items) (lists_of g.rows.items)
   pub evaluated : AreRowsEvaluated g.def.calcs (grid g) g.opening g.tape.items (lists_of g.copies.items) (lists_of g.rows.items) g.evals
@@ -114,7 +114,7 @@ pub record AreGroupsSound (base : Base) (devices : DeviceTraces) (s : Session) :
 
 -- The base has this group at this place. It was opened as what its device, with these calls, stood for, after these records
 -- of the tags of its inputs were recovered.
-pub record IsGroupOpened (i : ℕ) (d : GroupDef) (before : Option Trace) (recovered : List (List Rec)) (group : ℕ) (def : GroupDefParts)
+pub record IsGroupOpened (i : ℕ) (d : GroupDef) (before : Trace) (recovered : List (List Rec)) (group : ℕ) (def : GroupDefParts)
     (text : List ℕ) (o : GroupOpening) : Type 0 where
   pub number : group ≡ i
   pub def_is : def ≡ group_parts_of d

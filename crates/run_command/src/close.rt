@@ -34,9 +34,9 @@ pub(crate) fn close<S: Store>(
     requires cells { vec_len ended.cells ≡ length base.now.tags.items }
     requires books { vec_len ended.books ≡ length base.now.groups.items }
     ensures over { (old : DeviceTraces) → AreRestSame base.now old (S.device_at store.old)
-        → IsOver S.Dev.trace S.Dev.ticks S.Dev.fault_count base.now old (S.device_at store.new) ended.cells.items ended.books.items
+        → IsOver S.Dev.device base.now old (S.device_at store.new) ended.cells.items ended.books.items
         result.1 }
-    ensures counts { S.fault_count store.old < 2 ^ 64 → CountsClosed S.Dev.fault_count ended.cells.items ended.books.items
+    ensures counts { S.fault_count store.old < 2 ^ 64 → CountsClosed S.Dev.device ended.cells.items ended.books.items
         (S.fault_count store.old) (S.fault_count store.new) }
     ensures notes { result.1.workers ≡ ended.notes }
     ensures told { IsReported base.now given.now result.1 ended.answer result.0 }

@@ -5,7 +5,7 @@ ghost use Rattle.plant_store.specs.Groups.{DeviceTraces};
 ghost use Rattle.plant_store.specs.Openings.{AreRestSame};
 ghost use Rattle.plant_store.specs.Shelves.{HasPlacesOf, IsShelfFor};
 ghost use Rattle.run_command.specs.DrillRows.{drill_rows_of};
-ghost use Rattle.run_command.specs.Drills.{IsDrillBase, IsDrillUnopened, IsDrilled, IsRunInPhases, drill_answer, drill_status, fresh_devices, memory_faults, memory_ticks, memory_trace};
+ghost use Rattle.run_command.specs.Drills.{IsDrillBase, IsDrillUnopened, IsDrilled, IsRunInPhases, drill_answer, drill_status, fresh_devices, memory_device};
 ghost use Rattle.run_command.specs.Rooms.{AreRoomy};
 ghost use Rattle.run_command.specs.Runs.{AreDefined, AreUnitsOpen, IsWorkIn};
 ghost use Rattle.run_command.specs.Steps.{AreGivenFor};
@@ -69,7 +69,7 @@ fn run_drill<P: Passes, R: Threads + Wait + Sync>(
     requires first { (earlier : ℕ) × (rows : List (List RawRow)) × IsWorkIn drill.now.base earlier 0 rows [] [] drill.now.first }
     requires second { (earlier : ℕ) × (rows : List (List RawRow)) × IsWorkIn drill.now.base earlier 1 rows [] [] drill.now.second }
     ensures held { OnOk result.answer (IsSome result.session) }
-    ensures session { IfSome result.session (λ s. (new : DeviceTraces) × (now : ℕ) × IsRunInPhases memory_trace memory_ticks memory_faults
+    ensures session { IfSome result.session (λ s. (new : DeviceTraces) × (now : ℕ) × IsRunInPhases memory_device
         drill.now.base drill.now.first drill.now.second fresh_devices new 0 now (P.stops passes.old) (P.stops passes.new) result.answer s) }
     ensures unheld { result.session ≡ None → IfErr result.answer (λ why. why ≡ Status.WantOfMemory) }
     ensures unstopped { result.session ≡ None → P.stops passes.new ≡ P.stops passes.old }
@@ -154,7 +154,7 @@ pub(crate) fn hold_in<S: Store, P: Passes, R: Threads + Wait + Sync>(
     requires no_readers { first.now.work.readers.items ≡ [] }
     requires no_more_readers { second.now.work.readers.items ≡ [] }
     ensures held { OnOk result.answer (IsSome result.session) }
-    ensures session { IfSome result.session (IsRunInPhases S.Dev.trace S.Dev.ticks S.Dev.fault_count base.now first.now second.now
+    ensures session { IfSome result.session (IsRunInPhases S.Dev.device base.now first.now second.now
         (S.device_at store.old) (S.device_at store.new) (S.fault_count store.old) (S.fault_count store.new)
         (P.stops passes.old) (P.stops passes.new) result.answer) }
     ensures unheld { result.session ≡ None → IfErr result.answer (IsDrillUnopened base.now (S.device_at store.old)
@@ -209,9 +209,9 @@ fn hold_drill<S: Store, P: Passes, R: Threads + Wait + Sync>(
     requires defined { AreDefined base.now.groups.items plant.books.items }
     requires roomy { AreRoomy second.now.rooms.items plant.cells.items }
     requires board { vec_len plant.cells ≤ length board.now }
-    ensures { (old : DeviceTraces) (before : ℕ) → AreUnitsOpen S.Dev.trace S.Dev.ticks S.Dev.fault_count base.now old plant.cells.items
+    ensures { (old : DeviceTraces) (before : ℕ) → AreUnitsOpen S.Dev.device base.now old plant.cells.items
         plant.books.items → AreRestSame base.now old (S.device_at store.old) → (before < 2 ^ 64 → S.fault_count store.old ≡ before)
-        → IsRunInPhases S.Dev.trace S.Dev.ticks S.Dev.fault_count base.now first.now second.now old (S.device_at store.new)
+        → IsRunInPhases S.Dev.device base.now first.now second.now old (S.device_at store.new)
         before (S.fault_count store.new) (P.stops passes.old) (P.stops passes.new) result.0 result.1 }
 {
     let OpenPlant { cells, books } = plant;

@@ -67,7 +67,7 @@ pub(crate) fn open_session<S: Store, R: Wait>(
     requires rooms { length rooms.now ≡ length base.now.tags.items }
 
     // The devices are open, and the result holds what gives them back.
-    ensures opened { IfOk result (λ o. AreUnitsOpen S.Dev.trace S.Dev.ticks S.Dev.fault_count base.now (S.device_at store.old)
+    ensures opened { IfOk result (λ o. AreUnitsOpen S.Dev.device base.now (S.device_at store.old)
         o.plant.cells.items o.plant.books.items) }
     ensures defined { IfOk result (λ o. AreDefined base.now.groups.items o.plant.books.items) }
     ensures rooms { IfOk result (λ o. map (λ c. c.room) o.plant.cells.items ≡ rooms.now) }

@@ -137,7 +137,7 @@ fn run_given<S: Store, P: Passes, R: Threads + Wait + Sync>(
     requires given { AreGivenFor (length base.now.tags.items) (length base.now.groups.items) given.now }
     requires inputs { lists_of given.now.inputs.items ≡ map (λ d. d.inputs.items) base.now.groups.items }
     ensures held { OnOk result.answer (IsSome result.session) }
-    ensures session { IfSome result.session (IsRun S.Dev.trace S.Dev.ticks S.Dev.fault_count base.now given.now
+    ensures session { IfSome result.session (IsRun S.Dev.device base.now given.now
         (S.device_at store.old) (S.device_at store.new) (S.fault_count store.old) (S.fault_count store.new) (P.stops passes.old)
         (P.stops passes.new) result.answer) }
     ensures unheld { result.session ≡ None → IfErr result.answer (IsUnopened base.now (S.device_at store.old)
@@ -182,9 +182,9 @@ fn hold_open<S: Store, P: Passes, R: Threads + Wait + Sync>(
     requires board { vec_len opened.plant.cells ≤ length (arc_value opened.board) }
     requires lookers { vec_len opened.lookers ≡ vec_len given.now.work.readers }
     requires looks { All (LooksAt (arc_value opened.board)) opened.lookers.items }
-    ensures { (old : DeviceTraces) (before : ℕ) → AreUnitsOpen S.Dev.trace S.Dev.ticks S.Dev.fault_count base.now old
+    ensures { (old : DeviceTraces) (before : ℕ) → AreUnitsOpen S.Dev.device base.now old
         opened.plant.cells.items opened.plant.books.items → AreRestSame base.now old (S.device_at store.old) → (before < 2 ^ 64 → S.fault_count store.old ≡ before)
-        → IsRun S.Dev.trace S.Dev.ticks S.Dev.fault_count base.now given.now old (S.device_at store.new)
+        → IsRun S.Dev.device base.now given.now old (S.device_at store.new)
         before (S.fault_count store.new) (P.stops passes.old) (P.stops passes.new) result.0 result.1 }
 {
     let OpenSession {

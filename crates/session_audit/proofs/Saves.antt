@@ -2,7 +2,7 @@
 use Rattle.std.proofs.Common.{◌≡◌, ◌∙◌, ℕ, Bool, zero, suc, ◌+◌, List, [], ◌∷◌, All, length, map, Result, Ok, Err, IfErr, OnOk, true, false, Option, None, Some, IsSome, refl, sym, ap, subst, arith, append-nil}
 use Rattle.std.proofs.lemmas.Bool.{false≢true}
 use Rattle.std.proofs.lemmas.List.Elements.{filter_map-append}
-use Rattle.disk_model.specs.Traces.{Trace}
+use Rattle.disk_model.specs.Traces.{Device, moment}
 use Rattle.calc_refresh.specs.Refreshed.{fault_of}
 use Rattle.group_book.specs.declared.refusal.SaveNo.{SaveNo}
 use Rattle.group_book.specs.declared.refusal.SaveNo.TheVariants.{Broken, DeviceFault, WantOfMemory}
@@ -24,10 +24,10 @@ unfailed true h = absurd (h refl)
 unfailed false h = refl
 
 -- a save more on the tape
-saved_more : {D : Type 0} (trace : D → Option Trace) (ticks : D → ℕ) (before : D) (old new : Book D)
-    → IsSaved trace ticks before old new → IsRefreshedMore old new
-saved_more trace ticks before old new s = record {
-  more = Save s.block.number (ticks s.after) ∷ [];
+saved_more : {D : Type 0} (device : D → Device) (before : D) (old new : Book D)
+    → IsSaved device before old new → IsRefreshedMore old new
+saved_more device before old new s = record {
+  more = Save s.block.number (moment (device s.after).trace) ∷ [];
   each = one;
   tape = ap (λ b. b.tape) s.changed;
   same_group = ap (λ b. b.group) s.changed;
@@ -37,15 +37,15 @@ saved_more trace ticks before old new s = record {
   same_opening = ap (λ b. b.opening) s.changed;
 }
   where
-    one : All IsNoAsk (Save s.block.number (ticks s.after) ∷ [])
+    one : All IsNoAsk (Save s.block.number (moment (device s.after).trace) ∷ [])
     one zero d below = tt
     one (suc i) d below = absurd (omega (arith, below))
 
 -- a book without a device is as it was, and one with a device has a save more
-pub saved_on : {D : Type 0} (trace : D → Option Trace) (ticks : D → ℕ) (old new : Book D) (dev : Option D) → old.dev ≡ dev
-    → (old.dev ≡ None → new ≡ old) → ((d : D) → old.dev ≡ Some d → IsSaved trace ticks d old new)
+pub saved_on : {D : Type 0} (device : D → Device) (old new : Book D) (dev : Option D) → old.dev ≡ dev
+    → (old.dev ≡ None → new ≡ old) → ((d : D) → old.dev ≡ Some d → IsSaved device d old new)
     → old.failed ≡ false → IsSavedOn old new × IsRefreshedMore old new
-saved_on {D = D} trace ticks old new None is none some sound =
+saved_on {D = D} device old new None is none some sound =
     let same = none is in (
       record {
         same_refreshes = ap (λ b. refreshes b.tape) same;
@@ -59,21 +59,21 @@ saved_on {D = D} trace ticks old new None is none some sound =
     nothing : (o : Option D) → o ≡ None → IsSome o → ⊥
     nothing None e there = false≢true there
     nothing (Some d) e there = cc
-saved_on trace ticks old new (Some d) is none some sound =
+saved_on device old new (Some d) is none some sound =
     let s = some d is in (
       record {
         same_refreshes = ap (λ b. refreshes b.tape) s.changed
-            ∙ (filter_map-append reached_by old.tape (Save s.block.number (ticks s.after) ∷ []) ∙ append-nil (refreshes old.tape));
+            ∙ (filter_map-append reached_by old.tape (Save s.block.number (moment (device s.after).trace) ∷ []) ∙ append-nil (refreshes old.tape));
         same_sheet = ap (λ b. b.sheet) s.changed;
         usable = ap (λ b. b.failed) s.changed ∙ sound;
         last = λ there. record {
           before = old.tape;
           number = s.block.number;
-          moment = ticks s.after;
+          moment = moment (device s.after).trace;
           is = ap (λ b. b.tape) s.changed;
         };
       },
-      saved_more trace ticks d old new s,
+      saved_more device d old new s,
     )
 
 -- ---- a book that was not saved

@@ -1,12 +1,12 @@
 -- Books that are opened, refreshed once, and closed.
-use Rattle.std.proofs.Common.{◌≡◌, inl, ℕ, ◌<◌, ◌≤◌, List, [], ◌∷◌, All, length, map, get_or, string_bytes, Option, Result, Ok, Err, refl, sym, ap, ap₂, subst, ◌∙◌, arith}
-use Rattle.std.specs.Prelude.{IfErr, IfOk, OnOk, String}
+use Rattle.std.proofs.Common.{◌≡◌, inl, ℕ, ◌<◌, ◌≤◌, List, [], ◌∷◌, All, length, map, get_or, string_bytes, Result, Ok, Err, refl, sym, ap, ap₂, subst, ◌∙◌, arith}
+use Rattle.std.specs.Prelude.{IfErr, IfOk, IfSome, OnOk, String}
 use Rattle.std.specs.Result.{result_and}
 use Rattle.std.specs.declared.alloc.Global.{Global}
 use Rattle.std.proofs.lemmas.List.{get_or-map, get_or_default, length-map}
 use Rattle.trend_num.specs.declared.archive.Rec.{Rec}
 use Rattle.disk_model.specs.Moments.{During}
-use Rattle.disk_model.specs.Traces.{Trace}
+use Rattle.disk_model.specs.Traces.{Trace, Device}
 use Rattle.calc_refresh.specs.declared.definition.GroupDefParts.{GroupDefParts}
 use Rattle.calc_refresh.specs.Lists.{lists_of}
 use Rattle.calc_refresh.specs.Sheet.{grid_of}
@@ -20,7 +20,7 @@ use Rattle.group_book.specs.declared.refusal.RefreshNo.{RefreshNo}
 use Rattle.group_book.specs.declared.refusal.RefreshNo.TheVariants.{Ahead, CellLimit, CopyLimit, WantOfMemory}
 use Rattle.group_book.specs.Histories.{AreRowsOver, IsRight}
 use Rattle.group_book.specs.Openings.{BookStaysSame}
-use Rattle.group_book.specs.Told.{ToldBook, count_of, device_name_of, trace_of}
+use Rattle.group_book.specs.Told.{ToldBook, device_name_of, faults_of}
 use Rattle.group_book.specs.InputLists.{lists_at}
 use Rattle.group_book.specs.Tapes.{cut}
 use Rattle.plant_store.specs.BookEndings.{AreGivenBack, AreHistoriesOf, IsHistoryOfBook, trace_after}
@@ -34,11 +34,11 @@ use Rattle.store_commands.specs.GroupRows.{AllGainSync, AreGroupsTold, AreRowsTo
 use Rattle.store_commands.specs.Refreshing.{AreCutBooks, AreRefreshedOnce, AreWithinLimits, HaveDevicesOf, IsOverIn, IsOverSome, IsRefreshedOnce, book_cells, refresh_status}
 
 -- books that were opened have the first records of their tags
-pub cut_books : {D : Type 0} (trace : D → Option Trace) (ticks faults : D → ℕ) (groups : List GroupDef) (records : List (List Rec))
+pub cut_books : {D : Type 0} (device : D → Device) (groups : List GroupDef) (records : List (List Rec))
     (old : DeviceTraces) (books : List (ToldBook D)) → length books ≡ length groups
-    → AreBooksOpened trace ticks faults groups records old books → AreCutBooks records books
-cut_books trace ticks faults [] records old books many opened i b below = absurd (omega (arith, below, many))
-cut_books trace ticks faults (g ∷ gs) records old books many opened i b below =
+    → AreBooksOpened device groups records old books → AreCutBooks records books
+cut_books device [] records old books many opened i b below = absurd (omega (arith, below, many))
+cut_books device (g ∷ gs) records old books many opened i b below =
     let book = opened.each i g b below in
     record { copies = book.copies ∙ ap₂ cut book.versions (ap (lists_at records) (sym book.tags)) }
 
@@ -53,11 +53,11 @@ pub record AreRefreshedTo {D : Type 0} (records : List (List Rec)) (upto : ℕ) 
 -- ---- what they come to
 
 -- one group
-pub rows_told : {D : Type 0} (trace : D → Option Trace) (ticks faults : D → ℕ) (i : ℕ) (g : GroupDef) (recovered : List (List Rec))
-    (o : Option Trace) (b c : ToldBook D) (h : GroupHistory) → IsBookOpened trace ticks faults i g recovered o b → c.sheet.copies ≡ recovered
+pub rows_told : {D : Type 0} (device : D → Device) (i : ℕ) (g : GroupDef) (recovered : List (List Rec))
+    (o : Trace) (b c : ToldBook D) (h : GroupHistory) → IsBookOpened device i g recovered o b → c.sheet.copies ≡ recovered
     → AreWithinLimits (book_cells b.def recovered) recovered → c ≡ record b { tape = c.tape; sheet = c.sheet }
-    → IsHistoryOfBook trace ticks faults c h → AreRowsTold g recovered b.opening (lists_of h.rows.items)
-rows_told trace ticks faults i g recovered o b c h book copies within changed told = record {
+    → IsHistoryOfBook device c h → AreRowsTold g recovered b.opening (lists_of h.rows.items)
+rows_told device i g recovered o b c h book copies within changed told = record {
   within = subst (λ d. AreWithinLimits (book_cells d recovered) recovered) book.def within;
   rows_are =
       subst (λ (d : GroupDefParts). AreRowsOver d.calcs (grid_of d.start d.period) b.opening recovered (lists_of h.rows.items))
@@ -78,12 +78,12 @@ rows_told trace ticks faults i g recovered o b c h book copies within changed to
 }
 
 -- all groups
-pub all_told : {D : Type 0} (trace : D → Option Trace) (ticks faults : D → ℕ) (groups : List GroupDef) (records : List (List Rec))
+pub all_told : {D : Type 0} (device : D → Device) (groups : List GroupDef) (records : List (List Rec))
     (old : DeviceTraces) (books closed : List (ToldBook D)) (hs : List GroupHistory) → length books ≡ length groups
-    → AreBooksOpened trace ticks faults groups records old books → HaveDevicesOf books closed
-    → AreRefreshedOnce records books closed → AreHistoriesOf trace ticks faults closed hs
+    → AreBooksOpened device groups records old books → HaveDevicesOf books closed
+    → AreRefreshedOnce records books closed → AreHistoriesOf device closed hs
     → AreGroupsTold groups records old (rows_in hs)
-all_told {D} trace ticks faults groups records old books closed hs many opened devices once told = record {
+all_told {D} device groups records old books closed hs many opened devices once told = record {
   as_many = length-map hs rows_of ∙ told.as_many ∙ devices.as_many ∙ many;
   each = λ i g r below. by i g r below books hs refl refl;
 }
@@ -103,62 +103,63 @@ all_told {D} trace ticks faults groups records old books closed hs many opened d
         (record {
           opening = (get_or books i b).opening;
           opened = book.opening;
-          rows_are = rows_told trace ticks faults i (get_or groups i g) (input_records_of records (get_or groups i g))
+          rows_are = rows_told device i (get_or groups i g) (input_records_of records (get_or groups i g))
               (group_trace_at old (get_or groups i g)) (get_or books i b) (get_or closed i b) (get_or hs i h) book
               (one.copies ∙ ap (lists_at records) book.tags)
               (subst (λ (l : List (List Rec)). AreWithinLimits (book_cells (get_or books i b).def l) l) (ap (lists_at records) book.tags) one.within)
               one.changed (told.each i b h (omega (arith, below, many, devices.as_many)));
         })
 
--- the device of each is back under its name
-device_back : {D : Type 0} (trace : D → Option Trace) (ticks faults : D → ℕ) (groups : List GroupDef) (names : List (String Global))
+-- the device of each is back under its name, and what holds of the device's calls holds of those there
+device_back : {D : Type 0} (device : D → Device) (groups : List GroupDef) (names : List (String Global))
     (records : List (List Rec)) (old mid new : DeviceTraces) (books closed : List (ToldBook D)) → AreNamesOf groups names
-    → length books ≡ length groups → AreBooksOpened trace ticks faults groups records old books → HaveDevicesOf books closed
-    → AreGivenBack trace names closed mid new → (i : ℕ) (g : GroupDef) (b : ToldBook D) → i < length groups
-    → group_trace_at new (get_or groups i g) ≡ trace_of trace (get_or books i b).dev
-device_back trace ticks faults groups [] records old mid new books closed are many opened devices given i g b below =
+    → length books ≡ length groups → AreBooksOpened device groups records old books → HaveDevicesOf books closed
+    → AreGivenBack device names closed mid new → (i : ℕ) (g : GroupDef) (b : ToldBook D) → i < length groups
+    → (P : Trace → Type 0) → IfSome (get_or books i b).dev (λ d. P (device d).trace) → P (group_trace_at new (get_or groups i g))
+device_back device groups [] records old mid new books closed are many opened devices given i g b below P holds =
     absurd (omega (arith, below, as_many groups [] are))
-device_back trace ticks faults groups (s ∷ ss) records old mid new books closed are many opened devices given i g b below =
+device_back device groups (s ∷ ss) records old mid new books closed are many opened devices given i g b below P holds =
     let book = opened.each i g b (omega (arith, below, many)) in
-    ap new (sym (named_at groups (s ∷ ss) i g s are below)) ∙ given i b s (omega (arith, below, many, devices.as_many))
+    let was = mid (string_bytes (get_or (s ∷ ss) i s)) in
+    let is = ap new (sym (named_at groups (s ∷ ss) i g s are below)) ∙ given i b s (omega (arith, below, many, devices.as_many))
     (named_at groups (s ∷ ss) i g s are below ∙ sym book.named ∙ ap device_name_of (sym (devices.texts i b)))
-    ∙ ap (λ dev. trace_after trace dev (mid (string_bytes (get_or (s ∷ ss) i s)))) (devices.each i b)
-    ∙ back_is trace (get_or books i b).dev _ book.device
+    ∙ ap (λ dev. trace_after device dev was) (devices.each i b) in
+    subst P (sym is) (back_is device (get_or books i b).dev was P book.has_device holds)
 
 -- and stays the same
-pub all_back : {D : Type 0} (trace : D → Option Trace) (ticks faults : D → ℕ) (groups : List GroupDef) (names : List (String Global))
+pub all_back : {D : Type 0} (device : D → Device) (groups : List GroupDef) (names : List (String Global))
     (records : List (List Rec)) (old mid new : DeviceTraces) (books closed : List (ToldBook D)) → AreNamesOf groups names
-    → length books ≡ length groups → AreBooksOpened trace ticks faults groups records old books → HaveDevicesOf books closed
-    → AreGivenBack trace names closed mid new → AllStaySame groups old new
-all_back trace ticks faults groups names records old mid new books closed are many opened devices given i g below =
+    → length books ≡ length groups → AreBooksOpened device groups records old books → HaveDevicesOf books closed
+    → AreGivenBack device names closed mid new → AllStaySame groups old new
+all_back device groups names records old mid new books closed are many opened devices given i g below =
     let there : i < length books = omega (arith, below, many) in
     let b = element books i there in
-    subst (λ o. During (group_trace_at old (get_or groups i g)) o
+    device_back device groups names records old mid new books closed are many opened devices given i g b below
+    (λ o. During (group_trace_at old (get_or groups i g)) o
     (BookStaysSame (group_definition_text (get_or groups i g)) (group_parts_of (get_or groups i g)) (group_trace_at old (get_or groups i g))))
-    (sym (device_back trace ticks faults groups names records old mid new books closed are many opened devices given i g b below))
     (opened.each i g b there).same
 
 -- and gained a sync alone, if it was whole
-pub all_synced : {D : Type 0} (trace : D → Option Trace) (ticks faults : D → ℕ) (groups : List GroupDef) (names : List (String Global))
+pub all_synced : {D : Type 0} (device : D → Device) (groups : List GroupDef) (names : List (String Global))
     (records : List (List Rec)) (old mid new : DeviceTraces) (books closed : List (ToldBook D)) → AreNamesOf groups names
-    → length books ≡ length groups → AreBooksOpened trace ticks faults groups records old books → HaveDevicesOf books closed
-    → AreGivenBack trace names closed mid new → AllGainSync groups old new
-all_synced trace ticks faults groups names records old mid new books closed are many opened devices given i g below =
+    → length books ≡ length groups → AreBooksOpened device groups records old books → HaveDevicesOf books closed
+    → AreGivenBack device names closed mid new → AllGainSync groups old new
+all_synced device groups names records old mid new books closed are many opened devices given i g below =
     let there : i < length books = omega (arith, below, many) in
     let b = element books i there in
-    subst (λ o. GainsGroupSync (group_definition_text (get_or groups i g)) (group_trace_at old (get_or groups i g)) o)
-    (sym (device_back trace ticks faults groups names records old mid new books closed are many opened devices given i g b below))
+    device_back device groups names records old mid new books closed are many opened devices given i g b below
+    (λ o. GainsGroupSync (group_definition_text (get_or groups i g)) (group_trace_at old (get_or groups i g)) o)
     (opened.each i g b there).synced
 
 -- none has counted a fault
-pub none_counted : {D : Type 0} (trace : D → Option Trace) (ticks faults : D → ℕ) (groups : List GroupDef) (records : List (List Rec))
+pub none_counted : {D : Type 0} (device : D → Device) (groups : List GroupDef) (records : List (List Rec))
     (old : DeviceTraces) (books closed : List (ToldBook D)) → length books ≡ length groups
-    → AreBooksOpened trace ticks faults groups records old books → HaveDevicesOf books closed
-    → All (λ b. count_of faults b.dev ≡ 0) closed
-none_counted trace ticks faults [] records old books closed many opened devices i b below =
+    → AreBooksOpened device groups records old books → HaveDevicesOf books closed
+    → All (λ b. faults_of device b.dev ≡ 0) closed
+none_counted device [] records old books closed many opened devices i b below =
     absurd (omega (arith, below, many, devices.as_many))
-none_counted trace ticks faults (g ∷ gs) records old books closed many opened devices i b below =
-    ap (count_of faults) (devices.each i b) ∙ (opened.each i g b (omega (arith, below, devices.as_many))).faultless
+none_counted device (g ∷ gs) records old books closed many opened devices i b below =
+    ap (faults_of device) (devices.each i b) ∙ (opened.each i g b (omega (arith, below, devices.as_many))).faultless
 
 pub counts_same : {T : Type 0} {before now : ℕ} (r : Result T Status) → now ≡ before → CountsStore r before now
 counts_same (Ok x) same = same
@@ -182,13 +183,13 @@ err_and P Q (Err e) x s same follows p = subst (λ v. IfErr v Q) (sym same) (fol
 
 -- ---- a group that comes to too much
 
-pub over_some : {D : Type 0} (trace : D → Option Trace) (ticks faults : D → ℕ) (groups : List GroupDef) (records : List (List Rec))
+pub over_some : {D : Type 0} (device : D → Device) (groups : List GroupDef) (records : List (List Rec))
     (old new : DeviceTraces) (books : List (ToldBook D)) (before now : ℕ) (s : Status) → length books ≡ length groups
-    → AreBooksOpened trace ticks faults groups records old books → AllGainSync groups old new → IsOverSome records books s
+    → AreBooksOpened device groups records old books → AllGainSync groups old new → IsOverSome records books s
     → IsGroupRowsRefusal groups records old new before now s
-over_some trace ticks faults [] records old new books before now s many opened synced over = absurd (omega (arith, over.there, many))
-over_some trace ticks faults (g ∷ gs) records old new [] before now s many opened synced over = absurd (omega (arith, many))
-over_some {D} trace ticks faults (g ∷ gs) records old new (b ∷ bs) before now s many opened synced over =
+over_some device [] records old new books before now s many opened synced over = absurd (omega (arith, over.there, many))
+over_some device (g ∷ gs) records old new [] before now s many opened synced over = absurd (omega (arith, many))
+over_some {D} device (g ∷ gs) records old new (b ∷ bs) before now s many opened synced over =
     by over.why
     (subst (λ d. IsOverIn (book_cells d (input_records_of records (get_or (g ∷ gs) over.i g))) (input_records_of records (get_or (g ∷ gs) over.i g)) over.why)
     (opened.each over.i g b over.there).def
@@ -212,7 +213,7 @@ over_some {D} trace ticks faults (g ∷ gs) records old new (b ∷ bs) before no
       openings = map (λ b. b.opening) (b ∷ bs);
       there = omega (arith, over.there, many);
       is_group = get_or_default (g ∷ gs) over.i (get_or (g ∷ gs) over.i g) g (omega (arith, over.there, many));
-      opened = λ k d x below. front_of trace ticks faults (g ∷ gs) records old (b ∷ bs) opened k d x (omega (arith, below, many));
+      opened = λ k d x below. front_of device (g ∷ gs) records old (b ∷ bs) opened k d x (omega (arith, below, many));
       front = before_it;
       over = p;
       synced = synced;

@@ -10,10 +10,10 @@ use Rattle.plant_files.specs.Reading.{faults_told}
 use Rattle.disk_model.specs.Traces.{Trace}
 use Rattle.plant_store.specs.BookRefusals.{OfDamage, OfFault, OfMemory, OfVersion, OfWindows}
 use Rattle.store_commands.specs.GroupRows.{IsGroupRowsRefusal, OfCells, OfCopies, OfOpening, OfWant}
-use Rattle.std.proofs.Common.{Option, ◌∷◌}
+use Rattle.std.proofs.Common.{◌∷◌}
 
 -- the refusal of a group is no fault of a file
-pub rows_no_fault : (groups : List GroupDef) (records : List (List Rec)) (old new : List ℕ → Option Trace) (before now : ℕ) (why : Status)
+pub rows_no_fault : (groups : List GroupDef) (records : List (List Rec)) (old new : List ℕ → Trace) (before now : ℕ) (why : Status)
     → IsGroupRowsRefusal groups records old new before now why → (n : ℕ) → faults_told why n ≡ n
 rows_no_fault groups records old new before now why (OfOpening (OfFault i is at)) n = ap (λ s. faults_told s n) is
 rows_no_fault groups records old new before now why (OfOpening (OfDamage i a byte is at)) n = ap (λ s. faults_told s n) is

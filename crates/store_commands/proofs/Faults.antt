@@ -1,5 +1,5 @@
 -- The refusal of a device is no read fault.
-use Rattle.std.proofs.Common.{ℕ, List, Option}
+use Rattle.std.proofs.Common.{ℕ, List}
 use Rattle.std.specs.Prelude.{◌≢◌}
 use Rattle.trend_num.specs.declared.archive.Rec.{Rec}
 use Rattle.disk_model.specs.Traces.{Trace}
@@ -11,7 +11,7 @@ use Rattle.plant_store.specs.BookRefusals.{OfDamage, OfFault, OfMemory, OfVersio
 use Rattle.store_commands.specs.GroupRows.{IsGroupRowsRefusal, OfCells, OfCopies, OfOpening, OfWant}
 
 -- the refusal of a group is no read fault
-pub group_is_no_fault : (groups : List GroupDef) (records : List (List Rec)) (old new : List ℕ → Option Trace) (before now : ℕ) (why : Status)
+pub group_is_no_fault : (groups : List GroupDef) (records : List (List Rec)) (old new : List ℕ → Trace) (before now : ℕ) (why : Status)
     → IsGroupRowsRefusal groups records old new before now why → (which : FileId) → why ≢ ReadFault which
 group_is_no_fault groups records old new before now why (OfOpening (OfFault i is at)) which same = cc
 group_is_no_fault groups records old new before now why (OfOpening (OfDamage i a byte is at)) which same = cc

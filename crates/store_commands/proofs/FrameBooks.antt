@@ -1,5 +1,5 @@
 -- The book of one group, which `frames` opens, refreshes once, and closes.
-use Rattle.std.proofs.Common.{◌≡◌, ◌≢◌, inl, inr, ℕ, ◌^◌, ◌<◌, ◌≤◌, All, List, [], length, map, get_or, Option, Some, refl, sym, ap, ap₂, subst, ◌∙◌, arith}
+use Rattle.std.proofs.Common.{IfSome, ◌≡◌, ◌≢◌, inl, inr, ℕ, ◌^◌, ◌<◌, ◌≤◌, All, List, [], length, map, get_or, Some, refl, sym, ap, ap₂, subst, ◌∙◌, arith}
 use Rattle.std.specs.Prelude.{slice_get}
 use Rattle.std.proofs.lemmas.Bool.{cases_lt}
 use Rattle.std.proofs.lemmas.List.{get_or_past, length-map}
@@ -9,7 +9,7 @@ use Rattle.trend_num.specs.Ranges.{InRange}
 use Rattle.trend_num.specs.declared.archive.Rec.{Rec}
 use Rattle.trend_num.specs.declared.value.CalcValue.{CalcValue}
 use Rattle.disk_model.specs.Calls.{Rose}
-use Rattle.disk_model.specs.Traces.{Trace}
+use Rattle.disk_model.specs.Traces.{Trace, Device}
 use Rattle.sheet_law.specs.Windows.{complete_windows}
 use Rattle.calc_refresh.specs.declared.definition.GroupDefParts.{GroupDefParts}
 use Rattle.calc_refresh.specs.Lists.{lists_of}
@@ -25,11 +25,11 @@ use Rattle.group_book.specs.declared.refusal.RefreshNo.TheVariants.{Ahead, CellL
 use Rattle.group_book.specs.InputLists.{lists_at}
 use Rattle.group_book.specs.Openings.{IsBookCause}
 use Rattle.group_book.specs.Tapes.{cut}
-use Rattle.group_book.specs.Told.{ToldBook, trace_of}
+use Rattle.group_book.specs.Told.{ToldBook, device_name_of}
 use Rattle.group_book.proofs.Evaluations.{cut_windows}
 use Rattle.plant_store.specs.BookEndings.{IsHistoryOfBook, trace_after}
 use Rattle.plant_store.specs.BookRefusals.{status_of}
-use Rattle.plant_store.specs.Groups.{IsBookOpened, group_parts_of, input_records_of, group_definition_text}
+use Rattle.plant_store.specs.Groups.{IsBookOpened, device_name, group_parts_of, input_records_of, group_definition_text}
 use Rattle.plant_store.proofs.BookCauses.{back_is}
 use Rattle.store_commands.specs.FrameLines.{AreTimes}
 use Rattle.store_commands.specs.FrameRows.{AreFrameRows, HasStood, IsFrameRowsRefusal, OfCells, OfCopies, OfDamage, OfFault, OfMemory, OfVersion, OfWindows}
@@ -40,7 +40,7 @@ use Rattle.store_commands.proofs.Books.{rows_told}
 -- ---- a group that is not opened
 
 -- the status reports why
-pub not_opened : (i : ℕ) (g : GroupDef) (recovered : List (List Rec)) (o p : Option Trace) (before now : ℕ) (why : LoadNo)
+pub not_opened : (i : ℕ) (g : GroupDef) (recovered : List (List Rec)) (o p : Trace) (before now : ℕ) (why : LoadNo)
     → IsBookCause (group_definition_text g) (group_parts_of g) recovered o why
     → (why ≢ no.DeviceFault → why ≢ no.WantOfMemory → GainsGroupSync (group_definition_text g) o p)
     → (before < 2 ^ 64 → why ≡ no.DeviceFault → Rose before now)
@@ -83,8 +83,8 @@ all_times g recovered n some input copied long k below =
 
 -- ---- the book
 
-module _ {D : Type 0} (trace : D → Option Trace) (ticks faults : D → ℕ) (i : ℕ) (g : GroupDef) (records : List (List Rec)) (o : Option Trace)
-    (b : ToldBook D) (opened : IsBookOpened trace ticks faults i g (input_records_of records g) o b) where
+module _ {D : Type 0} (device : D → Device) (i : ℕ) (g : GroupDef) (records : List (List Rec)) (o : Trace)
+    (b : ToldBook D) (opened : IsBookOpened device i g (input_records_of records g) o b) where
   -- its saved rows have a value for each window that these complete
   pub saved_windows : b.sheet.grid ≡ grid_of b.def.start b.def.period
       → All (λ row. length row ≡ complete_windows (grid_of g.start g.period) (cut b.opening.versions.items (input_records_of records g)))
@@ -95,14 +95,22 @@ module _ {D : Type 0} (trace : D → Option Trace) (ticks faults : D → ℕ) (i
       opened.rows
       (subst (λ n. All (λ row. length row ≡ n) b.sheet.rows) (ap₂ complete_windows w opened.copies) opened.whole.windows)
 
-  -- its device comes back
-  pub given_back : (c : ToldBook D) (mid new : Option Trace) → c.dev ≡ b.dev → new ≡ trace_after trace c.dev mid → new ≡ trace_of trace b.dev
-  given_back c mid new dev given =
-      given ∙ ap (λ d. trace_after trace d mid) dev ∙ back_is trace b.dev mid opened.device
+  -- its device comes back, and what holds of the device's calls holds of those under its name
+  pub given_back : (c : ToldBook D) (mid new : Trace) (P : Trace → Type 0) → c.dev ≡ b.dev → new ≡ trace_after device c.dev mid
+      → IfSome b.dev (λ d. P (device d).trace) → P new
+  given_back c mid new P dev given holds =
+      subst P (sym (given ∙ ap (λ d. trace_after device d mid) dev)) (back_is device b.dev mid P opened.has_device holds)
+
+  -- the same after a refresh
+  pub refreshed_back : (c : ToldBook D) (mid new : Trace) (P : Trace → Type 0) → IsRefreshedOnce records b c
+      → (device_name g.name ≡ device_name_of c.text → new ≡ trace_after device c.dev mid)
+      → IfSome b.dev (λ d. P (device d).trace) → P new
+  refreshed_back c mid new P once given = given_back c mid new P (ap (λ x. x.dev) once.changed)
+      (given (sym opened.named ∙ ap (λ x. device_name_of x.text) (sym once.changed)))
 
   -- both rows of a calculation, after a refresh
   pub rows_of_book : (c : ToldBook D) (h : GroupHistory) (k : ℕ) (saved refreshed : List CalcValue) → IsRefreshedOnce records b c
-      → IsHistoryOfBook trace ticks faults c h → b.sheet.grid ≡ grid_of b.def.start b.def.period
+      → IsHistoryOfBook device c h → b.sheet.grid ≡ grid_of b.def.start b.def.period
       → length b.tags ≡ length b.sheet.copies → 1 ≤ g.period → slice_get (lists_of h.opening.rows.items) k ≡ Some saved
       → slice_get (lists_of h.rows.items) k ≡ Some refreshed
       → AreFrameRows g k (input_records_of records g) o saved refreshed
@@ -119,7 +127,7 @@ module _ {D : Type 0} (trace : D → Option Trace) (ticks faults : D → ℕ) (i
     where
       rows : AreRowsTold g (input_records_of records g) b.opening (lists_of h.rows.items)
       rows =
-          rows_told trace ticks faults i g (input_records_of records g) o b c h opened (once.copies ∙ ap (lists_at records) opened.tags)
+          rows_told device i g (input_records_of records g) o b c h opened (once.copies ∙ ap (lists_at records) opened.tags)
           (subst (λ (l : List (List Rec)). AreWithinLimits (book_cells b.def l) l) (ap (lists_at records) opened.tags) once.within)
           once.changed told
 
@@ -142,7 +150,7 @@ module _ {D : Type 0} (trace : D → Option Trace) (ticks faults : D → ℕ) (i
       grow = cut_windows (grid_of g.start g.period) b.opening.versions.items (input_records_of records g) some (sym many)
 
   -- or a refusal
-  pub over_book : (p : Option Trace) (before now : ℕ) (why : RefreshNo) → b.sheet.grid ≡ grid_of b.def.start b.def.period
+  pub over_book : (p : Trace) (before now : ℕ) (why : RefreshNo) → b.sheet.grid ≡ grid_of b.def.start b.def.period
       → GainsGroupSync (group_definition_text g) o p
       → IsOverIn (book_cells b.def (lists_at records b.tags)) (lists_at records b.tags) why
       → IsFrameRowsRefusal i g (input_records_of records g) o p before now (refresh_status why)

@@ -1,5 +1,5 @@
 -- How `frames` ends: what its steps leave of the devices, and which faults were counted.
-use Rattle.std.proofs.Common.{◌≡◌, ◌≢◌, inl, inr, ℕ, ◌^◌, ◌<◌, List, Option, Result, Ok, Err, get_or, sym, subst, ◌∙◌}
+use Rattle.std.proofs.Common.{◌≡◌, ◌≢◌, inl, inr, ℕ, ◌^◌, ◌<◌, List, Result, Ok, Err, get_or, sym, subst, ◌∙◌}
 use Rattle.trend_num.specs.declared.archive.Rec.{Rec}
 use Rattle.trend_num.specs.declared.value.CalcValue.{CalcValue}
 use Rattle.disk_model.specs.Calls.{Rose}
@@ -62,12 +62,12 @@ stayed_at name group_name calc_name told base g i k old mid new read placed is =
     (named_group base.groups.items group_name calc_name i k g placed is)
 
 -- what is said of the rows after the tags were opened is so of the device before
-pub rows_before : (g : GroupDef) (k : ℕ) (recovered : List (List Rec)) (o p : Option Trace) (saved refreshed : List CalcValue) → p ≡ o
+pub rows_before : (g : GroupDef) (k : ℕ) (recovered : List (List Rec)) (o p : Trace) (saved refreshed : List CalcValue) → p ≡ o
     → AreFrameRows g k recovered p saved refreshed → AreFrameRows g k recovered o saved refreshed
 rows_before g k recovered o p saved refreshed same rows = subst (λ x. AreFrameRows g k recovered x saved refreshed) same rows
 
 -- and of a refusal, where no fault was counted until then
-pub refusal_before : (i : ℕ) (g : GroupDef) (recovered : List (List Rec)) (o p q : Option Trace) (before mid now : ℕ) (why : Status) → p ≡ o
+pub refusal_before : (i : ℕ) (g : GroupDef) (recovered : List (List Rec)) (o p q : Trace) (before mid now : ℕ) (why : Status) → p ≡ o
     → (before < 2 ^ 64 → mid ≡ before) → IsFrameRowsRefusal i g recovered p q mid now why → IsFrameRowsRefusal i g recovered o q before now why
 refusal_before i g recovered o p q before mid now why same first is = subst (λ x. IsFrameRowsRefusal i g recovered x q before now why) same (by is)
   where
@@ -83,7 +83,7 @@ refusal_before i g recovered o p q before mid now why same first is = subst (λ 
 -- ---- faults
 
 -- the refusal of a group is no fault of a file
-pub rows_no_read : (i : ℕ) (g : GroupDef) (recovered : List (List Rec)) (o p : Option Trace) (before now : ℕ) (why : Status)
+pub rows_no_read : (i : ℕ) (g : GroupDef) (recovered : List (List Rec)) (o p : Trace) (before now : ℕ) (why : Status)
     → IsFrameRowsRefusal i g recovered o p before now why → (which : FileId) → why ≢ ReadFault which
 rows_no_read i g recovered o p before now why (OfFault told rose) which same = cc
 rows_no_read i g recovered o p before now why (OfDamage at byte told shows) which same = cc

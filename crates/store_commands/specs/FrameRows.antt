@@ -27,7 +27,7 @@ use Rattle.store_commands.specs.Replies.{Rows}
 -- The saved row and the refreshed row of calculation k of a group, whose tags recovered these records. The group was
 -- opened over its device, and refreshed once from all these records. The first row is the one for which its device stood,
 -- and the second is the one after the refresh. There are no fewer complete windows than before.
-pub record AreFrameRows (g : GroupDef) (k : ℕ) (recovered : List (List Rec)) (o : Option Trace) (saved refreshed : List CalcValue) : Type 0 where
+pub record AreFrameRows (g : GroupDef) (k : ℕ) (recovered : List (List Rec)) (o : Trace) (saved refreshed : List CalcValue) : Type 0 where
   pub opening : GroupOpening
   pub rows : Rows
   pub opened : IsGroupOpening g recovered o opening
@@ -40,7 +40,7 @@ pub record AreFrameRows (g : GroupDef) (k : ℕ) (recovered : List (List Rec)) (
 -- The group's device stood for versions and rows that a refresh can start from. No version is above the number of records
 -- of its tag. Each row has one value for each window that the first records complete, as many as the versions say. If the
 -- device was whole, it has gained one sync and nothing else.
-pub record HasStood (g : GroupDef) (recovered : List (List Rec)) (o p : Option Trace) : Type 0 where
+pub record HasStood (g : GroupDef) (recovered : List (List Rec)) (o p : Trace) : Type 0 where
   pub opening : GroupOpening
   pub opened : IsGroupOpening g recovered o opening
   pub shape : All (λ row. length row ≡ complete_windows (grid_of g.start g.period) (cut opening.versions.items recovered)) (lists_of opening.rows.items)
@@ -57,7 +57,7 @@ pub record HasStood (g : GroupDef) (recovered : List (List Rec)) (o p : Option T
 -- - `OfCells`: what was saved can be refreshed, but there would be too many cells.
 -- - `OfCopies`: what was saved can be refreshed, and the cells are not too many; but the records of its tags are.
 -- - `OfMemory`: there was not enough memory.
-pub data IsFrameRowsRefusal (i : ℕ) (g : GroupDef) (recovered : List (List Rec)) (o p : Option Trace) (before now : ℕ) (why : Status)
+pub data IsFrameRowsRefusal (i : ℕ) (g : GroupDef) (recovered : List (List Rec)) (o p : Trace) (before now : ℕ) (why : Status)
     : Type 0 where
   OfFault : why ≡ DeviceFault (Group i) → (before < 2 ^ 64 → Rose before now) → IsFrameRowsRefusal i g recovered o p before now why
   OfDamage : (at : ℕ) (byte : Option ℕ) → why ≡ Damaged (Group i) at byte

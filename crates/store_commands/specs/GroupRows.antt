@@ -1,5 +1,5 @@
 -- The rows of the groups of a base, each refreshed once from the records of its tags.
-use Rattle.std.specs.Prelude.{◌≡◌, ℕ, ◌*◌, ◌<◌, ◌≤◌, All, List, length, map, slice_index_or, Option}
+use Rattle.std.specs.Prelude.{◌≡◌, ℕ, ◌*◌, ◌<◌, ◌≤◌, All, List, length, map, slice_index_or}
 use Rattle.trend_num.specs.declared.archive.Rec.{Rec}
 use Rattle.trend_num.specs.declared.refusal.What.TheVariants.{Cells, Copies}
 use Rattle.tag_core.specs.Core.{Core}
@@ -39,7 +39,7 @@ pub record AreRowsTold (g : GroupDef) (recovered : List (List Rec)) (opening : G
       → IsScratch g.calcs (grid_of g.start g.period) recovered rows
 
 -- these are the rows of a group, which was opened over its device and refreshed once
-pub record IsGroupTold (g : GroupDef) (recovered : List (List Rec)) (o : Option Trace) (rows : Rows) : Type 0 where
+pub record IsGroupTold (g : GroupDef) (recovered : List (List Rec)) (o : Trace) (rows : Rows) : Type 0 where
   pub opening : GroupOpening
   pub opened : IsGroupOpening g recovered o opening
   pub rows_are : AreRowsTold g recovered opening rows

@@ -30,7 +30,7 @@
 //! - what recovers the same, or stands for the same;
 //! - what recovers the tag as it is opened.
 //!
-//! The promise about crashes is for devices whose calls are known, and for fewer than 10^18 events.
+//! For a tag, the promise about crashes is for fewer than 10^18 events.
 //!
 //! A group's device that has a finished layout of its group, or a damaged one, gains one sync and nothing else. So it does
 //! not grow with each question. This holds if `trend` or `frames` returns a text, or if a group has too many cells or

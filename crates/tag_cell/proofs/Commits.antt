@@ -1,14 +1,14 @@
 -- What a cell's type keeps, after a commit.
-use Rattle.std.proofs.Common.{◌≡◌, ℕ, ◌+◌, ◌-◌, ◌<◌, ◌≤◌, ◌^◌, Bool, true, false, List, [], ◌∷◌, ◌++◌, length, map, take, drop, min, nat_eq, if◌then◌else◌, All, Err, le_refl, le_trans, Option, refl, sym, ◌∙◌, ap, subst, arith, length-append, length-drop}
+use Rattle.std.proofs.Common.{◌≡◌, ℕ, ◌+◌, ◌-◌, ◌<◌, ◌≤◌, ◌^◌, Bool, true, false, List, [], ◌∷◌, ◌++◌, length, map, take, drop, min, nat_eq, if◌then◌else◌, All, Err, le_refl, le_trans, refl, sym, ◌∙◌, ap, subst, arith, length-append, length-drop}
 use Rattle.std.proofs.lemmas.List.{append-nil, map-append, take-append-le, take-append-drop, take_all}
 use Rattle.std.proofs.lemmas.List.Elements.{All-drop}
-use Rattle.std.specs.Prelude.{IfSome, IsErrOf}
+use Rattle.std.specs.Prelude.{IsErrOf}
 use Rattle.std.proofs.Math.Seq.{take-add, drop-append_seam}
 use Rattle.trend_num.specs.declared.point.Point.{Point}
 use Rattle.trend_num.specs.declared.tag_def.TagDef.{TagDef}
 use Rattle.trend_model.specs.History.{Event, Raw}
 use Rattle.trend_model.specs.State.{State, after, replay}
-use Rattle.disk_model.specs.Traces.{Trace}
+use Rattle.disk_model.specs.Traces.{Trace, moment, Device}
 use Rattle.disk_model.specs.Calls.{CountsFault, Rose}
 use Rattle.disk_model.specs.Moments.{During, LeftSince}
 use Rattle.disk_model.proofs.Moments.{weaker}
@@ -120,7 +120,7 @@ acked_after def o tape tape' rest more next n from within few longer =
     ∙ replay_append def.step (opened o) (map Raw (taken (take next tape))) (map Raw (taken (take n rest)))))
 
 -- a crash during the calls of a commit leaves some of all values, and all that were acknowledged
-pub during_commit : (def : TagDef) (o : TagOpening) (tape rest : List Entry) (next durable acked : ℕ) (old new : Option Trace)
+pub during_commit : (def : TagDef) (o : TagOpening) (tape rest : List Entry) (next durable acked : ℕ) (old new : Trace)
     → Waits o tape next durable acked → rest ≡ drop next tape
     → During old new (RecoversPart def (acked_state def o tape next) (taken rest) 0)
     → During old new (RecoversPart def (opened o) (taken tape) (acked - o.summary.taken))
@@ -169,38 +169,38 @@ most_acked def o tape s acked is t = omega (
 
 -- a crash during the device work of a commit
 pub commit_during : (def : TagDef) (o : TagOpening) (tape rest : List Entry) (next durable acked : ℕ) (core : Core) (content : List Rec)
-    (failed : Bool) (old new : Option Trace) (ticks faults : ℕ)
+    (failed : Bool) (old new : Device)
     → IsTapeReplayed def o tape core.state acked → IsInStep def o tape core content → Waits o tape next durable acked
-    → IsKept def o tape next failed old ticks faults → failed ≡ false → rest ≡ drop next tape
-    → (core.state.summary.taken < 10 ^ 18 → (d : TagDef) (s : State) → AllRecover d old s
-    → GoesOnBy d s core.step core.state (taken rest) → During old new (RecoversPart d s (taken rest) 0))
-    → IsCountable o tape → During old new (RecoversPart def (opened o) (taken tape) (acked - o.summary.taken))
-commit_during def o tape rest next durable acked core content failed old new ticks faults replays in_step takes_waiting kept fine from work few =
-    during_commit def o tape rest next durable acked old new takes_waiting from
+    → IsKept def o tape next failed old → failed ≡ false → rest ≡ drop next tape
+    → (core.state.summary.taken < 10 ^ 18 → (d : TagDef) (s : State) → AllRecover d old.trace s
+    → GoesOnBy d s core.step core.state (taken rest) → During old.trace new.trace (RecoversPart d s (taken rest) 0))
+    → IsCountable o tape → During old.trace new.trace (RecoversPart def (opened o) (taken tape) (acked - o.summary.taken))
+commit_during def o tape rest next durable acked core content failed old new replays in_step takes_waiting kept fine from work few =
+    during_commit def o tape rest next durable acked old.trace new.trace takes_waiting from
     (work (omega (arith, few, in_step.counted)) def (acked_state def o tape next) (kept.recovers fine few)
     (goes_by def o tape rest next core content core.state acked replays in_step from))
 
 -- ---- a refused commit
 
 -- the device keeps what it kept
-pub kept_refused : {D : Type 0} (trace : D → Option Trace) (ticks faults : D → ℕ) (def : TagDef) (o : TagOpening) (tape : List Entry)
+pub kept_refused : {D : Type 0} (device : D → Device) (def : TagDef) (o : TagOpening) (tape : List Entry)
     (next : ℕ) (old new : Logged D) (e : CommitNo)
-    → IsKept def o tape next old.failed (trace old.dev) (ticks old.dev) (faults old.dev) → old.failed ≡ false
+    → IsKept def o tape next old.failed (device old.dev) → old.failed ≡ false
     → (IsErrOf {T = ℕ} (Err e) no.Broken → ⊥) → (IsErrOf {T = ℕ} (Err e) no.WantOfMemory → new ≡ old)
     → (IsErrOf {T = ℕ} (Err e) no.DeviceFault → new.failed ≡ true)
-    → CountsFault {T = ℕ} (Err e) no.DeviceFault (faults old.dev) (faults new.dev) → ticks old.dev ≤ ticks new.dev
-    → IsKept def o tape next new.failed (trace new.dev) (ticks new.dev) (faults new.dev)
-kept_refused trace ticks faults def o tape next old new no.Broken is fine unbroken untouched failed cause later = absurd (unbroken refl)
-kept_refused {D} trace ticks faults def o tape next old new no.WantOfMemory is fine unbroken untouched failed cause later =
-    subst (λ (j : Logged D). IsKept def o tape next j.failed (trace j.dev) (ticks j.dev) (faults j.dev)) (sym (untouched refl)) is
-kept_refused trace ticks faults def o tape next old new no.DeviceFault is fine unbroken untouched failed cause later =
+    → CountsFault {T = ℕ} (Err e) no.DeviceFault (device old.dev).faults (device new.dev).faults → moment (device old.dev).trace ≤ moment (device new.dev).trace
+    → IsKept def o tape next new.failed (device new.dev)
+kept_refused device def o tape next old new no.Broken is fine unbroken untouched failed cause later = absurd (unbroken refl)
+kept_refused {D} device def o tape next old new no.WantOfMemory is fine unbroken untouched failed cause later =
+    subst (λ (j : Logged D). IsKept def o tape next j.failed (device j.dev)) (sym (untouched refl)) is
+kept_refused device def o tape next old new no.DeviceFault is fine unbroken untouched failed cause later =
     let broke : new.failed ≡ true = failed refl in
     record {
       recovers = λ whole. cc (broke, whole);
       past = le_trans is.past later;
       opened_before = le_trans is.opened_before later;
       faultless = λ whole. cc (broke, whole);
-      cause = λ _. subst (λ (n : ℕ). Rose n (faults new.dev)) (is.faultless fine) (cause.failed refl);
+      cause = λ _. subst (λ (n : ℕ). Rose n (device new.dev).faults) (is.faultless fine) (cause.failed refl);
     }
 
 -- ---- a commit
@@ -221,42 +221,43 @@ written_most free n = either_most (nat_eq free 0)
     either_most false = omega arith
 
 -- the device keeps what is acknowledged then
-pub commit_kept : (def : TagDef) (o : TagOpening) (tape tape' rest : List Entry) (next n m acked' : ℕ) (failed failed' : Bool)
-    (old new : Option Trace) (ticks faults faults' : ℕ) (core : Core) (content : List Rec) (acked : ℕ)
+pub commit_kept : (def : TagDef) (o : TagOpening) (tape tape' rest : List Entry) (next n acked' : ℕ) (failed failed' : Bool)
+    (old new : Device) (core : Core) (content : List Rec) (acked : ℕ)
     → IsTapeReplayed def o tape core.state acked → IsInStep def o tape core content → next ≤ length tape
-    → IsKept def o tape next failed old ticks faults → failed ≡ false → failed' ≡ false → rest ≡ drop next tape → n ≤ length rest
-    → (core.state.summary.taken < 10 ^ 18 → (d : TagDef) (s : State) → AllRecover d old s
-    → GoesOnBy d s core.step core.state (taken rest) → AllRecover d new (replay d.step s (map Raw (taken (take n rest)))))
-    → ticks < m → faults' ≡ faults → tape' ≡ tape ++ Commit m acked' ∷ [] → IsKept def o tape' (next + n) failed' new m faults'
-commit_kept def o tape tape' rest next n m acked' failed failed' old new ticks faults faults' core content acked replays in_step within kept fine fine' from few_entries work later same longer = record {
+    → IsKept def o tape next failed old → failed ≡ false → failed' ≡ false → rest ≡ drop next tape → n ≤ length rest
+    → (core.state.summary.taken < 10 ^ 18 → (d : TagDef) (s : State) → AllRecover d old.trace s
+    → GoesOnBy d s core.step core.state (taken rest) → AllRecover d new.trace (replay d.step s (map Raw (taken (take n rest)))))
+    → moment old.trace < moment new.trace → new.faults ≡ old.faults → tape' ≡ tape ++ Commit (moment new.trace) acked' ∷ []
+    → IsKept def o tape' (next + n) failed' new
+commit_kept def o tape tape' rest next n acked' failed failed' old new core content acked replays in_step within kept fine fine' from few_entries work later same longer = record {
   recovers = λ _ few.
-      let few' : IsCountable o tape = countable_before o tape tape' (Commit m acked' ∷ []) longer few in
-      subst (AllRecover def new) (acked_after def o tape tape' rest (Commit m acked' ∷ []) next n from within few_entries longer)
+      let few' : IsCountable o tape = countable_before o tape tape' (Commit (moment new.trace) acked' ∷ []) longer few in
+      subst (AllRecover def new.trace) (acked_after def o tape tape' rest (Commit (moment new.trace) acked' ∷ []) next n from within few_entries longer)
       (work (omega (arith, few', in_step.counted)) def (acked_state def o tape next) (kept.recovers fine few')
       (goes_by def o tape rest next core content core.state acked replays in_step from));
-  past = let e : (cell_walked (cell_start o) tape').moment ≡ m =
-      ap (λ l. (cell_walked (cell_start o) l).moment) longer ∙ ap (λ (w : CellWalk). w.moment) (walked-push (cell_start o) tape (Commit m acked')) in omega (arith, e);
+  past = let e : (cell_walked (cell_start o) tape').moment ≡ moment new.trace =
+      ap (λ l. (cell_walked (cell_start o) l).moment) longer
+      ∙ ap (λ (w : CellWalk). w.moment) (walked-push (cell_start o) tape (Commit (moment new.trace) acked')) in omega (arith, e);
   opened_before = omega (arith, kept.opened_before, later);
   faultless = λ _. same ∙ kept.faultless fine;
   cause = λ broke. cc (broke, fine');
 }
 
 -- what a crash leaves is safe then
-pub commit_safe : (def : TagDef) (o : TagOpening) (tape tape' : List Entry) (trace : Option Trace) (next n m acked' : ℕ)
-    → IsSafe def o tape (LeftSince trace) → tape' ≡ tape ++ Commit m acked' ∷ [] → next + n ≤ length tape
-    → acked' ≡ o.summary.taken + length (taken (take (next + n) tape')) → IfSome trace (λ t. length t.calls ≡ m)
+pub commit_safe : (def : TagDef) (o : TagOpening) (tape tape' : List Entry) (trace : Trace) (next n acked' : ℕ)
+    → IsSafe def o tape (LeftSince trace) → tape' ≡ tape ++ Commit (moment trace) acked' ∷ [] → next + n ≤ length tape
+    → acked' ≡ o.summary.taken + length (taken (take (next + n) tape'))
     → (IsCountable o tape' → AllRecover def trace (acked_state def o tape' (next + n)))
     → IsSafe def o tape' (LeftSince trace)
-commit_safe def o tape tape' trace next n m acked' safe longer within are counted recovers =
+commit_safe def o tape tape' trace next n acked' safe longer within are recovers =
     let k : ℕ = next + n in
-    let front : take k tape' ≡ take k tape = ap (take k) longer ∙ take-append-le k tape (Commit m acked' ∷ []) within in
-    let same : taken tape' ≡ taken tape = ap taken longer ∙ (taken-append tape (Commit m acked' ∷ []) ∙ append-nil (taken tape)) in
+    let front : take k tape' ≡ take k tape = ap (take k) longer ∙ take-append-le k tape (Commit (moment trace) acked' ∷ []) within in
+    let same : taken tape' ≡ taken tape = ap taken longer ∙ (taken-append tape (Commit (moment trace) acked' ∷ []) ∙ append-nil (taken tape)) in
     let count : ℕ = length (taken (take k tape)) in
     let values : taken (take k tape') ≡ take count (taken tape) = ap taken front ∙ taken-take tape k in
-    safe_commit def o tape tape' trace m acked' count safe longer
+    safe_commit def o tape tape' trace acked' count safe longer
     (omega (arith, are, ap (λ l. length (taken l)) front))
     (omega (arith, ap length (ap taken (sym (take-append-drop k tape)) ∙ taken-append (take k tape) (drop k tape)), length-append (taken (take k tape)) (taken (drop k tape))))
-    counted
     (λ few. subst (λ (ps : List Point). AllRecover def trace (state_after def.step o ps)) values
     (recovers (omega (arith, few, ap length same))))
 

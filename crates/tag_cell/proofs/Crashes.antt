@@ -1,14 +1,13 @@
 -- What a crash leaves, over a commit.
-use Rattle.std.proofs.Common.{◌≡◌, inl, inr, ⊎_elim, ℕ, ◌+◌, ◌-◌, ◌≤◌, zero, suc, Bool, true, false, List, [], ◌∷◌, ◌++◌, length, map, take, drop, Option, nat_le, if◌then◌else◌, refl, sym, ◌∙◌, ap, subst, arith, length-append, le_refl, le_trans}
+use Rattle.std.proofs.Common.{◌≡◌, inl, inr, ⊎_elim, ℕ, ◌+◌, ◌-◌, ◌≤◌, zero, suc, Bool, true, false, List, [], ◌∷◌, ◌++◌, length, map, take, drop, nat_le, if◌then◌else◌, refl, sym, ◌∙◌, ap, subst, arith, length-append, le_refl, le_trans}
 use Rattle.std.proofs.lemmas.List.{append-nil, map-append, take-append-drop}
 use Rattle.std.proofs.Math.Seq.{take-append_seam, take-length}
 use Rattle.std.proofs.lemmas.Bool.Decides.{nat_tests}
-use Rattle.std.specs.Prelude.{IfSome}
 use Rattle.trend_num.specs.declared.point.Point.{Point}
 use Rattle.trend_num.specs.declared.tag_def.TagDef.{TagDef}
 use Rattle.trend_model.specs.History.{Raw}
 use Rattle.trend_model.specs.State.{State, after, replay}
-use Rattle.disk_model.specs.Traces.{Trace}
+use Rattle.disk_model.specs.Traces.{Trace, moment}
 use Rattle.disk_model.specs.Moments.{During, LeftSince}
 use Rattle.disk_model.proofs.Moments.{parted, only_since, weaker}
 use Rattle.crash_recovery.specs.Journals.{AllRecover, GoesOnFrom, RecoversEither}
@@ -87,7 +86,7 @@ acked_at-commit t n (Pull group first upto ∷ es) m acked = acked_at-commit t n
 acked_at-commit t n (Commit k a ∷ es) m acked = acked_at-commit t (if nat_le k t then a else n) es m acked
 
 -- a device stays safe over calls at each moment of which a crash leaves some of the takes, and all that are acknowledged
-pub safe_more : (def : TagDef) (o : TagOpening) (tape : List Entry) (old new : Option Trace) (acked : ℕ)
+pub safe_more : (def : TagDef) (o : TagOpening) (tape : List Entry) (old new : Trace) (acked : ℕ)
     → ((t : ℕ) → acked_at t o.summary.taken tape ≤ acked) → IsSafe def o tape (LeftSince old)
     → (IsCountable o tape → During old new (RecoversPart def (opened o) (taken tape) (acked - o.summary.taken)))
     → IsSafe def o tape (LeftSince new)
@@ -104,13 +103,13 @@ le_when : (m t : ℕ) → nat_le m t ≡ true → m ≤ t
 le_when m t is = grind (arith, nat_tests)
 
 -- a commit whose entry is the moment of the device's clock
-pub safe_commit : (def : TagDef) (o : TagOpening) (tape tape' : List Entry) (trace : Option Trace) (m acked count : ℕ)
-    → IsSafe def o tape (LeftSince trace) → tape' ≡ tape ++ Commit m acked ∷ []
+pub safe_commit : (def : TagDef) (o : TagOpening) (tape tape' : List Entry) (trace : Trace) (acked count : ℕ)
+    → IsSafe def o tape (LeftSince trace) → tape' ≡ tape ++ Commit (moment trace) acked ∷ []
     → acked ≡ o.summary.taken + count → count ≤ length (taken tape)
-    → IfSome trace (λ t. length t.calls ≡ m)
     → (IsCountable o tape → AllRecover def trace (state_after def.step o (take count (taken tape))))
     → IsSafe def o tape' (LeftSince trace)
-safe_commit def o tape tape' trace m acked count safe longer are within counted recovers =
+safe_commit def o tape tape' trace acked count safe longer are within recovers =
+    let m : ℕ = moment trace in
     let all : taken tape' ≡ taken tape = ap taken longer ∙ (taken-append tape (Commit m acked ∷ []) ∙ append-nil (taken tape)) in
     record {
       images = λ few t c since left.
@@ -121,13 +120,13 @@ safe_commit def o tape tape' trace m acked count safe longer are within counted 
           (by_moment few' t c since left (nat_le m t) refl));
     }
   where
-    by_moment : (few : IsCountable o tape) (t : ℕ) (c : List ℕ) → o.moment ≤ t → LeftSince trace t c → (b : Bool) → nat_le m t ≡ b
+    by_moment : (few : IsCountable o tape) (t : ℕ) (c : List ℕ) → o.moment ≤ t → LeftSince trace t c → (b : Bool) → nat_le (moment trace) t ≡ b
         → RecoversPart def (opened o) (taken tape) ((if b then acked else acked_at t o.summary.taken tape) - o.summary.taken) c
     by_moment few t c since left true is = record {
       count = count;
       enough = omega (arith, are);
       within = within;
-      recovered = (recovers few).each c (only_since trace m t c counted (le_when m t is) left);
+      recovered = (recovers few).each c (only_since trace (moment trace) t c refl (le_when (moment trace) t is) left);
     }
     by_moment few t c since left false is = safe.images few t c since left
 
@@ -153,7 +152,7 @@ batch_fits def s r step rest n sent is goes =
     (fit_take def.step s (length (taken (take n rest))) (taken rest) goes.fits)
 
 -- a crash during a batch leaves some of the values
-pub during_batch : (def : TagDef) (s : State) (rest : List Entry) (n : ℕ) (sent : List Point) (old new : Option Trace)
+pub during_batch : (def : TagDef) (s : State) (rest : List Entry) (n : ℕ) (sent : List Point) (old new : Trace)
     → sent ≡ taken (take n rest) → During old new (RecoversEither def s (replay def.step s (map Raw sent)))
     → During old new (RecoversPart def s (taken rest) 0)
 during_batch def s rest n sent old new is during =
@@ -165,7 +164,7 @@ during_batch def s rest n sent old new is during =
     (ap (λ (ps : List Point). replay def.step s (map Raw ps)) (is ∙ taken-take rest n)) either) during
 
 -- a crash during a checkpoint leaves none or all of them
-pub during_all : (def : TagDef) (s r : State) (step : Bool) (points : List Point) (old new : Option Trace)
+pub during_all : (def : TagDef) (s r : State) (step : Bool) (points : List Point) (old new : Trace)
     → GoesOnBy def s step r points → During old new (RecoversEither def s r) → During old new (RecoversPart def s points 0)
 during_all def s r step points old new goes during =
     weaker old new (RecoversEither def s r) (RecoversPart def s points 0)

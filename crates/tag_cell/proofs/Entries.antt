@@ -1,5 +1,5 @@
 -- What a cell's type keeps, after one more entry on its tape.
-use Rattle.std.proofs.Common.{◌≡◌, ℕ, ◌+◌, ◌-◌, ◌≤◌, Bool, List, [], ◌∷◌, ◌++◌, length, map, take, Option, Some, refl, sym, ◌∙◌, ap, subst, arith, length-append}
+use Rattle.std.proofs.Common.{◌≡◌, ℕ, ◌+◌, ◌-◌, ◌≤◌, Bool, List, [], ◌∷◌, ◌++◌, length, map, take, Some, refl, sym, ◌∙◌, ap, subst, arith, length-append}
 use Rattle.std.proofs.lemmas.List.{append-nil, take-append-le}
 use Rattle.trend_num.specs.declared.point.Point.{Point}
 use Rattle.trend_num.specs.declared.tag_def.TagDef.{TagDef}
@@ -7,7 +7,7 @@ use Rattle.trend_num.specs.declared.query.TagQuery.{TagQuery}
 use Rattle.trend_num.specs.Limits.{most_records}
 use Rattle.trend_model.specs.History.{Raw}
 use Rattle.trend_model.specs.State.{State, after, replay}
-use Rattle.disk_model.specs.Traces.{Trace}
+use Rattle.disk_model.specs.Traces.{Device}
 use Rattle.crash_recovery.specs.Journals.{AllRecover}
 use Rattle.device_layout.specs.Recovery.{Recovers}
 use Rattle.interp_read.specs.declared.query.Reply.{Reply}
@@ -97,11 +97,10 @@ pub countable_before : (o : TagOpening) (tape tape' more : List Entry) → tape'
 countable_before o tape tape' more longer few = omega (arith, few, ap (λ l. length (taken l)) longer, ap length (taken-append tape more), length-append (taken tape) (taken more))
 
 -- the device keeps what it kept
-pub kept_entry : (def : TagDef) (o : TagOpening) (tape tape' : List Entry) (e : Entry) (next : ℕ) (failed : Bool) (trace : Option Trace)
-    (ticks faults : ℕ) → IsCall e → next ≤ length tape → IsKept def o tape next failed trace ticks faults
-    → tape' ≡ tape ++ e ∷ [] → IsKept def o tape' next failed trace ticks faults
-kept_entry def o tape tape' e next failed trace ticks faults call within is longer = record {
-  recovers = λ fine few. subst (λ l. AllRecover def trace (state_after def.step o (taken l)))
+pub kept_entry : (def : TagDef) (o : TagOpening) (tape tape' : List Entry) (e : Entry) (next : ℕ) (failed : Bool) (d : Device)
+    → IsCall e → next ≤ length tape → IsKept def o tape next failed d → tape' ≡ tape ++ e ∷ [] → IsKept def o tape' next failed d
+kept_entry def o tape tape' e next failed d call within is longer = record {
+  recovers = λ fine few. subst (λ l. AllRecover def d.trace (state_after def.step o (taken l)))
       (sym (ap (take next) longer ∙ take-append-le next tape (e ∷ []) within))
       (is.recovers fine (countable_before o tape tape' (e ∷ []) longer few));
   past = omega (arith, is.past, ap (λ l. (cell_walked (cell_start o) l).moment) longer, ap (λ (w : CellWalk). w.moment) (walked-push (cell_start o) tape e), moment-call (cell_walked (cell_start o) tape) e call);

@@ -1,7 +1,6 @@
 -- What a cell's type keeps as the cell is opened.
-use Rattle.std.proofs.Common.{◌≡◌, ℕ, ◌*◌, ◌<◌, ◌≤◌, ◌^◌, Bool, false, List, [], length, Option, Some, refl, sym, ap, subst, arith}
+use Rattle.std.proofs.Common.{◌≡◌, ℕ, ◌*◌, ◌<◌, ◌≤◌, ◌^◌, Bool, false, List, [], length, Some, refl, sym, ap, subst, arith}
 use Rattle.std.proofs.lemmas.List.Elements.{All-nil}
-use Rattle.std.specs.Prelude.{IfSome}
 use Rattle.atomic_table.specs.Seated.{TableId}
 use Rattle.trend_num.specs.declared.archive.Rec.{Rec}
 use Rattle.trend_num.specs.declared.archive.Summary.{Summary}
@@ -9,7 +8,7 @@ use Rattle.trend_num.specs.declared.tag_def.TagDef.{TagDef}
 use Rattle.trend_num.specs.Ranges.{InRange}
 use Rattle.trend_model.specs.Contents.{listed}
 use Rattle.trend_model.specs.State.{State}
-use Rattle.disk_model.specs.Traces.{Trace}
+use Rattle.disk_model.specs.Traces.{Trace, Device, moment}
 use Rattle.disk_model.specs.Moments.{LeftSince}
 use Rattle.disk_model.proofs.Moments.{only_since}
 use Rattle.crash_recovery.specs.Journals.{AllRecover}
@@ -61,27 +60,26 @@ open_waits o tape durable acked none records acks = subst (λ (l : List Entry). 
   durable_are = records;
 })
 
-pub open_kept : (def : TagDef) (o : TagOpening) (tape : List Entry) (failed : Bool) (trace : Option Trace) (ticks faults : ℕ)
-    → tape ≡ [] → failed ≡ false → (o.summary.taken < 10 ^ 18 → AllRecover def trace (opened o)) → o.moment ≡ ticks → o.faults ≡ faults
-    → IsKept def o tape 0 failed trace ticks faults
-open_kept def o tape failed trace ticks faults none fine recovers moment same =
-    subst (λ (l : List Entry). IsKept def o l 0 failed trace ticks faults) (sym none) (record {
+pub open_kept : (def : TagDef) (o : TagOpening) (tape : List Entry) (failed : Bool) (d : Device)
+    → tape ≡ [] → failed ≡ false → (o.summary.taken < 10 ^ 18 → AllRecover def d.trace (opened o)) → o.moment ≡ moment d.trace
+    → o.faults ≡ d.faults → IsKept def o tape 0 failed d
+open_kept def o tape failed d none fine recovers at same =
+    subst (λ (l : List Entry). IsKept def o l 0 failed d) (sym none) (record {
       recovers = λ _ few. recovers (omega (arith, few));
-      past = omega (arith, moment);
-      opened_before = omega (arith, moment);
+      past = omega (arith, at);
+      opened_before = omega (arith, at);
       faultless = λ _. sym same;
       cause = λ broke. cc (broke, fine);
     })
 
-pub open_safe : (def : TagDef) (o : TagOpening) (tape : List Entry) (trace : Option Trace) (ticks : ℕ) → tape ≡ []
-    → IfSome trace (λ t. length t.calls ≡ ticks) → o.moment ≡ ticks
+pub open_safe : (def : TagDef) (o : TagOpening) (tape : List Entry) (trace : Trace) → tape ≡ [] → o.moment ≡ moment trace
     → (o.summary.taken < 10 ^ 18 → AllRecover def trace (opened o)) → IsSafe def o tape (LeftSince trace)
-open_safe def o tape trace ticks none counted moment recovers = subst (λ (l : List Entry). IsSafe def o l (LeftSince trace)) (sym none) (record {
+open_safe def o tape trace none at recovers = subst (λ (l : List Entry). IsSafe def o l (LeftSince trace)) (sym none) (record {
   images = λ few t c since left. record {
     count = 0;
     enough = omega arith;
     within = omega arith;
-    recovered = (recovers (omega (arith, few))).each c (only_since trace ticks t c counted (omega (arith, since, moment)) left);
+    recovered = (recovers (omega (arith, few))).each c (only_since trace (moment trace) t c refl (omega (arith, since, at)) left);
   };
 })
 

@@ -12,7 +12,7 @@ use Rattle.trend_model.specs.History.{Raw}
 use Rattle.trend_model.specs.State.{State, after}
 use Rattle.disk_model.specs.Calls.{Rose}
 use Rattle.disk_model.specs.Moments.{LeftSince}
-use Rattle.disk_model.specs.Traces.{Trace}
+use Rattle.disk_model.specs.Traces.{Device, moment}
 use Rattle.interp_read.specs.declared.query.Reply.{Reply}
 use Rattle.interp_read.specs.Replies.{AreAlike}
 use Rattle.crash_recovery.specs.Journals.{AllRecover, Logged}
@@ -66,14 +66,13 @@ pub record Waits (o : TagOpening) (tape : List Entry) (next durable acked : ℕ)
   pub durable_are : durable ≡ last_records (length o.recs.items) (take next tape)
 
 -- the device keeps what is acknowledged, while no call of it has failed
-pub record IsKept (def : TagDef) (o : TagOpening) (tape : List Entry) (next : ℕ) (failed : Bool) (trace : Option Trace)
-    (ticks faults : ℕ) : Type 0 where
+pub record IsKept (def : TagDef) (o : TagOpening) (tape : List Entry) (next : ℕ) (failed : Bool) (d : Device) : Type 0 where
   pub recovers : failed ≡ false → IsCountable o tape
-      → AllRecover def trace (state_after def.step o (taken (take next tape)))
-  pub past : (cell_walked (cell_start o) tape).moment ≤ ticks
-  pub opened_before : o.moment ≤ ticks
-  pub faultless : failed ≡ false → faults ≡ o.faults
-  pub cause : failed ≡ true → Rose o.faults faults
+      → AllRecover def d.trace (state_after def.step o (taken (take next tape)))
+  pub past : (cell_walked (cell_start o) tape).moment ≤ moment d.trace
+  pub opened_before : o.moment ≤ moment d.trace
+  pub faultless : failed ≡ false → d.faults ≡ o.faults
+  pub cause : failed ≡ true → Rose o.faults d.faults
 
 -- the poster has posted what the tag shows now
 pub record IsPosted (board : List TableId) (p : Posting) (s : State) : Type 0 where
@@ -138,10 +137,10 @@ durable_records s = (state_after s.def.step s.opening (done s.opening (cell_walk
 
 -- ---- what is returned at the end
 
--- the history of a cell on a device with these calls, this clock and these faults
-pub record IsCellHistory (t : TagHistory) (trace : Option Trace) (ticks faults : ℕ) : Type 0 where
+-- the history of a cell on this device
+pub record IsCellHistory (t : TagHistory) (d : Device) : Type 0 where
   pub replayed : IsTapeReplayed t.def t.opening t.tape.items (record { records = t.recs.items; summary = t.summary }) t.acked
-  pub safe : IsSafe t.def t.opening t.tape.items (LeftSince trace)
-  pub past : (cell_walked (cell_start t.opening) t.tape.items).moment ≤ ticks
-  pub opened_before : t.opening.moment ≤ ticks
-  pub faults_since : (faults ≡ t.opening.faults) ⊎ Rose t.opening.faults faults
+  pub safe : IsSafe t.def t.opening t.tape.items (LeftSince d.trace)
+  pub past : (cell_walked (cell_start t.opening) t.tape.items).moment ≤ moment d.trace
+  pub opened_before : t.opening.moment ≤ moment d.trace
+  pub faults_since : (d.faults ≡ t.opening.faults) ⊎ Rose t.opening.faults d.faults

@@ -10,6 +10,7 @@ ghost use Rattle.crash_recovery.specs.Journals.{AllRecover};
 ghost use Rattle.tag_cell.specs.declared.entry.CommitNo.TheVariants.{DeviceFault, WantOfMemory as NoMemory, Broken as WasBroken};
 ghost use Rattle.tag_cell.specs.Tapes.{last_records, taken};
 ghost use Rattle.tag_cell.specs.Crashes.{GoesOnBy, RecoversPart, count_written};
+ghost use Rattle.disk_model.specs.Traces.{moment};
 
 use crate::entry::{CommitNo, Entry};
 use archive_file::PutNo;
@@ -111,27 +112,27 @@ pub(crate) fn write_waiting<D: Disk>(
     // values. At Ok these are the values that were written. The clauses hold for a core that has taken fewer than 10^18
     // events.
     ensures any_moment { core.now.state.summary.taken < 10 ^ 18
-        → (def : TagDef) (s : State) → AllRecover def (D.trace journal.old.dev) s
+        → (def : TagDef) (s : State) → AllRecover def (D.device journal.old.dev).trace s
         → GoesOnBy def s core.now.step core.now.state (taken rest.now)
-        → During (D.trace journal.old.dev) (D.trace journal.new.dev) (RecoversPart def s (taken rest.now) 0) }
+        → During (D.device journal.old.dev).trace (D.device journal.new.dev).trace (RecoversPart def s (taken rest.now) 0) }
     ensures durable { IfOk result (λ n. core.now.state.summary.taken < 10 ^ 18
-        → (def : TagDef) (s : State) → AllRecover def (D.trace journal.old.dev) s
+        → (def : TagDef) (s : State) → AllRecover def (D.device journal.old.dev).trace s
         → GoesOnBy def s core.now.step core.now.state (taken rest.now)
-        → AllRecover def (D.trace journal.new.dev) (replay def.step s (map Raw (taken (take n rest.now))))) }
+        → AllRecover def (D.device journal.new.dev).trace (replay def.step s (map Raw (taken (take n rest.now))))) }
 
     ensures within { IfOk result (λ n. n ≤ length rest.now) }
     ensures count { IfOk result (λ n. length (taken (take n rest.now)) ≡ count_written journal.old.free (length (taken rest.now))) }
     ensures acked { IfOk result (λ n. journal.new.acked ≡ journal.old.acked + length (taken (take n rest.now))) }
     ensures usable { OnOk result (journal.new.failed ≡ false) }
-    ensures ticked { OnOk result (D.ticks journal.old.dev < D.ticks journal.new.dev) }
+    ensures ticked { OnOk result (moment (D.device journal.old.dev).trace < moment (D.device journal.new.dev).trace) }
     ensures unbroken { IsErrOf result WasBroken → ⊥ }
     ensures untouched { IsErrOf result NoMemory → journal.new ≡ journal.old }
     ensures failed { IsErrOf result DeviceFault → journal.new.failed ≡ true }
     ensures unmoved { OnErr result (journal.new.acked ≡ journal.old.acked) }
-    ensures cause { CountsFault result DeviceFault (D.fault_count journal.old.dev) (D.fault_count journal.new.dev) }
-    ensures later { D.ticks journal.old.dev ≤ D.ticks journal.new.dev }
-    ensures continues { ComesAfter (D.trace journal.old.dev) (D.trace journal.new.dev) }
-    ensures handed { D.hand_out journal.new.dev ≡ D.hand_out journal.old.dev }
+    ensures cause { CountsFault result DeviceFault (D.device journal.old.dev).faults (D.device journal.new.dev).faults }
+    ensures later { moment (D.device journal.old.dev).trace ≤ moment (D.device journal.new.dev).trace }
+    ensures continues { ComesAfter (D.device journal.old.dev).trace (D.device journal.new.dev).trace }
+    ensures handed { (D.device journal.new.dev).handed ≡ (D.device journal.old.dev).handed }
 {
     if journal.free_slots() == 0 {
         journal.checkpoint(alloc, core)?;

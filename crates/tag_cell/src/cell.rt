@@ -62,10 +62,10 @@ impl<D: Disk> Model for Cell<D> {
         × HasRoomForTakes c.opening c.tape.items (vec_capacity c.tape) c.takes c.room c.core.spare c.content.spare
         × Waits c.opening c.tape.items c.next c.durable c.journal.acked
         × IsKept c.def c.opening c.tape.items c.next c.journal.failed
-        (D.trace c.journal.dev) (D.ticks c.journal.dev) (D.fault_count c.journal.dev)
-        × IsSafe c.def c.opening c.tape.items (LeftSince (D.trace c.journal.dev))
+        (D.device c.journal.dev)
+        × IsSafe c.def c.opening c.tape.items (LeftSince (D.device c.journal.dev).trace)
         × IsPosted (arc_value c.board) c.poster c.core.state
-        × FitsName (device_name c.def.name) (D.hand_out c.journal.dev) };
+        × FitsName (device_name c.def.name) (D.device c.journal.dev).handed };
 }
 
 impl<D: Disk> Cell<D> {
@@ -114,7 +114,7 @@ impl<D: Disk> Cell<D> {
 
     /// Returns how many calls of the device have failed.
     pub fn device_faults(&self) -> u64
-        ensures { result ≡ D.fault_count self.now.journal.dev }
+        ensures { result ≡ (D.device self.now.journal.dev).faults }
     {
         self.journal.faults()
     }
@@ -123,7 +123,7 @@ impl<D: Disk> Cell<D> {
     /// opened.
     pub fn broken(&self) -> bool
         ensures value { result ≡ self.now.journal.failed }
-        ensures cause { IsTrue result → Rose self.now.opening.faults (D.fault_count self.now.journal.dev) }
+        ensures cause { IsTrue result → Rose self.now.opening.faults (D.device self.now.journal.dev).faults }
     {
         self.journal.failed()
     }
@@ -138,10 +138,10 @@ impl<D: Disk> Cell<D> {
         ensures records { result.1.recs.items ≡ self.state.records }
         ensures summary { result.1.summary ≡ self.state.summary }
         ensures acked { result.1.acked ≡ self.journal.acked }
-        ensures history { IsCellHistory result.1 (D.trace result.0) (D.ticks result.0) (D.fault_count result.0) }
-        ensures rose { self.journal.failed ≡ true → Rose self.opening.faults (D.fault_count result.0) }
-        ensures faultless { self.journal.failed ≡ false → D.fault_count result.0 ≡ self.opening.faults }
-        ensures named { FitsName (device_name self.def.name) (D.hand_out result.0) }
+        ensures history { IsCellHistory result.1 (D.device result.0) }
+        ensures rose { self.journal.failed ≡ true → Rose self.opening.faults (D.device result.0).faults }
+        ensures faultless { self.journal.failed ≡ false → (D.device result.0).faults ≡ self.opening.faults }
+        ensures named { FitsName (device_name self.def.name) (D.device result.0).handed }
     {
         let Cell {
             def,

@@ -3,6 +3,7 @@ ghost use Rattle.std.specs.Prelude.{◌≡◌, ◌↔◌, Err, Ok, IfOk, IsErrOf
 ghost use Rattle.disk_model.specs.Calls.{CountsFault};
 ghost use Rattle.tag_cell.specs.declared.entry.CommitNo.TheVariants.{Broken, DeviceFault, WantOfMemory as NoMemory};
 ghost use Rattle.tag_cell.specs.Told.{IsCommitted, IsCellFaulted, takes_waiting};
+ghost use Rattle.disk_model.specs.Traces.{moment};
 
 use crate::batch::{records_after, write_waiting};
 use crate::cell::Cell;
@@ -31,9 +32,9 @@ impl<D: Disk> Cell<D> {
         ensures broken { IsErrOf result Broken ↔ (self.old.journal.failed ≡ true) }
         ensures idle { self.old.journal.failed ≡ false → takes_waiting self.old ≡ 0
             → (result ≡ Ok (record { acked = self.old.journal.acked; waiting = 0 })) × (self.new ≡ self.old) }
-        ensures committed { IfOk result (λ a. IsCommitted (D.ticks self.old.journal.dev) (D.ticks self.new.journal.dev) a self.old self.new) }
+        ensures committed { IfOk result (λ a. IsCommitted (moment (D.device self.old.journal.dev).trace) (moment (D.device self.new.journal.dev).trace) a self.old self.new) }
         ensures faulted { IsErrOf result DeviceFault → IsCellFaulted self.old self.new }
-        ensures cause { CountsFault result DeviceFault (D.fault_count self.old.journal.dev) (D.fault_count self.new.journal.dev) }
+        ensures cause { CountsFault result DeviceFault (D.device self.old.journal.dev).faults (D.device self.new.journal.dev).faults }
         ensures untouched { IsErrOf result NoMemory → self.new ≡ self.old }
         ensures still_broken { IsErrOf result Broken → self.new ≡ self.old }
     {

@@ -9,7 +9,7 @@ ghost use Rattle.device_layout.specs.Recovery.{Recovers};
 ghost use Rattle.crash_recovery.specs.Opening.{GainsSync, HasSlots, IsOpenedAs, LeavesFree, MakesLayout, OpensAt, RecoversThen, StaysSame};
 ghost use Rattle.device_layout.specs.Readings.{CountsRefusal, IsCause};
 ghost use Rattle.disk_model.specs.Calls.{Shows};
-ghost use Rattle.disk_model.specs.Traces.{FitsName};
+ghost use Rattle.disk_model.specs.Traces.{FitsName, moment};
 ghost use Rattle.snapshot_table.specs.Boards.{PostsTo};
 ghost use Rattle.snapshot_table.specs.Snaps.{nothing};
 ghost use Rattle.tag_cell.specs.Devices.{device_name};
@@ -43,30 +43,30 @@ pub fn open_cell<D: Disk, R: Wait>(
     requires tuned { TuningInRange def.now.tuning }
     requires here { PostsTo (arc_value board) poster }
     requires unposted { poster.last ≡ nothing }
-    requires named { FitsName (device_name def.now.name) (D.hand_out dev) }
-    ensures any_moment { IfOk result (λ c. StaysSame def.now (D.trace dev) (D.trace c.journal.dev)) }
-    ensures any_moment_refused { IfErr result (λ e. StaysSame def.now (D.trace dev) (D.trace e.dev)) }
-    ensures opened { IfOk result (λ c. Shows (D.trace dev) (λ seen. (s : State) × Recovers def.now seen s
+    requires named { FitsName (device_name def.now.name) (D.device dev).handed }
+    ensures any_moment { IfOk result (λ c. StaysSame def.now (D.device dev).trace (D.device c.journal.dev).trace) }
+    ensures any_moment_refused { IfErr result (λ e. StaysSame def.now (D.device dev).trace (D.device e.dev).trace) }
+    ensures opened { IfOk result (λ c. Shows (D.device dev).trace (λ seen. (s : State) × Recovers def.now seen s
         × IsOpenedAs def.now s (opened c.opening))) }
-    ensures recovers { IfOk result (λ c. RecoversThen def.now (D.trace dev) (D.trace c.journal.dev) (opened c.opening)) }
-    ensures slots { IfOk result (λ c. Shows (D.trace dev) (HasSlots lane_slots c.journal.slots)) }
-    ensures free { IfOk result (λ c. Shows (D.trace dev) (LeavesFree def.now c.journal.slots c.journal.free)) }
-    ensures made { IfOk result (λ c. MakesLayout def.now lane_slots (D.trace dev) (D.trace c.journal.dev)) }
-    ensures synced { IfOk result (λ c. GainsSync def.now (D.trace dev) (D.trace c.journal.dev)) }
+    ensures recovers { IfOk result (λ c. RecoversThen def.now (D.device dev).trace (D.device c.journal.dev).trace (opened c.opening)) }
+    ensures slots { IfOk result (λ c. Shows (D.device dev).trace (HasSlots lane_slots c.journal.slots)) }
+    ensures free { IfOk result (λ c. Shows (D.device dev).trace (LeavesFree def.now c.journal.slots c.journal.free)) }
+    ensures made { IfOk result (λ c. MakesLayout def.now lane_slots (D.device dev).trace (D.device c.journal.dev).trace) }
+    ensures synced { IfOk result (λ c. GainsSync def.now (D.device dev).trace (D.device c.journal.dev).trace) }
     ensures def { IfOk result (λ c. c.def ≡ def.now) }
     ensures state { IfOk result (λ c. c.state ≡ opened c.opening) }
     ensures tape { IfOk result (λ c. c.tape ≡ []) }
     ensures acked { IfOk result (λ c. c.journal.acked ≡ c.opening.summary.taken) }
     ensures usable { IfOk result (λ c. c.journal.failed ≡ false) }
     ensures room { IfOk result (λ c. c.room ≡ room) }
-    ensures moment { IfOk result (λ c. c.opening.moment ≡ D.ticks c.journal.dev) }
-    ensures opened_at { IfOk result (λ c. OpensAt def.now (D.trace dev) c.opening.moment) }
-    ensures faults_told { IfOk result (λ c. c.opening.faults ≡ D.fault_count c.journal.dev) }
-    ensures cause { IfErr result (λ e. IsCause def.now (D.trace dev) e.why) }
-    ensures faultless { IfOk result (λ c. D.fault_count c.journal.dev ≡ D.fault_count dev) }
-    ensures counts { IfErr result (λ e. CountsRefusal e.why (D.fault_count dev) (D.fault_count e.dev)) }
-    ensures handed { IfOk result (λ c. D.hand_out c.journal.dev ≡ D.hand_out dev) }
-    ensures handed_refused { IfErr result (λ e. D.hand_out e.dev ≡ D.hand_out dev) }
+    ensures moment { IfOk result (λ c. c.opening.moment ≡ moment (D.device c.journal.dev).trace) }
+    ensures opened_at { IfOk result (λ c. OpensAt def.now (D.device dev).trace c.opening.moment) }
+    ensures faults_told { IfOk result (λ c. c.opening.faults ≡ (D.device c.journal.dev).faults) }
+    ensures cause { IfErr result (λ e. IsCause def.now (D.device dev).trace e.why) }
+    ensures faultless { IfOk result (λ c. (D.device c.journal.dev).faults ≡ (D.device dev).faults) }
+    ensures counts { IfErr result (λ e. CountsRefusal e.why (D.device dev).faults (D.device e.dev).faults) }
+    ensures handed { IfOk result (λ c. (D.device c.journal.dev).handed ≡ (D.device dev).handed) }
+    ensures handed_refused { IfErr result (λ e. (D.device e.dev).handed ≡ (D.device dev).handed) }
 {
     let Opened { journal, core } = open_tag(alloc, dev, def, lane_slots, room)?;
     let Ok(content) = content_of(alloc, &core, room) else {

@@ -175,7 +175,7 @@ impl<R: Files<File = File> + AllocGlobal> Store for DirStore<R> {
 
     type Dev = DirDisk<Host<File>>;
 
-    ghost device_at = { λ s n. Some (told_at s n) };
+    ghost device_at = { λ s n. told_at s n };
 
     ghost has_place = { λ s n. is_placed s.places n };
 

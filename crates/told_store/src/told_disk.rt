@@ -1,6 +1,6 @@
 // A file as a device, which the program reads from memory.
 ghost use Rattle.std.specs.Prelude.{◌≡◌, ◌+◌, ◌-◌, ◌^◌, ◌<◌, ◌≤◌, ◌↔◌, length, vec_len, vec_capacity, IsTrue, IsFalse, IsErr, IfOk, OnOk, OnErr, Some, string_bytes};
-ghost use Rattle.disk_model.specs.Traces.{Wrote, WroteInPart, Resized, ResizedInPart, Synced, Idle, seen, written};
+ghost use Rattle.disk_model.specs.Traces.{Wrote, WroteInPart, Resized, ResizedInPart, Synced, Idle, moment, seen, written};
 ghost use Rattle.disk_model.specs.Calls.{next_count, Rose, HasCause, HasLength, IsNoted, IsTimed, Reaches, Reads};
 ghost use Rattle.disk_model.specs.Memory.{handed_as};
 ghost use Rattle.told_store.specs.Notes.{read_as};
@@ -65,8 +65,8 @@ pub struct DirDisk<C: Calls> {
     pub(crate) calls: C,
     pub(crate) mirror: Vec<u8>,
     pub(crate) counts: Counts,
-    ghost mirrored: { mirror.items ≡ seen (Some (C.told calls)) },
-    ghost counted: { length (C.told calls).calls ≡ counts.ticks },
+    ghost mirrored: { mirror.items ≡ seen (C.told calls) },
+    ghost counted: { moment (C.told calls) ≡ counts.ticks },
 }
 
 impl<C: Calls> DirDisk<C> {
@@ -115,20 +115,11 @@ fn put(held: &mut Vec<u8>, at: u64, bytes: &[u8])
 }
 
 impl<C: Calls> Disk for DirDisk<C> {
-    ghost trace = { λ d. Some (C.told d.calls) };
-
-    ghost ticks = { λ d. d.counts.ticks };
-
-    ghost fault_count = { λ d. d.counts.faults };
-
-    ghost hand_out = { λ d. handed_as (Some (string_bytes d.name)) };
-
-    ghost told = { λ d. d.counted };
+    ghost device = { λ d. record { handed = handed_as (Some (string_bytes d.name)); trace = C.told d.calls; faults = d.counts.faults } };
 
     fn len(&mut self) -> Result<u64, Failed>
-        ensures length { IfOk result (HasLength (Some (C.told self.old.calls))) }
-        ensures same { Some (C.told self.new.calls) ≡ Some (C.told self.old.calls) }
-        ensures untimed { self.new.counts.ticks ≡ self.old.counts.ticks }
+        ensures length { IfOk result (HasLength (C.told self.old.calls)) }
+        ensures same { C.told self.new.calls ≡ C.told self.old.calls }
         ensures cause { HasCause self.old.counts.faults self.new.counts.faults result }
         ensures handed { handed_as (Some (string_bytes self.new.name)) ≡ handed_as (Some (string_bytes self.old.name)) }
         ensures fails { IsErr result ↔ IsTrue self.old.counts.is_stopped }
@@ -141,10 +132,9 @@ impl<C: Calls> Disk for DirDisk<C> {
     }
 
     fn read(&mut self, at: u64, buf: &mut [u8]) -> Result<(), Failed>
-        requires { Reaches (Some (C.told self.old.calls)) (at + length buf.old) }
-        ensures bytes { OnOk result (Reads (Some (C.told self.old.calls)) at buf.new) }
-        ensures same { Some (C.told self.new.calls) ≡ Some (C.told self.old.calls) }
-        ensures untimed { self.new.counts.ticks ≡ self.old.counts.ticks }
+        requires { Reaches (C.told self.old.calls) (at + length buf.old) }
+        ensures bytes { OnOk result (Reads (C.told self.old.calls) at buf.new) }
+        ensures same { C.told self.new.calls ≡ C.told self.old.calls }
         ensures cause { HasCause self.old.counts.faults self.new.counts.faults result }
         ensures handed { handed_as (Some (string_bytes self.new.name)) ≡ handed_as (Some (string_bytes self.old.name)) }
         ensures fails { IsErr result ↔ IsTrue self.old.counts.is_stopped }
@@ -160,10 +150,10 @@ impl<C: Calls> Disk for DirDisk<C> {
 
     /// It fails also if there is no memory for the bytes; then no call was made.
     fn write_at(&mut self, at: u64, bytes: &[u8]) -> Result<(), Failed>
-        requires { Reaches (Some (C.told self.old.calls)) at }
+        requires { Reaches (C.told self.old.calls) at }
         ensures noted { IsNoted (Wrote at bytes.now) (WroteInPart at bytes.now) result
-            (Some (C.told self.old.calls)) (Some (C.told self.new.calls)) }
-        ensures clock { IsTimed self.old.counts.ticks self.new.counts.ticks result }
+            (C.told self.old.calls) (C.told self.new.calls) }
+        ensures clock { IsTimed (moment (C.told self.old.calls)) (moment (C.told self.new.calls)) result }
         ensures cause { HasCause self.old.counts.faults self.new.counts.faults result }
         ensures handed { handed_as (Some (string_bytes self.new.name)) ≡ handed_as (Some (string_bytes self.old.name)) }
         ensures fails { IsTrue self.old.counts.is_stopped → IsErr result }
@@ -187,8 +177,8 @@ impl<C: Calls> Disk for DirDisk<C> {
     /// It fails also if there is no memory for the zeros; then no call was made.
     fn cut(&mut self, len: u64) -> Result<(), Failed>
         ensures noted { IsNoted (Resized len) (ResizedInPart len) result
-            (Some (C.told self.old.calls)) (Some (C.told self.new.calls)) }
-        ensures clock { IsTimed self.old.counts.ticks self.new.counts.ticks result }
+            (C.told self.old.calls) (C.told self.new.calls) }
+        ensures clock { IsTimed (moment (C.told self.old.calls)) (moment (C.told self.new.calls)) result }
         ensures cause { HasCause self.old.counts.faults self.new.counts.faults result }
         ensures handed { handed_as (Some (string_bytes self.new.name)) ≡ handed_as (Some (string_bytes self.old.name)) }
         ensures fails { IsTrue self.old.counts.is_stopped → IsErr result }
@@ -214,8 +204,8 @@ impl<C: Calls> Disk for DirDisk<C> {
     fn sync(&mut self) -> Result<(), Failed>
         ensures unsynced { OnErr result (IsFalse self.old.counts.is_stopped → self.old.counts.ticks < 2 ^ 64 - 1
             → IsTrue self.new.counts.is_unsynced) }
-        ensures noted { IsNoted Synced Idle result (Some (C.told self.old.calls)) (Some (C.told self.new.calls)) }
-        ensures clock { IsTimed self.old.counts.ticks self.new.counts.ticks result }
+        ensures noted { IsNoted Synced Idle result (C.told self.old.calls) (C.told self.new.calls) }
+        ensures clock { IsTimed (moment (C.told self.old.calls)) (moment (C.told self.new.calls)) result }
         ensures cause { HasCause self.old.counts.faults self.new.counts.faults result }
         ensures handed { handed_as (Some (string_bytes self.new.name)) ≡ handed_as (Some (string_bytes self.old.name)) }
         ensures fails { IsTrue self.old.counts.is_stopped → IsErr result }

@@ -38,4 +38,4 @@ returns-clause-ready g c =
     c.write_guarded.ensures.any_moment c.in-Ok-write_guarded.ensures.reads) c.in-Ok-write_guarded.ensures.settled
 
 pub returns-clause-calls : goal.returns-clause-calls
-returns-clause-calls g c = layout_counted _ _ _ _ c.in-Ok-close_layout.ensures.calls c.in-Ok-write_guarded.ensures.clock
+returns-clause-calls g c = layout_counted (g.D.Disk.device c.args.dev.now).trace _ _ _ c.in-Ok-close_layout.ensures.calls c.in-Ok-write_guarded.ensures.clock

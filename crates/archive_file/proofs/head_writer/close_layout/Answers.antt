@@ -1,6 +1,7 @@
-use Rattle.std.proofs.Common.{arith}
+use Rattle.std.proofs.Common.{arith, ap}
 use Rattle.archive_file.proofs.Beginnings.{closed_counted, left_closed, left_kept, left_then_synced, left_wrote, wrote_counted}
 use Rattle.archive_file.proofs.head_writer.close_layout.Goals as goal
+use Rattle.disk_model.specs.Traces.{moment}
 
 pub returns-in_err-len-clause-any_moment : goal.returns-in_err-len-clause-any_moment
 returns-in_err-len-clause-any_moment g c = left_kept _ _ c.len.ensures.same
@@ -23,9 +24,9 @@ returns-clause-any_moment g c =
 pub returns-then-branch-gt0-clause-calls : goal.returns-then-branch-gt0-clause-calls
 returns-then-branch-gt0-clause-calls g c =
     closed_counted c.close_gates.result _ _ c.in_ok-len.field-0 _ _ _ c.len.ensures.same c.in_ok-len.ensures.length c.if-branch-gt0.true
-    c.len.ensures.untimed c.close_gates.ensures.calls
+    (ap moment c.len.ensures.same) c.close_gates.ensures.calls
 
 pub returns-clause-calls : goal.returns-clause-calls
 returns-clause-calls g c =
-    wrote_counted c.sync.result _ c.in_ok-len.field-0 _ _ _ _ c.in_ok-len.ensures.length c.if-branch-gt0.false c.len.ensures.untimed
+    wrote_counted c.sync.result (g.D.Disk.device c.args.dev.now).trace c.in_ok-len.field-0 _ _ _ _ c.in_ok-len.ensures.length c.if-branch-gt0.false (ap moment c.len.ensures.same)
     (omega (arith, c.write_at.ensures.clock.counted, c.in_ok-write_at.ensures.clock.in_time)) c.sync.ensures.clock

@@ -1,4 +1,4 @@
-use Rattle.std.proofs.Common.{IfSome, Some, subst}
+use Rattle.std.proofs.Common.{subst}
 use Rattle.disk_model.specs.Traces.{seen}
 use Rattle.archive_file.specs.Places.{Adds}
 use Rattle.archive_file.proofs.Logs.{added_all}
@@ -8,6 +8,6 @@ pub returns-clause-ok : goal.returns-clause-ok
 returns-clause-ok g c =
     let recs = c.in-Ok-with_capacity.recs.items in
     let new = c.read_pieces.new.recs.items in
-    added_all (g.D.Disk.trace c.args.dev.now) c.args.at c.args.count recs new c.in-Ok-with_capacity.ensures.items
-    (subst (λ o. IfSome o (λ t. Adds (seen (Some t)) c.args.at c.args.count recs new)) c.len.ensures.same
+    added_all (g.D.Disk.device c.args.dev.now).trace c.args.at c.args.count recs new c.in-Ok-with_capacity.ensures.items
+    (subst (λ o. Adds (seen o) c.args.at c.args.count recs new) c.len.ensures.same
     c.in_ok-read_pieces.ensures.ok)

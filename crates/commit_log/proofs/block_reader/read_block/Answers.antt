@@ -14,11 +14,11 @@ use Rattle.commit_log.proofs.block_reader.read_block.Goals.{After-read_body}
 
 -- the front that was read is that of the next block
 front : (g : given.Over) (c : After-read_body g)
-    → Shows (g.D.Disk.trace c.args.dev.now) (λ i. HasFront i (length c.args.rows.now.items) c.args.gate c.in-Some.count)
+    → Shows (g.D.Disk.device c.args.dev.now).trace (λ i. HasFront i (length c.args.rows.now.items) c.args.gate c.in-Some.count)
 front g c =
     let number : c.len.result ≡ length c.args.rows.now.items = omega (arith, c.len.ensures) in
-    subst (λ n. Shows (g.D.Disk.trace c.args.dev.now) (λ i. HasFront i n c.args.gate c.in-Some.count)) number
-    (if_some c.in_ok-count.field-0 c.in-Some.count (λ (k : ℕ). Shows (g.D.Disk.trace c.args.dev.now) (λ i. HasFront i c.len.result c.args.gate k))
+    subst (λ n. Shows (g.D.Disk.device c.args.dev.now).trace (λ i. HasFront i n c.args.gate c.in-Some.count)) number
+    (if_some c.in_ok-count.field-0 c.in-Some.count (λ (k : ℕ). Shows (g.D.Disk.device c.args.dev.now).trace (λ i. HasFront i c.len.result c.args.gate k))
     c.in-Some.is c.in_ok-count.ensures.front)
 
 pub returns-in_err-count-clause-damaged : goal.returns-in_err-count-clause-damaged
@@ -26,15 +26,15 @@ returns-in_err-count-clause-damaged g c = λ a byte told.
     let x = c.args in
     let out = err_from_is_err_and c.from_residual.result c.from_residual.ensures.1 in
     let number : c.len.result ≡ length x.rows.now.items = omega (arith, c.len.ensures) in
-    subst (λ n. Shows (g.D.Disk.trace x.dev.now) (λ i. BreaksFirst i (block_fields i x.tags n x.gate) a byte)) number
-    (shows_so (g.D.Disk.trace x.dev.now) (λ i. BreaksFirst i (front_fields i c.len.result x.gate) a byte)
+    subst (λ n. Shows (g.D.Disk.device x.dev.now).trace (λ i. BreaksFirst i (block_fields i x.tags n x.gate) a byte)) number
+    (shows_so (g.D.Disk.device x.dev.now).trace (λ i. BreaksFirst i (front_fields i c.len.result x.gate) a byte)
     (λ i. BreaksFirst i (block_fields i x.tags c.len.result x.gate) a byte) (λ i breaks. block_front i x.tags c.len.result x.gate a byte breaks)
     (c.in_err-count.ensures.damaged a byte (told_through c.from_residual.result out.0 _ a byte out.1 out.2 told)))
 
 pub returns-in_err-read_body-clause-damaged : goal.returns-in_err-read_body-clause-damaged
 returns-in_err-read_body-clause-damaged g c = λ a byte told.
     let x = c.args in
-    let o = g.D.Disk.trace x.dev.now in
+    let o = (g.D.Disk.device x.dev.now).trace in
     let here = (goal.at.returns-in_err-read_body-clause-damaged g c).After-read_body in
     let out = err_from_is_err_and c.from_residual-in_err-read_body.result c.from_residual-in_err-read_body.ensures.1 in
     let in_body = λ (i : List ℕ). BreaksFirst i (body_fields i x.tags (x.gate + 13) c.in-Some.count) a byte in
@@ -48,7 +48,7 @@ returns-in_err-read_body-clause-damaged g c = λ a byte told.
 pub returns-clause-added : goal.returns-clause-added
 returns-clause-added g c =
     let x = c.args in
-    let o = g.D.Disk.trace x.dev.now in
+    let o = (g.D.Disk.device x.dev.now).trace in
     let here = (goal.at.returns-clause-added g c).After-read_body in
     let count = c.in-Some.count in
     let old = x.rows.now.items in

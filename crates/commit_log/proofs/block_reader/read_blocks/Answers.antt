@@ -13,7 +13,7 @@ pub returns-in_err-end-clause-damaged : goal.returns-in_err-end-clause-damaged
 returns-in_err-end-clause-damaged g c = λ a byte told.
     let x = c.args in
     let rows = c.walk.rows.items in
-    let o = g.D.Disk.trace c.len.new.self in
+    let o = (g.D.Disk.device c.len.new.self).trace in
     let out = err_from_is_err_and c.from_residual.result c.from_residual.ensures.1 in
     let is = told_through c.from_residual.result out.0 _ a byte out.1 out.2 told in
     let read = c.in_err-end.ensures in
@@ -28,8 +28,8 @@ walk-preserved g c =
     let x = c.args in
     let old = c.walk.rows.items in
     let new = c.read_block.new.rows.items in
-    let o = g.D.Disk.trace c.len.new.self in
-    let now = g.D.Disk.trace c.walk.dev in
+    let o = (g.D.Disk.device c.len.new.self).trace in
+    let now = (g.D.Disk.device c.walk.dev).trace in
     let gate = c.walk.next in
     let read = c.in_ok-end.ensures in
     let some_of = λ (P : ℕ → Type 0). if_some c.in_ok-end.field-0 c.in-Some.end P c.in-Some.is in
@@ -42,7 +42,6 @@ walk-preserved g c =
       long = c.walk.invariant.long;
       rows = read.rows;
       same = read.same ∙ c.walk.invariant.same;
-      untimed = read.untimed ∙ c.walk.invariant.untimed;
       faults = read.cause.passed ∙ c.walk.invariant.faults;
       handed = read.handed ∙ c.walk.invariant.handed;
     }

@@ -12,10 +12,10 @@ use Rattle.commit_log.proofs.block_reader.read_body.Goals.{After-add_body}
 
 -- the body is a piece of the device
 piece : (g : given.Over) (c : After-add_body g)
-    → Shows (g.D.Disk.trace c.args.dev.now) (λ i. c.deref.result.now ≡ piece_of i c.args.from (32 * c.args.count + 1))
+    → Shows (g.D.Disk.device c.args.dev.now).trace (λ i. c.deref.result.now ≡ piece_of i c.args.from (32 * c.args.count + 1))
 piece g c =
     let size : 32 * c.from.result + 1 ≡ 32 * c.args.count + 1 = omega (arith, c.from.ensures) in
-    shows_so (g.D.Disk.trace c.args.dev.now) (λ i. c.in_ok-body.body.items ≡ piece_of i c.args.from (32 * c.from.result + 1))
+    shows_so (g.D.Disk.device c.args.dev.now).trace (λ i. c.in_ok-body.body.items ≡ piece_of i c.args.from (32 * c.from.result + 1))
     (λ i. c.deref.result.now ≡ piece_of i c.args.from (32 * c.args.count + 1))
     (λ i is. c.deref.ensures.value ∙ (is ∙ ap (piece_of i c.args.from) size)) c.in_ok-body.ensures.piece
 
@@ -36,7 +36,7 @@ returns-clause-damaged g c = λ a byte told.
     let here = (goal.at.returns-clause-damaged g c).After-add_body in
     let behind : c.behind.result ≡ Damaged a byte = cc (told) in
     let was = c.behind.ensures.damaged a byte behind in
-    shows_both (g.D.Disk.trace x.dev.now) (λ i. c.deref.result.now ≡ piece_of i x.from (32 * x.count + 1)) (λ i. length i ≡ x.len)
+    shows_both (g.D.Disk.device x.dev.now).trace (λ i. c.deref.result.now ≡ piece_of i x.from (32 * x.count + 1)) (λ i. length i ≡ x.len)
     (λ i. BreaksFirst i (body_fields i x.tags x.from x.count) a byte)
     (λ i is long. body_broken i x.tags x.from x.count c.deref.result.now was.0 a byte is (omega (arith, long, c.requires.start)) was.2
     (c.in-Err.ensures.damaged was.0 byte (ap Err was.1))) (piece g here) c.requires.length

@@ -13,9 +13,9 @@ use Rattle.commit_log.proofs.block_reader.read_front.Goals as goal
 use Rattle.commit_log.proofs.block_reader.read_front.Goals.{After-check_front}
 
 -- the front that is checked is a piece of the device
-piece : (g : given.Over) (c : After-check_front g) → Shows (g.D.Disk.trace c.args.dev.now) (λ i. c.deref-2.result.now ≡ piece_of i c.args.gate 13)
+piece : (g : given.Over) (c : After-check_front g) → Shows (g.D.Disk.device c.args.dev.now).trace (λ i. c.deref-2.result.now ≡ piece_of i c.args.gate 13)
 piece g c =
-    shows_so (g.D.Disk.trace c.args.dev.now) (λ i. c.in_ok-front.front.items ≡ piece_of i c.args.gate 13)
+    shows_so (g.D.Disk.device c.args.dev.now).trace (λ i. c.in_ok-front.front.items ≡ piece_of i c.args.gate 13)
     (λ i. c.deref-2.result.now ≡ piece_of i c.args.gate 13) (λ i is. c.deref-2.ensures.value ∙ is) c.in_ok-front.ensures.piece
 
 -- its gate is open
@@ -28,7 +28,7 @@ returns-in-Ok-clause-front g c =
     let x = c.args in
     let here = (goal.at.returns-in-Ok-clause-front g c).After-check_front in
     let told = c.in-Ok.ensures in
-    shows_so (g.D.Disk.trace x.dev.now) (λ i. c.deref-2.result.now ≡ piece_of i x.gate 13) (λ i. HasFront i x.number x.gate c.in-Ok.count)
+    shows_so (g.D.Disk.device x.dev.now).trace (λ i. c.deref-2.result.now ≡ piece_of i x.gate 13) (λ i. HasFront i x.number x.gate c.in-Ok.count)
     (λ i is. front_found i x.number x.gate c.deref-2.result.now c.in-Ok.count is (opened g here) told.kept told.count told.number_spelled
     told.count_spelled) (piece g here)
 
@@ -36,7 +36,7 @@ pub returns-clause-damaged_open : goal.returns-clause-damaged_open
 returns-clause-damaged_open g c = λ a byte told.
     let x = c.args in
     let here = (goal.at.returns-clause-damaged_open g c).After-check_front in
-    shows_so (g.D.Disk.trace x.dev.now) (λ i. c.deref-2.result.now ≡ piece_of i x.gate 13) (IsOpen x.gate)
+    shows_so (g.D.Disk.device x.dev.now).trace (λ i. c.deref-2.result.now ≡ piece_of i x.gate 13) (IsOpen x.gate)
     (λ i is. front_opened i x.number x.gate c.deref-2.result.now is (opened g here)) (piece g here)
 
 pub returns-clause-damaged : goal.returns-clause-damaged
@@ -45,7 +45,7 @@ returns-clause-damaged g c = λ a byte told.
     let here = (goal.at.returns-clause-damaged g c).After-check_front in
     let behind : c.behind.result ≡ Damaged a byte = cc (told) in
     let was = c.behind.ensures.damaged a byte behind in
-    shows_so (g.D.Disk.trace x.dev.now) (λ i. c.deref-2.result.now ≡ piece_of i x.gate 13)
+    shows_so (g.D.Disk.device x.dev.now).trace (λ i. c.deref-2.result.now ≡ piece_of i x.gate 13)
     (λ i. BreaksFirst i (front_fields i x.number x.gate) a byte)
     (λ i is. front_broken i x.number x.gate c.deref-2.result.now was.0 a byte is (opened g here) was.2
     (c.in-Err.ensures.damaged was.0 byte (ap Err was.1))) (piece g here)

@@ -12,9 +12,9 @@ use Rattle.commit_log.proofs.layout_reader.read_log.Goals as goal
 use Rattle.commit_log.proofs.layout_reader.read_log.Goals.{After-len}
 
 -- the text that was read
-read : (g : given.Over) (c : After-len g) → Shows (g.D.Disk.trace c.args.dev.now) (IsOfText letters c.in-Some.text.items)
+read : (g : given.Over) (c : After-len g) → Shows (g.D.Disk.device c.args.dev.now).trace (IsOfText letters c.in-Some.text.items)
 read g c =
-    if_some c.in_ok-text.field-0 c.in-Some.text (λ text. Shows (g.D.Disk.trace c.args.dev.now) (IsOfText letters text.items)) c.in-Some.is
+    if_some c.in_ok-text.field-0 c.in-Some.text (λ text. Shows (g.D.Disk.device c.args.dev.now).trace (IsOfText letters text.items)) c.in-Some.is
     c.in_ok-text.ensures.text
 
 place : (g : given.Over) (c : After-len g) → 9 + c.len.result ≡ 9 + length c.in-Some.text.items
@@ -25,14 +25,14 @@ returns-in_err-text-clause-damaged g c = λ a byte told.
     let x = c.args in
     let out = err_from_is_err_and c.from_residual.result c.from_residual.ensures.1 in
     let is = damage_read c.from_residual.result out.0 c.in_err-text.field-0.0 a byte out.1 out.2 told in
-    head_damage x.plant.now x.tags (g.D.Disk.trace x.dev.now) a byte (c.in_err-text.ensures.begun a byte (ap Err is))
+    head_damage x.plant.now x.tags (g.D.Disk.device x.dev.now).trace a byte (c.in_err-text.ensures.begun a byte (ap Err is))
     (c.in_err-text.ensures.damaged a byte (ap Err is))
 
 pub read_blocks-requires : goal.read_blocks-requires
 read_blocks-requires g c =
     let here = (goal.at.read_blocks-requires g c).After-len in
     record {
-      gate = gate_reached (g.D.Disk.trace c.read_text.new.dev) c.in-Some.text.items (9 + c.len.result) (place g here)
+      gate = gate_reached (g.D.Disk.device c.read_text.new.dev).trace c.in-Some.text.items (9 + c.len.result) (place g here)
           (subst (λ t. Shows t (IsOfText letters c.in-Some.text.items)) (sym c.in_ok-text.ensures.same) (read g here));
     }
 
@@ -43,6 +43,6 @@ returns-in_err-stored-clause-damaged g c = λ a byte told.
     let out = err_from_is_err_and c.from_residual-in_err-stored.result c.from_residual-in_err-stored.ensures.1 in
     let is = damage_read c.from_residual-in_err-stored.result out.0 c.in_err-stored.field-0.0 a byte out.1 out.2 told in
     let same = sym c.deref.ensures.value ∙ c.in_default-first_difference.ensures.same refl in
-    block_damage x.plant.now c.in-Some.text.items x.tags (9 + c.len.result) (g.D.Disk.trace x.dev.now) a byte same (place g here)
+    block_damage x.plant.now c.in-Some.text.items x.tags (9 + c.len.result) (g.D.Disk.device x.dev.now).trace a byte same (place g here)
     (read g here) (subst (λ t. Shows t (λ i. IsBlockDamage i x.tags (9 + c.len.result) a byte)) c.in_ok-text.ensures.same
     (c.in_err-stored.ensures.damaged a byte (ap Err is)))

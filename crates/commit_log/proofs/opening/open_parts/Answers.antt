@@ -1,10 +1,10 @@
-use Rattle.std.proofs.Common.{[], List, Err, IfErr, refl, sym, ◌∙◌, arith, subst}
+use Rattle.std.proofs.Common.{[], List, Err, IfErr, refl, sym, ◌∙◌, arith, subst, ap}
 use Rattle.disk_model.specs.Gates.{IsNew}
 use Rattle.archive_file.proofs.Beginnings.{not_new, opens_begun, opens_kept}
 use Rattle.std.proofs.lemmas.Result.{err_from_is_err_and}
 use Rattle.disk_model.specs.Calls.{Shows}
 use Rattle.disk_model.specs.Moments.{During}
-use Rattle.disk_model.specs.Traces.{seen}
+use Rattle.disk_model.specs.Traces.{seen, moment}
 use Rattle.commit_log.specs.declared.row.LogRow.{LogRow}
 use Rattle.commit_log.specs.Images.{LogsNothing, StandsForRows}
 use Rattle.commit_log.specs.Openings.{IsLogCause, IsLogLeftOrSame, IsLeftOrStands, IsTooMany, StandsSame, Stores}
@@ -17,17 +17,17 @@ use Rattle.commit_log.proofs.opening.open_parts.Goals.{After-read_log}
 
 -- what the reading leaves is what was there, or stands for the same
 left_same : (g : given.Over) (c : After-read_log g)
-    → let o = g.D.Disk.trace c.args.dev.now in
-    During o (g.D.Disk.trace c.read_log.new.dev) (IsLogLeftOrSame c.args.plant.now c.args.tags o)
+    → let o = (g.D.Disk.device c.args.dev.now).trace in
+    During o (g.D.Disk.device c.read_log.new.dev).trace (IsLogLeftOrSame c.args.plant.now c.args.tags o)
 left_same g c =
-    let o = g.D.Disk.trace c.args.dev.now in
-    let mid = g.D.Disk.trace c.sync.new.self in
-    during_same o mid (g.D.Disk.trace c.read_log.new.dev) (IsLogLeftOrSame c.args.plant.now c.args.tags o) c.read_log.ensures.same
+    let o = (g.D.Disk.device c.args.dev.now).trace in
+    let mid = (g.D.Disk.device c.sync.new.self).trace in
+    during_same o mid (g.D.Disk.device c.read_log.new.dev).trace (IsLogLeftOrSame c.args.plant.now c.args.tags o) c.read_log.ensures.same
     (left_synced (StandsSame c.args.plant.now c.args.tags (seen o)) c.sync.result o mid c.sync.ensures.noted)
 
 pub returns-in_default-clause-any_moment_refused : goal.returns-in_default-clause-any_moment_refused
 returns-in_default-clause-any_moment_refused g c =
-    left_synced (StandsSame c.args.plant.now c.args.tags (seen (g.D.Disk.trace c.args.dev.now))) c.sync.result _ _ c.sync.ensures.noted
+    left_synced (StandsSame c.args.plant.now c.args.tags (seen (g.D.Disk.device c.args.dev.now).trace)) c.sync.result _ _ c.sync.ensures.noted
 
 pub returns-in_err-stored-clause-any_moment_refused : goal.returns-in_err-stored-clause-any_moment_refused
 returns-in_err-stored-clause-any_moment_refused g c =
@@ -36,27 +36,28 @@ returns-in_err-stored-clause-any_moment_refused g c =
 pub returns-in_err-stored-clause-cause : goal.returns-in_err-stored-clause-cause
 returns-in_err-stored-clause-cause g c =
     let x = c.args in
-    let is_cause = IsLogCause x.plant.now x.tags x.room (g.D.Disk.trace x.dev.now) in
+    let is_cause = IsLogCause x.plant.now x.tags x.room (g.D.Disk.device x.dev.now).trace in
     let out = err_from_is_err_and c.from_residual.result c.from_residual.ensures.1 in
     let read = c.in_err-stored.ensures in
     subst (λ r. IfErr r is_cause) (sym out.1) (subst is_cause (sym out.2)
-    (read_cause x.plant.now x.tags x.room _ _ (Err c.in_err-stored.field-0.0) c.in_err-stored.field-0.0 refl c.in-Ok.ensures.noted
+    (read_cause x.plant.now x.tags x.room (g.D.Disk.device x.dev.now).trace (g.D.Disk.device c.sync.new.self).trace
+    (Err c.in_err-stored.field-0.0) c.in_err-stored.field-0.0 refl c.in-Ok.ensures.noted
     read.damaged read.other read.not_many))
 
 pub returns-in-Some-clause-stood : goal.returns-in-Some-clause-stood
 returns-in-Some-clause-stood g c =
     let x = c.args in
-    let o = g.D.Disk.trace x.dev.now in
+    let o = (g.D.Disk.device x.dev.now).trace in
     let rows = c.in-Some.stored.rows.items in
     ok_rows c.parts_of.result rows (λ (l : List LogRow). Shows o (λ i. StandsForRows x.plant.now x.tags i l)) c.parts_of.ensures.rows
-    (shown_before o _ (λ i. StandsForRows x.plant.now x.tags i rows) c.in-Ok.ensures.noted
-    (found_stands x.plant.now x.tags _ c.in_ok-stored.field-0 c.in-Some.stored c.in-Some.is c.in_ok-stored.ensures.found))
+    (shown_before o (g.D.Disk.device c.sync.new.self).trace (λ i. StandsForRows x.plant.now x.tags i rows) c.in-Ok.ensures.noted
+    (found_stands x.plant.now x.tags (g.D.Disk.device c.sync.new.self).trace c.in_ok-stored.field-0 c.in-Some.stored c.in-Some.is c.in_ok-stored.ensures.found))
 
 pub returns-in-Some-clause-any_moment : goal.returns-in-Some-clause-any_moment
 returns-in-Some-clause-any_moment g c =
     let x = c.args in
-    let o = g.D.Disk.trace x.dev.now in
-    let new = g.D.Disk.trace c.read_log.new.dev in
+    let o = (g.D.Disk.device x.dev.now).trace in
+    let new = (g.D.Disk.device c.read_log.new.dev).trace in
     let rows = c.in-Some.stored.rows.items in
     ok_rows c.parts_of.result rows (λ (l : List LogRow). During o new (IsLeftOrStands x.plant.now x.tags l o)) c.parts_of.ensures.rows
     (during_same o _ new (IsLeftOrStands x.plant.now x.tags rows o) c.read_log.ensures.same
@@ -69,29 +70,29 @@ returns-in-Some-clause-any_moment_refused g c =
 pub returns-in-Some-clause-cause : goal.returns-in-Some-clause-cause
 returns-in-Some-clause-cause g c =
     let x = c.args in
-    let o = g.D.Disk.trace x.dev.now in
+    let o = (g.D.Disk.device x.dev.now).trace in
     let told = c.parts_of.ensures in
     parts_cause x.plant.now x.tags x.room o c.parts_of.result _ told.many told.undamaged told.not_other
-    (λ n is. shown_before o _ (IsTooMany x.plant.now x.tags x.room n) c.in-Ok.ensures.noted
-    (found_many x.plant.now x.tags x.room n _ c.in_ok-stored.field-0 c.in-Some.stored c.in-Some.is is c.in_ok-stored.ensures.found))
+    (λ n is. shown_before o (g.D.Disk.device c.sync.new.self).trace (IsTooMany x.plant.now x.tags x.room n) c.in-Ok.ensures.noted
+    (found_many x.plant.now x.tags x.room n (g.D.Disk.device c.sync.new.self).trace c.in_ok-stored.field-0 c.in-Some.stored c.in-Some.is is c.in_ok-stored.ensures.found))
 
 pub returns-in-None-clause-any_moment : goal.returns-in-None-clause-any_moment
 returns-in-None-clause-any_moment g c =
     let x = c.args in
-    let o = g.D.Disk.trace x.dev.now in
-    let new = g.D.Disk.trace c.begin.new.dev in
+    let o = (g.D.Disk.device x.dev.now).trace in
+    let new = (g.D.Disk.device c.begin.new.dev).trace in
     ok_rows c.begin.result [] (λ (l : List LogRow). During o new (IsLeftOrStands x.plant.now x.tags l o)) c.begin.ensures.rows
-    (begun_stands x.plant.now x.tags [] o _ new refl
+    (begun_stands x.plant.now x.tags [] o (g.D.Disk.device c.sync.new.self).trace new refl
     (left_synced (λ i. StandsForRows x.plant.now x.tags i []) c.sync.result _ _ c.sync.ensures.noted)
     (subst (λ t. During t new (LogsNothing x.plant.now)) c.read_log.ensures.same c.begin.ensures.any_moment))
 
 pub returns-in-None-clause-any_moment_refused : goal.returns-in-None-clause-any_moment_refused
 returns-in-None-clause-any_moment_refused g c =
     let x = c.args in
-    let o = g.D.Disk.trace x.dev.now in
-    let new = g.D.Disk.trace c.begin.new.dev in
-    on_err c.begin.result _ (begun_same x.plant.now x.tags o _ new c.in-Ok.ensures.noted
-    (found_new x.plant.now x.tags _ c.in_ok-stored.field-0 c.in-None.is c.in_ok-stored.ensures.found)
+    let o = (g.D.Disk.device x.dev.now).trace in
+    let new = (g.D.Disk.device c.begin.new.dev).trace in
+    on_err c.begin.result _ (begun_same x.plant.now x.tags o (g.D.Disk.device c.sync.new.self).trace new c.in-Ok.ensures.noted
+    (found_new x.plant.now x.tags (g.D.Disk.device c.sync.new.self).trace c.in_ok-stored.field-0 c.in-None.is c.in_ok-stored.ensures.found)
     (left_synced (StandsSame x.plant.now x.tags (seen o)) c.sync.result _ _ c.sync.ensures.noted)
     (subst (λ t. During t new (LogsNothing x.plant.now)) c.read_log.ensures.same c.begin.ensures.any_moment))
 
@@ -99,17 +100,29 @@ pub returns-in-Some-clause-moment : goal.returns-in-Some-clause-moment
 returns-in-Some-clause-moment g c =
     let x = c.args in
     let stored = c.in-Some.stored in
-    on_ok c.parts_of.result (opens_kept IsNew (Stores x.plant.now x.tags stored.rows.items stored.end) _ (g.D.Disk.trace c.sync.new.self) _ _
-    (g.met.D.Disk.told x.dev.now) c.in-Ok.ensures.noted
-    (found_stores x.plant.now x.tags _ c.in_ok-stored.field-0 stored c.in-Some.is c.in_ok-stored.ensures.found)
+    let o = (g.D.Disk.device x.dev.now).trace in
+    let mid = (g.D.Disk.device c.sync.new.self).trace in
+    on_ok c.parts_of.result (opens_kept IsNew (Stores x.plant.now x.tags stored.rows.items stored.end) o mid (moment o) _
+    refl c.in-Ok.ensures.noted
+    (found_stores x.plant.now x.tags (g.D.Disk.device c.sync.new.self).trace c.in_ok-stored.field-0 stored c.in-Some.is c.in_ok-stored.ensures.found)
     (λ i stores. not_new i stores.of_plant.head.begun)
-    (omega (arith, c.in-Ok.ensures.clock.in_time, c.sync.ensures.clock.counted, c.read_log.ensures.untimed)))
+    (omega (arith, c.in-Ok.ensures.clock.in_time, c.sync.ensures.clock.counted, ap moment c.read_log.ensures.same)))
 
 pub returns-in-None-clause-moment : goal.returns-in-None-clause-moment
 returns-in-None-clause-moment g c =
     let x = c.args in
-    opens_begun c.begin.result IsNew _ (g.D.Disk.trace c.read_log.new.dev) _ (g.D.Disk.ticks c.read_log.new.dev) _
-    (g.met.D.Disk.told x.dev.now) (c.read_log.ensures.same ∙ c.in-Ok.ensures.noted)
-    (shown_before _ _ IsNew c.in-Ok.ensures.noted
-    (found_new x.plant.now x.tags _ c.in_ok-stored.field-0 c.in-None.is c.in_ok-stored.ensures.found))
-    (omega (arith, c.in-Ok.ensures.clock.in_time, c.sync.ensures.clock.counted, c.read_log.ensures.untimed)) c.begin.ensures.calls
+    let o = (g.D.Disk.device x.dev.now).trace in
+    let read = (g.D.Disk.device c.read_log.new.dev).trace in
+    opens_begun c.begin.result IsNew o read (moment o) (moment read) _
+    refl (c.read_log.ensures.same ∙ c.in-Ok.ensures.noted)
+    (shown_before o (g.D.Disk.device c.sync.new.self).trace IsNew c.in-Ok.ensures.noted
+    (found_new x.plant.now x.tags (g.D.Disk.device c.sync.new.self).trace c.in_ok-stored.field-0 c.in-None.is c.in_ok-stored.ensures.found))
+    (omega (arith, c.in-Ok.ensures.clock.in_time, c.sync.ensures.clock.counted, ap moment c.read_log.ensures.same)) c.begin.ensures.calls
+
+pub returns-in-None-clause-synced : goal.returns-in-None-clause-synced
+returns-in-None-clause-synced g c =
+    let x = c.args in
+    let o = (g.D.Disk.device x.dev.now).trace in
+    let mid = (g.D.Disk.device c.sync.new.self).trace in
+    on_ok c.begin.result (λ begun. absurd (begun (shown_before o mid IsNew c.in-Ok.ensures.noted
+    (found_new x.plant.now x.tags mid c.in_ok-stored.field-0 c.in-None.is c.in_ok-stored.ensures.found))))

@@ -5,10 +5,13 @@ use Rattle.device_layout.specs.Recovery.{IsRecovered}
 use Rattle.disk_model.specs.Calls.{Shows}
 use Rattle.device_layout.specs.Readings.{IsCause}
 use Rattle.crash_recovery.specs.Opening.{HasSlots, OpensAs, IsTagLeftOrSame, IsReadAs}
-use Rattle.crash_recovery.specs.Journals.{IsSeat}
+use Rattle.crash_recovery.specs.Journals.{IsSeat, SeatedOn}
+use Rattle.crash_recovery.proofs.Places.{seated_again}
+use Rattle.disk_model.proofs.Images.{settled}
+use Rattle.disk_model.specs.Images.{IsSettled}
 use Rattle.device_layout.proofs.Shows.{shows_after, if_ok, if_ok₂, if_err}
 use Rattle.crash_recovery.proofs.Openings.{synced_during, during_same, made_during, made_as, read_as, slots_made, slots_kept, cause_synced}
-use Rattle.disk_model.specs.Traces.{Synced, noted}
+use Rattle.disk_model.specs.Traces.{Synced, noted, moment}
 use Rattle.disk_model.specs.Gates.{IsBegun}
 use Rattle.device_layout.specs.Layouts.{IsMade}
 use Rattle.crash_recovery.specs.Opening.{HasFreeAtFirst}
@@ -36,16 +39,16 @@ returns-in-Ok-true-clause-opened g c =
     let same = c.in-Ok-true.ensures.same in
     let blank = shows_after _ _ IsNew same (c.in-Ok-true.ensures.new c.in-Ok-true.field-0-test) in
     if_ok₂ c.made.result (λ r. r.core.state ≡ nothing_taken def.tuning) (λ r. r.retuned ≡ false)
-    (λ r. IsReadAs def (g.D.Disk.trace c.args.dev.now) (g.D.Disk.trace c.made.new.dev) r.retuned r.core.state)
-    (λ r core retuned. subst (λ b. IsReadAs def (g.D.Disk.trace c.args.dev.now)
-    (g.D.Disk.trace c.made.new.dev) b r.core.state)
+    (λ r. IsReadAs def (g.D.Disk.device c.args.dev.now).trace (g.D.Disk.device c.made.new.dev).trace r.retuned r.core.state)
+    (λ r core retuned. subst (λ b. IsReadAs def (g.D.Disk.device c.args.dev.now).trace
+    (g.D.Disk.device c.made.new.dev).trace b r.core.state)
     (sym retuned) (made_as def _ _ _ r.core.state (same
     ∙ c.in-Ok.ensures.noted) blank c.made.ensures.any_moment core))
     c.made.ensures.core c.made.ensures.retuned
 
 pub returns-in-Ok-true-clause-lane : goal.returns-in-Ok-true-clause-lane
 returns-in-Ok-true-clause-lane g c =
-    let o = g.D.Disk.trace c.args.dev.now in
+    let o = (g.D.Disk.device c.args.dev.now).trace in
     let same = c.in-Ok-true.ensures.same in
     let blank = shows_after _ _ IsNew same (c.in-Ok-true.ensures.new c.in-Ok-true.field-0-test) in
     if_ok c.made.result (λ r. r.seat.lane ≡ record { slots = c.args.lane_slots; used = 0; next = 0 })
@@ -61,9 +64,9 @@ returns-in-Ok-false-clause-any_moment g c =
 pub returns-in-Ok-false-clause-opened : goal.returns-in-Ok-false-clause-opened
 returns-in-Ok-false-clause-opened g c =
     let def = c.args.def.now in
-    let o = g.D.Disk.trace c.args.dev.now in
-    let mid = g.D.Disk.trace c.is_new.new.dev in
-    let new = g.D.Disk.trace c.read_back.new.dev in
+    let o = (g.D.Disk.device c.args.dev.now).trace in
+    let mid = (g.D.Disk.device c.is_new.new.dev).trace in
+    let new = (g.D.Disk.device c.read_back.new.dev).trace in
     let is = c.in-Ok-false.ensures.same ∙ c.in-Ok.ensures.noted in
     if_ok c.read_back.result
     (λ r. Shows mid (λ x. (s : State) × IsRecovered def x s × OpensAs def r.retuned s r.core.state))
@@ -73,8 +76,8 @@ returns-in-Ok-false-clause-opened g c =
 
 pub returns-in-Ok-false-clause-lane : goal.returns-in-Ok-false-clause-lane
 returns-in-Ok-false-clause-lane g c =
-    let o = g.D.Disk.trace c.args.dev.now in
-    let mid = g.D.Disk.trace c.is_new.new.dev in
+    let o = (g.D.Disk.device c.args.dev.now).trace in
+    let mid = (g.D.Disk.device c.is_new.new.dev).trace in
     let is = c.in-Ok-false.ensures.same ∙ c.in-Ok.ensures.noted in
     if_ok c.read_back.result (λ r. Shows mid (IsSeat r.seat))
     (λ r. Shows o (HasSlots c.args.lane_slots r.seat.lane.slots))
@@ -83,8 +86,8 @@ returns-in-Ok-false-clause-lane g c =
 pub returns-in-Ok-false-clause-cause : goal.returns-in-Ok-false-clause-cause
 returns-in-Ok-false-clause-cause g c =
     let def = c.args.def.now in
-    let o = g.D.Disk.trace c.args.dev.now in
-    let mid = g.D.Disk.trace c.is_new.new.dev in
+    let o = (g.D.Disk.device c.args.dev.now).trace in
+    let mid = (g.D.Disk.device c.is_new.new.dev).trace in
     if_err c.read_back.result (IsCause def mid) (IsCause def o)
     (λ why. cause_synced def o mid why (c.in-Ok-false.ensures.same ∙ c.in-Ok.ensures.noted))
     c.read_back.ensures.cause
@@ -96,7 +99,7 @@ returns-clause-any_moment g c =
 
 pub returns-in-Ok-true-clause-free : goal.returns-in-Ok-true-clause-free
 returns-in-Ok-true-clause-free g c =
-    let o = g.D.Disk.trace c.args.dev.now in
+    let o = (g.D.Disk.device c.args.dev.now).trace in
     let same = c.in-Ok-true.ensures.same in
     let blank = shows_after _ _ IsNew same (c.in-Ok-true.ensures.new c.in-Ok-true.field-0-test) in
     if_ok c.made.result (λ r. free_in r.seat ≡ r.seat.lane.slots)
@@ -105,16 +108,16 @@ returns-in-Ok-true-clause-free g c =
 
 pub returns-in-Ok-true-clause-made : goal.returns-in-Ok-true-clause-made
 returns-in-Ok-true-clause-made g c =
-    let o = g.D.Disk.trace c.args.dev.now in
-    let new = g.D.Disk.trace c.made.new.dev in
+    let o = (g.D.Disk.device c.args.dev.now).trace in
+    let new = (g.D.Disk.device c.made.new.dev).trace in
     on_ok c.made.result
     (λ made. shown_always o IsNew (Shows new (IsMade c.args.def.now c.args.lane_slots)) made) c.made.ensures.made
 
 pub returns-in-Ok-true-clause-synced : goal.returns-in-Ok-true-clause-synced
 returns-in-Ok-true-clause-synced g c =
-    let o = g.D.Disk.trace c.args.dev.now in
-    let mid = g.D.Disk.trace c.is_new.new.dev in
-    let new = g.D.Disk.trace c.made.new.dev in
+    let o = (g.D.Disk.device c.args.dev.now).trace in
+    let mid = (g.D.Disk.device c.is_new.new.dev).trace in
+    let new = (g.D.Disk.device c.made.new.dev).trace in
     let same = c.in-Ok-true.ensures.same in
     let blank = shows_after _ _ IsNew same (c.in-Ok-true.ensures.new c.in-Ok-true.field-0-test) in
     on_ok c.made.result (λ made. new_before o mid (new ≡ noted Synced o) (same ∙ c.in-Ok.ensures.noted) blank)
@@ -122,8 +125,8 @@ returns-in-Ok-true-clause-synced g c =
 
 pub returns-in-Ok-false-clause-free : goal.returns-in-Ok-false-clause-free
 returns-in-Ok-false-clause-free g c =
-    let o = g.D.Disk.trace c.args.dev.now in
-    let mid = g.D.Disk.trace c.is_new.new.dev in
+    let o = (g.D.Disk.device c.args.dev.now).trace in
+    let mid = (g.D.Disk.device c.is_new.new.dev).trace in
     let is = c.in-Ok-false.ensures.same ∙ c.in-Ok.ensures.noted in
     if_ok₂ c.read_back.result (λ r. Shows mid (IsSeat r.seat)) (λ r. r.seat.lane.used ≤ r.seat.lane.slots)
     (λ r. Shows o (HasFreeAtFirst r.seat.lane.slots (free_in r.seat)))
@@ -131,9 +134,9 @@ returns-in-Ok-false-clause-free g c =
 
 pub returns-in-Ok-false-clause-made : goal.returns-in-Ok-false-clause-made
 returns-in-Ok-false-clause-made g c =
-    let o = g.D.Disk.trace c.args.dev.now in
-    let mid = g.D.Disk.trace c.is_new.new.dev in
-    let new = g.D.Disk.trace c.read_back.new.dev in
+    let o = (g.D.Disk.device c.args.dev.now).trace in
+    let mid = (g.D.Disk.device c.is_new.new.dev).trace in
+    let new = (g.D.Disk.device c.read_back.new.dev).trace in
     let same = c.in-Ok-false.ensures.same in
     let begun = shows_after _ _ IsBegun same (c.in-Ok-false.ensures.begun c.in-Ok-false.field-0-test) in
     ok_always c.read_back.result (begun_before o mid (Shows new (IsMade c.args.def.now c.args.lane_slots))
@@ -141,23 +144,40 @@ returns-in-Ok-false-clause-made g c =
 
 pub returns-in-Ok-false-clause-synced : goal.returns-in-Ok-false-clause-synced
 returns-in-Ok-false-clause-synced g c =
-    let o = g.D.Disk.trace c.args.dev.now in
-    let mid = g.D.Disk.trace c.is_new.new.dev in
-    let new = g.D.Disk.trace c.read_back.new.dev in
+    let o = (g.D.Disk.device c.args.dev.now).trace in
+    let mid = (g.D.Disk.device c.is_new.new.dev).trace in
+    let new = (g.D.Disk.device c.read_back.new.dev).trace in
     let is = c.read_back.ensures.same ∙ c.in-Ok-false.ensures.same ∙ c.in-Ok.ensures.noted in
     ok_always c.read_back.result (shown_always o (λ x. IsNew x → ⊥) (new ≡ noted Synced o) is)
 
 pub returns-in-Ok-false-clause-new_calls : goal.returns-in-Ok-false-clause-new_calls
 returns-in-Ok-false-clause-new_calls g c =
-    let o = g.D.Disk.trace c.args.dev.now in
-    let mid = g.D.Disk.trace c.is_new.new.dev in
+    let o = (g.D.Disk.device c.args.dev.now).trace in
+    let mid = (g.D.Disk.device c.is_new.new.dev).trace in
     let same = c.in-Ok-false.ensures.same in
     let begun = shows_after _ _ IsBegun same (c.in-Ok-false.ensures.begun c.in-Ok-false.field-0-test) in
     ok_always c.read_back.result (shown_so o (λ x. IsNew x → ⊥)
-    (λ x. IsNew x → g.D.Disk.ticks c.read_back.new.dev ≡ g.D.Disk.ticks c.args.dev.now + (layout_calls x + 1))
+    (λ x. IsNew x → moment (g.D.Disk.device c.read_back.new.dev).trace ≡ moment (g.D.Disk.device c.args.dev.now).trace + (layout_calls x + 1))
     (λ x no new. absurd (no new)) (begun_before o mid ⊥ (same ∙ c.in-Ok.ensures.noted) begun))
 
 pub returns-in-Ok-false-clause-calls : goal.returns-in-Ok-false-clause-calls
 returns-in-Ok-false-clause-calls g c =
-    ok_always c.read_back.result (shown_always (g.D.Disk.trace c.args.dev.now) (λ x. IsNew x → ⊥)
-    (g.D.Disk.ticks c.read_back.new.dev ≡ g.D.Disk.ticks c.args.dev.now + 1) (grind arith))
+    ok_always c.read_back.result (shown_always (g.D.Disk.device c.args.dev.now).trace (λ x. IsNew x → ⊥)
+    (moment (g.D.Disk.device c.read_back.new.dev).trace ≡ moment (g.D.Disk.device c.args.dev.now).trace + 1) (grind arith))
+
+pub returns-in-Ok-true-clause-calls : goal.returns-in-Ok-true-clause-calls
+returns-in-Ok-true-clause-calls g c =
+    let o = (g.D.Disk.device c.args.dev.now).trace in
+    let mid = (g.D.Disk.device c.is_new.new.dev).trace in
+    let same = c.in-Ok-true.ensures.same in
+    let blank = shows_after _ _ IsNew same (c.in-Ok-true.ensures.new c.in-Ok-true.field-0-test) in
+    ok_always c.made.result (new_before o mid (moment (g.D.Disk.device c.made.new.dev).trace ≡ moment o + 1) (same ∙ c.in-Ok.ensures.noted) blank)
+
+pub returns-in-Ok-false-clause-seated : goal.returns-in-Ok-false-clause-seated
+returns-in-Ok-false-clause-seated g c =
+    let o = (g.D.Disk.device c.args.dev.now).trace in
+    let mid = (g.D.Disk.device c.is_new.new.dev).trace in
+    let new = (g.D.Disk.device c.read_back.new.dev).trace in
+    let settled : IsSettled new = subst IsSettled (sym (c.read_back.ensures.same ∙ c.in-Ok-false.ensures.same ∙ c.in-Ok.ensures.noted)) (settled o) in
+    if_ok c.read_back.result (λ r. Shows mid (IsSeat r.seat)) (λ r. SeatedOn r.seat new)
+    (λ r seat. seated_again r.seat new settled (shows_after mid new (IsSeat r.seat) c.read_back.ensures.same seat)) c.read_back.ensures.seat

@@ -7,7 +7,7 @@ use Rattle.crash_recovery.proofs.parts.read_parts.Goals as goal
 
 pub returns-clause-stored : goal.returns-clause-stored
 returns-clause-stored g c def same_step layout =
-    read_from def _ c.args.header.now.slots c.args.step c.in_ok-stored.stored same_step c.in_ok-test_parts.ensures.parts
+    read_from def (g.D.Disk.device c.args.dev.now).trace c.args.header.now.slots c.args.step c.in_ok-stored.stored same_step c.in_ok-test_parts.ensures.parts
     (c.in_ok-stored.ensures.found def layout)
 
 pub returns-in_err-stored-clause-cause : goal.returns-in_err-stored-clause-cause

@@ -6,8 +6,8 @@ use Rattle.crash_recovery.proofs.replay.overfull.Goals as goal
 
 pub returns-in-Ok-read_part-clause-value : goal.returns-in-Ok-read_part-clause-value
 returns-in-Ok-read_part-clause-value g c taken holds =
-    let there = shows _ (λ c'. 400 + 1035 * c.args.slots ≤ length c') (λ c'. c.in-Ok.at < length c')
+    let there = shows (g.D.Disk.device c.args.dev.now).trace (λ c'. 400 + 1035 * c.args.slots ≤ length c') (λ c'. c.in-Ok.at < length c')
     (λ c' long. omega (arith, long, c.in-Ok.ensures.end)) c.requires.there in
-    rw c.damaged.ensures (value_told _ c.args.slots taken c.args.number c.in-Ok.at c.in-Ok-read_part.bytes
+    rw c.damaged.ensures (value_told (g.D.Disk.device c.args.dev.now).trace c.args.slots taken c.args.number c.in-Ok.at c.in-Ok-read_part.bytes
     c.in-Ok-read_part.ensures.len (reads_before _ _ _ _ c.in-Ok.ensures.same c.in-Ok-read_part.ensures.bytes) there
     (c.in-Ok.ensures.place taken holds))

@@ -13,8 +13,8 @@ use Rattle.crash_recovery.proofs.replay.read_core.Goals as goal
 pub returns-in-Err-clause-cause : goal.returns-in-Err-clause-cause
 returns-in-Err-clause-cause g c def same_step read =
     let no = c.in-Err.ensures in
-    cause_of_scan def _ _ _ c.refusal_of.ensures
-    (λ at byte is. queue_shown def _ c.args.slots c.args.stored at byte read (no.damaged at byte (ap Err is)))
+    cause_of_scan def (g.D.Disk.device c.args.dev.now).trace _ _ c.refusal_of.ensures
+    (λ at byte is. queue_shown def (g.D.Disk.device c.args.dev.now).trace c.args.slots c.args.stored at byte read (no.damaged at byte (ap Err is)))
 
 pub returns-in-Err-replay-clause-cause : goal.returns-in-Err-replay-clause-cause
 returns-in-Err-replay-clause-cause g c def same_step read =
@@ -25,7 +25,7 @@ returns-in-Err-replay-clause-cause g c def same_step read =
     let no = c.in-Err-replay.ensures in
     let n = c.in-Err-replay.number in
     let points = c.deref.ensures.value in
-    overfull_cause def _ c.args.slots c.args.stored s c.args.step core.state n c.overfull.result scan.within read
+    overfull_cause def (g.D.Disk.device c.args.dev.now).trace c.args.slots c.args.stored s c.args.step core.state n c.overfull.result scan.within read
     scan.ok same_step made.records made.summary
     (subst (λ k. AllFit k core.state (map Raw (take n s.points.items))) made.step
     (subst (λ l. AllFit core.step core.state (map Raw (take n l))) points no.fit_before))
@@ -34,7 +34,7 @@ returns-in-Err-replay-clause-cause g c def same_step read =
     (subst (λ o. IsOverfull o c.args.slots c.args.stored.summary.taken n c.overfull.result) scan.same
     (c.overfull.ensures.value c.args.stored.summary.taken
     (shows_after _ _ (HoldsValue c.args.slots c.args.stored.summary.taken s.lane.used n) scan.same
-    (holds_shown def _ c.args.slots c.args.stored s n scan.within read scan.ok (subst
+    (holds_shown def (g.D.Disk.device c.args.dev.now).trace c.args.slots c.args.stored s n scan.within read scan.ok (subst
     (λ l. n < length l) points no.within)))))
 
 pub returns-clause-recovered : goal.returns-clause-recovered
@@ -44,7 +44,7 @@ returns-clause-recovered g c def same_step read =
     let core = c.in-Ok-from_records.core in
     let done = c.in_default-replay.ensures in
     let points = c.deref.ensures.value in
-    recovered_shown def _ c.args.slots c.args.stored s c.args.step core.state c.replay.new.core.state c.in-Ok.ensures.within read
+    recovered_shown def (g.D.Disk.device c.args.dev.now).trace c.args.slots c.args.stored s c.args.step core.state c.replay.new.core.state c.in-Ok.ensures.within read
     c.in-Ok.ensures.ok same_step made.records made.summary
     (subst (λ k. AllFit k core.state (map Raw s.points.items)) made.step
     (subst (λ l. AllFit core.step core.state (map Raw l)) points done.fit))
@@ -52,7 +52,7 @@ returns-clause-recovered g c def same_step read =
 
 pub returns-clause-seat : goal.returns-clause-seat
 returns-clause-seat g c def read =
-    seated_shown def _ c.args.slots c.args.stored c.in-Ok.scanned c.in-Ok.ensures.within read c.in-Ok.ensures.ok
+    seated_shown def (g.D.Disk.device c.args.dev.now).trace c.args.slots c.args.stored c.in-Ok.scanned c.in-Ok.ensures.within read c.in-Ok.ensures.ok
 
 pub returns-clause-numbered : goal.returns-clause-numbered
 returns-clause-numbered g c =

@@ -10,7 +10,7 @@ returns-then-rest-count-clause-place g c taken holds =
     let j = c.loop-j.j in
     let count = shows_before _ _ (λ c'. c.in_ok-count_at.field-0 ≡ min 64 (count_in (slot_at slots c' j)))
     c.loop-j.invariant.same c.in_ok-count_at.ensures.count in
-    value_shown _ slots taken c.args.used c.args.number j c.loop-j.rest c.in_ok-count_at.field-0 _ c.requires.within
+    value_shown (g.D.Disk.device c.args.dev.now).trace slots taken c.args.used c.args.number j c.loop-j.rest c.in_ok-count_at.field-0 _ c.requires.within
     (omega arith) holds count (omega (arith, c.if-rest-count.true, c.from-count.ensures))
     (c.loop-j.invariant.counted taken holds) c.value_start.ensures
 
@@ -24,19 +24,18 @@ loop-j-preserved g c =
     let count = shows_before _ _ (λ c'. m ≡ min 64 (count_in (slot_at slots c' j))) so_far.same read.count in
     record {
       same = read.same ∙ so_far.same;
-      untimed = read.untimed ∙ so_far.untimed;
       faults = read.counts.passed ∙ so_far.faults;
       handed = read.handed ∙ so_far.handed;
-      counted = λ taken holds. shows _ _ (IsCountedTo slots taken c.args.number (j + 1)
+      counted = λ taken holds. shows (g.D.Disk.device c.args.dev.now).trace _ (IsCountedTo slots taken c.args.number (j + 1)
           (c.loop-j.rest - c.from-count.result))
           (λ c' so. subst (λ k. IsCountedTo slots taken c.args.number (j + 1) k c') (ap (λ k. c.loop-j.rest - k)
           (sym c.from-count.ensures)) so)
-          (more_shown _ slots taken c.args.used c.args.number j c.loop-j.rest m c.requires.within
+          (more_shown (g.D.Disk.device c.args.dev.now).trace slots taken c.args.used c.args.number j c.loop-j.rest m c.requires.within
           (omega arith) holds count
           (omega (arith, c.if-rest-count.false, c.from-count.ensures)) (so_far.counted taken holds));
     }
 
 pub returns-clause-place : goal.returns-clause-place
 returns-clause-place g c taken holds =
-    never_shown _ c.args.slots taken c.args.used c.args.number c.loop-j.j c.loop-j.rest _
+    never_shown (g.D.Disk.device c.args.dev.now).trace c.args.slots taken c.args.used c.args.number c.loop-j.j c.loop-j.rest _
     c.requires.within c.loop-j-test.false (omega arith) holds (c.loop-j.invariant.counted taken holds)

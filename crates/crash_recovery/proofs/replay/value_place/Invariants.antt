@@ -6,10 +6,9 @@ use Rattle.crash_recovery.proofs.replay.value_place.Given as goal
 
 abbrev pub invariant-loop-j : goal.invariant-loop-j
 invariant-loop-j g l = record {
-  same : g.D.Disk.trace l.dev ≡ g.D.Disk.trace l.fn.dev;
-  untimed : g.D.Disk.ticks l.dev ≡ g.D.Disk.ticks l.fn.dev;
-  faults : g.D.Disk.fault_count l.dev ≡ g.D.Disk.fault_count l.fn.dev;
-  handed : g.D.Disk.hand_out l.dev ≡ g.D.Disk.hand_out l.fn.dev;
-  counted : (taken : ℕ) → Shows (g.D.Disk.trace l.fn.dev) (HoldsValue l.slots taken l.used l.number)
-      → Shows (g.D.Disk.trace l.fn.dev) (IsCountedTo l.slots taken l.number l.j l.rest);
+  same : (g.D.Disk.device l.dev).trace ≡ (g.D.Disk.device l.fn.dev).trace;
+  faults : (g.D.Disk.device l.dev).faults ≡ (g.D.Disk.device l.fn.dev).faults;
+  handed : (g.D.Disk.device l.dev).handed ≡ (g.D.Disk.device l.fn.dev).handed;
+  counted : (taken : ℕ) → Shows (g.D.Disk.device l.fn.dev).trace (HoldsValue l.slots taken l.used l.number)
+      → Shows (g.D.Disk.device l.fn.dev).trace (IsCountedTo l.slots taken l.number l.j l.rest);
 }

@@ -33,4 +33,4 @@ returns-clause-made g c =
     (new_closed _ _ c.requires.new c.requires.settled c.close_layout.ensures.any_moment) _ c.write_guarded.ensures.any_moment c.in-Ok-write_guarded.ensures.reads
 
 pub returns-clause-calls : goal.returns-clause-calls
-returns-clause-calls g c = layout_counted _ _ _ _ c.in-Ok-close_layout.ensures.calls c.in-Ok-write_guarded.ensures.clock
+returns-clause-calls g c = layout_counted (g.D.Disk.device c.args.dev.now).trace _ _ _ c.in-Ok-close_layout.ensures.calls c.in-Ok-write_guarded.ensures.clock

@@ -7,10 +7,10 @@ use Rattle.device_layout.proofs.layout_reader.header_of.Goals as goal
 pub returns-in-Ok-clause-header : goal.returns-in-Ok-clause-header
 returns-in-Ok-clause-header g c =
     let said = c.in-Ok.ensures.header in
-    shows _ _ _ (λ c' here. has_header _ c' _ c.in_ok-bytes.ensures.len here said.0 said.1 said.2)
+    shows (g.D.Disk.device c.args.dev.now).trace _ _ (λ c' here. has_header _ c' _ c.in_ok-bytes.ensures.len here said.0 said.1 said.2)
     c.in_ok-bytes.ensures.bytes
 
 pub returns-in-Err-clause-cause : goal.returns-in-Err-clause-cause
 returns-in-Err-clause-cause g c def opened = rw c.damaged.ensures
-    (header_cause def _ _ _ _ c.in_ok-bytes.ensures.len c.in_ok-bytes.ensures.bytes c.requires
+    (header_cause def (g.D.Disk.device c.args.dev.now).trace _ _ _ c.in_ok-bytes.ensures.len c.in_ok-bytes.ensures.bytes c.requires
     (omega (arith, c.if-len.false)) c.in-Err.ensures.within c.in-Err.ensures.broken opened)

@@ -13,7 +13,7 @@ use Rattle.device_layout.proofs.layout_reader.read_stored.Goals as goal
 pub returns-in_err-summary-clause-cause : goal.returns-in_err-summary-clause-cause
 returns-in_err-summary-clause-cause g c def layout =
     let same = c.in_ok-slot.ensures.same in
-    let counts = shows _ _ (λ c'. counting c' ≡ Some c.in-Some.slot) (λ c' is. is
+    let counts = shows (g.D.Disk.device c.args.dev.now).trace _ (λ c'. counting c' ≡ Some c.in-Some.slot) (λ c' is. is
     ∙ c.in-Some.is) c.in_ok-slot.ensures.slot in
     let p = err_from_is_err_and c.from_residual-in_err-summary.result c.from_residual-in_err-summary.ensures.1 in
     rw (p.1, p.2)
@@ -28,10 +28,10 @@ returns-clause-found g c def layout =
     let slot = c.in-Some.slot in
     let s = c.in_ok-summary.summary in
     let same = c.in_ok-slot.ensures.same in
-    let counts = shows _ _ (λ c'. counting c' ≡ Some slot) (λ c' is. is ∙ c.in-Some.is) c.in_ok-slot.ensures.slot in
+    let counts = shows (g.D.Disk.device c.args.dev.now).trace _ (λ c'. counting c' ≡ Some slot) (λ c' is. is ∙ c.in-Some.is) c.in_ok-slot.ensures.slot in
     let bytes = shows_before _ _ (λ c'. slot_bytes c' slot ≡ summary_image s) same c.in_ok-summary.ensures.bytes in
-    let has = counts_shown def _ slots _ slot s _ layout counts c.in_ok-summary.ensures.whole bytes c.in_force-tuning.ensures in
-    stored_shown def _ slots slot s c.in_force-tuning.result _ has
+    let has = counts_shown def (g.D.Disk.device c.args.dev.now).trace slots _ slot s _ layout counts c.in_ok-summary.ensures.whole bytes c.in_force-tuning.ensures in
+    stored_shown def (g.D.Disk.device c.args.dev.now).trace slots slot s c.in_force-tuning.result _ has
     (shows_before _ _ (λ c'. HasRecords c' (lane_end slots) s.records c.in_ok-recs.recs.items)
     (c.in_ok-summary.ensures.same ∙ same) c.in_ok-recs.ensures.records)
     refl refl refl
@@ -43,9 +43,9 @@ returns-in_err-recs-clause-cause g c def layout =
     let s = c.in_ok-summary.summary in
     let same = c.in_ok-slot.ensures.same in
     let both = c.in_ok-summary.ensures.same ∙ same in
-    let counts = shows _ _ (λ c'. counting c' ≡ Some slot) (λ c' is. is ∙ c.in-Some.is) c.in_ok-slot.ensures.slot in
+    let counts = shows (g.D.Disk.device c.args.dev.now).trace _ (λ c'. counting c' ≡ Some slot) (λ c' is. is ∙ c.in-Some.is) c.in_ok-slot.ensures.slot in
     let bytes = shows_before _ _ (λ c'. slot_bytes c' slot ≡ summary_image s) same c.in_ok-summary.ensures.bytes in
-    let has = counts_shown def _ slots _ slot s c.in_force-tuning.result layout counts c.in_ok-summary.ensures.whole bytes
+    let has = counts_shown def (g.D.Disk.device c.args.dev.now).trace slots _ slot s c.in_force-tuning.result layout counts c.in_ok-summary.ensures.whole bytes
     c.in_force-tuning.ensures in
     let p = err_from_is_err_and c.from_residual-in_err-recs.result c.from_residual-in_err-recs.ensures.1 in
     rw (p.1, p.2)

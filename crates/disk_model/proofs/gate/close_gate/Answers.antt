@@ -1,5 +1,7 @@
 use Rattle.disk_model.proofs.Closings.{closing_kept, closing_wrote, closing_answered, shut_counted, open_counted}
 use Rattle.disk_model.proofs.gate.close_gate.Goals as goal
+use Rattle.std.proofs.Common.{ap}
+use Rattle.disk_model.specs.Traces.{moment}
 
 pub returns-clause-reads : goal.returns-clause-reads
 returns-clause-reads g c =
@@ -17,9 +19,9 @@ returns-clause-any_moment g c =
 
 pub returns-then-byte-clause-calls : goal.returns-then-byte-clause-calls
 returns-then-byte-clause-calls g c =
-    shut_counted _ _ _ c.args.gate c.read.new.buf c.read.auto.buf c.in_ok-read.ensures.bytes c.if-byte.true c.read.ensures.untimed
+    shut_counted (g.D.Disk.device c.args.dev.now).trace _ _ c.args.gate c.read.new.buf c.read.auto.buf c.in_ok-read.ensures.bytes c.if-byte.true (ap moment c.read.ensures.same)
 
 pub returns-clause-calls : goal.returns-clause-calls
 returns-clause-calls g c =
-    open_counted c.write_at.result _ _ _ _ c.args.gate c.read.new.buf c.read.auto.buf c.in_ok-read.ensures.bytes c.if-byte.false
-    c.read.ensures.untimed c.write_at.ensures.clock
+    open_counted c.write_at.result (g.D.Disk.device c.args.dev.now).trace _ _ _ c.args.gate c.read.new.buf c.read.auto.buf c.in_ok-read.ensures.bytes c.if-byte.false
+    (ap moment c.read.ensures.same) c.write_at.ensures.clock

@@ -4,10 +4,10 @@ use Rattle.disk_model.proofs.gate.close_gates.Goals as goal
 
 pub loop-k-init : goal.loop-k-init
 loop-k-init g c = record {
-  closed = none_closed c.args.at c.args.count (g.D.Disk.trace c.args.dev.now) c.requires.room c.requires.gates;
+  closed = none_closed c.args.at c.args.count (g.D.Disk.device c.args.dev.now).trace c.requires.room c.requires.gates;
   later = omega arith;
   clock = omega arith;
-  calls = none_counted c.args.at _ _;
+  calls = none_counted c.args.at _ (g.D.Disk.device c.args.dev.now).trace;
   faultless = refl;
   handed = refl;
 }
@@ -41,5 +41,5 @@ returns-clause-shut g c =
     all_shut c.args.at c.args.count c.loop-k.k _ _ _ c.sync.result c.loop-k-test.false c.loop-k.invariant.closed c.sync.ensures.noted
 
 pub returns-clause-calls : goal.returns-clause-calls
-returns-clause-calls g c = all_counted c.sync.result c.args.at c.args.count c.loop-k.k _ _ _ _ (omega (arith, c.loop-k-test.false)) c.sync.ensures.clock
+returns-clause-calls g c = all_counted c.sync.result c.args.at c.args.count c.loop-k.k _ _ _ (g.D.Disk.device c.args.dev.now).trace (omega (arith, c.loop-k-test.false)) c.sync.ensures.clock
     c.loop-k.invariant.calls

@@ -3,13 +3,14 @@ use Rattle.disk_model.specs.Calls.{Shows}
 use Rattle.disk_model.specs.Gates.{open_gates}
 use Rattle.disk_model.proofs.Closings.{AreClosed}
 use Rattle.disk_model.proofs.gate.close_gates.Given as goal
+use Rattle.disk_model.specs.Traces.{moment}
 
 abbrev pub invariant-loop-k : goal.invariant-loop-k
 invariant-loop-k g l = record {
-  closed : AreClosed l.at l.count l.k (g.D.Disk.trace l.fn.dev) (g.D.Disk.trace l.dev);
-  later : g.D.Disk.ticks l.fn.dev ≤ g.D.Disk.ticks l.dev;
-  clock : g.D.Disk.ticks l.dev ≤ g.D.Disk.ticks l.fn.dev + l.k;
-  calls : Shows (g.D.Disk.trace l.fn.dev) (λ c. g.D.Disk.ticks l.dev ≡ g.D.Disk.ticks l.fn.dev + open_gates l.at l.k c);
-  faultless : g.D.Disk.fault_count l.dev ≡ g.D.Disk.fault_count l.fn.dev;
-  handed : g.D.Disk.hand_out l.dev ≡ g.D.Disk.hand_out l.fn.dev;
+  closed : AreClosed l.at l.count l.k (g.D.Disk.device l.fn.dev).trace (g.D.Disk.device l.dev).trace;
+  later : moment (g.D.Disk.device l.fn.dev).trace ≤ moment (g.D.Disk.device l.dev).trace;
+  clock : moment (g.D.Disk.device l.dev).trace ≤ moment (g.D.Disk.device l.fn.dev).trace + l.k;
+  calls : Shows (g.D.Disk.device l.fn.dev).trace (λ c. moment (g.D.Disk.device l.dev).trace ≡ moment (g.D.Disk.device l.fn.dev).trace + open_gates l.at l.k c);
+  faultless : (g.D.Disk.device l.dev).faults ≡ (g.D.Disk.device l.fn.dev).faults;
+  handed : (g.D.Disk.device l.dev).handed ≡ (g.D.Disk.device l.fn.dev).handed;
 }

@@ -14,7 +14,7 @@ returns-in_err-sync-clause-any_moment g c =
 
 pub write_at-requires-2 : goal.write_at-requires-2
 write_at-requires-2 g c =
-    let o = g.D.Disk.trace c.args.dev.now in
+    let o = (g.D.Disk.device c.args.dev.now).trace in
     let done = c.in_ok-sync.ensures.noted ∙ ap (noted Synced) c.in_ok-write_at.ensures.noted in
     subst (λ x. Reaches x c.args.gate) (sym done) (gate_reached o c.args.at c.args.bytes.now c.args.gate c.requires.room c.requires.shut)
 

@@ -1,17 +1,29 @@
-use Rattle.std.proofs.Common.{◌≡◌, ◌+◌, ◌*◌, ◌≤◌, min, length, ap, ◌∙◌}
+use Rattle.std.proofs.Common.{◌≡◌, ◌+◌, ◌*◌, ◌≤◌, min, length, ap, subst, ◌∙◌}
 use Rattle.std.proofs.Common.{arith}
 use Rattle.event_queue.specs.Damages.{IsLaneDamage}
-use Rattle.event_queue.specs.Scans.{IsRead}
+use Rattle.event_queue.specs.Scans.{IsRead, IsWithin}
 use Rattle.event_queue.proofs.Pieces.{handed_on}
 use Rattle.event_queue.proofs.Scans.{moved, with_piece, read_all, read_first}
 use Rattle.event_queue.proofs.reader.scan.Goals as goal
 
 pub loop-j-init : goal.loop-j-init
-loop-j-init g c = grind (arith, read_first)
+loop-j-init g c =
+    let none : 0 ≡ min 0 c.used_of-used.result = omega arith in
+    let s = c.in_ok-scanned.scanned in
+    record {
+      same = c.in_ok-gates.ensures.same;
+      faults = c.in_ok-gates.ensures.cause.passed;
+      handed = c.in_ok-gates.ensures.handed;
+      slots_same = c.in_ok-scanned.ensures.within.slots_same;
+      within = subst (λ n. IsWithin c.args.slots c.args.taken n s) none c.in_ok-scanned.ensures.within;
+      read = read_first (g.D.Disk.device c.args.dev.now).trace c.args.slots c.args.taken _ s none
+          c.in_ok-scanned.ensures.read;
+      long = λ some. c.in-Ok.ensures.len ∙ omega (arith, c.min.ensures);
+    }
 
 pub returns-in_err-take_piece-clause-damaged : goal.returns-in_err-take_piece-clause-damaged
 returns-in_err-take_piece-clause-damaged g c = λ a byte told.
-    let o = g.D.Disk.trace c.args.dev.now in
+    let o = (g.D.Disk.device c.args.dev.now).trace in
     let used = c.used_of-used.result in
     let from = 64 * c.loop-j.j in
     let s = c.loop-j.scanned in
@@ -30,7 +42,7 @@ returns-in_err-take_piece-clause-damaged g c = λ a byte told.
 
 pub loop-j-preserved : goal.loop-j-preserved
 loop-j-preserved g c =
-    let o = g.D.Disk.trace c.args.dev.now in
+    let o = (g.D.Disk.device c.args.dev.now).trace in
     let slots = c.args.slots in
     let used = c.used_of-used.result in
     let from = 64 * c.loop-j.j in
@@ -43,7 +55,6 @@ loop-j-preserved g c =
     c.in_ok-take_piece.ensures.within in
     record {
       same = c.refill.ensures.same ∙ c.loop-j.invariant.same;
-      untimed = c.refill.ensures.untimed ∙ c.loop-j.invariant.untimed;
       faults = c.in-Ok-refill.ensures.cause.passed ∙ c.loop-j.invariant.faults;
       handed = c.refill.ensures.handed ∙ c.loop-j.invariant.handed;
       slots_same = within.slots_same;
@@ -73,7 +84,7 @@ returns-clause-ok g c =
       ap length
           c.deref.ensures.value,
     ) in
-    read_all (g.D.Disk.trace c.args.dev.now) c.args.slots c.args.taken (min (64 * c.loop-j.j) used) used
+    read_all (g.D.Disk.device c.args.dev.now).trace c.args.slots c.args.taken (min (64 * c.loop-j.j) used) used
     c.in_ok-gates.gates.items c.deref.result.now c.loop-j.scanned all
     bound c.in_ok-gates.ensures.len c.in_ok-gates.ensures.reads c.deref.ensures.value
     c.used_of-used.ensures.none_behind c.loop-j.invariant.read

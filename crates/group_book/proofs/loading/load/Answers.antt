@@ -1,18 +1,18 @@
 use Rattle.std.proofs.Common.{◌≡◌, ◌∙◌, ℕ, All, [], Err, Some, false, List, length, map, refl, sym, ap, subst, arith}
 use Rattle.std.proofs.lemmas.List.{length-map}
 use Rattle.disk_model.specs.Calls.{Shows}
-use Rattle.disk_model.specs.Moments.{LeftSince}
-use Rattle.disk_model.specs.Traces.{FitsName}
+use Rattle.disk_model.specs.Moments.{During, LeftSince}
+use Rattle.disk_model.specs.Traces.{FitsName, moment}
 use Rattle.calc_check.specs.Group.{calculation}
 use Rattle.calc_refresh.specs.declared.definition.GroupDefParts.{GroupDefParts}
 use Rattle.calc_refresh.specs.Lists.{lists_of}
 use Rattle.calc_refresh.specs.Sheet.{SheetState, grid_of}
-use Rattle.group_layout.specs.Readings.{IsReadOf}
+use Rattle.group_layout.specs.Readings.{IsLeftOrSame, IsReadOf}
 use Rattle.group_book.specs.declared.history.GroupOpening.{GroupOpening}
 use Rattle.group_book.specs.declared.turn.Turn.{Turn}
 use Rattle.group_book.specs.Crashes.{IsBookSafe}
 use Rattle.group_book.specs.Histories.{AreRowsEvaluated, IsBookLegal}
-use Rattle.group_book.specs.Openings.{IsBookCause}
+use Rattle.group_book.specs.Openings.{BookStaysSame, IsBookCause}
 use Rattle.group_book.specs.Told.{AreFlagged, IsAtHome, IsDefined, IsKept, Saved, device_name_of}
 use Rattle.sheet_law.specs.declared.grid.Grid.{Grid}
 use Rattle.sheet_law.specs.Windows.{complete_windows}
@@ -25,7 +25,7 @@ pub returns-in-Err-clause-cause : goal.returns-in-Err-clause-cause
 returns-in-Err-clause-cause g c =
     let def = c.args.def.now in
     let recovered = lists_of c.args.recovered.now in
-    let o = g.D.Disk.trace c.args.dev in
+    let o = (g.D.Disk.device c.args.dev).trace in
     let calcs = sym (length-map c.defs.result.now calculation) ∙ ap length c.defs.ensures.calcs in
     subst (IsBookCause c.args.text.now def recovered o) (sym c.refusal_of.ensures)
     (scan_cause c.args.text.now def recovered _ calcs o c.in-Err.why (λ a byte is. c.in-Err.ensures.damaged a byte (ap Err is)))
@@ -37,8 +37,19 @@ returns-clause-held g c =
     let dev = c.open_group.new.dev in
     let g' = c.in-Ok.saved in
     let calcs = sym (length-map c.defs.result.now calculation) ∙ ap length c.defs.ensures.calcs in
-    loaded_holds c.args.text.now def g' (D.trace dev)
-    (subst (λ (n : ℕ). Shows (D.trace dev) (λ x. IsReadOf c.args.text.now def.inputs n x g')) calcs c.in-Ok.ensures.holds)
+    loaded_holds c.args.text.now def g' (D.device dev).trace
+    (subst (λ (n : ℕ). Shows (D.device dev).trace (λ x. IsReadOf c.args.text.now def.inputs n x g')) calcs c.in-Ok.ensures.holds)
+
+pub returns-clause-any_moment : goal.returns-clause-any_moment
+returns-clause-any_moment g c = λ d is.
+    let text = c.args.text.now in
+    let def = c.args.def.now in
+    let dev = c.open_group.new.dev in
+    let o = (g.D.Disk.device c.args.dev).trace in
+    let calcs = sym (length-map c.defs.result.now calculation) ∙ ap length c.defs.ensures.calcs in
+    let same : dev ≡ d = cc is in
+    subst (λ x. During o (g.D.Disk.device x).trace (BookStaysSame text def o)) same
+    (subst (λ (n : ℕ). During o (g.D.Disk.device dev).trace (IsLeftOrSame text def.inputs n o)) calcs c.open_group.ensures.any_moment)
 
 pub invariant_of-result : goal.invariant_of-result
 invariant_of-result g c =
@@ -61,15 +72,15 @@ invariant_of-result g c =
     let saved_versions = sym is.versions in
     let saved_rows = sym rows in
     let inputs : length vs ≡ def.inputs = ap length is.versions ∙ c.in-Ok.ensures.shape.versions_are in
-    let ready = loaded_ready g'.end (D.trace dev) c.in-Ok.ensures.settled c.in-Ok.ensures.ready in
-    let holds = loaded_holds c.args.text.now def g' (D.trace dev)
-    (subst (λ (n : ℕ). Shows (D.trace dev) (λ x. IsReadOf c.args.text.now def.inputs n x g')) calcs c.in-Ok.ensures.holds) in
+    let ready = loaded_ready g'.end (D.device dev).trace c.in-Ok.ensures.settled c.in-Ok.ensures.ready in
+    let holds = loaded_holds c.args.text.now def g' (D.device dev).trace
+    (subst (λ (n : ℕ). Shows (D.device dev).trace (λ x. IsReadOf c.args.text.now def.inputs n x g')) calcs c.in-Ok.ensures.holds) in
     let first = evaluated_first def.calcs (grid_of def.start def.period) o s.copies s.rows s.evals (opened ∙ sym copied) opened_rows
     (is.whole.calcs ∙ ap (λ (x : SheetState). length x.group.calcs) is.sheet)
     (subst (λ (w : Grid). All (λ row. length row ≡ complete_windows w s.copies) s.rows) (ap (λ (x : SheetState). x.grid) is.sheet)
     is.whole.windows)
     (ap (λ (x : SheetState). x.evals) is.sheet) in
-    let left = LeftSince (D.trace dev) in
+    let left = LeftSince (D.device dev).trace in
     let tape : [] ≡ c.new.result.items = sym c.new.ensures.items in
     let defined : IsDefined def c.args.tags.items s = record {
       group = c.requires.group;
@@ -81,31 +92,31 @@ invariant_of-result g c =
     } in
     subst (λ (d : GroupDefParts). IsDefined d c.args.tags.items s
     × IsBookLegal d.calcs (grid_of d.start d.period) o c.new.result.items vs s.copies s.rows
-    × IsKept r.text.items d o c.new.result.items s.copies saved false (D.trace dev) (D.ticks dev) (D.fault_count dev)
+    × IsKept r.text.items d o c.new.result.items s.copies saved false (Some (D.device dev).trace) (moment (D.device dev).trace) (D.device dev).faults
     × IsBookSafe r.text.items d.calcs (grid_of d.start d.period) o s.copies c.new.result.items left
-    × IsAtHome D.hand_out r.text.items (Some dev)
+    × IsAtHome D.device r.text.items (Some dev)
     × AreRowsEvaluated d.calcs (grid_of d.start d.period) o c.new.result.items s.copies s.rows s.evals
     × AreFlagged r.unsaved.items saved.rows s) (sym is.def)
     (subst (λ (l : List Turn). IsDefined def c.args.tags.items s
     × IsBookLegal def.calcs (grid_of def.start def.period) o l vs s.copies s.rows
-    × IsKept r.text.items def o l s.copies saved false (D.trace dev) (D.ticks dev) (D.fault_count dev)
+    × IsKept r.text.items def o l s.copies saved false (Some (D.device dev).trace) (moment (D.device dev).trace) (D.device dev).faults
     × IsBookSafe r.text.items def.calcs (grid_of def.start def.period) o s.copies l left
-    × IsAtHome D.hand_out r.text.items (Some dev)
+    × IsAtHome D.device r.text.items (Some dev)
     × AreRowsEvaluated def.calcs (grid_of def.start def.period) o l s.copies s.rows s.evals
     × AreFlagged r.unsaved.items saved.rows s) tape
     (subst (λ (t : List ℕ). IsDefined def c.args.tags.items s
     × IsBookLegal def.calcs (grid_of def.start def.period) o [] vs s.copies s.rows
-    × IsKept t def o [] s.copies saved false (D.trace dev) (D.ticks dev) (D.fault_count dev)
+    × IsKept t def o [] s.copies saved false (Some (D.device dev).trace) (moment (D.device dev).trace) (D.device dev).faults
     × IsBookSafe t def.calcs (grid_of def.start def.period) o s.copies [] left
-    × IsAtHome D.hand_out t (Some dev)
+    × IsAtHome D.device t (Some dev)
     × AreRowsEvaluated def.calcs (grid_of def.start def.period) o [] s.copies s.rows s.evals
     × AreFlagged r.unsaved.items saved.rows s) (sym is.text) (
       defined,
       opened_legal c.args.text.now def o s.copies s.rows vs saved copied opened opened_rows saved_versions saved_rows first.rows_are,
-      opened_kept c.args.text.now def o s.copies s.rows vs saved copied opened opened_rows saved_versions saved_rows first.rows_are (D.trace dev) ready
-          holds (D.ticks dev) (D.fault_count dev) c.clock.ensures inputs (sym c.faults.ensures),
-      opened_safe c.args.text.now def o s.copies s.rows vs saved copied opened opened_rows saved_versions saved_rows first.rows_are (D.trace dev) ready
-          holds (D.ticks dev) (D.fault_count dev) c.clock.ensures c.requires.group.named (g.met.D.Disk.told dev),
+      opened_kept c.args.text.now def o s.copies s.rows vs saved copied opened opened_rows saved_versions saved_rows first.rows_are (D.device dev).trace ready
+          holds (moment (D.device dev).trace) (D.device dev).faults c.clock.ensures inputs (sym c.faults.ensures),
+      opened_safe c.args.text.now def o s.copies s.rows vs saved copied opened opened_rows saved_versions saved_rows first.rows_are (D.device dev).trace ready
+          holds (moment (D.device dev).trace) (D.device dev).faults c.clock.ensures c.requires.group.named refl,
       (λ some. refl, subst (FitsName (device_name_of c.args.text.now)) (sym c.open_group.ensures.handed) c.requires.named),
       first,
       flagged_saved r.unsaved.items saved.rows s is.flags saved_rows is.whole,

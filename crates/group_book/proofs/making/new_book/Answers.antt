@@ -3,10 +3,9 @@ use Rattle.std.proofs.lemmas.List.{length-map}
 use Rattle.calc_check.specs.Group.{calculation}
 use Rattle.calc_refresh.specs.Lists.{lists_of}
 use Rattle.calc_refresh.specs.Sheet.{SheetState, grid_of}
-use Rattle.disk_model.specs.Moments.{LeftSince}
 use Rattle.group_book.specs.Crashes.{IsBookSafe}
 use Rattle.group_book.specs.Histories.{AreRowsEvaluated, IsBookLegal}
-use Rattle.group_book.specs.Told.{IsKept, Saved}
+use Rattle.group_book.specs.Told.{IsKept, LeftOf, Saved}
 use Rattle.group_book.specs.declared.history.GroupOpening.{GroupOpening}
 use Rattle.group_book.proofs.Fresh.{fresh_defined, fresh_evaluated, fresh_kept, fresh_legal, fresh_safe}
 use Rattle.group_book.proofs.Flags.{flagged_fresh}
@@ -43,7 +42,7 @@ invariant_of-result g c =
           (fresh_kept def made c.in_ok-def.ensures o s c.in_ok-versions.versions.items saved c.in_ok-sheet.ensures.empty
           c.in_ok-sheet.ensures.scratch versions c.in_ok-zeros.ensures rows saved_versions saved_rows c.in_ok-sheet.ensures.whole
           c.new.result.items 0 0 (omega arith) refl),
-      subst (λ tape. IsBookSafe c.new.result.items made.calcs (grid_of made.start made.period) o s.copies tape (LeftSince None)) empty
+      subst (λ tape. IsBookSafe c.new.result.items made.calcs (grid_of made.start made.period) o s.copies tape (LeftOf None)) empty
           (fresh_safe def made c.in_ok-def.ensures o s c.in_ok-versions.versions.items saved c.in_ok-sheet.ensures.empty
           c.in_ok-sheet.ensures.scratch versions c.in_ok-zeros.ensures rows saved_versions saved_rows c.new.result.items),
       (λ some. absurd (some c.new.ensures.items), tt),

@@ -24,7 +24,7 @@ returns-in_err-block-clause-damaged g c = λ a byte told.
     let damaged = told_through c.from_residual-in_err-block.result out.0 _ a byte out.1 out.2 told in
     let same = c.walk.invariant.same in
     subst (λ o. Shows o (λ s. AreDamaged s x.calcs x.inputs x.at a byte)) c.in-Ok.ensures.same
-    (walk_breaks_shown (g.D.Disk.trace c.len.new.self) x.calcs x.inputs x.at c.walk.next c.walk.list.items before a byte
+    (walk_breaks_shown (g.D.Disk.device c.len.new.self).trace x.calcs x.inputs x.at c.walk.next c.walk.list.items before a byte
     (last g at) c.walk.invariant.end c.walk.invariant.blocks
     (subst (λ o. Shows o (IsOpen c.walk.next)) same (c.in_err-block.ensures.opened a byte damaged))
     (subst (λ o. Shows o (λ s. BreaksFirst s (block_fields s x.calcs before c.walk.next) a byte)) same
@@ -42,11 +42,11 @@ walk-preserved g c =
     = subst (λ f. IfSome f (λ y. c.walk.next + block_size (parts_of y) < c.in-Ok.len)) c.in-Some.is c.in_ok-block.ensures.next in
     record {
       there = omega (arith, next, c.size_of_block.ensures);
-      blocks = subst (λ l. Shows (g.D.Disk.trace c.len.new.self) (λ s. HasBlocks s x.calcs (unsaved x.inputs) x.at (map parts_of l))) (sym {A = List Block} pushed)
-          (walk_on_shown (g.D.Disk.trace c.len.new.self) x.calcs x.inputs x.at c.walk.next bs b before (last g at) c.walk.invariant.end
+      blocks = subst (λ l. Shows (g.D.Disk.device c.len.new.self).trace (λ s. HasBlocks s x.calcs (unsaved x.inputs) x.at (map parts_of l))) (sym {A = List Block} pushed)
+          (walk_on_shown (g.D.Disk.device c.len.new.self).trace x.calcs x.inputs x.at c.walk.next bs b before (last g at) c.walk.invariant.end
           c.walk.invariant.blocks
           (subst (λ o. Shows o (λ s. HasBlock s x.calcs before (parts_of b) c.walk.next)) c.walk.invariant.same
-          (subst (λ f. IfSome f (λ y. Shows (g.D.Disk.trace c.walk.dev) (λ s. HasBlock s x.calcs before (parts_of y) c.walk.next))) c.in-Some.is
+          (subst (λ f. IfSome f (λ y. Shows (g.D.Disk.device c.walk.dev).trace (λ s. HasBlock s x.calcs before (parts_of y) c.walk.next))) c.in-Some.is
           c.in_ok-block.ensures.block)));
       end = ap (λ n. c.walk.next + n) c.size_of_block.ensures ∙ ap (λ n. n + block_size (parts_of b)) c.walk.invariant.end
           ∙ sym (end_of-push x.at (map parts_of bs) (parts_of b))
@@ -55,7 +55,6 @@ walk-preserved g c =
           ∙ walk_versions x.calcs x.inputs bs b before (last g at) c.walk.invariant.versions
           (subst (λ f. IfSome f (λ y. MayFollow x.calcs before (parts_of y))) c.in-Some.is c.in_ok-block.ensures.follows);
       same = c.in_ok-block.ensures.same ∙ c.walk.invariant.same;
-      untimed = c.in_ok-block.ensures.untimed ∙ c.walk.invariant.untimed;
       faults = c.in_ok-block.ensures.cause.passed ∙ c.walk.invariant.faults;
       handed = c.in_ok-block.ensures.handed ∙ c.walk.invariant.handed;
     }

@@ -18,20 +18,20 @@ size_is g c =
     omega (arith, c.from.ensures, count)
 
 front : (g : _) (c : After-read_block g)
-    → Shows (g.D.Disk.trace c.args.dev.now) (λ s. c.in_ok-front.front.items ≡ piece_of s c.args.gate (17 + 4 * c.args.inputs))
+    → Shows (g.D.Disk.device c.args.dev.now).trace (λ s. c.in_ok-front.front.items ≡ piece_of s c.args.gate (17 + 4 * c.args.inputs))
 front g c =
-    subst (λ n. Shows (g.D.Disk.trace c.args.dev.now) (λ s. c.in_ok-front.front.items ≡ piece_of s c.args.gate (17 + 4 * n)))
+    subst (λ n. Shows (g.D.Disk.device c.args.dev.now).trace (λ s. c.in_ok-front.front.items ≡ piece_of s c.args.gate (17 + 4 * n)))
     c.from.ensures c.in_ok-front.ensures.piece
 
 are_read : (g : _) (c : After-read_block g)
-    → AreRead (g.D.Disk.trace c.args.dev.now) c.args.gate c.args.inputs c.args.len (parts_of c.args.before.now)
+    → AreRead (g.D.Disk.device c.args.dev.now).trace c.args.gate c.args.inputs c.args.len (parts_of c.args.before.now)
     c.in_ok-front.front.items c.in_ok-piece.piece.items
 are_read g c = record {
   long = c.requires.length;
   low = c.requires.gate;
   inputs_are = c.requires.inputs;
   front_is = front g c;
-  piece_is = subst (λ n. Shows (g.D.Disk.trace c.args.dev.now) (λ s. c.in_ok-piece.piece.items ≡ piece_of s c.args.gate n)) (size_is g c)
+  piece_is = subst (λ n. Shows (g.D.Disk.device c.args.dev.now).trace (λ s. c.in_ok-piece.piece.items ≡ piece_of s c.args.gate n)) (size_is g c)
       (subst (λ o. Shows o (λ s. c.in_ok-piece.piece.items ≡ piece_of s c.args.gate (17 + 4 * c.from.result + 17 * c.from-2.result + 1)))
       c.in_ok-front.ensures.same c.in_ok-piece.ensures.piece);
 }
@@ -43,20 +43,20 @@ pub returns-in-Ok-clause-block : goal.returns-in-Ok-clause-block
 returns-in-Ok-clause-block g c =
     let at = (goal.at.returns-in-Ok-clause-block g c).After-read_block in
     let b = parts_of c.in-Ok.block in
-    block_shown (g.D.Disk.trace c.args.dev.now) c.args.calcs c.args.gate c.args.inputs c.args.len (parts_of c.args.before.now) b
+    block_shown (g.D.Disk.device c.args.dev.now).trace c.args.calcs c.args.gate c.args.inputs c.args.len (parts_of c.args.before.now) b
     c.in_ok-front.front.items c.in_ok-piece.piece.items (are_read g at) (opened g at) c.in-Ok.ensures.follows
     (subst (λ p. Spells p 1 (block_image b) (0 + block_size b)) c.deref-3.ensures.value c.in-Ok.ensures.spelled)
 
 pub returns-clause-opened : goal.returns-clause-opened
 returns-clause-opened g c = λ a byte told.
     let at = (goal.at.returns-clause-opened g c).After-read_block in
-    gate_shown (g.D.Disk.trace c.args.dev.now) c.args.gate (17 + 4 * c.args.inputs) c.in_ok-front.front.items (omega arith)
+    gate_shown (g.D.Disk.device c.args.dev.now).trace c.args.gate (17 + 4 * c.args.inputs) c.in_ok-front.front.items (omega arith)
     (front g at) (opened g at)
 
 pub returns-clause-damaged : goal.returns-clause-damaged
 returns-clause-damaged g c = λ a byte told.
     let at = (goal.at.returns-clause-damaged g c).After-read_block in
-    let s = g.D.Disk.trace c.args.dev.now in
+    let s = (g.D.Disk.device c.args.dev.now).trace in
     let b = parts_of c.args.before.now in
     let piece = c.in_ok-piece.piece.items in
     let same : c.behind.result ≡ Damaged a byte = cc (told) in

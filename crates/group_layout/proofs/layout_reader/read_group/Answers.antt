@@ -1,5 +1,8 @@
+use Rattle.std.proofs.Common.{subst}
 use Rattle.std.proofs.lemmas.Result.{err_from_is_err_and}
+use Rattle.disk_model.specs.Calls.{Shows}
 use Rattle.archive_file.proofs.FieldLaws.{told_through}
+use Rattle.group_layout.specs.Images.{IsGroupDamage}
 use Rattle.group_layout.proofs.Damages.{head_damage}
 use Rattle.group_layout.proofs.layout_reader.read_group.Goals as goal
 
@@ -8,5 +11,13 @@ returns-in_err-found-clause-damaged g c = λ a byte told.
     let x = c.args in
     let out = err_from_is_err_and c.from_residual.result c.from_residual.ensures.1 in
     let damaged = told_through c.from_residual.result out.0 _ a byte out.1 out.2 told in
-    head_damage (g.D.Disk.trace x.dev.now) x.text.now x.inputs x.calcs a byte (c.in_err-found.ensures.begun a byte damaged)
+    head_damage (g.D.Disk.device x.dev.now).trace x.text.now x.inputs x.calcs a byte (c.in_err-found.ensures.begun a byte damaged)
     (c.in_err-found.ensures.damaged a byte damaged)
+
+pub returns-in_err-saved-clause-damaged : goal.returns-in_err-saved-clause-damaged
+returns-in_err-saved-clause-damaged g c = λ a byte told.
+    let x = c.args in
+    let sent = c.from_residual-in_err-saved in
+    let out = err_from_is_err_and sent.result sent.ensures.1 in
+    subst (λ o. Shows o (λ i. IsGroupDamage x.text.now x.inputs x.calcs i a byte)) c.read_text.ensures.same
+    (c.in_err-saved.ensures.damaged a byte (told_through sent.result out.0 _ a byte out.1 out.2 told))

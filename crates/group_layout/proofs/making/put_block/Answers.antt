@@ -28,8 +28,8 @@ returns-clause-next g c =
 pub returns-clause-ready : goal.returns-clause-ready
 returns-clause-ready g c =
     let b = parts_of c.args.b.now in
-    let old = g.D.Disk.trace c.args.dev.now in
-    let new = g.D.Disk.trace c.write_guarded.new.dev in
+    let old = (g.D.Disk.device c.args.dev.now).trace in
+    let new = (g.D.Disk.device c.write_guarded.new.dev).trace in
     let same = c.deref.ensures.value ∙ c.in-Ok.ensures in
     let next : c.in-Some.next ≡ c.args.at + block_size b
     = omega (arith, c.in-Some.ensures, c.len.ensures, ap length c.in-Ok.ensures, length-block_image b) in

@@ -9,7 +9,7 @@ pub returns-in-Ok-clause-ended : goal.returns-in-Ok-clause-ended
 returns-in-Ok-clause-ended g c = record {
   log = c.settle-answer.new.log;
   notes = c.in-Ok.field-0.notes.items;
-  device = c.into_history-dev.ensures.device;
+  same_device = c.into_history-dev.ensures.device;
   history_is = record {
     plant = c.into_history-dev.ensures.plant;
     tags = c.into_history-dev.ensures.tags;

@@ -51,7 +51,7 @@ returns-in-Ok-clause-unlogged g c = λ none.
 
 pub returns-in-Ok-clause-understood : goal.returns-in-Ok-clause-understood
 returns-in-Ok-clause-understood g c =
-    understood g.S.Dev.Disk.trace g.S.Dev.Disk.ticks g.S.Dev.Disk.fault_count c.in-Ok.read.base (row_lists_of c.in-Ok.read.rows.items)
+    understood g.S.Dev.Disk.device c.in-Ok.read.base (row_lists_of c.in-Ok.read.rows.items)
     (g.S.Store.device_at c.args.store.now) (g.S.Store.device_at c.log_read.new.store) (g.S.Store.fault_count c.args.store.now)
     (g.S.Store.fault_count c.log_read.new.store) (g.P.Passes.stops c.args.passes.now) (g.P.Passes.stops c.log_read.new.passes)
     c.log_read.result.answer c.log_read.result.log c.log_read.ensures.run c.log_read.ensures.unopened

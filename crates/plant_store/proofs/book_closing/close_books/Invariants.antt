@@ -6,11 +6,11 @@ use Rattle.plant_store.proofs.book_closing.close_books.Given as goal
 
 abbrev pub invariant-loop-book : goal.invariant-loop-book
 invariant-loop-book g l = record {
-  going : AreGoingBack g.S.Dev.Disk.trace g.S.Dev.Disk.fault_count l.names l.fn.books.items (into_iter_items l.rest) l.place
+  going : AreGoingBack g.S.Dev.Disk.device l.names l.fn.books.items (into_iter_items l.rest) l.place
       (into_iter_len l.rest) (g.S.Store.device_at l.fn.store) (g.S.Store.device_at l.store) (g.S.Store.has_place l.fn.store)
       (g.S.Store.has_place l.store) (g.S.Store.fault_count l.fn.store) (g.S.Store.fault_count l.store);
   room : vec_len l.histories + into_iter_len l.rest ≤ vec_capacity l.histories;
-  told : AreTold g.S.Dev.Disk.trace g.S.Dev.Disk.ticks g.S.Dev.Disk.fault_count l.fn.books.items l.histories.items;
+  told : AreTold g.S.Dev.Disk.device l.fn.books.items l.histories.items;
   as_many : length l.histories.items ≡ l.place;
 }
 

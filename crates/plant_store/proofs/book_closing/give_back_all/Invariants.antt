@@ -4,7 +4,7 @@ use Rattle.plant_store.proofs.book_closing.give_back_all.Given as goal
 
 abbrev pub invariant-loop-book : goal.invariant-loop-book
 invariant-loop-book g l = record {
-  going : AreGoingBack g.S.Dev.Disk.trace g.S.Dev.Disk.fault_count l.names l.fn.books.items (into_iter_items l.rest) l.place
+  going : AreGoingBack g.S.Dev.Disk.device l.names l.fn.books.items (into_iter_items l.rest) l.place
       (into_iter_len l.rest) (g.S.Store.device_at l.fn.store) (g.S.Store.device_at l.store) (g.S.Store.has_place l.fn.store)
       (g.S.Store.has_place l.store) (g.S.Store.fault_count l.fn.store) (g.S.Store.fault_count l.store);
 }

@@ -16,12 +16,12 @@ loop-place-preserved g c =
     let i = c.loop-place.place in
     let at = at_place groups names i c.index-groups-place.result c.index-names-place.result c.as_str-name.result.now c.requires.names
     c.loop-place-test.true c.index-groups-place.is c.index-names-place.is c.as_str-name.ensures.value in
-    let next = next_at D.trace D.ticks D.fault_count groups names (map (λ r. r.now) c.args.records.now)
+    let next = next_at D.device groups names (map (λ r. r.now) c.args.records.now)
     (g.S.Store.device_at c.args.store.now) (g.S.Store.device_at c.loop-place.store) (g.S.Store.device_at c.open_book.new.store)
     c.loop-place.books.items i c.index-groups-place.result c.as_str-name.result.now c.index-names-place.result c.in_ok-book.book
     before.so_far c.requires.names c.requires.distinct before.count at c.in_ok-book.ensures.opened c.open_book.ensures.others in
     record {
-      so_far = subst (λ l. IsSoFar D.trace D.ticks D.fault_count groups names (map (λ r. r.now) c.args.records.now)
+      so_far = subst (λ l. IsSoFar D.device groups names (map (λ r. r.now) c.args.records.now)
           (g.S.Store.device_at c.args.store.now) (g.S.Store.device_at c.open_book.new.store) l) (sym c.push_reserved.ensures.items) next;
       count = omega (
         arith,

@@ -6,7 +6,7 @@ use Rattle.plant_store.proofs.book_opening.open_all.Given as goal
 
 abbrev pub invariant-loop-place : goal.invariant-loop-place
 invariant-loop-place g l = record {
-  so_far : IsSoFar g.S.Dev.Disk.trace g.S.Dev.Disk.ticks g.S.Dev.Disk.fault_count l.groups l.names
+  so_far : IsSoFar g.S.Dev.Disk.device l.groups l.names
       (map (λ r. r.now) l.records) (g.S.Store.device_at l.fn.store) (g.S.Store.device_at l.store) l.books.items;
   count : length l.books.items ≡ l.place;
   room : length l.groups ≤ vec_capacity l.books;

@@ -16,8 +16,7 @@ returns-clause-history g c =
       records_are = is.records;
       summary_is = is.summary;
       acked_is = is.acked;
-      history = subst (λ d. IsCellHistory history (D.trace d) (D.ticks d) (D.fault_count d)) is.device is.history;
-      clock = (g.met.S.Dev.Disk g.world.𝓛 g.world.𝓜 g.world.𝓡 ((λ s x. x), (λ x. x), (λ x. x), λ x. x)).told c.args.cell.journal.dev;
-      rose = λ failed. subst (λ d. Rose faults (D.fault_count d)) is.device (is.rose failed);
-      faultless = λ usable. subst (λ d. D.fault_count d ≡ faults) is.device (is.faultless usable);
+      history = subst (λ d. IsCellHistory history (D.device d)) is.device is.history;
+      rose = λ failed. subst (λ d. Rose faults (D.device d).faults) is.device (is.rose failed);
+      faultless = λ usable. subst (λ d. (D.device d).faults ≡ faults) is.device (is.faultless usable);
     }

@@ -7,7 +7,7 @@ use Rattle.plant_store.proofs.cell_closing.close_cells.Given as goal
 
 abbrev pub invariant-loop-cell : goal.invariant-loop-cell
 invariant-loop-cell g l = record {
-  closed : AreClosed g.S.Dev.Disk.trace g.S.Dev.Disk.ticks g.S.Dev.Disk.fault_count (texts l.names) l.fn.cells.items
+  closed : AreClosed g.S.Dev.Disk.device (texts l.names) l.fn.cells.items
       (into_iter_items l.rest) l.histories.items (g.S.Store.device_at l.fn.store) (g.S.Store.device_at l.store)
       (g.S.Store.fault_count l.fn.store) (g.S.Store.fault_count l.store);
   count : into_iter_len l.rest + length l.histories.items ≡ length l.fn.cells.items;

@@ -81,9 +81,9 @@ returns-in-Err-clause-stopped g c =
     let new = g.S.Store.device_at c.open_one.new.store in
     let status : c.status_of.result ≡ status_of i c.in-Err.why =
     c.status_of.ensures ∙ ap (λ n. status_of n c.in-Err.why) at.place in
-    subst (IsStopped g.S.Dev.Disk.trace c.args.tags.now c.loop-def.cells.items (g.S.Store.device_at c.args.store.now) new
+    subst (IsStopped g.S.Dev.Disk.device c.args.tags.now c.loop-def.cells.items (g.S.Store.device_at c.args.store.now) new
     (g.S.Store.fault_count c.args.store.now) (g.S.Store.fault_count c.open_one.new.store)) (sym status)
-    (stopped_there g.S.Dev.Disk.trace g.S.Dev.Disk.ticks g.S.Dev.Disk.fault_count c.args.tags.now i def c.loop-def.cells.items
+    (stopped_there g.S.Dev.Disk.device c.args.tags.now i def c.loop-def.cells.items
     (g.S.Store.device_at c.args.store.now) now new (g.S.Store.fault_count c.args.store.now)
     (g.S.Store.fault_count c.open_one.new.store) c.in-Err.why c.requires.distinct inv.first inv.others at.tag
     (λ n apart. c.open_one.ensures.others n (λ e. apart (e ∙ at.named)))
@@ -124,9 +124,9 @@ returns-then-records-gt-MAX_STORE_RECORDS-clause-stopped g c =
     let number_is : c.loop-def.records + length c.recs.result.now
     ≡ records_opened c.loop-def.cells.items + length cell.opening.recs.items =
     omega (arith, inv.records, ap (length {A = Rec}) c.recs.ensures.records, ap (λ (s : State). length s.records) is.state_is) in
-    subst (IsStopped g.S.Dev.Disk.trace tags c.loop-def.cells.items old new (g.S.Store.fault_count c.args.store.now)
+    subst (IsStopped g.S.Dev.Disk.device tags c.loop-def.cells.items old new (g.S.Store.fault_count c.args.store.now)
     (g.S.Store.fault_count c.close_cell.new.store)) (sym c.too_many.ensures)
-    (stopped_full g.S.Dev.Disk.trace g.S.Dev.Disk.ticks g.S.Dev.Disk.fault_count tags i def c.as_str-name.result.now
+    (stopped_full g.S.Dev.Disk.device tags i def c.as_str-name.result.now
     c.loop-def.cells.items cell old now new (g.S.Store.fault_count c.args.store.now) (g.S.Store.fault_count c.open_one.new.store)
     (g.S.Store.fault_count c.close_cell.new.store) (c.loop-def.records + length c.recs.result.now) c.requires.distinct inv.first
     inv.others at.tag at.named
@@ -150,10 +150,9 @@ loop-def-preserved g c =
     c.as_str-name.result.now c.def-item.result c.requires.names c.loop-def-test.true c.def-item.is
     (omega (arith, c.len-tag.ensures, c.loop-def.cells.ok.0, inv.first.count)) c.index-names-tag.is c.as_str-name.ensures.value in
     let others = reached tags i def old now new inv.others at.tag (λ n apart. c.open_one.ensures.others n (λ e. apart (e ∙ at.named))) in
-    let is = opened_since tags i def c.as_str-name.result.now old now (g.S.Dev.Disk.trace cell.journal.dev)
-    (g.S.Dev.Disk.ticks cell.journal.dev) (g.S.Dev.Disk.fault_count cell.journal.dev) cell inv.others c.requires.distinct at.tag at.named
+    let is = opened_since tags i def c.as_str-name.result.now old now (g.S.Dev.Disk.device cell.journal.dev) cell inv.others c.requires.distinct at.tag at.named
     c.in-Ok.ensures.opened in
-    let more = opened_more g.S.Dev.Disk.trace g.S.Dev.Disk.ticks g.S.Dev.Disk.fault_count tags i def c.loop-def.cells.items
+    let more = opened_more g.S.Dev.Disk.device tags i def c.loop-def.cells.items
     c.push_reserved.new.self.items cell old inv.first at.tag is c.push_reserved.ensures.items in
     let places = places_more (g.S.Store.has_place c.loop-def.store) (g.S.Store.has_place c.open_one.new.store) names i
     c.len-tag.result c.index-names-tag.result c.as_str-name.result.now inv.places c.open_one.ensures.kept_places

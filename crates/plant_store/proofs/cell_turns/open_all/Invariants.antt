@@ -11,7 +11,7 @@ use Rattle.plant_store.proofs.cell_turns.open_all.Given as goal
 
 abbrev pub invariant-loop-def : goal.invariant-loop-def
 invariant-loop-def g l = record {
-  first : AreFirst g.S.Dev.Disk.trace g.S.Dev.Disk.ticks g.S.Dev.Disk.fault_count l.tags l.def-index l.cells.items
+  first : AreFirst g.S.Dev.Disk.device l.tags l.def-index l.cells.items
       (g.S.Store.device_at l.fn.store);
   records : l.records ≡ records_opened l.cells.items;
   room : vec_capacity l.cells ≡ vec_capacity l.fn.cells;

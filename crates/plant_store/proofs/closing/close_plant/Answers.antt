@@ -63,11 +63,11 @@ returns-clause-back g c =
     let old = g.S.Store.device_at c.args.store.now in
     let mid = g.S.Store.device_at c.close_books.new.store in
     let new = g.S.Store.device_at c.close_cells.new.store in
-    all_back D.trace c.args.shelf cells books old mid new c.requires.shelf
+    all_back D.device c.args.shelf cells books old mid new c.requires.shelf
     (omega (arith, c.requires.groups, c.args.plant.books.ok.0))
-    (subst (λ l. AreBooksBack D.trace l books old mid) c.deref.ensures.value c.close_books.ensures.given)
+    (subst (λ l. AreBooksBack D.device l books old mid) c.deref.ensures.value c.close_books.ensures.given)
     (subst (λ l. AreOtherNamesSame (length l) l old mid) c.deref.ensures.value c.close_books.ensures.others)
-    (subst (λ l. AreGivenBack D.trace (texts l) cells mid new) c.deref-2.ensures.value c.close_cells.ensures.given_back)
+    (subst (λ l. AreGivenBack D.device (texts l) cells mid new) c.deref-2.ensures.value c.close_cells.ensures.given_back)
 
 pub returns-clause-devices : goal.returns-clause-devices
 returns-clause-devices g c =
@@ -75,7 +75,7 @@ returns-clause-devices g c =
     c.deref-2.ensures.value c.close_cells.ensures.devices
 
 pub returns-clause-counts : goal.returns-clause-counts
-returns-clause-counts g c = λ small. all_counted g.S.Dev.Disk.fault_count c.args.plant.cells.items c.args.plant.books.items
+returns-clause-counts g c = λ small. all_counted g.S.Dev.Disk.device c.args.plant.cells.items c.args.plant.books.items
     (g.S.Store.fault_count c.args.store.now) (g.S.Store.fault_count c.close_books.new.store)
     (g.S.Store.fault_count c.close_cells.new.store) small c.close_books.ensures.counted (c.close_books.ensures.later small)
     (c.close_books.ensures.rose small) (c.close_books.ensures.faultless small) c.close_cells.ensures.counts

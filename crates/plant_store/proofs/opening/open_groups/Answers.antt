@@ -36,9 +36,9 @@ returns-clause-opened g c =
     let D = g.S.Dev.Disk in
     let old = g.S.Store.device_at c.args.store.now in
     let lists = ap (map (λ r. r.now)) c.deref-2.ensures.value ∙ c.in-Ok.ensures.records in
-    subst (λ gs. IfOk c.open_books.result (λ books. group.AreBooksOpened D.trace D.ticks D.fault_count gs (cell_records_in c.args.cells.now) old
+    subst (λ gs. IfOk c.open_books.result (λ books. group.AreBooksOpened D.device gs (cell_records_in c.args.cells.now) old
     books.items)) c.deref.ensures.value
-    (subst (λ l. IfOk c.open_books.result (λ books. group.AreBooksOpened D.trace D.ticks D.fault_count c.deref.result.now l old
+    (subst (λ l. IfOk c.open_books.result (λ books. group.AreBooksOpened D.device c.deref.result.now l old
     books.items)) lists c.open_books.ensures.opened)
 
 pub returns-clause-as_many : goal.returns-clause-as_many

@@ -47,6 +47,13 @@ returns-in_err-cells-clause-refused g c =
     (g.S.Store.fault_count c.args.store.now) (g.S.Store.fault_count c.open_cells.new.store) c.in_err-cells.field-0.0) c.deref.ensures.value
     c.in_err-cells.ensures.refused))
 
+pub returns-in_err-cells-clause-same_tags : goal.returns-in_err-cells-clause-same_tags
+returns-in_err-cells-clause-same_tags g c =
+    let out = err_from_is_err_and c.from_residual.result c.from_residual.ensures.1 in
+    let old = g.S.Store.device_at c.args.store.now in
+    let new = g.S.Store.device_at c.open_cells.new.store in
+    rw out.1 (subst (λ l. tag.AllStaySame l old new) c.deref.ensures.value c.in_err-cells.ensures.any_moment)
+
 pub returns-in_err-cells-clause-same_groups : goal.returns-in_err-cells-clause-same_groups
 returns-in_err-cells-clause-same_groups g c =
     let out = err_from_is_err_and c.from_residual.result c.from_residual.ensures.1 in
@@ -86,6 +93,14 @@ pub open_groups-requires-clause-names : goal.open_groups-requires-clause-names
 open_groups-requires-clause-names g c κs within =
     subst (group.AreNamesOf c.args.base.now.groups.items) (sym c.deref-3.ensures.value) c.requires.shelf.group_names_are
 
+pub returns-in-Ok-open_groups-clause-tags : goal.returns-in-Ok-open_groups-clause-tags
+returns-in-Ok-open_groups-clause-tags g c =
+    subst (λ l. AreCellsOpened g.S.Dev.Disk.device l (g.S.Store.device_at c.args.store.now) c.in_ok-cells.cells.items)
+    c.deref.ensures.value c.in_ok-cells.ensures.opened
+
+pub returns-in-Ok-open_groups-clause-as_many_cells : goal.returns-in-Ok-open_groups-clause-as_many_cells
+returns-in-Ok-open_groups-clause-as_many_cells g c = c.in_ok-cells.ensures.as_many ∙ ap (length {A = TagDef}) c.deref.ensures.value
+
 pub returns-in-Ok-open_groups-clause-groups : goal.returns-in-Ok-open_groups-clause-groups
 returns-in-Ok-open_groups-clause-groups g c =
     let D = g.S.Dev.Disk in
@@ -97,8 +112,8 @@ returns-in-Ok-open_groups-clause-groups g c =
     let mid = g.S.Store.device_at c.open_cells.new.store in
     books_before gs (cell_records_in cells) old mid
     (groups_same ts old mid (subst (λ l. tag.AreOtherTagsSame l old mid) c.deref.ensures.value c.open_cells.ensures.others))
-    D.trace D.ticks D.fault_count books
-    (subst (λ l. group.AreBooksOpened D.trace D.ticks D.fault_count gs (cell_records_in l) mid books) c.deref-4.ensures.value
+    D.device books
+    (subst (λ l. group.AreBooksOpened D.device gs (cell_records_in l) mid books) c.deref-4.ensures.value
     c.in-Ok-open_groups.ensures.opened)
 
 pub returns-in-Ok-open_groups-clause-places : goal.returns-in-Ok-open_groups-clause-places
@@ -165,12 +180,12 @@ returns-clause-refused g c =
     let last = g.S.Store.fault_count c.open_groups.new.store in
     let now = g.S.Store.fault_count c.close_cells.new.store in
     let passed = c.in_ok-cells.ensures.passed in
-    let opened = subst (λ l. AreCellsOpened D.trace D.ticks D.fault_count l old cells) c.deref.ensures.value
+    let opened = subst (λ l. AreCellsOpened D.device l old cells) c.deref.ensures.value
     c.in_ok-cells.ensures.opened in
-    given_up_refused D.trace D.ticks D.fault_count c.args.base.now cells old mid new before first last now why opened
+    given_up_refused D.device c.args.base.now cells old mid new before first last now why opened
     c.in_ok-cells.ensures.few_records
     (subst (λ l. tag.AreOtherTagsSame l old mid) c.deref.ensures.value c.open_cells.ensures.others) passed
-    (count_kept D.trace D.ticks D.fault_count ts old cells before first last now why opened passed c.in-Err.ensures.counts
+    (count_kept D.device ts old cells before first last now why opened passed c.in-Err.ensures.counts
     c.close_cells.ensures.counts)
     (subst (λ l. groups.IsRefusal gs (cell_records_in l) mid first last why) c.deref-4.ensures.value c.in-Err.ensures.refused)
 
@@ -181,10 +196,10 @@ returns-clause-same_tags g c =
     let old = g.S.Store.device_at c.args.store.now in
     let after = g.S.Store.device_at c.open_groups.new.store in
     let new = g.S.Store.device_at c.close_cells.new.store in
-    tags_kept D.trace D.ticks D.fault_count c.args.shelf.now.tag_names.items c.args.base.now.tags.items cells old after new
+    tags_kept D.device c.args.shelf.now.tag_names.items c.args.base.now.tags.items cells old after new
     c.requires.shelf.tag_names_are
-    (subst (λ l. AreCellsOpened D.trace D.ticks D.fault_count l old cells) c.deref.ensures.value c.in_ok-cells.ensures.opened)
-    (subst (λ l. AreGivenBack D.trace (texts l) cells after new) c.deref-in-Err.ensures.value c.close_cells.ensures.given_back)
+    (subst (λ l. AreCellsOpened D.device l old cells) c.deref.ensures.value c.in_ok-cells.ensures.opened)
+    (subst (λ l. AreGivenBack D.device (texts l) cells after new) c.deref-in-Err.ensures.value c.close_cells.ensures.given_back)
 
 pub returns-clause-same_groups : goal.returns-clause-same_groups
 returns-clause-same_groups g c =
@@ -194,9 +209,9 @@ returns-clause-same_groups g c =
     let mid = g.S.Store.device_at c.open_cells.new.store in
     let after = g.S.Store.device_at c.open_groups.new.store in
     let new = g.S.Store.device_at c.close_cells.new.store in
-    given_up_groups D.trace c.args.base.now c.args.shelf.now.tag_names.items cells old mid after new c.requires.shelf.tag_names_are
+    given_up_groups D.device c.args.base.now c.args.shelf.now.tag_names.items cells old mid after new c.requires.shelf.tag_names_are
     (subst (λ l. tag.AreOtherTagsSame l old mid) c.deref.ensures.value c.open_cells.ensures.others)
-    (subst (λ l. AreGivenBack D.trace (texts l) cells after new) c.deref-in-Err.ensures.value c.close_cells.ensures.given_back)
+    (subst (λ l. AreGivenBack D.device (texts l) cells after new) c.deref-in-Err.ensures.value c.close_cells.ensures.given_back)
     c.in-Err.ensures.any_moment
 
 pub returns-clause-others : goal.returns-clause-others
@@ -211,8 +226,8 @@ returns-clause-others g c =
     let new = g.S.Store.device_at c.close_cells.new.store in
     rest_same c.args.base.now old mid after new
     (subst (λ l. tag.AreOtherTagsSame l old mid) c.deref.ensures.value c.open_cells.ensures.others) c.open_groups.ensures.others
-    (others_kept D.trace names ts cells after new c.requires.shelf.tag_names_are
-    (subst (λ l. AreGivenBack D.trace (texts l) cells after new) c.deref-in-Err.ensures.value c.close_cells.ensures.given_back))
+    (others_kept D.device names ts cells after new c.requires.shelf.tag_names_are
+    (subst (λ l. AreGivenBack D.device (texts l) cells after new) c.deref-in-Err.ensures.value c.close_cells.ensures.given_back))
 
 pub returns-clause-counts : goal.returns-clause-counts
 returns-clause-counts g c =
@@ -226,8 +241,8 @@ returns-clause-counts g c =
     let last = g.S.Store.fault_count c.open_groups.new.store in
     let now = g.S.Store.fault_count c.close_cells.new.store in
     let passed = c.in_ok-cells.ensures.passed in
-    let opened = subst (λ l. AreCellsOpened D.trace D.ticks D.fault_count l old cells) c.deref.ensures.value
+    let opened = subst (λ l. AreCellsOpened D.device l old cells) c.deref.ensures.value
     c.in_ok-cells.ensures.opened in
     given_up_counts before first last now why passed
-    (count_kept D.trace D.ticks D.fault_count ts old cells before first last now why opened passed c.in-Err.ensures.counts
+    (count_kept D.device ts old cells before first last now why opened passed c.in-Err.ensures.counts
     c.close_cells.ensures.counts) c.in-Err.ensures.counts

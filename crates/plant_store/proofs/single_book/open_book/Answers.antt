@@ -1,4 +1,4 @@
-use Rattle.std.proofs.Common.{◌≡◌, ◌∙◌, List, ℕ, Option, ap, length, map, sym, subst}
+use Rattle.std.proofs.Common.{◌≡◌, ◌∙◌, List, ℕ, ap, length, map, sym, subst}
 use Rattle.disk_model.specs.Calls.{Shows}
 use Rattle.disk_model.specs.Moments.{During}
 use Rattle.disk_model.specs.Traces.{Trace}
@@ -9,9 +9,9 @@ use Rattle.group_layout.specs.Images.{IsUnsaved}
 use Rattle.group_layout.specs.Readings.{GainsGroupSync}
 use Rattle.group_book.specs.Openings.{StandsForGroup, BookStaysSame}
 use Rattle.group_book.specs.Tapes.{cut}
-use Rattle.group_book.specs.Told.{device_name_of, trace_of}
+use Rattle.group_book.specs.Told.{device_name_of}
 use Rattle.plant_store.specs.Groups.{group_parts_of, input_records_of, group_definition_text}
-use Rattle.plant_store.proofs.BookTurns.{held_by, same_of, still, untouched}
+use Rattle.plant_store.proofs.BookTurns.{held_by, still, untouched}
 use Rattle.plant_store.proofs.DeviceNames.{fits, text_names}
 use Rattle.plant_store.proofs.single_book.open_book.Goals as goal
 
@@ -20,7 +20,7 @@ load-requires-clause-named g c =
     let group = c.args.group.now in
     let made = c.in-Ok.ensures in
     let text : c.deref.result.now ≡ group_definition_text group = c.deref.ensures.value ∙ made.text in
-    fits (g.S.Dev.Disk.hand_out c.in-Ok-device.dev) _ _ c.in-Ok-device.ensures.named
+    fits (g.S.Dev.Disk.device c.in-Ok-device.dev).handed _ _ c.in-Ok-device.ensures.named
     (c.requires.named ∙ sym (text_names group made.named) ∙ ap device_name_of (sym text))
 
 pub returns-in_default-clause-same : goal.returns-in_default-clause-same
@@ -50,14 +50,14 @@ returns-in-Ok-load-clause-opened g c =
       named = ap device_name_of (is.text ∙ text) ∙ text_names group made.named;
       tags = is.tags ∙ made.tags;
       opening = record {
-        stood = subst (λ (o : Option Trace). Shows o (StandsForGroup (group_definition_text group) (group_parts_of group) vs rows)) told.told
-            (subst (λ (t : List ℕ). Shows (D.trace c.in-Ok-device.dev) (StandsForGroup t (group_parts_of group) vs rows)) text
-            (subst (λ (d : GroupDefParts). Shows (D.trace c.in-Ok-device.dev) (StandsForGroup c.deref.result.now d vs rows)) made.def
+        stood = subst (λ (o : Trace). Shows o (StandsForGroup (group_definition_text group) (group_parts_of group) vs rows)) told.told
+            (subst (λ (t : List ℕ). Shows (D.device c.in-Ok-device.dev).trace (StandsForGroup t (group_parts_of group) vs rows)) text
+            (subst (λ (d : GroupDefParts). Shows (D.device c.in-Ok-device.dev).trace (StandsForGroup c.deref.result.now d vs rows)) made.def
             is.opened));
         within = sym (is.versions ∙ ap (map length) copies);
         faults = is.faults ∙ (is.faultless ∙ told.faultless);
-        moment = subst (λ (o : Option Trace). TextOpensAt (IsUnsaved (group_definition_text group)) o b.opening.moment) told.told
-            (subst (λ (t : List ℕ). TextOpensAt (IsUnsaved t) (D.trace c.in-Ok-device.dev) b.opening.moment) text is.opened_at);
+        moment = subst (λ (o : Trace). TextOpensAt (IsUnsaved (group_definition_text group)) o b.opening.moment) told.told
+            (subst (λ (t : List ℕ). TextOpensAt (IsUnsaved t) (D.device c.in-Ok-device.dev).trace b.opening.moment) text is.opened_at);
       };
       moment = is.moment;
       versions = is.versions;
@@ -67,15 +67,15 @@ returns-in-Ok-load-clause-opened g c =
       evals = is.evals;
       tape = is.tape;
       usable = is.usable;
-      device = is.device;
+      has_device = is.device;
       faultless = is.faultless ∙ told.faultless;
-      synced = subst (λ (o : Option Trace). GainsGroupSync (group_definition_text group) o (trace_of D.trace b.dev)) told.told
-          (subst (λ (t : List ℕ). GainsGroupSync t (D.trace c.in-Ok-device.dev) (trace_of D.trace b.dev)) text
-          (held_by D.trace b.dev (λ (new : Option Trace). GainsGroupSync c.deref.result.now (D.trace c.in-Ok-device.dev) new)
-          is.device is.synced));
-      same = subst (λ (o : Option Trace). During o (trace_of D.trace b.dev) (BookStaysSame (group_definition_text group) (group_parts_of group) o)) told.told
-          (subst (λ (t : List ℕ). During (D.trace c.in-Ok-device.dev) (trace_of D.trace b.dev) (BookStaysSame t (group_parts_of group) (D.trace c.in-Ok-device.dev))) text
-          (subst (λ (d : GroupDefParts). During (D.trace c.in-Ok-device.dev) (trace_of D.trace b.dev)
-          (BookStaysSame c.deref.result.now d (D.trace c.in-Ok-device.dev))) made.def
-          (same_of D.trace b.dev (D.trace c.in-Ok-device.dev) _ is.device is.any_moment)));
+      synced = held_by b.dev _ (λ dev here.
+          subst (λ (o : Trace). GainsGroupSync (group_definition_text group) o (D.device dev).trace) told.told
+          (subst (λ (t : List ℕ). GainsGroupSync t (D.device c.in-Ok-device.dev).trace (D.device dev).trace) text (is.synced dev here)));
+      same = held_by b.dev _ (λ dev here.
+          subst (λ (o : Trace). During o (D.device dev).trace (BookStaysSame (group_definition_text group) (group_parts_of group) o)) told.told
+          (subst (λ (t : List ℕ). During (D.device c.in-Ok-device.dev).trace (D.device dev).trace (BookStaysSame t (group_parts_of group) (D.device c.in-Ok-device.dev).trace)) text
+          (subst (λ (d : GroupDefParts). During (D.device c.in-Ok-device.dev).trace (D.device dev).trace
+          (BookStaysSame c.deref.result.now d (D.device c.in-Ok-device.dev).trace)) made.def
+          (is.any_moment dev here))));
     }

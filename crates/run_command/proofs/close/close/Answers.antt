@@ -30,7 +30,7 @@ returns-clause-over g c old rest =
           (subst (All (λ name. n ≢ name)) (sym c.requires.shelf.group_names_are)
           (All-map (λ name. n ≢ name) (λ d. group.device_name d.name) groups no_group))
           ∙ rest n no_tag no_group;
-      group_devices = groups_back g.S.Dev.Disk.trace g.S.Dev.Disk.ticks g.S.Dev.Disk.fault_count groups c.args.ended.books.items
+      group_devices = groups_back g.S.Dev.Disk.device groups c.args.ended.books.items
           (g.S.Store.device_at c.args.store.now) new c.args.shelf.group_names.items c.close_plant-tags.result.1.items
           c.requires.shelf.group_names_are c.requires.shelf.groups_named (omega (arith, c.requires.books, c.args.ended.books.ok))
           c.close_plant-tags.ensures.groups c.close_plant-tags.ensures.back.of_groups;

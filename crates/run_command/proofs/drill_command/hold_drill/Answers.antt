@@ -25,8 +25,8 @@ returns g c old before was rest same =
     let end = c.hold_both-ended.ensures in
     let closed = c.close-answer.ensures in
     let s = c.close-answer.result.1 in
-    rw c.drill_answer.ensures (phases_told g.S.Dev.Disk.trace g.S.Dev.Disk.ticks g.S.Dev.Disk.fault_count base first second old _ before _ _ _
-    _ s (held_told g.S.Dev.Disk.trace g.S.Dev.Disk.ticks g.S.Dev.Disk.fault_count base second old _ before _ _ _ _ ended _ s was
+    rw c.drill_answer.ensures (phases_told g.S.Dev.Disk.device base first second old _ before _ _ _
+    _ s (held_told g.S.Dev.Disk.device base second old _ before _ _ _ _ ended _ s was
     (closed.over old rest) same closed.counts end.same_cells end.same_books
     (subst (λ (v : Vec WorkerNote Global). OnOk ended.answer (HaveAllEnded v.items)) (sym closed.notes) end.ended) end.made end.pulled closed.told)
     (subst (λ (v : Vec WorkerNote Global). AreNotesOfBoth first.work second.work (g.P.Passes.stops c.args.passes.now)

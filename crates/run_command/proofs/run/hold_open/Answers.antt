@@ -26,7 +26,7 @@ returns g c old before was rest same =
     let closed = c.close.ensures in
     let s = c.close.result.1 in
     record {
-      held = held_told g.S.Dev.Disk.trace g.S.Dev.Disk.ticks g.S.Dev.Disk.fault_count c.args.base.now given old _ before _ _ _ _ ended _ s
+      held = held_told g.S.Dev.Disk.device c.args.base.now given old _ before _ _ _ _ ended _ s
           was (closed.over old rest) same closed.counts end.same_cells end.same_books
           (subst (λ (v : Vec WorkerNote Global). OnOk ended.answer (HaveAllEnded v.items)) (sym closed.notes) end.ended) end.made end.pulled closed.told;
       notes = subst (λ (v : Vec WorkerNote Global). AreNotes given.work (g.P.Passes.stops c.args.passes.now)

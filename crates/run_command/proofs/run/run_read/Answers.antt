@@ -14,7 +14,7 @@ pub returns-in-Ok-clause-promised : goal.returns-in-Ok-clause-promised
 returns-in-Ok-clause-promised g c = λ name plan_name told planned.
     let D = g.S.Dev.Disk in
     let made = c.in-Ok.ensures in
-    some_weaker c.run_given.result.session (λ s is. promised D.trace D.ticks D.fault_count name plan_name told _ _ _ _ _ _
+    some_weaker c.run_given.result.session (λ s is. promised D.device name plan_name told _ _ _ _ _ _
     c.run_given.result.answer s (record {
       base = c.args.read.base;
       plan = c.args.read.plan;

@@ -4,12 +4,12 @@ use Rattle.session_audit.proofs.group_refreshing.save_group.Goals as goal
 
 pub returns-in-Ok-clause-saved : goal.returns-in-Ok-clause-saved
 returns-in-Ok-clause-saved g c =
-    (saved_on _ _ c.args.book.now c.save.new.self c.args.book.now.dev refl (λ none. (c.save.ensures.none none).1)
+    (saved_on g.D.Disk.device c.args.book.now c.save.new.self c.args.book.now.dev refl (λ none. (c.save.ensures.none none).1)
     c.in-Ok.ensures.saved (unfailed c.args.book.now.failed (λ down. absurd (cc (c.in-Ok.ensures.broken.1 down))))).0
 
 pub returns-in-Ok-clause-gained : goal.returns-in-Ok-clause-gained
 returns-in-Ok-clause-gained g c =
-    (saved_on _ _ c.args.book.now c.save.new.self c.args.book.now.dev refl (λ none. (c.save.ensures.none none).1)
+    (saved_on g.D.Disk.device c.args.book.now c.save.new.self c.args.book.now.dev refl (λ none. (c.save.ensures.none none).1)
     c.in-Ok.ensures.saved (unfailed c.args.book.now.failed (λ down. absurd (cc (c.in-Ok.ensures.broken.1 down))))).1
 
 pub returns-in-Err-clause-gained : goal.returns-in-Err-clause-gained

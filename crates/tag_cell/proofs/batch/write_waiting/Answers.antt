@@ -13,15 +13,15 @@ use Rattle.tag_cell.proofs.batch.write_waiting.Goals as goal
 pub returns-in_err-checkpoint-clause-any_moment : goal.returns-in_err-checkpoint-clause-any_moment
 returns-in_err-checkpoint-clause-any_moment g c = λ few def s all goes.
     let core = c.args.core.now in
-    during_all def s core.state core.step (taken c.args.rest.now) (g.D.Disk.trace c.args.journal.now.dev)
-    (g.D.Disk.trace c.checkpoint.new.self.dev) goes
+    during_all def s core.state core.step (taken c.args.rest.now) (g.D.Disk.device c.args.journal.now.dev).trace
+    (g.D.Disk.device c.checkpoint.new.self.dev).trace goes
     (c.checkpoint.ensures.crash few def s all (goes_from def s core.state core.step (taken c.args.rest.now) goes)).any_moment
 
 pub returns-then-free_slots-eq0-clause-any_moment : goal.returns-then-free_slots-eq0-clause-any_moment
 returns-then-free_slots-eq0-clause-any_moment g c = λ few def s all goes.
     let core = c.args.core.now in
-    during_all def s core.state core.step (taken c.args.rest.now) (g.D.Disk.trace c.args.journal.now.dev)
-    (g.D.Disk.trace c.checkpoint.new.self.dev) goes
+    during_all def s core.state core.step (taken c.args.rest.now) (g.D.Disk.device c.args.journal.now.dev).trace
+    (g.D.Disk.device c.checkpoint.new.self.dev).trace goes
     (c.checkpoint.ensures.crash few def s all (goes_from def s core.state core.step (taken c.args.rest.now) goes)).any_moment
 
 pub commit-requires-clause-in_range : goal.commit-requires-clause-in_range
@@ -36,7 +36,7 @@ returns-in-Ok-clause-any_moment g c = λ few def s all goes.
     let core = c.args.core.now in
     let n = c.oldest-batch.result.entries in
     let sent : List Point = take c.oldest-batch.result.count c.oldest-batch.result.points in
-    during_batch def s c.args.rest.now n sent (g.D.Disk.trace c.args.journal.now.dev) (g.D.Disk.trace c.commit.new.self.dev)
+    during_batch def s c.args.rest.now n sent (g.D.Disk.device c.args.journal.now.dev).trace (g.D.Disk.device c.commit.new.self.dev).trace
     c.oldest-batch.ensures.points
     (c.commit.ensures.crash def s all (batch_fits def s core.state core.step c.args.rest.now n sent c.oldest-batch.ensures.points goes)).any_moment
 
@@ -45,7 +45,7 @@ returns-in-Err-clause-any_moment g c = λ few def s all goes.
     let core = c.args.core.now in
     let n = c.oldest-batch.result.entries in
     let sent : List Point = take c.oldest-batch.result.count c.oldest-batch.result.points in
-    during_batch def s c.args.rest.now n sent (g.D.Disk.trace c.args.journal.now.dev) (g.D.Disk.trace c.commit.new.self.dev)
+    during_batch def s c.args.rest.now n sent (g.D.Disk.device c.args.journal.now.dev).trace (g.D.Disk.device c.commit.new.self.dev).trace
     c.oldest-batch.ensures.points
     (c.commit.ensures.crash def s all (batch_fits def s core.state core.step c.args.rest.now n sent c.oldest-batch.ensures.points goes)).any_moment
 
@@ -54,6 +54,6 @@ returns-in-Ok-clause-durable g c = λ few def s all goes.
     let core = c.args.core.now in
     let n = c.oldest-batch.result.entries in
     let sent : List Point = take c.oldest-batch.result.count c.oldest-batch.result.points in
-    subst (λ (ps : List Point). AllRecover def (g.D.Disk.trace c.commit.new.self.dev) (replay def.step s (map Raw ps)))
+    subst (λ (ps : List Point). AllRecover def (g.D.Disk.device c.commit.new.self.dev).trace (replay def.step s (map Raw ps)))
     c.oldest-batch.ensures.points
     (c.in-Ok.ensures.crash def s all (batch_fits def s core.state core.step c.args.rest.now n sent c.oldest-batch.ensures.points goes)).durable

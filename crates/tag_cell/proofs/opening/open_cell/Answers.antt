@@ -23,7 +23,7 @@ invariant_of-result g c =
     let tape = c.in-Ok-with_capacity.tape.items in
     let none : tape ≡ [] = c.in-Ok-with_capacity.ensures.items in
     let dev = found.journal.dev in
-    let trace = g.D.Disk.trace dev in
+    let trace = (g.D.Disk.device dev).trace in
     let summary : o.summary ≡ found.core.state.summary = c.summary-summary.ensures.value in
     let records : o.recs.items ≡ found.core.state.records = c.in-Ok-from_slice.ensures.items ∙ c.recs.ensures.value in
     let is : found.core.state ≡ opened o = same_state found.core.state o records summary in
@@ -37,9 +37,8 @@ invariant_of-result g c =
           c.in-Ok-with_capacity.ensures.capacity told.room c.in-Ok.ensures.room (omega (arith, told.countable, count)),
       open_waits o tape c.record_count-durable.result found.journal.acked none
           (c.record_count-durable.ensures.value ∙ ap Rattle.std.proofs.Common.length (sym records)) (told.acked ∙ count),
-      open_kept def o tape found.journal.failed trace (g.D.Disk.ticks dev) (g.D.Disk.fault_count dev) none told.usable recovers
-          c.clock.ensures c.faults.ensures,
-      open_safe def o tape trace (g.D.Disk.ticks dev) none (g.met.D.Disk.told dev) c.clock.ensures recovers,
+      open_kept def o tape found.journal.failed (g.D.Disk.device dev) none told.usable recovers c.clock.ensures c.faults.ensures,
+      open_safe def o tape trace none c.clock.ensures recovers,
       open_posted (arc_value c.args.board) c.args.poster c.post.new.poster c.summary-summary.result found.core.state c.requires.here
           c.post.ensures summary,
       subst (FitsName (device_name def.name)) (sym told.handed) c.requires.named,
@@ -52,5 +51,5 @@ returns-clause-opened g c =
     let o : TagOpening = record { recs = c.in-Ok-from_slice.recs; summary = c.summary-summary.result; moment = c.clock.result; faults = c.faults.result } in
     let records : o.recs.items ≡ found.core.state.records = c.in-Ok-from_slice.ensures.items ∙ c.recs.ensures.value in
     let is : found.core.state ≡ opened o = same_state found.core.state o records c.summary-summary.ensures.value in
-    subst (λ (x : State). Shows (g.D.Disk.trace c.args.dev) (λ seen. (s : State) × Recovers def seen s × IsOpenedAs def s x)) is
+    subst (λ (x : State). Shows (g.D.Disk.device c.args.dev).trace (λ seen. (s : State) × Recovers def seen s × IsOpenedAs def s x)) is
     c.in_ok-journal.ensures.opened

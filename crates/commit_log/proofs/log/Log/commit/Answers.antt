@@ -2,7 +2,7 @@ use Rattle.std.proofs.Common.{◌≡◌, ℕ, ◌+◌, ◌-◌, ◌≤◌, true,
 use Rattle.std.specs.Prelude.{vec_capacity}
 use Rattle.disk_model.specs.Calls.{Sees}
 use Rattle.disk_model.specs.Gates.{open_byte}
-use Rattle.disk_model.specs.Traces.{FitsName, seen, written}
+use Rattle.disk_model.specs.Traces.{FitsName, seen, written, moment}
 use Rattle.commit_log.specs.Devices.{log_name}
 use Rattle.commit_log.specs.declared.history.LogAcked.{LogAcked}
 use Rattle.commit_log.specs.declared.history.LogTurn.{LogTurn}
@@ -67,13 +67,13 @@ block g c =
 kept : (g : given.Over) (c : After-write_guarded g)
     → let s = c.self.inside in
     let D = g.D.Disk in
-    IsKept s.plant.items s.tags s.opening.items s.moment s.faults s.tape.items s.next s.end false (D.trace s.dev) (D.ticks s.dev)
-    (D.fault_count s.dev)
+    IsKept s.plant.items s.tags s.opening.items s.opened_at s.faults s.tape.items s.next s.end false (D.device s.dev).trace (moment (D.device s.dev).trace)
+    (D.device s.dev).faults
 kept g c =
     let s = c.self.inside in
     let D = g.D.Disk in
-    subst (λ f. IsKept s.plant.items s.tags s.opening.items s.moment s.faults s.tape.items s.next s.end f (D.trace s.dev)
-    (D.ticks s.dev) (D.fault_count s.dev)) c.if-self.false c.self.invariant.3
+    subst (λ f. IsKept s.plant.items s.tags s.opening.items s.opened_at s.faults s.tape.items s.next s.end f (D.device s.dev).trace
+    (moment (D.device s.dev).trace) (D.device s.dev).faults) c.if-self.false c.self.invariant.3
 
 -- a row waits, and a block has room for all that are counted
 some : (g : given.Over) (c : After-write_guarded g) → 1 ≤ c.min-count.result
@@ -90,7 +90,7 @@ counted g c =
 -- the tape is longer by the commit
 longer : (g : given.Over) (c : After-push_reserved g)
     → c.push_reserved.new.self.items ≡ c.self.inside.tape.items
-    ++ Commit (g.D.Disk.ticks c.write_guarded.new.dev) (c.self.inside.acked + c.min-count.result) ∷ []
+    ++ Commit (moment (g.D.Disk.device c.write_guarded.new.dev).trace) (c.self.inside.acked + c.min-count.result) ∷ []
 longer g c =
     let tape = c.self.inside.tape.items in
     let acked = c.self.inside.acked + c.min-count.result in
@@ -118,7 +118,7 @@ ends g c is =
     )
 
 -- the device is still the log's own
-own : (g : given.Over) (c : After-write_guarded g) → FitsName log_name (g.D.Disk.hand_out c.write_guarded.new.dev)
+own : (g : given.Over) (c : After-write_guarded g) → FitsName log_name (g.D.Disk.device c.write_guarded.new.dev).handed
 own g c = subst (FitsName log_name) (sym c.write_guarded.ensures.handed) c.self.invariant.5
 
 pub invariant_of-self-in-Ok : goal.invariant_of-self-in-Ok
@@ -131,7 +131,7 @@ invariant_of-self-in-Ok g c =
     let room : length s.tape.items + (s.room - s.count) + 1 ≤ vec_capacity c.push_reserved.new.self
     = omega (arith, c.in_ok-make_places.ensures.room, c.push_reserved.ensures.capacity, was.1.within, s.tape.ok) in
     let now = committed _ _ _ _ _ _ _ _ _ _ _ _ was.0 was.2 (kept g at) _ _ _ is (some g at) (few g at) _ _ _ c.in-Ok.ensures.clock
-    c.write_guarded.ensures.any_moment c.in-Ok.ensures.reads c.in-Ok.ensures.settled (g.met.D.Disk.told c.write_guarded.new.dev) _
+    c.write_guarded.ensures.any_moment c.in-Ok.ensures.reads c.in-Ok.ensures.settled refl _
     (longer g here.After-push_reserved) _ _ s.count s.room c.in-Some.end s.failed c.if-self.false (counted g at) was.1 room
     (ends g here.After-push_reserved is) c.in-Ok.ensures.cause.passed was.4 in
     (now.0, now.1, now.2, now.3, now.4, own g at)
@@ -142,7 +142,7 @@ invariant_of-self-in-Err g c =
     let was = c.self.invariant in
     let at = (goal.at.invariant_of-self-in-Err g c).After-write_guarded in
     let now = same_tape _ _ _ _ s.faults s.tape.items c.make_places.new.tape.items (vec_capacity s.tape) (vec_capacity c.make_places.new.tape)
-    s.count s.room s.next s.acked s.end true (g.D.Disk.trace c.write_guarded.new.dev) _ _ c.make_places.ensures.same
+    s.count s.room s.next s.acked s.end true (g.D.Disk.device c.write_guarded.new.dev).trace _ _ c.make_places.ensures.same
     c.make_places.ensures.more (
       was.0,
       was.1,
@@ -170,7 +170,7 @@ returns-in-Ok-clause-committed g c = λ more.
       plant = s.plant.items;
       tags = s.tags;
       opening = o;
-      moment = s.moment;
+      moment = s.opened_at;
       faults = s.faults;
       tape = tape;
       room = s.room;
@@ -186,20 +186,20 @@ returns-in-Ok-clause-committed g c = λ more.
       dev = c.write_guarded.new.dev;
     } in
     let a : LogAcked = record { acked = s.acked + count; waiting = c.len.result + c.from.result - s.acked - count } in
-    subst (λ t. AreRowsAcknowledged D.trace D.ticks a t done) c.self.view_is (record {
+    subst (λ t. AreRowsAcknowledged D.device a t done) c.self.view_is (record {
       rows = puts (take turns (drop s.next tape));
       rows_are = oldest_are o tape s.next s.acked turns was.2 (is.long ∙ count_is);
       acked_are = ap (λ (n : ℕ). s.acked + n) count_is;
       waiting_are = omega (arith, count_is, c.len.ensures, c.from.ensures, was.1.count_is);
       clock = c.in-Ok.ensures.clock;
-      wrote = subst (λ (l : List ℕ). Sees (D.trace c.write_guarded.new.dev)
-          (written (written (seen (D.trace s.dev)) (s.end + 1) l) s.end (open_byte ∷ []))) is.bytes_are
+      wrote = subst (λ (l : List ℕ). Sees (D.device c.write_guarded.new.dev).trace
+          (written (written (seen (D.device s.dev).trace) (s.end + 1) l) s.end (open_byte ∷ []))) is.bytes_are
           c.in-Ok.ensures.reads;
       changed = λ i. record {
         plant = s.plant.items;
         tags = s.tags;
         opening = o;
-        moment = s.moment;
+        moment = s.opened_at;
         faults = s.faults;
         tape = longer g at.After-push_reserved i;
         room = s.room;

@@ -11,6 +11,7 @@ use Rattle.crash_recovery.specs.Journals.{AllRecover, RecoversEither, SeatedOn}
 use Rattle.crash_recovery.proofs.Places.{laid_on, overrun_on, moved}
 use Rattle.crash_recovery.proofs.Appends.{IsCleared, IsTaken, cleared, taken_cleared, append_moments, append_durable}
 use Rattle.crash_recovery.proofs.Appends.{append_seated}
+use Rattle.crash_recovery.proofs.Restarts.{room_now}
 use Rattle.crash_recovery.proofs.Turns.{either_first, then_either}
 use Rattle.crash_recovery.proofs.seat.Seat.append.Given as given
 use Rattle.crash_recovery.proofs.seat.Seat.append.Goals as goal
@@ -18,6 +19,9 @@ use Rattle.crash_recovery.proofs.seat.Seat.append.Goals.{After-append_batch}
 
 pub close_stale-requires-clause-laid : goal.close_stale-requires-clause-laid
 close_stale-requires-clause-laid g c = laid_on c.args.self.now _ c.requires.seated
+
+pub append_batch-requires-clause-room : goal.append_batch-requires-clause-room
+append_batch-requires-clause-room g c = room_now c.close_stale.new.self _ c.in_ok-close_stale.ensures.laid
 
 pub returns-in_err-close_stale-clause-any_moment : goal.returns-in_err-close_stale-clause-any_moment
 returns-in_err-close_stale-clause-any_moment g c = λ def s all fits.
@@ -38,8 +42,8 @@ batch g c =
 
 -- a crash on the way leaves what was recovered before, or that with the values
 moments : (g : given.Over) (c : After-append_batch g) (def : TagDef) (s : State)
-    → AllRecover def (g.D.Disk.trace c.args.dev.now) s → AllFit def.step s (map Raw c.args.points.now)
-    → During (g.D.Disk.trace c.args.dev.now) (g.D.Disk.trace c.append_batch.new.dev)
+    → AllRecover def (g.D.Disk.device c.args.dev.now).trace s → AllFit def.step s (map Raw c.args.points.now)
+    → During (g.D.Disk.device c.args.dev.now).trace (g.D.Disk.device c.append_batch.new.dev).trace
     (RecoversEither def s (replay def.step s (map Raw c.args.points.now)))
 moments g c def s all fits =
     then_either _ _ _ def s _ (c.close_stale.ensures.any_moment def s all (overrun_on c.args.self.now _ c.requires.seated))
@@ -67,7 +71,7 @@ returns-in-Ok-clause-seated g c =
     let at = (goal.at.returns-in-Ok-clause-seated g c).After-append_batch in
     let q = c.close_stale.new.self in
     let batch = batch g at in
-    let new = g.D.Disk.trace c.append_batch.new.dev in
+    let new = (g.D.Disk.device c.append_batch.new.dev).trace in
     let r : Seat = moved q false (q.lane.used + 1) (q.lane.next + length c.args.points.now) in
     subst (λ l. SeatedOn (record q { lane = l }) new) (sym c.in-Ok.ensures.moved)
     (subst (λ b. SeatedOn (record q { lane = r.lane; stale = b }) new) (sym batch.fresh)

@@ -1,16 +1,16 @@
 use Rattle.trend_num.specs.declared.tag_def.TagDef.{TagDef}
 use Rattle.trend_model.specs.State.{State}
-use Rattle.disk_model.specs.Traces.{Trace}
+use Rattle.disk_model.specs.Traces.{Trace, moment}
 use Rattle.disk_model.specs.Moments.{ComesAfter, During}
 use Rattle.disk_model.proofs.Moments.{after_both, after_self, during_now}
 use Rattle.device_layout.specs.Recovery.{Recovers}
-use Rattle.crash_recovery.specs.Journals.{AllRecover, GoesOnFrom, RecoversEither}
-use Rattle.std.proofs.Common.{◌≡◌, ◌+◌, Option, ap, subst, length}
+use Rattle.crash_recovery.specs.Journals.{AllRecover, GoesOnFrom, RecoversEither, SeatedOn}
+use Rattle.std.proofs.Common.{◌≡◌, ◌+◌, ap, arith, subst, sym, length}
 use Rattle.disk_model.specs.Calls.{Shows}
 use Rattle.crash_recovery.specs.Seats.{log_calls}
 use Rattle.crash_recovery.proofs.Calls.{checkpoint_counted}
 use Rattle.crash_recovery.proofs.Done.{done_recovers}
-use Rattle.crash_recovery.proofs.Places.{laid_on, overrun_on}
+use Rattle.crash_recovery.proofs.Places.{laid_on, overrun_on, seated_on}
 use Rattle.crash_recovery.proofs.Turns.{either_kept, either_first, then_same, then_either, then_second}
 use Rattle.crash_recovery.proofs.seat.Seat.checkpoint.Given as given
 use Rattle.crash_recovery.proofs.seat.Seat.checkpoint.Goals as goal
@@ -18,8 +18,8 @@ use Rattle.crash_recovery.proofs.seat.Seat.checkpoint.Goals.{After-close_stale-2
 
 -- each image recovers what it did before, until the records are written
 logged : (g : given.Over) (c : After-log_records g) (def : TagDef) (s : State)
-    → AllRecover def (g.D.Disk.trace c.args.dev.now) s
-    → During (g.D.Disk.trace c.args.dev.now) (g.D.Disk.trace c.log_records.new.dev) (λ x. Recovers def x s)
+    → AllRecover def (g.D.Disk.device c.args.dev.now).trace s
+    → During (g.D.Disk.device c.args.dev.now).trace (g.D.Disk.device c.log_records.new.dev).trace (λ x. Recovers def x s)
 logged g c def s all = then_same _ _ _ def s
     (c.close_stale.ensures.any_moment def s all (overrun_on c.args.self.now _ c.requires.seated))
     (λ now. c.log_records.ensures.any_moment def s now)
@@ -55,6 +55,12 @@ returns-in_err-log_records-clause-kept g c = λ is def s all.
     let logged = logged g (goal.at.returns-in_err-log_records-clause-kept g c).After-log_records def s all in
     during_now _ _ (λ x. Recovers def x s) logged
 
+pub returns-in_err-log_records-clause-still_seated : goal.returns-in_err-log_records-clause-still_seated
+returns-in_err-log_records-clause-still_seated g c = λ is.
+    let p = c.close_stale.new.self in
+    let seated = seated_on p _ c.in-Ok.ensures.fresh c.in-Ok.ensures.laid in
+    subst (λ d. SeatedOn p (g.D.Disk.device d).trace) (sym (c.log_records.ensures.unwritten (grind arith))) seated
+
 pub returns-in_default-put_summary-clause-any_moment : goal.returns-in_default-put_summary-clause-any_moment
 returns-in_default-put_summary-clause-any_moment g c = λ small def s all goes.
     let logged = logged g (goal.at.returns-in_default-put_summary-clause-any_moment g c).After-log_records def s all in
@@ -62,9 +68,9 @@ returns-in_default-put_summary-clause-any_moment g c = λ small def s all goes.
 
 -- once the summary counts, each image recovers the core
 counted : (g : given.Over) (c : After-close_stale-2 g) (def : TagDef) (s : State)
-    → During (g.D.Disk.trace c.args.dev.now) (g.D.Disk.trace c.log_records.new.dev) (λ x. Recovers def x s)
+    → During (g.D.Disk.device c.args.dev.now).trace (g.D.Disk.device c.log_records.new.dev).trace (λ x. Recovers def x s)
     → GoesOnFrom def s c.args.core.now.step c.args.core.now.state
-    → During (g.D.Disk.trace c.put_summary.new.dev) (g.D.Disk.trace c.close_stale-2.new.dev) (λ x. Recovers def x c.args.core.now.state)
+    → During (g.D.Disk.device c.put_summary.new.dev).trace (g.D.Disk.device c.close_stale-2.new.dev).trace (λ x. Recovers def x c.args.core.now.state)
 counted g c def s logged goes =
     let now = during_now _ _ (λ x. Recovers def x s) logged in
     c.close_stale-2.ensures.any_moment def c.args.core.now.state (c.in-Ok-put_summary.ensures.durable def s now goes)
@@ -72,9 +78,9 @@ counted g c def s logged goes =
 
 -- and each one until then either state
 either : (g : given.Over) (c : After-close_stale-2 g) (def : TagDef) (s : State)
-    → During (g.D.Disk.trace c.args.dev.now) (g.D.Disk.trace c.log_records.new.dev) (λ x. Recovers def x s)
+    → During (g.D.Disk.device c.args.dev.now).trace (g.D.Disk.device c.log_records.new.dev).trace (λ x. Recovers def x s)
     → GoesOnFrom def s c.args.core.now.step c.args.core.now.state
-    → During (g.D.Disk.trace c.args.dev.now) (g.D.Disk.trace c.close_stale-2.new.dev) (RecoversEither def s c.args.core.now.state)
+    → During (g.D.Disk.device c.args.dev.now).trace (g.D.Disk.device c.close_stale-2.new.dev).trace (RecoversEither def s c.args.core.now.state)
 either g c def s logged goes = then_second _ _ _ def s _
     (then_either _ _ _ def s _ logged (λ now. c.put_summary.ensures.any_moment def s now goes)) (counted g c def s logged goes)
 
@@ -94,6 +100,10 @@ returns-clause-durable g c = λ small def s all goes.
     let counted = counted g here.After-close_stale-2 def s (logged g here.After-log_records def s all) goes in
     during_now _ _ (λ x. Recovers def x c.args.core.now.state) counted
 
+pub returns-clause-seated : goal.returns-clause-seated
+returns-clause-seated g c =
+    seated_on c.close_stale-2.new.self _ c.in-Ok-close_stale.ensures.fresh c.in-Ok-close_stale.ensures.laid
+
 pub returns-clause-calls : goal.returns-clause-calls
 returns-clause-calls g c = λ more.
     checkpoint_counted c.args.self.now c.close_stale.new.self c.in-Ok-put_summary.seat (record {
@@ -104,9 +114,9 @@ returns-clause-calls g c = λ more.
       fresh = c.in-Ok-put_summary.ensures.stale;
       overtaken = c.in-Ok-put_summary.ensures.overtaken;
     }) (length c.args.core.now.state.records) _ _ _ _ _ _ _ _ _ c.requires.seated
-    (λ fresh. ap (λ d. g.D.Disk.trace d) (c.close_stale.ensures.idle fresh)) c.in-Ok.ensures.calls c.in-Ok.ensures.front
-    (subst (λ rs. Shows (g.D.Disk.trace c.close_stale.new.dev) (λ b. g.D.Disk.ticks c.log_records.new.dev
-    ≡ g.D.Disk.ticks c.close_stale.new.dev + log_calls c.close_stale.new.self (length rs) b)) c.recs.ensures.value
+    (λ fresh. ap (λ d. (g.D.Disk.device d).trace) (c.close_stale.ensures.idle fresh)) c.in-Ok.ensures.calls c.in-Ok.ensures.front
+    (subst (λ rs. Shows (g.D.Disk.device c.close_stale.new.dev).trace (λ b. moment (g.D.Disk.device c.log_records.new.dev).trace
+    ≡ moment (g.D.Disk.device c.close_stale.new.dev).trace + log_calls c.close_stale.new.self (length rs) b)) c.recs.ensures.value
     c.in_ok-log_records.ensures.calls) c.in_ok-log_records.ensures.gates c.in-Ok-put_summary.ensures.clock c.in-Ok-put_summary.ensures.gates
     c.in-Ok-close_stale.ensures.calls
 
@@ -120,7 +130,7 @@ pub returns-in_err-log_records-clause-continues : goal.returns-in_err-log_record
 returns-in_err-log_records-clause-continues g c = after_both _ _ _ c.close_stale.ensures.continues c.log_records.ensures.continues
 
 -- once the records are written
-then_logged : (g : given.Over) (c : After-log_records g) → ComesAfter (g.D.Disk.trace c.args.dev.now) (g.D.Disk.trace c.log_records.new.dev)
+then_logged : (g : given.Over) (c : After-log_records g) → ComesAfter (g.D.Disk.device c.args.dev.now).trace (g.D.Disk.device c.log_records.new.dev).trace
 then_logged g c = after_both _ _ _ c.close_stale.ensures.continues c.log_records.ensures.continues
 
 pub returns-in_default-put_summary-clause-continues : goal.returns-in_default-put_summary-clause-continues
@@ -129,8 +139,8 @@ returns-in_default-put_summary-clause-continues g c =
     c.put_summary.ensures.continues
 
 -- and once the gates are closed
-then_closed : (g : given.Over) (c : After-close_stale-2 g) (o : Option Trace)
-    → ComesAfter o (g.D.Disk.trace c.log_records.new.dev) → ComesAfter o (g.D.Disk.trace c.close_stale-2.new.dev)
+then_closed : (g : given.Over) (c : After-close_stale-2 g) (o : Trace)
+    → ComesAfter o (g.D.Disk.device c.log_records.new.dev).trace → ComesAfter o (g.D.Disk.device c.close_stale-2.new.dev).trace
 then_closed g c o before = after_both _ _ _ (after_both _ _ _ before c.put_summary.ensures.continues) c.close_stale-2.ensures.continues
 
 pub returns-in_default-close_stale-clause-continues : goal.returns-in_default-close_stale-clause-continues

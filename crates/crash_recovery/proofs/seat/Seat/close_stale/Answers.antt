@@ -4,8 +4,14 @@ use Rattle.disk_model.proofs.Moments.{after_self, started}
 use Rattle.event_queue.specs.Places.{HasRoom}
 use Rattle.device_layout.specs.Recovery.{Recovers}
 use Rattle.crash_recovery.specs.Seats.{LaidOn}
-use Rattle.crash_recovery.proofs.Restarts.{restart_moments, restart_laid}
+use Rattle.crash_recovery.proofs.Restarts.{gates_now, restart_moments, restart_laid, room_now}
 use Rattle.crash_recovery.proofs.seat.Seat.close_stale.Goals as goal
+
+pub restart-requires-clause-room : goal.restart-requires-clause-room
+restart-requires-clause-room g c = room_now c.args.self.now _ c.requires.laid
+
+pub restart-requires-clause-gates : goal.restart-requires-clause-gates
+restart-requires-clause-gates g c = gates_now c.args.self.now _ c.requires.within c.requires.laid
 
 pub returns-then-not-self-clause-any_moment : goal.returns-then-not-self-clause-any_moment
 returns-then-not-self-clause-any_moment g c = λ def s all over. started _ (λ x. Recovers def x s) all
@@ -25,7 +31,7 @@ returns-clause-any_moment g c = λ def s all over.
 pub returns-clause-laid : goal.returns-clause-laid
 returns-clause-laid g c =
     let p = c.args.self.now in
-    let new = g.D.Disk.trace c.restart.new.dev in
+    let new = (g.D.Disk.device c.restart.new.dev).trace in
     let moved = c.in_ok-restart.ensures.moved in
     subst (λ l. LaidOn (record {
       lane = l;

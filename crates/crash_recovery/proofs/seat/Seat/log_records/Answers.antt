@@ -1,8 +1,11 @@
-use Rattle.std.proofs.Common.{◌∙◌, refl, ap, length, drop, rules}
+use Rattle.std.proofs.Common.{◌∙◌, refl, ap, arith, length, drop, rules}
 use Rattle.archive_file.specs.Records.{recs_image}
 use Rattle.disk_model.proofs.Moments.{after_both}
 use Rattle.device_layout.specs.Recovery.{summary_gate}
+use Rattle.crash_recovery.specs.Journals.{log_end}
 use Rattle.crash_recovery.specs.Seats.{spare_slot}
+use Rattle.crash_recovery.proofs.DeviceReads.{shown_now}
+use Rattle.crash_recovery.proofs.Places.{reaches_on}
 use Rattle.crash_recovery.proofs.Logged.{put_moments, gates_torn, log_moments, log_laid, ready_on}
 use Rattle.crash_recovery.proofs.Calls.{log_counted, log_front, log_gates}
 use Rattle.crash_recovery.proofs.seat.Seat.log_records.Goals as goal
@@ -13,6 +16,17 @@ returns-in_err-put_new_records-clause-any_moment g c = λ def s all.
     put_moments p (length (recs_image (drop p.records c.args.recs.now))) (summary_gate (spare_slot p.counts))
     refl _ _
     c.requires.laid c.put_new_records.ensures.any_moment def s all
+
+pub put_new_records-requires : goal.put_new_records-requires
+put_new_records-requires g c = record { room = reaches_on c.args.self.now _ (log_end c.args.self.now) c.requires.laid (omega arith) }
+
+pub close_gates-requires-clause-room : goal.close_gates-requires-clause-room
+close_gates-requires-clause-room g c =
+    let p = c.args.self.now in
+    let gate = c.gate.ensures ∙ ap summary_gate c.spare_slot.ensures in
+    let n = length (recs_image (drop p.records c.args.recs.now)) in
+    (shown_now (g.D.Disk.device c.put_new_records.new.dev).trace _
+    (gates_torn p n c.gate.result gate _ _ c.requires.laid c.put_new_records.ensures.any_moment)).there
 
 pub close_gates-requires-clause-gates : goal.close_gates-requires-clause-gates
 close_gates-requires-clause-gates g c =

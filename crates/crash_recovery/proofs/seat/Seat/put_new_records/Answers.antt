@@ -11,8 +11,8 @@ returns-then-is_empty-clause-any_moment g c = torn_kept _ _ _
 
 pub returns-clause-any_moment : goal.returns-clause-any_moment
 returns-clause-any_moment g c =
-    let o = g.D.Disk.trace c.args.dev.now in
-    let new = g.D.Disk.trace c.put_records.new.dev in
+    let o = (g.D.Disk.device c.args.dev.now).trace in
+    let new = (g.D.Disk.device c.put_records.new.dev).trace in
     let part = take (length c.args.recs.now - c.min-from.result) (drop c.min-from.result c.args.recs.now) in
     let recs = new_records c.args.self.now.records c.min-from.result c.args.recs.now c.min-from.ensures in
     subst (λ rs. During o new (FromOld o (IsTorn (log_end c.args.self.now) (length (recs_image rs))))) recs

@@ -3,7 +3,11 @@ use Rattle.std.proofs.lemmas.Bool.{ltb-true}
 use Rattle.std.specs.Prelude.{nat_lt}
 use Rattle.archive_file.specs.Summaries.{summary_image}
 use Rattle.device_layout.specs.Recovery.{summary_place, summary_gate}
+use Rattle.disk_model.specs.Gates.{IsShut}
+use Rattle.disk_model.specs.Traces.{seen}
 use Rattle.crash_recovery.specs.Seats.{LaidOn, OverrunOn}
+use Rattle.crash_recovery.proofs.DeviceReads.{now_shown}
+use Rattle.crash_recovery.proofs.Places.{settled_on}
 use Rattle.crash_recovery.proofs.Checkpoints.{IsFit, fit_of, none_used, summed_as, summary_moments, summary_durable}
 use Rattle.crash_recovery.proofs.Checkpoints.{summary_overrun, summary_laid}
 use Rattle.device_layout.proofs.SlotNumbers.{length-summary_image}
@@ -17,6 +21,13 @@ fit : (g : given.Over) (c : After-write_guarded g) → IsFit c.tuning-tuning.res
 fit g c =
     fit_of c.tuning-tuning.result c.args.core.now.step c.args.core.now.state c.summary-summary.result c.summary-summary.ensures.value
     c.tuning-tuning.ensures.value c.tuning-tuning.ensures.tuned c.summary-summary.ensures.parts c.requires.countable
+
+pub write_guarded-requires-clause-shut : goal.write_guarded-requires-clause-shut
+write_guarded-requires-clause-shut g c =
+    let o = (g.D.Disk.device c.args.dev.now).trace in
+    let gate = c.gate.ensures ∙ ap summary_gate c.spare_slot-slot.ensures in
+    now_shown o (IsShut c.gate.result) (settled_on c.args.self.now o c.requires.laid)
+    (subst (λ k. IsShut k (seen o)) (sym gate) c.requires.ready.shut)
 
 pub returns-in_default-clause-any_moment : goal.returns-in_default-clause-any_moment
 returns-in_default-clause-any_moment g c = λ def s all goes.
@@ -38,7 +49,7 @@ returns g c =
     let gate = c.gate.ensures ∙ ap summary_gate c.spare_slot-slot.ensures in
     let bytes = c.summary_bytes.ensures ∙ ap summary_image value in
     let stale = nat_lt 0 p.lane.used in
-    let new = g.D.Disk.trace c.write_guarded.new.dev in
+    let new = (g.D.Disk.device c.write_guarded.new.dev).trace in
     let same = sym (summed_as p stale r c.spare_slot-slot.result c.summary-summary.result
     c.spare_slot-slot.ensures value) in
     record {

@@ -6,7 +6,6 @@ use Rattle.event_queue.proofs.Steps.{damage_here}
 use Rattle.event_queue.proofs.Taken.{fields_read, within_more, count_breaks, first_breaks, point_breaks}
 use Rattle.event_queue.proofs.Taken.{taken_in}
 use Rattle.event_queue.proofs.reader.Scanned.take_slot.Goals as goal
-use Rattle.event_queue.proofs.reader.Scanned.take_slot.Goals.{then-stale, else-stale}
 use Rattle.event_queue.proofs.reader.Scanned.take_slot.Goals.{then-count-eq0-via-then-count-eq0}
 use Rattle.event_queue.proofs.reader.Scanned.take_slot.Goals.{}
 use Rattle.event_queue.proofs.reader.Scanned.take_slot.Goals.{then-count-eq0-via-else-count-eq0+then-count-gt-BATCH_MOST}

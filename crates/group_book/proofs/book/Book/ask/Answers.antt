@@ -1,12 +1,11 @@
 use Rattle.std.proofs.Common.{◌≡◌, ◌↔◌, ◌<◌, ◌++◌, ◌∷◌, [], IsSome, length, sym, ap, ◌∙◌, subst}
 use Rattle.calc_refresh.specs.Lists.{lists_of}
 use Rattle.calc_refresh.specs.Sheet.{grid_of}
-use Rattle.disk_model.specs.Moments.{LeftSince}
 use Rattle.group_layout.specs.Rows.{cell_of}
 use Rattle.group_book.specs.declared.turn.Turn.TheVariants.{Ask}
 use Rattle.group_book.specs.Crashes.{IsBookSafe}
 use Rattle.group_book.specs.Histories.{AreRowsEvaluated, IsBookLegal}
-use Rattle.group_book.specs.Told.{IsKept, Saved, count_of, trace_of}
+use Rattle.group_book.specs.Told.{IsKept, LeftOf, Saved, faults_of, moment_of, trace_of}
 use Rattle.calc_check.specs.Group.{Group}
 use Rattle.sheet_law.specs.declared.grid.Grid.{Grid}
 use Rattle.sheet_law.specs.Windows.{complete_windows}
@@ -25,7 +24,7 @@ invariant_of-self-2 g c =
     let told : c.push_reserved.new.self.items ≡ tape ++ Ask a.reader a.row a.calc a.k reply ∷ []
     = c.push_reserved.ensures.items ∙ ap (λ l. l ++ Ask a.reader a.row a.calc a.k c.row-reply.result ∷ []) c.make_place.ensures.same
     ∙ ap (λ r. tape ++ Ask a.reader a.row a.calc a.k r ∷ []) c.row-reply.ensures.value in
-    let left = LeftSince (trace_of g.D.Disk.trace b.dev) in (
+    let left = LeftOf (trace_of g.D.Disk.device b.dev) in (
       c.self.invariant.0,
       subst (λ l. IsBookLegal b.def.calcs grid b.opening l b.versions.items b.sheet.copies b.sheet.rows) (sym told)
           (legal_asked b.def.calcs grid b.opening tape b.versions.items b.sheet.copies b.sheet.rows c.self.invariant.1 a.reader a.row
@@ -35,10 +34,10 @@ invariant_of-self-2 g c =
           (subst (λ (w : Grid). IsSome c.row-reply.result
           ↔ ((a.calc < length b.sheet.group.calcs) × (a.k < complete_windows w b.sheet.copies))) c.self.invariant.0.same_grid
           c.row-reply.ensures.there))) c.self.invariant.5.rows_are),
-      subst (λ l. IsKept b.text.items b.def b.opening l b.sheet.copies saved b.failed (trace_of g.D.Disk.trace b.dev)
-          (count_of g.D.Disk.ticks b.dev) (count_of g.D.Disk.fault_count b.dev)) (sym told)
-          (kept_asked b.text.items b.def b.opening tape b.sheet.copies saved b.failed (trace_of g.D.Disk.trace b.dev)
-          (count_of g.D.Disk.ticks b.dev) (count_of g.D.Disk.fault_count b.dev) a.reader a.row a.calc a.k reply c.self.invariant.2),
+      subst (λ l. IsKept b.text.items b.def b.opening l b.sheet.copies saved b.failed (trace_of g.D.Disk.device b.dev)
+          (moment_of g.D.Disk.device b.dev) (faults_of g.D.Disk.device b.dev)) (sym told)
+          (kept_asked b.text.items b.def b.opening tape b.sheet.copies saved b.failed (trace_of g.D.Disk.device b.dev)
+          (moment_of g.D.Disk.device b.dev) (faults_of g.D.Disk.device b.dev) a.reader a.row a.calc a.k reply c.self.invariant.2),
       subst (λ l. IsBookSafe b.text.items b.def.calcs grid b.opening b.sheet.copies l left) (sym told)
           (safe_asked b.text.items b.def.calcs grid b.opening b.sheet.copies tape left a.reader a.row a.calc a.k reply
           c.self.invariant.3),

@@ -8,7 +8,7 @@ use Rattle.calc_check.specs.Group.{Group}
 use Rattle.disk_model.specs.Gates.{IsShut}
 use Rattle.disk_model.specs.Images.{Now}
 use Rattle.disk_model.specs.Moments.{LeftSince}
-use Rattle.disk_model.specs.Traces.{FitsName}
+use Rattle.disk_model.specs.Traces.{FitsName, moment}
 use Rattle.sheet_law.specs.declared.grid.Grid.{Grid}
 use Rattle.sheet_law.specs.Windows.{complete_windows}
 use Rattle.calc_refresh.specs.Lists.{lists_of}
@@ -19,7 +19,7 @@ use Rattle.group_book.specs.declared.turn.Turn.TheVariants.{Save}
 use Rattle.group_book.specs.Crashes.{IsBookSafe}
 use Rattle.group_book.specs.Histories.{AreRowsEvaluated}
 use Rattle.group_book.specs.Saves.{HasAllChanges, IsSaved, ListsChanges}
-use Rattle.group_book.specs.Told.{IsAtHome, IsKept, IsOwnDevice, Saved, ToldBook, count_of, device_name_of, trace_of}
+use Rattle.group_book.specs.Told.{IsAtHome, IsKept, IsOwnDevice, LeftOf, Saved, ToldBook, device_name_of, faults_of, moment_of, trace_of}
 use Rattle.group_book.proofs.Evaluations.{evaluated_saved}
 use Rattle.group_book.proofs.Flags.{flagged_changes, flagged_saved}
 use Rattle.group_book.proofs.Saving.{IsNextBlock, KeepsAll, book_saved, keeps_alike, kept_faulted, kept_there, next_block_is, safe_writing}
@@ -37,29 +37,30 @@ saved_of g c =
 kept : (g : given.Over) (c : After-put_block g)
     → let s = c.self.inside in
     let D = g.D.Disk in
-    IsKept s.text.items s.def s.opening s.tape.items s.sheet.copies (saved_of g c) false (D.trace c.in-Some.dev) (D.ticks c.in-Some.dev)
-    (D.fault_count c.in-Some.dev)
+    IsKept s.text.items s.def s.opening s.tape.items s.sheet.copies (saved_of g c) false (Some (D.device c.in-Some.dev).trace)
+    (moment (D.device c.in-Some.dev).trace)
+    (D.device c.in-Some.dev).faults
 kept g c =
     let s = c.self.inside in
     let D = g.D.Disk in
-    kept_there D.trace D.ticks D.fault_count s.text.items s.def s.opening s.tape.items s.sheet.copies (saved_of g c) s.failed s.dev
+    kept_there D.device s.text.items s.def s.opening s.tape.items s.sheet.copies (saved_of g c) s.failed s.dev
     c.in-Some.dev c.in-Some.is c.if-self.false c.self.invariant.2
 
 safe : (g : given.Over) (c : After-put_block g)
     → let s = c.self.inside in
     IsBookSafe s.text.items s.def.calcs (grid_of s.def.start s.def.period) s.opening s.sheet.copies s.tape.items
-    (LeftSince (g.D.Disk.trace c.in-Some.dev))
+    (LeftSince (g.D.Disk.device c.in-Some.dev).trace)
 safe g c =
     let s = c.self.inside in
     subst (λ d. IsBookSafe s.text.items s.def.calcs (grid_of s.def.start s.def.period) s.opening s.sheet.copies s.tape.items
-    (LeftSince (trace_of g.D.Disk.trace d))) c.in-Some.is c.self.invariant.3
+    (LeftOf (trace_of g.D.Disk.device d))) c.in-Some.is c.self.invariant.3
 
 -- it is still the group's own
-own_after : (g : given.Over) (c : After-put_block g) → IsOwnDevice g.D.Disk.hand_out c.self.inside.text.items (Some c.put_block.new.dev)
+own_after : (g : given.Over) (c : After-put_block g) → IsOwnDevice g.D.Disk.device c.self.inside.text.items (Some c.put_block.new.dev)
 own_after g c =
     let text = c.self.inside.text.items in
     subst (FitsName (device_name_of text)) (sym c.put_block.ensures.handed)
-    (subst (IsOwnDevice g.D.Disk.hand_out text) c.in-Some.is c.self.invariant.4.1)
+    (subst (IsOwnDevice g.D.Disk.device text) c.in-Some.is c.self.invariant.4.1)
 
 -- the block is the next one
 next : (g : given.Over) (c : After-put_block g)
@@ -102,7 +103,7 @@ brought g c =
 -- the tape is longer by the save
 longer : (g : given.Over) (c : After-push_reserved g)
     → let b = parts_of c.in_ok-block.block in
-    c.push_reserved.new.self.items ≡ c.self.inside.tape.items ++ Save b.number (g.D.Disk.ticks c.put_block.new.dev) ∷ []
+    c.push_reserved.new.self.items ≡ c.self.inside.tape.items ++ Save b.number (moment (g.D.Disk.device c.put_block.new.dev).trace) ∷ []
 longer g c =
     let b = parts_of c.in_ok-block.block in
     c.push_reserved.ensures.items
@@ -123,7 +124,7 @@ invariant_of-self-in-Ok g c =
     let kept = kept g at in
     let safe = safe g at in
     let is = next g at in
-    let moment : ℕ = D.ticks c.put_block.new.dev in
+    let ended : ℕ = moment (D.device c.put_block.new.dev).trace in
     let longer = longer g (goal.at.invariant_of-self-in-Ok g c).After-push_reserved in
     let versions_are = c.in_ok-block.ensures.versions ∙ c.deref-2.ensures.value in
     let rows = lists_of (rows_after g (goal.at.invariant_of-self-in-Ok g c).After-bring_rows).items in
@@ -135,11 +136,11 @@ invariant_of-self-in-Ok g c =
       end = c.in-Ok.end;
     } in
     let end_is : c.in-Ok.end ≡ s.end + block_size b = c.in-Ok.ensures.next in
-    let kept' = book_saved s.text.items s.def s.opening tape s.versions.items copies s.sheet.rows saved (D.trace c.in-Some.dev)
-    (D.ticks c.in-Some.dev) (D.fault_count c.in-Some.dev) was.0.group was.0.grid was.0.copies was.1 was.5.rows_are kept b is (D.trace c.put_block.new.dev)
-    moment (omega (arith, c.in-Ok.ensures.clock)) c.put_block.ensures.any_moment c.in-Ok.ensures.reads c.in-Ok.ensures.settled
-    (subst (λ (n : ℕ). Now (D.trace c.put_block.new.dev) (IsShut n)) end_is c.in-Ok.ensures.ready) (g.met.D.Disk.told c.put_block.new.dev)
-    c.push_reserved.new.self.items next s.failed (D.fault_count c.put_block.new.dev) longer
+    let kept' = book_saved s.text.items s.def s.opening tape s.versions.items copies s.sheet.rows saved (D.device c.in-Some.dev).trace
+    (moment (D.device c.in-Some.dev).trace) (D.device c.in-Some.dev).faults was.0.group was.0.grid was.0.copies was.1 was.5.rows_are kept b is (D.device c.put_block.new.dev).trace
+    ended (omega (arith, c.in-Ok.ensures.clock)) c.put_block.ensures.any_moment c.in-Ok.ensures.reads c.in-Ok.ensures.settled
+    (subst (λ (n : ℕ). Now (D.device c.put_block.new.dev).trace (IsShut n)) end_is c.in-Ok.ensures.ready) refl
+    c.push_reserved.new.self.items next s.failed (D.device c.put_block.new.dev).faults longer
     (λ i. record { number = b.number; versions = versions_are i; rows = rows_are i; end = end_is i }) c.if-self.false
     c.in-Ok.ensures.cause.passed safe in (
       was.0,
@@ -148,7 +149,7 @@ invariant_of-self-in-Ok g c =
       kept'.2,
       (λ some. refl, own_after g at),
       subst (λ l. AreRowsEvaluated s.def.calcs grid s.opening l copies s.sheet.rows s.sheet.evals) (sym longer)
-          (evaluated_saved s.def.calcs grid s.opening copies s.sheet.rows s.sheet.evals tape b.number moment was.5),
+          (evaluated_saved s.def.calcs grid s.opening copies s.sheet.rows s.sheet.evals tape b.number ended was.5),
       flagged_saved c.clear_flags.new.flags.items rows s.sheet
           (c.clear_flags.ensures ∙ ap (λ (n : ℕ). replicate n false) c.windows-windows.ensures) rows_are
           (whole g (goal.at.invariant_of-self-in-Ok g c).After-put_block),
@@ -189,8 +190,8 @@ returns-in-Ok-clause-saved g c = λ d there.
         end = c.in-Ok.end;
       };
     } in
-    subst (λ t. IsSaved D.trace D.ticks d t saved) c.self.view_is
-    (subst (λ x. IsSaved D.trace D.ticks x told saved) device (record {
+    subst (λ t. IsSaved D.device d t saved) c.self.view_is
+    (subst (λ x. IsSaved D.device x told saved) device (record {
       after = c.put_block.new.dev;
       block = b;
       block_is = record {
@@ -230,21 +231,21 @@ invariant_of-self-in-Err-DeviceFault g c =
     let kept = kept g at in
     let safe = safe g at in
     let is = next g at in
-    let new = D.trace c.put_block.new.dev in
-    let ticks' : ℕ = D.ticks c.put_block.new.dev in
-    let faults' : ℕ = D.fault_count c.put_block.new.dev in
-    keeps_alike s.text.items s.def s.tags.items s.opening s.versions.items s.sheet saved true new ticks' faults' (IsAtHome D.hand_out s.text.items (Some c.put_block.new.dev))
+    let new = (D.device c.put_block.new.dev).trace in
+    let ticks' : ℕ = moment (D.device c.put_block.new.dev).trace in
+    let faults' : ℕ = (D.device c.put_block.new.dev).faults in
+    keeps_alike s.text.items s.def s.tags.items s.opening s.versions.items s.sheet saved true (Some new) ticks' faults' (IsAtHome D.device s.text.items (Some c.put_block.new.dev))
     tape c.make_place.new.tape.items saved.rows
     (lists_of (with_items s.saved_rows c.make_room.new.rows).items) s.unsaved.items c.make_room.new.flags.items c.make_place.ensures.same
     (roomy s.saved_rows c.deref_mut.result.now c.make_room.new.rows (omega (arith, c.make_room.auto.rows, c.deref_mut.ensures.len))
     c.make_room.ensures.same_rows c.deref_mut.ensures.value) c.make_room.ensures.same_flags (
       was.0,
       was.1,
-      kept_faulted s.text.items s.def s.opening tape s.versions.items copies s.sheet.rows saved (D.trace c.in-Some.dev)
-          (D.ticks c.in-Some.dev) (D.fault_count c.in-Some.dev) was.0.group was.0.grid was.0.copies was.1 was.5.rows_are kept b is new ticks' faults'
-          c.put_block.ensures.any_moment.later c.put_block.ensures.later (c.in-Err-DeviceFault.ensures.cause.failed (ap Err c.in-Err-DeviceFault.field-0-is)),
-      safe_writing s.text.items s.def s.opening tape s.versions.items copies s.sheet.rows saved (D.trace c.in-Some.dev)
-          (D.ticks c.in-Some.dev) (D.fault_count c.in-Some.dev) was.0.group was.0.grid was.0.copies was.1 was.5.rows_are kept b is safe new
+      kept_faulted s.text.items s.def s.opening tape s.versions.items copies s.sheet.rows saved (D.device c.in-Some.dev).trace
+          (moment (D.device c.in-Some.dev).trace) (D.device c.in-Some.dev).faults was.0.group was.0.grid was.0.copies was.1 was.5.rows_are kept b is new ticks' faults'
+          c.put_block.ensures.later (c.in-Err-DeviceFault.ensures.cause.failed (ap Err c.in-Err-DeviceFault.field-0-is)),
+      safe_writing s.text.items s.def s.opening tape s.versions.items copies s.sheet.rows saved (D.device c.in-Some.dev).trace
+          (moment (D.device c.in-Some.dev).trace) (D.device c.in-Some.dev).faults was.0.group was.0.grid was.0.copies was.1 was.5.rows_are kept b is safe new
           c.put_block.ensures.any_moment,
       (λ some. refl, own_after g at),
       was.5,
@@ -257,13 +258,14 @@ invariant_of-self-in_err-make_room g c =
     let D = g.D.Disk in
     let saved : Saved
     = record { number = s.number; versions = s.saved_versions.items; rows = lists_of s.saved_rows.items; end = s.end } in
-    keeps_alike s.text.items s.def s.tags.items s.opening s.versions.items s.sheet saved s.failed (D.trace c.in-Some.dev) (D.ticks c.in-Some.dev)
-    (D.fault_count c.in-Some.dev) (IsAtHome D.hand_out s.text.items (Some c.in-Some.dev)) s.tape.items c.make_place.new.tape.items saved.rows
+    keeps_alike s.text.items s.def s.tags.items s.opening s.versions.items s.sheet saved s.failed (Some (D.device c.in-Some.dev).trace)
+    (moment (D.device c.in-Some.dev).trace)
+    (D.device c.in-Some.dev).faults (IsAtHome D.device s.text.items (Some c.in-Some.dev)) s.tape.items c.make_place.new.tape.items saved.rows
     (lists_of (with_items s.saved_rows c.make_room.new.rows).items) s.unsaved.items c.make_room.new.flags.items c.make_place.ensures.same
     (roomy s.saved_rows c.deref_mut.result.now c.make_room.new.rows (omega (arith, c.make_room.auto.rows, c.deref_mut.ensures.len))
     c.make_room.ensures.same_rows c.deref_mut.ensures.value) c.make_room.ensures.same_flags
-    (subst (λ d. KeepsAll s.text.items s.def s.tags.items s.opening s.versions.items s.sheet saved s.failed (trace_of D.trace d)
-    (count_of D.ticks d) (count_of D.fault_count d) (IsAtHome D.hand_out s.text.items d) s.tape.items saved.rows s.unsaved.items)
+    (subst (λ d. KeepsAll s.text.items s.def s.tags.items s.opening s.versions.items s.sheet saved s.failed (trace_of D.device d)
+    (moment_of D.device d) (faults_of D.device d) (IsAtHome D.device s.text.items d) s.tape.items saved.rows s.unsaved.items)
     c.in-Some.is c.self.invariant)
 
 pub invariant_of-self-in-Err-WantOfMemory : goal.invariant_of-self-in-Err-WantOfMemory
@@ -272,13 +274,14 @@ invariant_of-self-in-Err-WantOfMemory g c =
     let D = g.D.Disk in
     let saved : Saved
     = record { number = s.number; versions = s.saved_versions.items; rows = lists_of s.saved_rows.items; end = s.end } in
-    keeps_alike s.text.items s.def s.tags.items s.opening s.versions.items s.sheet saved s.failed (D.trace c.put_block.new.dev) (D.ticks c.put_block.new.dev)
-    (D.fault_count c.put_block.new.dev) (IsAtHome D.hand_out s.text.items (Some c.put_block.new.dev)) s.tape.items c.make_place.new.tape.items saved.rows
+    keeps_alike s.text.items s.def s.tags.items s.opening s.versions.items s.sheet saved s.failed (Some (D.device c.put_block.new.dev).trace)
+    (moment (D.device c.put_block.new.dev).trace)
+    (D.device c.put_block.new.dev).faults (IsAtHome D.device s.text.items (Some c.put_block.new.dev)) s.tape.items c.make_place.new.tape.items saved.rows
     (lists_of (with_items s.saved_rows c.make_room.new.rows).items) s.unsaved.items c.make_room.new.flags.items c.make_place.ensures.same
     (roomy s.saved_rows c.deref_mut.result.now c.make_room.new.rows (omega (arith, c.make_room.auto.rows, c.deref_mut.ensures.len))
     c.make_room.ensures.same_rows c.deref_mut.ensures.value) c.make_room.ensures.same_flags
-    (subst (λ d. KeepsAll s.text.items s.def s.tags.items s.opening s.versions.items s.sheet saved s.failed (trace_of D.trace d)
-    (count_of D.ticks d) (count_of D.fault_count d) (IsAtHome D.hand_out s.text.items d) s.tape.items saved.rows s.unsaved.items)
+    (subst (λ d. KeepsAll s.text.items s.def s.tags.items s.opening s.versions.items s.sheet saved s.failed (trace_of D.device d)
+    (moment_of D.device d) (faults_of D.device d) (IsAtHome D.device s.text.items d) s.tape.items saved.rows s.unsaved.items)
     (c.in-Some.is ∙ ap Some (sym (c.in-Err-WantOfMemory.ensures.no_memory (ap Err c.in-Err-WantOfMemory.field-0-is)))) c.self.invariant)
 
 pub next_block-requires : goal.next_block-requires

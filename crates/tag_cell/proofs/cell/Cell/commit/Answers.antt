@@ -2,7 +2,7 @@ use Rattle.std.proofs.Common.{◌≡◌, ◌∙◌, ℕ, ◌+◌, ◌-◌, ◌<�
 use Rattle.std.proofs.lemmas.List.{append-nil}
 use Rattle.std.specs.Prelude.{vec_capacity}
 use Rattle.disk_model.specs.Moments.{LeftSince}
-use Rattle.disk_model.specs.Traces.{FitsName}
+use Rattle.disk_model.specs.Traces.{FitsName, moment}
 use Rattle.tag_cell.specs.Devices.{device_name}
 use Rattle.tag_cell.specs.declared.entry.Entry.{Entry}
 use Rattle.tag_cell.specs.declared.entry.Entry.TheVariants.{Commit}
@@ -69,8 +69,8 @@ invariant_of-self-in_err-entries g c =
     let tape = s.tape.items in
     let tape' = c.make_places.new.tape.items in
     let journal' = c.write_waiting.new.journal in
-    let old = g.D.Disk.trace s.journal.dev in
-    let new = g.D.Disk.trace journal'.dev in
+    let old = (g.D.Disk.device s.journal.dev).trace in
+    let new = (g.D.Disk.device journal'.dev).trace in
     let at = goal.at.invariant_of-self-in_err-entries g c in
     let rest : List Entry = take (length c.deref.result.now - s.next) (drop s.next c.deref.result.now) in
     let same : tape' ≡ tape = c.make_places.ensures.same in
@@ -91,13 +91,13 @@ invariant_of-self-in_err-entries g c =
       },
       subst (λ (l : List Entry). Waits o l s.next s.durable journal'.acked) (sym same)
           (subst (λ (a : ℕ). Waits o tape s.next s.durable a) (sym acked) was.3),
-      subst (λ (l : List Entry). IsKept s.def o l s.next journal'.failed new (g.D.Disk.ticks journal'.dev) (g.D.Disk.fault_count journal'.dev)) (sym same)
-          (kept_refused g.D.Disk.trace g.D.Disk.ticks g.D.Disk.fault_count s.def o tape s.next s.journal journal' c.in_err-entries.field-0.0
+      subst (λ (l : List Entry). IsKept s.def o l s.next journal'.failed (g.D.Disk.device journal'.dev)) (sym same)
+          (kept_refused g.D.Disk.device s.def o tape s.next s.journal journal' c.in_err-entries.field-0.0
           was.4 fine refused.unbroken refused.untouched refused.failed refused.cause c.write_waiting.ensures.later),
       subst (λ (l : List Entry). IsSafe s.def o l (LeftSince new)) (sym same)
           (safe_more s.def o tape old new s.journal.acked (most_acked s.def o tape s.core.state s.journal.acked was.0) was.5
-          (commit_during s.def o tape rest s.next s.durable s.journal.acked s.core s.content.records s.journal.failed old new
-          (g.D.Disk.ticks s.journal.dev) (g.D.Disk.fault_count s.journal.dev) was.0 was.1 was.3 was.4 fine from
+          (commit_during s.def o tape rest s.next s.durable s.journal.acked s.core s.content.records s.journal.failed
+          (g.D.Disk.device s.journal.dev) (g.D.Disk.device journal'.dev) was.0 was.1 was.3 was.4 fine from
           c.write_waiting.ensures.any_moment)),
       was.6,
       subst (FitsName (device_name s.def.name)) (sym c.write_waiting.ensures.handed) was.7,
@@ -124,9 +124,9 @@ invariant_of-self-2 g c =
     let tape = s.tape.items in
     let tape' = c.push_reserved.new.self.items in
     let journal' = c.write_waiting.new.journal in
-    let old = g.D.Disk.trace s.journal.dev in
-    let new = g.D.Disk.trace journal'.dev in
-    let ticks' : ℕ = g.D.Disk.ticks journal'.dev in
+    let old = (g.D.Disk.device s.journal.dev).trace in
+    let new = (g.D.Disk.device journal'.dev).trace in
+    let ticks' : ℕ = moment (g.D.Disk.device journal'.dev).trace in
     let n : ℕ = c.in_ok-entries.entries in
     let wrote = c.in_ok-entries.ensures in
     let at = goal.at.invariant_of-self-2 g c in
@@ -150,13 +150,13 @@ invariant_of-self-2 g c =
     ∙ ap (take n) (sym from)) in
     let waits' = commit_waits o tape tape' rest (e ∷ []) s.next n s.durable c.records_after-self-inside.result s.journal.acked journal'.acked
     was.3 from wrote.within longer wrote.acked durable in
-    let kept' = commit_kept s.def o tape tape' rest s.next n ticks' journal'.acked s.journal.failed journal'.failed old new
-    (g.D.Disk.ticks s.journal.dev) (g.D.Disk.fault_count s.journal.dev) (g.D.Disk.fault_count journal'.dev) s.core s.content.records
+    let kept' = commit_kept s.def o tape tape' rest s.next n journal'.acked s.journal.failed journal'.failed
+    (g.D.Disk.device s.journal.dev) (g.D.Disk.device journal'.dev) s.core s.content.records
     s.journal.acked was.0 was.1 was.3.within was.4 fine wrote.usable from wrote.within wrote.durable wrote.ticked wrote.cause.passed
     longer in
     let safe = safe_more s.def o tape old new s.journal.acked (most_acked s.def o tape s.core.state s.journal.acked was.0) was.5
-    (commit_during s.def o tape rest s.next s.durable s.journal.acked s.core s.content.records s.journal.failed old new
-    (g.D.Disk.ticks s.journal.dev) (g.D.Disk.fault_count s.journal.dev) was.0 was.1 was.3 was.4 fine from
+    (commit_during s.def o tape rest s.next s.durable s.journal.acked s.core s.content.records s.journal.failed
+    (g.D.Disk.device s.journal.dev) (g.D.Disk.device journal'.dev) was.0 was.1 was.3 was.4 fine from
     c.write_waiting.ensures.any_moment) in (
       commit_replayed s.def o tape tape' s.core.state s.journal.acked journal'.acked ticks' was.0
           (omega (arith, wrote.acked, wrote.count, least)) (omega (arith, wrote.acked, wrote.count, most, count, was.1.counted))
@@ -167,8 +167,8 @@ invariant_of-self-2 g c =
           (omega (arith, c.in_ok-make_places.ensures.room, c.push_reserved.ensures.capacity, was.2.within, s.tape.ok)) longer,
       waits',
       kept',
-      commit_safe s.def o tape tape' new s.next n ticks' journal'.acked safe longer reach waits'.acked_are
-          (g.met.D.Disk.told journal'.dev) (λ few. kept'.recovers wrote.usable few),
+      commit_safe s.def o tape tape' new s.next n journal'.acked safe longer reach waits'.acked_are
+          (λ few. kept'.recovers wrote.usable few),
       was.6,
       subst (FitsName (device_name s.def.name)) (sym c.write_waiting.ensures.handed) was.7,
     )
@@ -183,7 +183,7 @@ returns-clause-committed g c =
     let was = c.self.invariant in
     let tape = s.tape.items in
     let journal' = c.write_waiting.new.journal in
-    let ticks' : ℕ = g.D.Disk.ticks journal'.dev in
+    let ticks' : ℕ = moment (g.D.Disk.device journal'.dev).trace in
     let acked' : ℕ = c.acked-acked-2.result in
     let wrote = c.in_ok-entries.ensures in
     let at = goal.at.returns-clause-committed g c in
@@ -195,9 +195,9 @@ returns-clause-committed g c =
     ∙ (ap (λ (l : List Entry). l ++ Commit c.clock.result acked' ∷ []) same
     ∙ ap (λ (k : ℕ). tape ++ Commit k acked' ∷ []) c.clock.ensures) in
     let waited : length (taken rest) ≡ s.core.state.summary.taken - s.journal.acked = omega (arith, count) in
-    subst (λ (t : ToldCell _). IsCommitted (g.D.Disk.ticks t.journal.dev) ticks' (record { acked = acked'; waiting = c.taken-taken.result - acked' }) t
+    subst (λ (t : ToldCell _). IsCommitted (moment (g.D.Disk.device t.journal.dev).trace) ticks' (record { acked = acked'; waiting = c.taken-taken.result - acked' }) t
     (told s.def s.opening s.core.state journal' s.room c.push_reserved.new.self.items)) c.self.view_is
-    (is_committed (g.D.Disk.ticks s.journal.dev) ticks' (record { acked = acked'; waiting = c.taken-taken.result - acked' })
+    (is_committed (moment (g.D.Disk.device s.journal.dev).trace) ticks' (record { acked = acked'; waiting = c.taken-taken.result - acked' })
     (told s.def s.opening s.core.state s.journal s.room tape)
     (told s.def s.opening s.core.state journal' s.room c.push_reserved.new.self.items)
     (omega (arith, count, c.if-acked-taken.false, c.acked-acked.ensures, c.taken-taken.ensures))

@@ -95,9 +95,9 @@ invariant_of-self-2 g c =
           s.content.spare e was.2 none
           (omega (arith, c.in_ok-make_places.ensures.room, c.push_reserved.ensures.capacity, was.2.within, s.tape.ok)) longer,
       waits_entry s.opening tape tape' (e ∷ []) s.next s.durable s.journal.acked was.3 longer,
-      kept_entry s.def s.opening tape tape' e s.next s.journal.failed (g.D.Disk.trace dev) (g.D.Disk.ticks dev) (g.D.Disk.fault_count dev)
+      kept_entry s.def s.opening tape tape' e s.next s.journal.failed (g.D.Disk.device dev)
           tt was.3.within was.4 longer,
-      safe_entry s.def s.opening tape tape' e (LeftSince (g.D.Disk.trace dev)) tt was.5 longer,
+      safe_entry s.def s.opening tape tape' e (LeftSince (g.D.Disk.device dev).trace) tt was.5 longer,
       was.6,
       was.7,
     )

@@ -42,9 +42,9 @@ invariant_of-self-2 g c =
           s.content.spare c.take_value.new.content.spare e p was.2 (omega (arith, was.2.within, c.if-self.false)) refl
           took.room took.content_room longer one),
       waits_entry s.opening tape tape' (e ∷ []) s.next s.durable s.journal.acked was.3 longer,
-      kept_entry s.def s.opening tape tape' e s.next s.journal.failed (g.D.Disk.trace dev) (g.D.Disk.ticks dev) (g.D.Disk.fault_count dev)
+      kept_entry s.def s.opening tape tape' e s.next s.journal.failed (g.D.Disk.device dev)
           tt was.3.within was.4 longer,
-      safe_entry s.def s.opening tape tape' e (LeftSince (g.D.Disk.trace dev)) tt was.5 longer,
+      safe_entry s.def s.opening tape tape' e (LeftSince (g.D.Disk.device dev).trace) tt was.5 longer,
       take_posted (arc_value s.board) s.poster c.post.new.poster c.taken.result held s.core.state core'.state was.6 c.post.ensures
           c.taken.ensures took.held,
       was.7,
