@@ -20,9 +20,14 @@ def begins(path):
     """Whether a file is there and begins as the device of a tag. Any other the program refuses or begins anew."""
     try:
         with open(path, "rb") as device:
-            return device.read(5) == bytes([OPEN]) + b"PHT1"
+            return begins_in(device.read(5))
     except (FileNotFoundError, IsADirectoryError):
         return False
+
+
+def begins_in(data):
+    """Whether bytes begin as the device of a tag."""
+    return data[:5] == bytes([OPEN]) + b"PHT1"
 
 
 def number(data, at, width):
@@ -45,9 +50,9 @@ def batches_in(data):
     """The batches after the summary that counts, in the bytes of a tag's device: where each stands, and how many raw values it has."""
     summary, slots = counting_summary(data), min(number(data, 110, 4), 65_536)
     events = 0 if summary is None else number(data, summary, 8)
-    for slot in range(slots):
+    for slot, gate in enumerate(data[400:400 + slots]):
         at = 400 + slots + 1_034 * slot
-        if data[400 + slot:401 + slot] == bytes([OPEN]) and number(data, at, 8) == events:
+        if gate == OPEN and number(data, at, 8) == events:
             yield at, number(data, at + 8, 2)
             events += number(data, at + 8, 2)
 
@@ -60,11 +65,9 @@ def events_in(data):
     return (0 if summary is None else number(data, summary, 8)) + sum(count for _, count in batches_in(data))
 
 
-def newest_on(path):
-    """The time of the newest raw value that a tag took, also if the exception test set it aside; None if it took none."""
-    with open(path, "rb") as device:
-        data = device.read(400)
-        data += device.read(1_035 * min(number(data, 110, 4), 65_536))
+def newest_in(data):
+    """The time of the newest raw value that a tag took, also if the exception test set it aside, in the bytes of its device; None if it took
+    none."""
     summary, times = counting_summary(data), []
     if summary is not None:
         times = [number(data, summary + at, 8) for at, flag in ((16, HELD), (32, PENDING)) if data[summary + 12] & flag]
@@ -73,10 +76,8 @@ def newest_on(path):
     return max(times, default=None)
 
 
-def definition_on(path):
-    """What a tag's device says of the tag: whether it is a step tag, and the tuning that is in force."""
-    with open(path, "rb") as device:
-        start = device.read(400)
+def definition_in(start):
+    """What the bytes of a tag's device say of the tag: whether it is a step tag, and the tuning that is in force."""
     summary, made = counting_summary(start), [number(start, 70 + 8 * place, 8) for place in range(len(TUNING))]
     tuned = summary is not None and start[summary + 12] & TUNED
     return dict(zip(TUNING, tuning_in(start[summary:summary + 128]) if tuned else made), step=start[114] == 1)

@@ -350,6 +350,7 @@ def feed(plant, every, wait):
         if made:
             show(plant)
             continue
+        plant.looked.clear()
         if every is None and not (waiting and patience):
             return REFUSED if troubles else 0
         time.sleep(every if every is not None else plant.settings.settle_seconds)

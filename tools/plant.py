@@ -66,7 +66,7 @@ class Plant:
         if os.sep in self.program[0]:
             self.program[0] = os.path.abspath(self.program[0])
         self.settings = Settings(self.path("feed.toml"))
-        self.lock, self.troubles, self.shown_progress = None, [], 0
+        self.lock, self.troubles, self.shown_progress, self.looked = None, [], 0, {}
 
     def path(self, *names):
         return os.path.join(self.folder, *names)

@@ -13,6 +13,7 @@ A device that is not as the last turn left it is refused, and so is one that is 
 there are no values."""
 import contextlib
 import errno
+import hashlib
 import json
 import os
 import shutil
@@ -20,9 +21,9 @@ import tempfile
 import time
 
 import seals
-from devices import TUNING, begins, definition_on, newest_on
+from devices import TUNING, begins_in, definition_in, newest_in
 from fields import MOST_TIME
-from plant import BUSY, CHANGED, UNREADABLE, Refusal, open_lock, sha256_of, step_of, try_lock
+from plant import BUSY, CHANGED, UNREADABLE, Refusal, bytes_of, open_lock, step_of, try_lock
 from turns import require_scales
 
 READERS, QUERIES = 16, 4_096   # of a plan; of a reader's file
@@ -45,15 +46,13 @@ class Archive:
         self.plant, self.folder, self.groups, self.refused = plant, folder, groups, refused
         self.tags, self.newest, self.new, self.ends = {}, {}, set(), {}
 
-    def add(self, tag, definition):
-        """A tag whose device was copied, unless that is refused."""
-        name = "historian.d/%s.tag" % tag
-        path = os.path.join(self.folder, name)
-        if name not in self.refused:
-            there = os.path.exists(path)
-            self.tags[tag] = definition | (definition_on(path) if there else {})
-            self.newest[tag] = newest_on(path) if there else None
-            self.new |= set() if there else {tag}
+    def add(self, tag, definition, about):
+        """A tag, unless its device is refused. `about` is what the copy of that says of it, or None if there is none."""
+        if "historian.d/%s.tag" % tag not in self.refused:
+            told, self.newest[tag] = about or ({}, None)
+            self.tags[tag] = definition | told
+            if about is None:
+                self.new.add(tag)
 
     # What stands in the base
 
@@ -143,7 +142,7 @@ class Archive:
         """Asks at once for the first and the newest points of many tags, which `first` and `held` then know."""
         texts = self.replies([query for tag in tags for query in ("snap," + tag, "points,%s,0,%d" % (tag, MOST_TIME))])
         for tag, snap, points in zip(tags, texts[::2], texts[1::2]):
-            self.ends[tag] = next(iter(points_of(points)), None), held_in(snap)
+            self.ends[tag] = first_of(points), held_in(snap)
 
     def held(self, tag):
         """The newest point of a tag, as time and value; None if it has none."""
@@ -197,13 +196,24 @@ class Archive:
 
 def points_of(text):
     """The points of a reply."""
-    return [tuple(int(part) for part in word.split(",")) for word in text.split()[:-1]]
+    return [point_of(word) for word in text.split()[:-1]]
+
+
+def first_of(text):
+    """The first point of a reply; None if it has none."""
+    words = text.split(" ", 1)
+    return point_of(words[0]) if len(words) > 1 else None
+
+
+def point_of(word):
+    t, v = word.split(",")
+    return int(t), int(v)
 
 
 def held_in(text):
     """The held point in the reply of a `snap`; None if there is none."""
     word = text.split()[2]
-    return None if word == "none" else tuple(int(part) for part in word.split(","))
+    return None if word == "none" else point_of(word)
 
 
 def divided(first, last, pace):
@@ -258,12 +268,12 @@ def opened(plant, tags=None, groups=(), wait=WAIT, lenient=False):
             kept, exempt = sealed(plant, names)
             for name in names:
                 copy(plant, name, folder)
-        found = changed(folder, names, kept, exempt)
+        found, about = changed(folder, names, kept, exempt)
         if found and not lenient:
             refuse(plant, found)
         archive = Archive(plant, folder, {name: all_groups[name] for name in groups}, found)
         for tag in tags:
-            archive.add(tag, definitions[tag])
+            archive.add(tag, definitions[tag], about.get("historian.d/%s.tag" % tag))
         yield archive
 
 
@@ -363,22 +373,25 @@ def copy(plant, name, folder):
 
 
 def changed(folder, names, kept, exempt):
-    """What each copied device is that is not as it was sealed, by name. One that was never sealed may be missing: its tag is new. A group's
-    that is missing is made anew from its tags."""
-    found = {}
+    """What each copied device is that is not as it was sealed, by name; and what each other one says of its tag. Each copy is read once.
+
+    A device that was never sealed may be missing: its tag is new. A group's that is missing is made anew from its tags."""
+    found, about = {}, {}
     for name in names:
         path, is_tag = os.path.join(folder, name), name.endswith(".tag")
-        there = os.path.exists(path)
+        data = bytes_of(path) if os.path.exists(path) else None
         if name in kept and name not in exempt:
-            if there and sha256_of(path) != kept[name]:
+            if data is not None and hashlib.sha256(data).hexdigest() != kept[name]:
                 found[name] = seals.CHANGED_SINCE
-            elif is_tag and not there:
+            elif is_tag and data is None:
                 found[name] = "is missing"
-        elif is_tag and (there or name in kept) and not begins(path):
+        elif is_tag and (data is not None or name in kept) and not begins_in(data or b""):
             found[name] = seals.NO_DEVICE
-        elif is_tag and there and kept and name not in exempt:
+        elif is_tag and data is not None and kept and name not in exempt:
             found[name] = seals.BY_NO_TURN
-    return found
+        if is_tag and data is not None and name not in found:
+            about[name] = definition_in(data), newest_in(data)
+    return found, about
 
 
 def refuse(plant, found):

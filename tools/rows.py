@@ -7,13 +7,16 @@ import codecs
 import csv
 import itertools
 import operator
+import re
 
-from fields import BadField, instants, twice, value_and_rounding
+from fields import MOST_TIME, BadField, instants, twice, value_and_rounding
 from files import nearest, shown
 
 TIME_WORDS = ("time", "timestamp")
 REFUSED_HEADER = ["tag", "time", "value", "row", "reason"]
 REFUSED_QUALITY = ["tag", "time", "value", "quality", "row", "reason"]  # of a file whose values have a quality: a bad one stays bad
+MINUTE = 17       # characters of a time up to its seconds: 2024-12-31T00:00:
+PLAIN = re.compile(r"([0-9]{4}-[0-9]{2}-[0-9]{2}[T ][0-9]{2}:[0-9]{2}:)([0-9]{2}(?:\.[0-9]{1,3})?)(Z|[+-][0-9]{2}:[0-9]{2})?")
 CHUNK = 1 << 20   # bytes whose lines are split at once
 KNOWN = 200_000   # texts that are remembered of a kind
 csv.field_size_limit(1 << 30)  # a line without separators in a file that is no CSV file
@@ -56,11 +59,55 @@ class Values:
                 del one[sizes.get(tag, 0):]
 
 
-class Known:
-    """What is remembered while files of one source are read, so that a text is read once: names of tags, times, numbers."""
+class Times(dict):
+    """What texts of times mean, in milliseconds. A new text is put together of its minute and of what stands behind that, if both are known
+    from other texts; or it is a whole number. Any other one, and one out of the range, is a KeyError: it has to be read."""
 
-    def __init__(self):
-        self.names, self.times = {}, {}
+    def __init__(self, first, last, source):
+        self.first, self.last, self.zone, self.form = first, last, source.zone, source.time
+        self.told, self.local, self.rests = {}, {}, {}  # minutes of texts with an offset, and without; of a rest its minutes and its length
+
+    def __missing__(self, text):
+        known = self.rests.get(text[MINUTE:]) or self.rests.get(rest_of(text))
+        t = known[0][text[:MINUTE]] + known[1] if known else self.whole_number(text)
+        if not self.first <= t <= self.last:
+            raise KeyError(text)
+        if len(self) >= KNOWN:
+            self.clear()
+        self[text] = t
+        return t
+
+    def whole_number(self, text):
+        if self.form is None and len(text) <= 20 and text.isascii() and text.isdigit():
+            return int(text)
+        raise KeyError(text)
+
+    def learn(self, text, t):
+        """Notes what a text that was read means, and what its parts mean."""
+        remember(self, text, t)
+        match = PLAIN.fullmatch(text[:MINUTE] + rest_of(text)) if self.form is None else None
+        if match:
+            minute, seconds, offset = match.groups()
+            begin, length = instants(minute + "00Z", None)[0], instants("1970-01-01T00:00:%sZ" % seconds, None)[0]
+            if offset:
+                remember(self.told, minute, begin)
+                remember(self.rests, seconds + offset, (self.told, t - begin))
+            elif [instants(minute + second, self.zone) for second in ("00", "59")] == [(t - length,), (t - length + 59_000,)]:
+                remember(self.local, minute, t - length)
+                remember(self.rests, seconds, (self.local, length))
+
+
+def rest_of(text):
+    """What stands behind the minute of a time, without microseconds, which are cut off."""
+    rest = text[MINUTE:]
+    return rest[:6] + rest[9:] if rest[6:9].isdigit() and rest[2:3] == "." else rest
+
+
+class Known:
+    """What is remembered while files of one source are read, so that a text is read once: names of tags, times."""
+
+    def __init__(self, times):
+        self.names, self.times = {}, times
 
 
 class Intake:
@@ -77,7 +124,9 @@ class Intake:
         self.kept = {table.get("quality_tag"): name for name, table in settings.tag.items() if table.get("quality_tag")}
 
     def known_of(self, source):
-        return self.known.setdefault(id(source), Known())
+        if id(source) not in self.known:
+            self.known[id(source)] = Known(Times(self.settings.not_before, min(self.latest, MOST_TIME), source))
+        return self.known[id(source)]
 
     def entry(self, text, tags):
         """Where the values of a tag go: the tag, how a time and a value are added, its numbers that are exact and that were rounded."""
@@ -278,7 +327,10 @@ class Reader:
         columns = [(place, self.column(name)) for place, name in enumerate(self.layout.names) if name is not None]
         for number, line in enumerate(lines, number):
             fields = line.split(separator)
-            t = times.get(fields[time]) if len(fields) == width and '"' not in line else None
+            try:
+                t = times[fields[time]] if len(fields) == width and '"' not in line else None
+            except KeyError:
+                t = None
             if t is None:
                 self.wide_row(number, line, fields)
                 continue
@@ -349,7 +401,7 @@ class Reader:
         if found[0] < intake.settings.not_before:
             raise BadField("earlier than not_before in feed.toml (a whole number is milliseconds)", text)
         if len(found) == 1 and plain:
-            remember(self.times, plain, found[0])
+            self.times.learn(plain, found[0])
         return found
 
     def number(self, entry, text, plain):

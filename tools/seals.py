@@ -7,12 +7,15 @@ before it lets the program open anything. `sha256sum -c feed.d/seals` in the pla
 
 The plant's log only grows, and the feeder never opens it. So of it the part that stood at the last seal is sealed, and a `log` that was
 run by hand since changes none of that. Its line, and a line for each tag of how many events it had, begin with # in feed.d/seals."""
+import collections
+import hashlib
 import json
 import os
 import re
+import time
 
-from devices import TUNING, begins, events_on, log_end, sha256_of_first  # noqa: F401
-from files import CHANGED, Refusal, sha256_of, write_whole
+from devices import TUNING, begins, events_in, events_on, log_end, sha256_of_first  # noqa: F401
+from files import CHANGED, Refusal, bytes_of, sha256_of, write_whole
 
 LINE = re.compile(r"([0-9a-f]{64}|# \d+ events|# [0-9a-f]{64} of the first \d+ bytes)  (historian\.d/.+)\n")
 LOG = "historian.d/plant.log"
@@ -20,6 +23,7 @@ CHANGED_SINCE = "is not as the last turn left it: a bit flipped, another program
 BY_NO_TURN = "was made by no turn: another program ran here"
 NO_DEVICE = "is missing or does not begin as a device"
 SHOWN = 20  # devices that a line tells of
+JUST_BEFORE = 20_000_000  # nanoseconds in which a disk may give two changes of a file the same time
 COPY = re.compile(r"([0-9]{6,})\.([0-9]{4}-[0-9]{2}-[0-9]{2}T[0-9]{6}Z)")  # the name of a copy: its number and time
 
 
@@ -30,11 +34,35 @@ def devices(plant):
     return ["historian.d/" + name for name in names if name.endswith((".tag", ".grp"))]
 
 
+Look = collections.namedtuple("Look", "stamp sha events")  # what a device was as this process read it
+
+
+def looked(plant, name):
+    """The sha256 of a device, and how many events it has if it is a tag's. A device that this process has read since it last waited is not
+    read again if it is the same file by its number, size and times, and was not written to just before it was read."""
+    path, now = plant.path(name), time.time_ns()
+    info = os.stat(path)
+    stamp = info.st_ino, info.st_size, info.st_mtime_ns, info.st_ctime_ns
+    known = plant.looked.get(name)
+    if known is None or known.stamp != stamp:
+        known = Look(stamp, *(read_through(path) if name.endswith(".tag") else (sha256_of(path), None)))
+        plant.looked.pop(name, None)
+        if max(stamp[2:]) < now - JUST_BEFORE:
+            plant.looked[name] = known
+    return known
+
+
+def read_through(path):
+    """The sha256 of a tag's device, and how many events stand on it."""
+    data = bytes_of(path)
+    return hashlib.sha256(data).hexdigest(), events_in(data)
+
+
 def seal(plant):
     """Writes the seals of the devices as they stand now."""
-    names = devices(plant)
-    lines = ["%s  %s\n" % (sha256_of(plant.path(name)), name) for name in names]
-    lines += ["# %d events  %s\n" % (events_on(plant.path(name)), name) for name in names if name.endswith(".tag")]
+    found = {name: looked(plant, name) for name in devices(plant)}
+    lines = ["%s  %s\n" % (look.sha, name) for name, look in found.items()]
+    lines += ["# %d events  %s\n" % (look.events, name) for name, look in found.items() if name.endswith(".tag")]
     put_seals(plant, lines)
 
 
@@ -91,7 +119,7 @@ def differences(plant, but=()):
         if not os.path.isfile(plant.path(name)):
             if name.endswith(".tag"):
                 found[name] = "is missing"
-        elif sha256_of(plant.path(name)) != sha:
+        elif looked(plant, name).sha != sha:
             found[name] = CHANGED_SINCE
     if log and not os.path.isfile(plant.path(LOG)):
         found[LOG] = "is missing"

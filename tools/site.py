@@ -92,7 +92,7 @@ def given_to_all(turn, machines, troubles):
 
 def give(turn, machines, parcels, when, troubles):
     """Gives each of these parts a file, and notes why one did not get it."""
-    files = {part: (turn.path(parcel["file"]), parcel["name"]) for part, parcel in parcels.items() if part not in troubles}
+    files = {part: (turn.path(parcel["file"]), parcel["name"], parcel["sha256"]) for part, parcel in parcels.items() if part not in troubles}
     for part, done in machines.put(files, when).items():
         if done.status:
             troubles[part] = done.status, done.why()
@@ -289,7 +289,7 @@ def main():
     common.add_argument("--site", default=".", metavar="FOLDER", help="the site's folder, with site.toml (default: this one)")
     common.add_argument("--program", default="historian", metavar="PATH", help="the historian (default: on the path)")
     common.add_argument("--wait", type=float, default=10, metavar="SECONDS", help="for another process to end (10)")
-    common.add_argument("--jobs", type=int, default=os.cpu_count() or 1, metavar="N", help="how many parts at once (as many as processors)")
+    common.add_argument("--jobs", type=int, default=os.cpu_count() or 1, metavar="N", help="how many processes work at once (as many as processors)")
     common.add_argument("--scheduler", metavar="ADDRESS", help="of Dask, for parts on other machines, as tcp://HOST:8786")
     verbs = parser.add_subparsers(dest="verb", required=True, metavar="VERB")
     verb = verbs.add_parser("feed", parents=[common], help="route the inbox's rows to the parts, and feed them")
@@ -315,7 +315,7 @@ def main():
     given = parser.parse_args(plain_words())
     if os.sep in given.program:
         given.program = os.path.abspath(given.program)
-    site = Site(given.site, given.program)
+    site = Site(given.site, given.program, max(1, given.jobs))
     machines = Machines(given.program, given.wait, given.jobs, given.scheduler)
     try:
         return given.do(site, machines, given)

@@ -7,18 +7,21 @@ import bisect
 import concurrent.futures
 import contextlib
 import json
+import multiprocessing
+import signal
 import types
 
 import reading
 import site_work
 from fields import MOST_TIME
 from plant import UNREADABLE, Refusal
-from reading import Archive, held_in, points_of
+from reading import Archive, first_of, held_in
 from site_machines import done_well
 from site_parts import spans_of
 
 SUMS = ("area", "avg", "total")
 ENDS = {"first": 0, "last": 1}  # which end of a window each asks about
+FORK = multiprocessing.get_context("fork")
 
 
 class Piece:
@@ -93,7 +96,7 @@ class SiteArchive(Archive):
             self.pieces[tag], self.taken[tag], self.ends[tag] = [], 0, (None, None)
         for (tag, part), snap, points in zip(asked, texts[::2], texts[1::2]):
             self.taken[tag] += int(snap.split()[1])
-            self.add_piece(tag, part, next(iter(points_of(points)), None), held_in(snap), clipped)
+            self.add_piece(tag, part, first_of(points), held_in(snap), clipped)
         for piece, text in zip([piece for piece, _ in clipped], self.ask([(piece.part, query) for piece, query in clipped])):
             piece.value, piece.is_point = int(text.split()[-1]), text.startswith("exact")
         for tag in tags:
@@ -268,18 +271,13 @@ def named(part):
         raise Refusal(refusal.status, "%s: %s" % (part.folder, refusal.text)) from None
 
 
-class Distant:
-    """A part on another machine: each call opens its devices there."""
+class Called:
+    """A part whose devices another process opens. It answers what reading.Archive answers, by calls to that process."""
 
-    def __init__(self, part, machines, tags, groups, lenient):
-        self.part, self.machines, self.opened = part, machines, {"tags": tags, "groups": groups, "lenient": lenient}
+    def begin(self):
+        """Has the devices opened, and asks what there is."""
         about = self.call("about")
         self.tags, self.refused, self.newest = about["tags"], about["refused"], about["newest"]
-
-    def call(self, what, *words):
-        data = json.dumps(self.opened | {"call": what, "words": words}).encode()
-        result = self.machines.all([(self.part, "site_work.py", ["ask", self.part.folder], data)])[self.part]
-        return json.loads(done_well(self.part, result))
 
     def replies(self, queries):
         return self.call("replies", queries)
@@ -292,6 +290,71 @@ class Distant:
 
     def shifts(self, calendar, day, days):
         return self.call("shifts", calendar, day, days)
+
+
+class Distant(Called):
+    """A part on another machine: each call opens its devices there."""
+
+    def __init__(self, part, machines, tags, groups, lenient):
+        self.part, self.machines, self.opened = part, machines, {"tags": tags, "groups": groups, "lenient": lenient}
+
+    def call(self, what, *words):
+        data = json.dumps(self.opened | {"call": what, "words": words}).encode()
+        result = self.machines.all([(self.part, "site_work.py", ["ask", self.part.folder], data)])[self.part]
+        return json.loads(done_well(self.part, result))
+
+    def close(self):
+        """Nothing is open."""
+
+
+class Near(Called):
+    """A part on this machine. A process of its own opens its devices once and answers all calls, so the parts work beside each other."""
+
+    others = set()  # ends of pipes that a new process must not keep open: else the process behind each would never end
+
+    def __init__(self, part, tags, groups, wait, lenient):
+        self.pipe, there = FORK.Pipe()
+        self.others.add(self.pipe)
+        self.process = FORK.Process(target=self.serve, args=(there, part.plant, tags, groups, wait, lenient), daemon=True)
+        self.process.start()
+        there.close()
+
+    def serve(self, pipe, *opened):
+        """Answers calls until the other end of the pipe is closed, as it is if the asking process ends, in whatever way."""
+        signal.signal(signal.SIGINT, signal.SIG_IGN)
+        for other in self.others:
+            other.close()
+        with contextlib.suppress(OSError):
+            try:
+                with site_work.opened(*opened) as archive:
+                    while True:
+                        pipe.send(outcome(archive, *pipe.recv()))
+            except Exception as why:  # also that nobody asks any more; then nobody is there to hear it
+                pipe.send((None, why))
+
+    def call(self, what, *words):
+        try:
+            self.pipe.send((what, words))
+            found, why = self.pipe.recv()
+        except (EOFError, OSError):
+            raise Refusal(UNREADABLE, "the process that reads it was ended, and nothing was changed") from None
+        if why:
+            raise why
+        return found
+
+    def close(self):
+        """Ends the process, which removes its copies."""
+        self.others.discard(self.pipe)
+        self.pipe.close()
+        self.process.join()
+
+
+def outcome(archive, what, words):
+    """What an opened part answers to a call, and why it does not."""
+    try:
+        return site_work.answered(archive, what, words), None
+    except Exception as why:
+        return None, why
 
 
 def as_plant(site):
@@ -336,19 +399,12 @@ def opened_all(site, machines, spans, groups, wait, lenient, stack, pool):
         names = [name for name, parts in groups.items() if part in parts]
         if tags or names:
             wanted[part] = tags, names
-    futures = {part: pool.submit(open_part, part, machines, *asked, wait, lenient) for part, asked in wanted.items()}
-    found = {}
+    found = {part: Distant(part, machines, *asked, lenient) if part.worker else Near(part, *asked, wait, lenient)
+             for part, asked in wanted.items()}
+    for archive in found.values():
+        stack.callback(archive.close)
+    futures = {part: pool.submit(archive.begin) for part, archive in found.items()}
     for part, future in futures.items():
         with named(part):
-            manager, found[part] = future.result()
-        if manager:
-            stack.push(manager)
+            future.result()
     return found
-
-
-def open_part(part, machines, tags, groups, wait, lenient):
-    """Opens a part: what has to be left at the end, if anything, and what can be asked."""
-    if part.worker:
-        return None, Distant(part, machines, tags, groups, lenient)
-    manager = site_work.opened(part.plant, tags, groups, wait, lenient)
-    return manager, manager.__enter__()

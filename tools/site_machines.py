@@ -11,7 +11,7 @@ import subprocess
 import sys
 import time
 
-from files import AWAY, UNREADABLE, Refusal, sha256_of
+from files import AWAY, UNREADABLE, Refusal
 import site_work
 
 HERE = os.path.dirname(os.path.abspath(__file__))
@@ -130,14 +130,14 @@ class Machines:
         return Done(AWAY, "", "its worker went away: the next call finishes what it began")
 
     def put(self, files, when):
-        """Gives each of some parts a file: what became of each. `files` has of each part the file's path and name."""
+        """Gives each of some parts a file: what became of each. `files` has of each part the file's path, its name there and its sha256."""
         found, calls = {}, []
-        for part, (path, name) in files.items():
+        for part, (path, name, sha) in files.items():
             if not part.worker:
-                found[part] = put_here(part, path, name, when)
+                found[part] = put_here(part, path, name, sha, when)
                 continue
             with open(path, "rb") as data:
-                calls.append((part, "site_work.py", ["put", part.folder, name, sha256_of(path), str(when)], data.read()))
+                calls.append((part, "site_work.py", ["put", part.folder, name, sha, str(when)], data.read()))
         return found | self.all(calls)
 
     def close(self):
@@ -149,11 +149,11 @@ class Machines:
                 pass
 
 
-def put_here(part, path, name, when):
+def put_here(part, path, name, sha, when):
     """Gives a part on this machine a file: what became of it."""
     try:
         with open(path, "rb") as data:
-            site_work.put(part.plant, name, sha256_of(path), when, data)
+            site_work.put(part.plant, name, sha, when, data)
     except Refusal as refusal:
         return Done(refusal.status, "", refusal.text)
     except OSError as why:

@@ -72,10 +72,11 @@ class Settings:
 
 
 class Site:
-    """A site's folder: site.toml, the inbox, done/ and refused/ as a plant has them, and in feed.d what the router keeps."""
+    """A site's folder: site.toml, the inbox, done/ and refused/ as a plant has them, and in feed.d what the router keeps. So many `jobs` work
+    beside each other."""
 
-    def __init__(self, folder, program):
-        self.folder, self.program = os.path.abspath(folder), program
+    def __init__(self, folder, program, jobs=1):
+        self.folder, self.program, self.jobs = os.path.abspath(folder), program, jobs
         if not os.path.isfile(self.path("site.toml")):
             raise Refusal(UNREADABLE, "there is no site.toml in %s: is this the site's folder?" % self.folder)
         self.settings = Settings(self.path("site.toml"))

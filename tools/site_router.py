@@ -5,23 +5,30 @@ over, stands the number of the router's turn. So no two turns give a part the sa
 row that is not plainly readable is read as the feeder reads it; if it is none, or no part has its tag at its time, it is refused."""
 import bisect
 import codecs
+import contextlib
 import csv
 import errno
 import hashlib
 import itertools
+import multiprocessing
+import operator
 import os
+import signal
 import stat
 
 import turns
 from fields import BadField, iso_text, milliseconds
+from files import UNREADABLE, Refusal, sha256_of
 from inbox import MOST_BYTES, NOT_FOLLOWED
 from rows import fields_of, layout_of
 
 BLOCK = 1 << 20            # bytes of a file that are read at once
 LINE_BYTES = 1 << 20       # a longer line is none
+LONG_BYTES = 8_000_000     # of a file that are routed before it has helpers
 FILE_BYTES = 32_000_000    # of a part's file; the feeder takes no file above 67,108,864 bytes
 HOUR, DAY = 3_600_000, 86_400_000
 REMEMBERED = 50_000        # days, or hours, whose part is remembered
+FORK = multiprocessing.get_context("fork")
 
 
 class Unroutable(Exception):
@@ -34,19 +41,33 @@ class Lot:
     def __init__(self, folder, place, header, end):
         self.folder, self.place, self.header, self.end = folder, place, header, end
         self.lines, self.names, self.out, self.count = [], [], None, 0
+        self.shas = []  # of each file; None if it was cut, and has to be read
 
-    def flush(self):
-        """Writes the lines of a block. A file that is long enough is followed by another one."""
+    def taken(self):
+        """How many lines a block has for this part, and their bytes. They are forgotten here."""
         if not self.lines:
+            return 0, b""
+        count, data = len(self.lines), (self.end.join(self.lines) + self.end).encode("utf-8", "replace")
+        self.lines.clear()
+        return count, data
+
+    def write(self, count, data):
+        """Writes lines of a block. A file that is long enough is followed by another one."""
+        if not count:
             return
         if self.out is None or self.out.tell() > FILE_BYTES:
             self.close()
             self.names.append("%d-%03d.csv" % (self.place, len(self.names) + 1))
             self.out = open(os.path.join(self.folder, self.names[-1]), "wb")
-            self.out.write(self.header.encode())
-        self.out.write((self.end.join(self.lines) + self.end).encode("utf-8", "replace"))
-        self.count += len(self.lines)
-        self.lines.clear()
+            self.shas.append(hashlib.sha256())
+            self.put(self.header.encode())
+        self.put(data)
+        self.count += count
+
+    def put(self, data):
+        self.out.write(data)
+        if self.shas[-1]:
+            self.shas[-1].update(data)
 
     def mark(self):
         """How far the rows reach now."""
@@ -60,11 +81,17 @@ class Lot:
             self.out.close()
             for name in self.names[count:]:
                 os.remove(os.path.join(self.folder, name))
-            del self.names[count:]
+            del self.names[count:], self.shas[count:]
             self.out = open(os.path.join(self.folder, self.names[-1]), "r+b") if count else None
         if self.out:
             self.out.truncate(size)
             self.out.seek(size)
+            self.shas[-1] = None
+
+    def files(self):
+        """The name and the sha256 of each file, once all of them are closed."""
+        for name, sha in zip(self.names, self.shas):
+            yield name, sha.hexdigest() if sha else sha256_of(os.path.join(self.folder, name))
 
     def close(self):
         """Ends the newest file, synced."""
@@ -76,8 +103,7 @@ class Lot:
 
 
 class Spans:
-    """The parts of a tag that several parts have, by time. What takes all rows of a day is remembered, and near a `from` that of an hour:
-    so few times are read."""
+    """The parts of tags that the same parts have, by time. What takes all rows of an hour is remembered, so few times are read."""
 
     def __init__(self, parts, lots, zone):
         self.zone, self.days, self.hours = zone, {}, {}
@@ -86,26 +112,27 @@ class Spans:
 
     def take(self, time):
         """What takes the row of this time, or None."""
-        take = self.days.get(time[:10])
-        if take:
-            return take
-        if take is None:
-            return self.by_day(time)
         key = time[:13] + ("Z" if time[-1:] == "Z" else time[-6:])
-        return self.hours.get(key) or self.by_hour(time, key)
+        return self.hours.get(key) or self.first_of_hour(time, key)
 
-    def by_day(self, time):
+    def first_of_hour(self, time, key):
+        """What takes a row of an hour that is not remembered, or that has a `from`."""
         if time[10:11] not in ("T", " "):
             return self.exactly(time)
-        remember(self.days, time[:10], self.of_all(time[:10] + "T00:00:00Z", DAY, 2 * DAY))  # on whatever clock
-        return self.take(time)
-
-    def by_hour(self, time, key):
-        """Of a day near a `from`. The offset of a time tells which hour it is; a time without one is read."""
         if key not in self.hours:
-            is_told = time[13:14] == ":" and (key[13:] == "Z" or time[-6:-5] in ("+", "-") and time[-3:-2] == ":")
-            remember(self.hours, key, is_told and self.of_all(time[:13] + ":00:00" + key[13:], 0, HOUR - 1))
+            remember(self.hours, key, self.of_day(time[:10]) or self.of_hour(time, key))
         return self.hours[key] or self.exactly(time)
+
+    def of_day(self, day):
+        """What takes all rows of a day, on whatever clock; False if a `from` is near."""
+        if day not in self.days:
+            remember(self.days, day, self.of_all(day + "T00:00:00Z", DAY, 2 * DAY))
+        return self.days[day]
+
+    def of_hour(self, time, key):
+        """What takes all rows of an hour. The offset of a time tells which hour it is; False if it has none, or if a `from` is in it."""
+        is_told = time[13:14] == ":" and (key[13:] == "Z" or time[-6:-5] in ("+", "-") and time[-3:-2] == ":")
+        return is_told and self.of_all(time[:13] + ":00:00" + key[13:], 0, HOUR - 1)
 
     def exactly(self, time):
         try:
@@ -145,15 +172,21 @@ class Refused(turns.Refused):
 
 
 class Router:
-    """Where the rows of a turn go. `lots` has one lot for each part."""
+    """Where the rows of a turn go. `lots` has one lot for each part. The blocks of a long file are read by `helpers` processes beside each
+    other."""
 
-    def __init__(self, site, folder, number):
+    def __init__(self, site, folder, number, helpers=0):
+        self.helpers = helpers
         self.separator, self.zone, self.site = site.common.separator, site.common.zone, site
         header, end = self.separator.join(("tag", "time", "value", "row")) + "\n", "%s%d\n" % (self.separator, number)
         self.lots = [Lot(folder, part.place, header, end) for part in site.parts]
         self.plain = {tag: self.lots[parts[0].place].lines.append for tag, parts in site.spans.items()
                       if len(parts) == 1 and parts[0].start == 0}
-        self.by_time = {tag: Spans(parts, self.lots, self.zone) for tag, parts in site.spans.items() if tag not in self.plain}
+        spans = {}  # by the parts that a tag has
+        for tag, parts in site.spans.items():
+            if tag not in self.plain and tuple(parts) not in spans:
+                spans[tuple(parts)] = Spans(parts, self.lots, self.zone)
+        self.by_time = {tag: spans[tuple(parts)] for tag, parts in site.spans.items() if tag not in self.plain}
 
     def close(self):
         for lot in self.lots:
@@ -163,13 +196,17 @@ class Router:
         """Routes the rows of an open file: its sha256, how many bytes and how many rows it has. After a failure no row of it is left."""
         marks, sha, size = [lot.mark() for lot in self.lots], hashlib.sha256(), 0
         try:
-            reading = None
-            for first, block in blocks(data):
-                sha.update(block)
-                size += len(block)
-                if size > MOST_BYTES:
-                    raise Unroutable("it has more than %d bytes: split it" % MOST_BYTES)
-                reading = self.route_block(reading, first, block, refused)
+            with Helpers(self, refused, self.helpers) as helpers:
+                reading = None
+                for first, block in blocks(data):
+                    sha.update(block)
+                    size += len(block)
+                    if size > MOST_BYTES:
+                        raise Unroutable("it has more than %d bytes: split it" % MOST_BYTES)
+                    if reading is None or size < LONG_BYTES or not helpers.take(reading, first, block):
+                        reading = self.route_block(reading, first, block, refused)
+                        self.write(self.taken())
+                helpers.finish()
         except BaseException:
             self.back_to(marks)
             raise
@@ -188,10 +225,16 @@ class Router:
         if reading is None:
             reading = self.reading_of(lines, refused)
         if reading:
-            reading.take(first, lines, split_all(lines, self.separator, b'"' in block))
-        for lot in self.lots:
-            lot.flush()
+            reading.take(first, lines, b'"' in block)
         return reading
+
+    def taken(self):
+        """What a block has for each part."""
+        return [lot.taken() for lot in self.lots]
+
+    def write(self, taken):
+        for lot, what in zip(self.lots, taken):
+            lot.write(*what)
 
     def reading_of(self, lines, refused):
         """How a file is read, by its first line that is not blank, which is emptied if it is a header. None if all lines are blank."""
@@ -233,7 +276,82 @@ class Router:
             milliseconds(time, self.zone)
         except BadField as why:
             return why
-        return BadField("no part has this tag before %s" % iso_text(self.by_time[tag].parts[0].start, None))
+        return BadField("no part has this tag before %s" % iso_text(self.by_time[tag].starts[0], None))
+
+
+class Helpers:
+    """Processes that route blocks of a file beside each other. What they found is written in the order of the blocks."""
+
+    def __init__(self, router, refused, count):
+        self.router, self.refused, self.count, self.pipes, self.processes, self.waiting = router, refused, count, [], [], []
+
+    def __enter__(self):
+        return self
+
+    def __exit__(self, *why):
+        for pipe in self.pipes:
+            pipe.close()
+        for process in self.processes:
+            process.join()
+
+    def take(self, reading, first, block):
+        """Hands a block to the next helper, once that has nothing else to do: whether there are helpers."""
+        if not self.count:
+            return False
+        if len(self.pipes) < self.count:
+            self.begin(reading)
+            pipe = self.pipes[-1]
+        else:
+            pipe = self.waiting[0]
+            self.write_next()
+        pipe.send((first, block))
+        self.waiting.append(pipe)
+        return True
+
+    def begin(self, reading):
+        """Begins one more helper, which knows by now how the file is read."""
+        pipe, there = FORK.Pipe()
+        self.pipes.append(pipe)
+        self.processes.append(FORK.Process(target=self.serve, args=(there, reading), daemon=True))
+        self.processes[-1].start()
+        there.close()
+
+    def serve(self, there, reading):
+        """Routes blocks until the other end of the pipe is closed, as it is if the router ends, in whatever way."""
+        signal.signal(signal.SIGINT, signal.SIG_IGN)
+        for pipe in self.pipes:
+            pipe.close()
+        reading.refused = Noted()
+        with contextlib.suppress(EOFError, OSError):
+            while True:
+                self.router.route_block(reading, *there.recv(), None)
+                there.send((self.router.taken(), reading.refused.rows))
+                reading.refused.rows = []
+
+    def write_next(self):
+        """Writes what the first of the helpers found that is waited for."""
+        try:
+            taken, rows = self.waiting.pop(0).recv()
+        except (EOFError, OSError):
+            raise Refusal(UNREADABLE, "a process that routed rows was ended, and no part has them yet: the next feed routes them again") from None
+        self.router.write(taken)
+        for row in rows:
+            self.refused.add(*row)
+
+    def finish(self):
+        """Writes all that the helpers still have."""
+        while self.waiting:
+            self.write_next()
+
+
+class Noted:
+    """Refused rows, in place of the file of them."""
+
+    def __init__(self):
+        self.rows = []
+
+    def add(self, *row):
+        self.rows.append(row)
 
 
 class Long:
@@ -242,22 +360,30 @@ class Long:
     def __init__(self, router, refused, columns, width):
         self.router, self.refused, self.columns, self.width = router, refused, columns, width
         self.as_it_is = width == 3 and columns == [0, 1, 2]
+        self.pick = operator.itemgetter(*columns)
 
-    def take(self, first, lines, split):
-        """Routes lines, which are given as they stand and as fields."""
-        plain, by_time, separator, width = self.router.plain.get, self.router.by_time.get, self.router.separator, self.width
-        tag_column, time_column, value_column = self.columns
-        for number, line, fields in zip(itertools.count(first), lines, split):
+    def take(self, first, lines, has_quotes):
+        """Routes lines."""
+        plain, by_time, width, (tag, time, _) = self.router.plain.get, self.router.by_time.get, self.width, self.columns
+        row = None if self.as_it_is else self.quoted if has_quotes else self.joined
+        for number, line, fields in zip(itertools.count(first), lines, split_all(lines, self.router.separator, has_quotes)):
             if len(fields) == width:
-                take = plain(fields[tag_column])
-                if not take and (spans := by_time(fields[tag_column])):
-                    take = spans.take(fields[time_column])
+                take = plain(fields[tag])
+                if not take and (spans := by_time(fields[tag])):
+                    take = spans.take(fields[time])
                 if take:
-                    take(line if self.as_it_is else separator.join(
-                        quoted(fields[column], separator) for column in (tag_column, time_column, value_column)))
+                    take(row(fields) if row else line)
                     continue
             if line.strip():
                 self.slowly(number, line)
+
+    def joined(self, fields):
+        """A row in the order that the parts get, of fields without quotes."""
+        return self.router.separator.join(self.pick(fields))
+
+    def quoted(self, fields):
+        """The same of fields that may have needed quotes."""
+        return self.router.separator.join(quoted(field, self.router.separator) for field in self.pick(fields))
 
     def slowly(self, number, line):
         """Routes one line as the feeder reads it, or refuses it."""
@@ -290,10 +416,10 @@ class Wide:
             self.refused.add(name, time, value, self.number, why)
         return take
 
-    def take(self, first, lines, split):
-        """Routes the values of lines, which are given as they stand and as fields."""
+    def take(self, first, lines, has_quotes):
+        """Routes the values of lines."""
         separator, names = self.router.separator, self.names
-        for self.number, line, fields in zip(itertools.count(first), lines, split):
+        for self.number, line, fields in zip(itertools.count(first), lines, split_all(lines, separator, has_quotes)):
             if len(fields) == len(names) and '"' not in line:
                 columns = self.columns if self.fixed else self.columns_at(fields[0])
                 if columns:

@@ -12,7 +12,8 @@ import re
 import shutil
 
 from inbox import fed_before, note_fed
-from plant import CHANGED, Refusal, copied, sha256_of, shown, sync_folder, write_whole
+from files import json_text
+from plant import CHANGED, Refusal, copied, shown, sync_folder, write_whole
 from site_router import Refused, Router, Unroutable, opened
 from telling import lines_of
 
@@ -101,7 +102,7 @@ def some(site, names):
 
 
 def write_json(path, what):
-    write_whole(path, json.dumps(what, indent=1).encode())
+    write_whole(path, json_text(what).encode())
 
 
 def made(site, number, before):
@@ -111,11 +112,11 @@ def made(site, number, before):
     for name in set(os.listdir(folder)) - {"taking.json"}:
         os.remove(os.path.join(folder, name))
     take_files(site, number, names)
-    router = Router(site, folder, number)
+    router = Router(site, folder, number, site.jobs - 1)
     fed = fed_before(site)[1] | {file["sha256"]: (turn.number, file["name"]) for turn in before for file in turn.files if file["rows"]}
     files = [file for place, name in enumerate(names) if (file := routed(site, router, number, place, name, fed))]
     router.close()
-    parcels = [parcel(site, folder, number, lot, name) for lot in router.lots for name in lot.names]
+    parcels = [parcel(site.parts[lot.place], number, *file) for lot in router.lots for file in lot.files()]
     sync_folder(folder)
     write_json(os.path.join(folder, "turn.json"), {"turn": number, "files": files, "parcels": parcels})
     os.remove(os.path.join(folder, "taking.json"))
@@ -170,11 +171,9 @@ def routed(site, router, number, place, name, fed):
                    "changed": status.st_mtime_ns}
 
 
-def parcel(site, folder, number, lot, name):
+def parcel(part, number, name, sha):
     """What is to be known of a file for a part."""
-    part, path = site.parts[lot.place], os.path.join(folder, name)
-    return {"folder": part.folder, "worker": part.worker, "file": name, "name": "site-%09d-%s" % (number, name.split("-")[1]),
-            "sha256": sha256_of(path)}
+    return {"folder": part.folder, "worker": part.worker, "file": name, "name": "site-%09d-%s" % (number, name.split("-")[1]), "sha256": sha}
 
 
 def ended(turn):

@@ -9,9 +9,9 @@
 A person has no need of it: site.py calls it. Its exit statuses are those of feed.py."""
 import argparse
 import contextlib
+import hashlib
 import json
 import os
-import shutil
 import sys
 
 import inbox
@@ -52,16 +52,25 @@ def put(plant, name, sha, when, data):
         pass
     handle = os.open(new, os.O_WRONLY | os.O_CREAT | os.O_EXCL | os.O_NOFOLLOW, 0o666)
     with open(handle, "wb") as out:
-        shutil.copyfileobj(data, out)
+        came = sha256_of_copy(data, out)
         out.flush()
         os.utime(out.fileno(), (when, when))
         os.fsync(out.fileno())
-    if sha256_of(new) != sha:
+    if came != sha:
         raise Refusal(UNREADABLE, "%s came with other bytes than it was sent with: is the disk good? It is not fed" % name)
     if os.path.lexists(os.path.join(folder, name)):
         raise Refusal(UNREADABLE, "%s in its inbox is not the file of site.py: somebody put another one there. Move it away" % name)
     os.rename(new, os.path.join(folder, name))
     sync_folder(folder)
+
+
+def sha256_of_copy(data, out):
+    """Copies what is still to be read of an open file, and answers its sha256."""
+    sha = hashlib.sha256()
+    while piece := data.read(1 << 20):
+        sha.update(piece)
+        out.write(piece)
+    return sha.hexdigest()
 
 
 def has(plant, name, sha):
@@ -151,10 +160,15 @@ def opened(plant, tags, groups, wait, lenient):
 def asked(plant, wait, call):
     """What a call of reading.Archive answers, as what JSON has."""
     with opened(plant, call["tags"], call["groups"], wait, call["lenient"]) as archive:
-        if call["call"] == "about":
-            return {"tags": archive.tags, "refused": archive.refused, "newest": archive.newest}
-        found = getattr(archive, {name: name for name in CALLS}[call["call"]])(*call["words"])
-    return {name: vars(tag) for name, tag in found.items()} if call["call"] == "state" else found
+        return answered(archive, call["call"], call["words"])
+
+
+def answered(archive, what, words):
+    """What an opened part answers to a call."""
+    if what == "about":
+        return {"tags": archive.tags, "refused": archive.refused, "newest": archive.newest}
+    found = getattr(archive, {name: name for name in CALLS}[what])(*words)
+    return {name: vars(tag) for name, tag in found.items()} if what == "state" else found
 
 
 def main():

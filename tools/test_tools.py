@@ -31,6 +31,7 @@ import keeping  # noqa: E402
 import kills  # noqa: E402
 import lost  # noqa: E402
 import pages  # noqa: E402
+import quick  # noqa: E402
 import ruled  # noqa: E402
 import site_asks  # noqa: E402
 import site_daily  # noqa: E402
@@ -67,7 +68,7 @@ def main():
     settings = parser.parse_args()
     settings.kills = settings.kills or (300 if settings.long else 20)
     modules = (kills, cuts, stops, strange, again, sources, daily, keeping, told, lost, watched, pages, asked, drawn, tuned, ruled, audited, boarded,
-               site_kills, site_asks, site_daily, site_dask)
+               quick, site_kills, site_asks, site_daily, site_dask)
     cases = [case for module in modules for case in module.CASES]
     return run_cases(cases, settings)
 

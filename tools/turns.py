@@ -15,7 +15,7 @@ import os
 import shutil
 
 from fields import NUMBER
-from files import CHANGED, UNREADABLE, Refusal, bytes_of, copied, moved, removed, sync_folder, write_whole
+from files import CHANGED, UNREADABLE, Refusal, bytes_of, copied, json_text, moved, removed, sync_folder, write_whole
 from rows import REFUSED_HEADER, REFUSED_QUALITY, Values
 from settings import AGAIN
 
@@ -115,7 +115,7 @@ def write_down(plant, turn):
         os.fsync(out.fileno())
     for folder in (os.path.join(WORK, "refused"), WORK):
         sync_folder(plant.path(folder))
-    text = json.dumps({"turn": turn.number, "files": turn.files, "tags": turn.tags, "notes": turn.notes}, indent=1)
+    text = json_text({"turn": turn.number, "files": turn.files, "tags": turn.tags, "notes": turn.notes})
     write_whole(plant.path("feed.d", TOLD), text.encode())
 
 
@@ -227,7 +227,7 @@ def require_scales(plant, tags):
 def note_scales(plant, turn):
     """Notes with what scale the values of a turn were stored."""
     scales = stored_scales(plant) | {name: wanted["scale"] for name, wanted in turn.tags.items()}
-    write_whole(plant.path("feed.d", "scales"), json.dumps(scales, indent=1).encode())
+    write_whole(plant.path("feed.d", "scales"), json_text(scales).encode())
 
 
 def put_refused(plant, turn):
@@ -255,7 +255,7 @@ def note_kept(plant, turn):
         if turn.notes.get(key):
             path = plant.path("feed.d", key)
             known = json.loads(bytes_of(path)) if os.path.exists(path) else {}
-            write_whole(path, json.dumps(known | turn.notes[key], indent=1).encode())
+            write_whole(path, json_text(known | turn.notes[key]).encode())
 
 
 def put_record(plant, turn, state, time):
@@ -286,8 +286,8 @@ Record = collections.namedtuple("Record", "number time files tags notes")  # wha
 
 def write_record(plant, record):
     """Writes what a turn leaves in done/ about itself."""
-    text = json.dumps({"form": 1, "turn": record.number, "time": record.time, "files": record.files, "tags": record.tags,
-                       "notes": record.notes}, indent=1)
+    text = json_text({"form": 1, "turn": record.number, "time": record.time, "files": record.files, "tags": record.tags,
+                      "notes": record.notes})
     write_whole(plant.path("done", "%06d" % record.number, TOLD), text.encode())
 
 

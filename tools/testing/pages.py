@@ -42,4 +42,20 @@ def first_command_is_tried(folder, program, settings):
         assert (try_pages.differences("README.md", first, folder, environment) == []) == good, text
 
 
-CASES = [statuses_are_compared, first_command_is_tried]
+def packages_are_named(folder, program, settings):
+    """A command that needs a package knows it by the comment before it; only commands that begin with that word need it. It is tried where
+    the package is."""
+    shown, stray = try_pages.shown_in("    $ board.py\n<!-- board.py needs: libjs-dygraphs -->\n    $ echo board.py\n"
+                                      "    $ board.py x\n    $ board.py\n")
+    assert [command.package for command in shown] == [None, None, "libjs-dygraphs", "libjs-dygraphs"] and not stray
+    place = os.path.join(folder, "dygraph.min.js")
+    packages, try_pages.PACKAGES = try_pages.PACKAGES, {"libjs-dygraphs": place}
+    try:
+        assert [command.lacks_package() for command in shown] == [False, False, True, True]
+        open(place, "w").close()
+        assert not any(command.lacks_package() for command in shown)
+    finally:
+        try_pages.PACKAGES = packages
+
+
+CASES = [statuses_are_compared, first_command_is_tried, packages_are_named]

@@ -110,7 +110,9 @@ def router_killed_in_a_large_turn(folder, program, settings):
     draw, trial, kills = random.Random(settings.seed), SiteTrial(os.path.join(folder, "site"), program), 0
     names = list(LINES)
     for number in range(10):
-        trial.write("inbox/%d.csv" % number, "".join("%s,%d,%d\n" % (names[k % 6], START + (10_000 * number + k) * 6_000, k % 97) for k in range(20_000)))
+        blanks = " " * (700 if number == 0 else 0)  # so that one file is so long that several processes route it
+        trial.write("inbox/%d.csv" % number, "".join("%s,%d,%d%s\n" % (
+            names[k % 6], START + (10_000 * number + k) * 6_000, k % 97, blanks) for k in range(20_000)))
     stood, begin = trial.folder + ".stood", time.monotonic()
     shutil.copytree(trial.folder, stood)
     status, text = trial.site("feed", "--route-only")
