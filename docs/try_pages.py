@@ -12,7 +12,8 @@ command of README shows.
 
 Each page gets a scratch folder with a copy of examples/, tools/ and docs/. There its commands run in order, with `historian` and the
 tools on the path. A comment in the page, `<!-- in: examples/tags -->`, names the folder in which the blocks after it run. Before the
-first comment that is the scratch folder itself.
+first comment that is the scratch folder itself. A comment `<!-- board.py needs: libjs-dygraphs -->` names a package of Debian that the
+commands after it need if they begin with that word. On a machine without the package they are not tried, and a line says so.
 
 It prints what differs in a page, and then a line for the page with the number of its commands. The exit status is 1 if anything differs.
 It uses the standard library alone."""
@@ -33,6 +34,8 @@ from plant import program_of  # noqa: E402
 PAGES = ["README.md", "docs/TOUR.md", "docs/RUNNING.md", "docs/FORMATS.md"]
 FOLDER = re.compile(r"<!-- in: (\S+) -->")
 STATUS = re.compile(r"<!-- exits: ([0-9]+) -->")
+NEEDS = re.compile(r"<!-- (\S+) needs: (\S+) -->")
+PACKAGES = {"libjs-dygraphs": "/usr/share/javascript/dygraphs/dygraph.min.js"}  # a file of each package that a command needs
 STAMP = re.compile(r"^\d{4}-\d\d-\d\d \d\d:\d\d:\d\d[+-]\d{4} ", re.M)
 FIRST = " rt try "  # what README's first command has
 INDENT = "    "
@@ -40,23 +43,29 @@ LONGEST = 1800  # seconds that a command may take
 
 
 class Shown:
-    """A command that a page shows: its line, the folder in which it runs, its exit status, and what it prints."""
+    """A command that a page shows: its line, the folder in which it runs, its exit status, the package that it needs, and what it prints."""
 
-    def __init__(self, line, folder, command, status=0):
-        self.line, self.folder, self.command, self.status, self.output = line, folder, command, status, ""
+    def __init__(self, line, folder, command, status=0, package=None):
+        self.line, self.folder, self.command, self.status, self.package, self.output = line, folder, command, status, package, ""
+
+    def lacks_package(self):
+        """Whether this machine has no package that the command needs."""
+        return self.package is not None and not os.path.exists(PACKAGES[self.package])
 
 
 def shown_in(text):
     """The commands of a page, and the numbers of lines with a command that is in no indented block."""
-    shown, stray, folder, open_block, status = [], [], ".", False, 0
+    shown, stray, folder, open_block, status, packages = [], [], ".", False, 0, {}
     for number, line in enumerate(text.splitlines(), 1):
         folder = FOLDER.match(line).group(1) if FOLDER.match(line) else folder
         if line.startswith(INDENT + "$ "):
-            shown.append(Shown(number, folder, line[len(INDENT) + 2:], status))
+            command = line[len(INDENT) + 2:]
+            shown.append(Shown(number, folder, command, status, packages.get(command.split(" ", 1)[0])))
             open_block, status = True, 0
         elif not line.startswith(INDENT):
             stray += [number] if line.lstrip().startswith("$ ") else []
             status = int(STATUS.match(line)[1]) if STATUS.match(line) else status
+            packages.update([NEEDS.match(line).groups()] if NEEDS.match(line) else [])
             open_block = False
         elif open_block and shown[-1].command.endswith("\\") and not shown[-1].output:
             shown[-1].command += "\n" + line[len(INDENT):]
@@ -127,11 +136,14 @@ def result_of(page, program):
     wrong = len(stray)
     with tempfile.TemporaryDirectory(prefix="pages-") as scratch:
         environment = lay(scratch, program)
-        for command in shown:
+        for command in (command for command in shown if not command.lacks_package()):
             lines = differences(page, command, scratch, environment)
             wrong += bool(lines)
             text += lines
-    text.append("%-16s %2d commands, %s" % (page, len(shown), "%d wrong" % wrong if wrong else "each prints what the page shows"))
+    text += ["%s:%d: not tried: it needs %s (apt-get install %s)" % (page, command.line, command.package, command.package)
+             for command in shown if command.lacks_package()]
+    tried = len(shown) - sum(command.lacks_package() for command in shown)
+    text.append("%-16s %2d commands, %s" % (page, tried, "%d wrong" % wrong if wrong else "each prints what the page shows"))
     return wrong == 0, "\n".join(text)
 
 
