@@ -9,5 +9,6 @@ pub mod FieldLaws
 pub mod PlacedBytes
 pub mod ReadImages
 pub mod LayoutSpellings
-pub mod Pieces
 pub mod TextHeads
+pub mod Windows
+pub mod BlockFiles

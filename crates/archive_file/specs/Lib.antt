@@ -4,3 +4,5 @@ pub mod Summaries
 pub mod Places
 pub mod LayoutFields
 pub mod TextHeads
+pub mod Windows
+pub mod BlockFiles

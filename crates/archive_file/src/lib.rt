@@ -6,9 +6,12 @@
 //! first byte of the first field that breaks the layout. Other layouts share [`read_bytes`], [`put`], [`put_point`],
 //! [`take_number`] and [`take_point`].
 //!
-//! **Pieces of a device.** [`read_piece`] returns the bytes from a place on, as many as are asked for or as are there.
-//! So a reader may have one piece of a device at a time in memory. What holds of a piece holds of the device at the
-//! piece's place, and [`ScanNo::behind`] makes a refusal of the piece one of the device.
+//! **Windows over a device.** A [`Window`] shows the bytes of a device from a place on, as many as were asked for or as
+//! are there. What it reads holds of all bytes from that place on, which a proof names by [`Rest`].
+//!
+//! **Blocks behind gates.** [`read_blocks`] goes over the blocks of a device up to the first closed gate, or reports the
+//! first field that breaks the layout (`specs/BlockFiles.antt`). A [`BlockReader`] knows the fields of its blocks, and
+//! keeps what they give. At no time are the bytes of more than one block in memory.
 //!
 //! **Fields of a layout in memory.** A layout is a list of fields, one after the other. A [`Field`] is its place, its
 //! number of bytes, and whether these bytes keep the rule of the field. [`check`] refuses the first field that is not
@@ -22,23 +25,25 @@
 //! layout without blocks. [`close_layout`] closes the gate of any layout before another is written.
 #![tactic(auto)]
 
+mod block_file;
 mod failure;
 mod field;
 mod head_reader;
 mod head_writer;
 mod layout_field;
 mod log;
-mod piece;
 mod record;
 mod summary;
+mod window;
 
+pub use block_file::{BlockReader, read_blocks};
 pub use failure::{DeviceFault, PutNo, ScanNo};
 pub use field::{put, put_point, take_number, take_point};
 pub use head_reader::read_text;
 pub use head_writer::{begin_layout, close_layout};
 pub use layout_field::{Field, byte_at, check, long_at, short_at};
 pub use log::{put_records, read_bytes, read_records};
-pub use piece::read_piece;
 pub use record::{REC_LEN, rec_bytes, rec_of};
 pub use summary::{SUMMARY_LEN, summary_bytes, summary_of};
 pub use trend_num::{Kind, Point, Rec, Summary, Tuning};
+pub use window::{Rest, Window};

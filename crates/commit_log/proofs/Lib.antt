@@ -1,6 +1,6 @@
 pub mod RowLaws
-pub mod Walks
 pub mod BlockLaws
+pub mod Walks
 pub mod Beginnings
 pub mod BlockAdded
 pub mod Tapes

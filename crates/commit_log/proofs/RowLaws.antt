@@ -1,15 +1,16 @@
 -- A row whose fields are kept, and rows read in turn.
-use Rattle.std.proofs.Common.{◌≡◌, ℕ, suc, ◌+◌, ◌-◌, ◌*◌, ◌<◌, true, List, [], ◌∷◌, ◌++◌, All, length-append, append_assoc, Option, refl, sym, ap, ◌∙◌, subst, arith, lit<, ltb-true, leb-true}
+use Rattle.std.proofs.Common.{◌≡◌, ℕ, suc, ◌+◌, ◌-◌, ◌*◌, ◌^◌, ◌<◌, true, List, [], ◌∷◌, ◌++◌, All, length-append, append_assoc, Option, refl, sym, ap, ◌∙◌, subst, arith, lit<, ltb-true, leb-true}
 use Rattle.std.proofs.lemmas.List.Elements.{All-push}
 use Rattle.archive_file.proofs.Joins.{images_push}
-use Rattle.archive_file.proofs.Points.{IsBytes}
 use Rattle.archive_file.specs.declared.layout_field.Field.{Field}
 use Rattle.commit_log.specs.declared.row.LogRow.{LogRow}
-use Rattle.archive_file.specs.LayoutFields.{BreaksFirst, Keeps, Spells}
+use Rattle.archive_file.specs.LayoutFields.{BreaksFirst, Keeps, Spells, long_at, short_at}
+use Rattle.archive_file.specs.Fields.{number_bytes, value_bytes}
+use Rattle.std.specs.Int.{w64, cast_signed}
 use Rattle.commit_log.specs.Blocks.{IsLogRow, row_at, row_fields, row_image, rows_fields, rows_image}
 use Rattle.commit_log.specs.Openings.{AddsRows}
 use Rattle.archive_file.proofs.FieldLaws.{KeptUpTo, breaks_after, breaks_within, kept_more, spells_both}
-use Rattle.archive_file.proofs.LayoutSpellings.{ends_value, then_long, then_short}
+use Rattle.archive_file.proofs.Windows.{then_spelled, value_spelled}
 
 -- no field
 abbrev none : Field
@@ -23,15 +24,19 @@ module _ (c : List ℕ) (tags at : ℕ) (r : LogRow) (kept : All (Keeps c) (row_
     point = record { time = leb-true _ _ (kept 3 none (lit< tt)).kept; value = leb-true _ _ (kept 4 none (lit< tt)).kept };
   }
 
-  -- its bytes
-  pub row_spelled : IsBytes c → r ≡ row_at c at → Spells c at (row_image r) (at + 32)
-  row_spelled bytes is =
-      subst (λ x. Spells c at (row_image x) (at + 32)) (sym is)
-      (then_short c at (at + 4) (at + 32) _ bytes (kept 0 none (lit< tt)).there refl
-      (then_short c (at + 4) (at + 8) (at + 32) _ bytes (kept 1 none (lit< tt)).there (omega arith)
-      (then_long c (at + 8) (at + 16) (at + 32) _ bytes (kept 2 none (lit< tt)).there (omega arith)
-      (then_long c (at + 16) (at + 24) (at + 32) _ bytes (kept 3 none (lit< tt)).there (omega arith)
-      (ends_value c (at + 24) (at + 32) bytes (kept 4 none (lit< tt)).there (omega arith))))))
+-- its bytes, one number after the other
+pub row_spelled : (c : List ℕ) (at : ℕ) → Spells c at (number_bytes 4 (short_at c at)) (at + 4)
+    → Spells c (at + 4) (number_bytes 4 (short_at c (at + 4))) (at + 4 + 4) → Spells c (at + 8) (number_bytes 8 (long_at c (at + 8))) (at + 8 + 8)
+    → Spells c (at + 16) (number_bytes 8 (long_at c (at + 16))) (at + 16 + 8) → Spells c (at + 24) (number_bytes 8 (long_at c (at + 24))) (at + 24 + 8)
+    → long_at c (at + 24) < 2 ^ 64 → Spells c at (row_image (row_at c at)) (at + 32)
+row_spelled c at tag collector row time value low =
+    let end : at + 24 + 8 ≡ at + 32 = omega arith in
+    then_spelled c at (at + 4) (at + 4) (at + 32) _ _ tag refl
+    (then_spelled c (at + 4) (at + 4 + 4) (at + 8) (at + 32) _ _ collector (omega arith)
+    (then_spelled c (at + 8) (at + 8 + 8) (at + 16) (at + 32) _ _ row (omega arith)
+    (then_spelled c (at + 16) (at + 16 + 8) (at + 24) (at + 32) _ _ time (omega arith)
+    (subst (Spells c (at + 24) (value_bytes (cast_signed w64 (long_at c (at + 24))))) end
+    (value_spelled c (at + 24) (at + 24 + 8) (long_at c (at + 24)) low value)))))
 
 -- ---- rows read in turn
 

@@ -3,17 +3,16 @@ use Rattle.std.specs.Prelude.{◌≡◌, ◌≢◌, ◌⊎◌, ℕ, ◌+◌, ◌
 use Rattle.archive_file.specs.declared.failure.ScanNo.{ScanNo}
 use Rattle.archive_file.specs.declared.failure.ScanNo.TheVariants as scan
 use Rattle.disk_model.specs.Calls.{CountsFault, Shows}
-use Rattle.disk_model.specs.Gates.{IsNew, IsOpen}
+use Rattle.disk_model.specs.Gates.{IsNew}
 use Rattle.disk_model.specs.Images.{MayLeave}
 use Rattle.disk_model.specs.Traces.{Synced, Trace, noted, seen}
 use Rattle.commit_log.specs.declared.block_reader.Stored.{Stored}
 use Rattle.commit_log.specs.declared.refusal.LogNo.{LogNo}
 use Rattle.commit_log.specs.declared.refusal.LogNo.TheVariants.{DeviceFault, Damaged, OtherPlant, TooMany, WantOfMemory}
 use Rattle.commit_log.specs.declared.row.LogRow.{LogRow}
-use Rattle.archive_file.specs.Fields.{number_bytes}
-use Rattle.archive_file.specs.LayoutFields.{Keeps, Spells, short_at}
+use Rattle.archive_file.specs.LayoutFields.{Spells}
 use Rattle.archive_file.specs.TextHeads.{IsOfText, blocks_at}
-use Rattle.commit_log.specs.Blocks.{AreBlockRows, AreBlocks, IsLogRow, front_fields, log_block_image, log_block_size, log_end_of, rows_image, rows_of}
+use Rattle.commit_log.specs.Blocks.{AreBlockRows, AreBlocks, IsLogRow, log_block_image, log_block_size, log_end_of, rows_image, rows_of}
 use Rattle.commit_log.specs.Images.{IsLogDamage, IsOfOther, StandsForRows, letters}
 
 -- how many rows a log has at most, together with those that it has room for
@@ -30,21 +29,14 @@ pub record AddsRows (c : List ℕ) (tags at count : ℕ) (old new : List LogRow)
   pub each : All (IsLogRow tags) more
   pub spelled : Spells c at (rows_image more) (at + 32 * count)
 
--- the gate at a place is open, and the block after it begins with this number and has so many rows
-pub record HasFront (c : List ℕ) (number gate count : ℕ) : Type 0 where
-  pub opened : IsOpen gate c
-  pub kept : All (Keeps c) (front_fields c number gate)
-  pub count_is : count ≡ short_at c (gate + 9)
-  pub number_spelled : Spells c (gate + 1) (number_bytes 8 number) (gate + 9)
-  pub count_spelled : Spells c (gate + 9) (number_bytes 4 count) (gate + 13)
-
--- the rows of the block after a gate were added; their numbers follow those of the list
-pub record AddsBlock (c : List ℕ) (tags gate : ℕ) (old new : List LogRow) (next : ℕ) : Type 0 where
+-- the rows of a block were added; their numbers follow those of the list. These are the bytes from the block's gate on,
+-- and so many of them come before the next gate.
+pub record AddsBlock (c : List ℕ) (tags : ℕ) (old new : List LogRow) (size : ℕ) : Type 0 where
   pub block : List LogRow
   pub are : new ≡ old ++ block
   pub rows_are : AreBlockRows tags block
-  pub spelled : Spells c (gate + 1) (log_block_image (length old) block) (gate + log_block_size block)
-  pub next_is : next ≡ gate + log_block_size block
+  pub spelled : Spells c 1 (log_block_image (length old) block) size
+  pub size_is : size ≡ log_block_size block
 
 -- the blocks from the gate at a place list these rows, and the next block goes to `end`
 pub record ListsRows (c : List ℕ) (tags at : ℕ) (rows : List LogRow) (end : ℕ) : Type 0 where

@@ -1,18 +1,18 @@
 // Reading the blocks of a device, one after the other.
-ghost use Rattle.std.specs.Prelude.{◌≡◌, ℕ, ◌+◌, ◌*◌, ◌<◌, ◌≤◌, All, Option, IfNone, IfOk, IfSome, IsErrOf, OnOk, length};
-ghost use Rattle.disk_model.specs.Calls.{CountsFault, HasLength, Reaches, Shows};
-ghost use Rattle.disk_model.specs.Gates.{IsOpen};
+ghost use Rattle.std.specs.Prelude.{◌≡◌, ℕ, ◌+◌, ◌≤◌, ◌++◌, ◌&&◌, All, Option, IfOk, IsErrOf, OnOk, nat_le};
+ghost use Rattle.disk_model.specs.Calls.{CountsFault, Reaches, Shows};
 ghost use Rattle.archive_file.specs.declared.failure.ScanNo.TheVariants.{Damaged, DeviceFault};
-ghost use Rattle.archive_file.specs.LayoutFields.{BreaksFirst};
-ghost use Rattle.commit_log.specs.Blocks.{IsBlockDamage, IsLogRow, block_fields, body_fields, front_fields, most_in_block};
-ghost use Rattle.commit_log.specs.Openings.{AddsBlock, AddsRows, HasFront, ListsRows};
+ghost use Rattle.archive_file.specs.Fields.{number_bytes};
+ghost use Rattle.archive_file.specs.LayoutFields.{BreaksFirst, Keeps, Spells, short_at};
+ghost use Rattle.archive_file.specs.Windows.{IsWindow};
+ghost use Rattle.commit_log.specs.Blocks.{IsBlockDamage, IsLogRow, front_fields, most_in_block};
+ghost use Rattle.commit_log.specs.Openings.{ListsRows};
 
-use crate::body_reader::add_body;
-use crate::front_reader::check_front;
 use crate::row::LogRow;
-use crate::writer::{HEAD_LEN, ROW_LEN};
-use archive_file::{ScanNo, byte_at, read_piece};
-use disk_model::{Disk, OPEN};
+use crate::row_reader::read_rows;
+use crate::writer::{HEAD_LEN, MOST_IN_BLOCK, ROW_LEN};
+use archive_file::{BlockReader, Field, Rest, ScanNo, Window};
+use disk_model::Disk;
 use std::alloc::Global;
 
 /// The rows that a device stores.
@@ -22,6 +22,49 @@ pub struct Stored {
     pub rows: Vec<LogRow>,
     /// Where the next block goes: the place of its gate.
     pub end: u64,
+}
+
+/// A reader of the blocks of a plant's log.
+#[derive(Drop)]
+pub struct LogReader {
+    /// How many tags the plant has.
+    pub tags: u32,
+    /// The rows that were read so far, the oldest first.
+    pub rows: Vec<LogRow>,
+}
+
+impl BlockReader for LogReader {
+    ghost use Rattle.std.specs.Prelude.{◌≡◌, ◌+◌, ◌*◌, All, min, length};
+    ghost use Rattle.archive_file.specs.LayoutFields.{short_at};
+    ghost use Rattle.commit_log.specs.Blocks.{IsLogRow, block_fields, most_in_block};
+    ghost use Rattle.commit_log.specs.Openings.{AddsBlock};
+
+    ghost is_ready = { λ r. All (IsLogRow r.tags) r.rows.items };
+
+    ghost front = { λ r. 13 };
+
+    ghost whole = { λ r c. 14 + 32 * min (short_at c 9) most_in_block };
+
+    ghost fields = { λ r c. block_fields c r.tags (length r.rows.items) 0 };
+
+    ghost adds = { λ r c size s. (s.tags ≡ r.tags) × AddsBlock c r.tags r.rows.items s.rows.items size };
+
+    fn front(&self) -> usize {
+        HEAD_LEN
+    }
+
+    fn whole<C: Rest>(&self, block: &Window) -> usize {
+        let count = block.short_at::<C>(9).min(MOST_IN_BLOCK);
+        HEAD_LEN + ROW_LEN * count as usize + 1
+    }
+
+    fn add<C: Rest>(&mut self, block: &Window) -> Result<usize, ScanNo> {
+        let count = read_front::<C>(block, self.rows.len() as u64)?;
+        let end = HEAD_LEN + ROW_LEN * count as usize;
+        read_rows::<C>(block, HEAD_LEN, count, self.tags, &mut self.rows)?;
+        block.check::<C>(&[Field::new(end, 1, true)])?;
+        Ok(end)
+    }
 }
 
 // Reads the blocks from the gate at this place on, of a plant with so many tags. At no time are the bytes of more than
@@ -44,109 +87,41 @@ pub(crate) fn read_blocks<D: Disk>(
     let Ok(len) = dev.len() else {
         return Err(ScanNo::DeviceFault);
     };
-    let Ok(mut rows) = Vec::with_capacity(alloc, (len / ROW_LEN as u64) as usize) else {
+    let Ok(rows) = Vec::with_capacity(alloc, (len / ROW_LEN as u64) as usize) else {
         return Err(ScanNo::WantOfMemory);
     };
-    let mut next = at;
-    'walk: while let Some(end) = read_block(alloc, dev, len, next, tags, &mut rows)? {
-        next = end;
-    }
-    Ok(Stored { rows, end: next })
+    let mut reader = LogReader { tags, rows };
+    let end = archive_file::read_blocks(alloc, dev, len, at, &mut reader)?;
+    Ok(Stored {
+        rows: reader.rows,
+        end,
+    })
 }
 
-// Adds the rows of the block after this gate, if the gate is open, and returns the place of the next gate. The block's
-// first row has the number that comes after those in `rows`. The device has `len` bytes.
-fn read_block<D: Disk>(
-    alloc: Global,
-    dev: &mut D,
-    len: u64,
-    gate: u64,
-    tags: u32,
-    rows: &mut Vec<LogRow>,
-) -> Result<Option<u64>, ScanNo>
-    requires length { HasLength (D.device dev.old).trace len }
-    requires rows { All (IsLogRow tags) rows.old.items }
-    ensures closed { IfOk result (λ next. IfNone next (Shows (D.device dev.old).trace (λ c. IsOpen gate c → ⊥))) }
-    ensures kept { IfOk result (λ next. IfNone next (rows.new.items ≡ rows.old.items)) }
-    ensures opened { IfOk result (λ next. IfSome next (λ end. Shows (D.device dev.old).trace (IsOpen gate))) }
-    ensures added { IfOk result (λ next. IfSome next (λ end. Shows (D.device dev.old).trace
-        (λ c. AddsBlock c tags gate rows.old.items rows.new.items end))) }
-    ensures further { IfOk result (λ next. IfSome next (λ end. gate < end)) }
-    ensures within { IfOk result (λ next. IfSome next (λ end. end < len)) }
-    ensures rows { OnOk result (All (IsLogRow tags) rows.new.items) }
-    ensures damaged_open { (a : ℕ) (byte : Option ℕ) → IsErrOf result (Damaged a byte) → Shows (D.device dev.old).trace (IsOpen gate) }
+// Returns how many rows a block has, as its front states. It refuses a front that has not this number.
+fn read_front<C: Rest>(block: &Window, number: u64) -> Result<u32, ScanNo>
+    requires window { IsWindow C.rest block.now }
+    requires asked { 13 ≤ block.now.asked }
+    ensures count { IfOk result (λ count. count ≡ short_at C.rest 9) }
+    ensures some { IfOk result (λ count. 1 ≤ count) }
+    ensures few { IfOk result (λ count. count ≤ most_in_block) }
+    ensures kept { OnOk result (All (Keeps C.rest) (front_fields C.rest number 0)) }
+    ensures spelled { IfOk result (λ count. Spells C.rest 1 (number_bytes 8 number ++ number_bytes 4 count) 13) }
     ensures damaged { (a : ℕ) (byte : Option ℕ) → IsErrOf result (Damaged a byte)
-        → Shows (D.device dev.old).trace (λ c. BreaksFirst c (block_fields c tags (length rows.old.items) gate) a byte) }
-    ensures cause { CountsFault result DeviceFault (D.device dev.old).faults (D.device dev.new).faults }
-    ensures handed { (D.device dev.new).handed ≡ (D.device dev.old).handed }
-    ensures same { (D.device dev.new).trace ≡ (D.device dev.old).trace }
+        → BreaksFirst C.rest (front_fields C.rest number 0) a byte }
+    ensures no_fault { IsErrOf result DeviceFault → ⊥ }
 {
-    let Some(count) = read_front(alloc, dev, len, gate, rows.len() as u64)? else {
-        return Ok(None);
-    };
-    let from = gate + HEAD_LEN as u64;
-    read_body(alloc, dev, len, from, count, tags, rows)?;
-    Ok(Some(from + ROW_LEN as u64 * u64::from(count)))
+    let count = block.short_at::<C>(9);
+    block.check::<C>(&[
+        Field::new(1, 8, block.long_at::<C>(1) == number),
+        Field::new(9, 4, is_count_ok(count)),
+    ])?;
+    Ok(count)
 }
 
-// Returns how many rows the block after this gate has, if the gate is open. The block's first row has this number.
-fn read_front<D: Disk>(
-    alloc: Global,
-    dev: &mut D,
-    len: u64,
-    gate: u64,
-    number: u64,
-) -> Result<Option<u32>, ScanNo>
-    requires length { HasLength (D.device dev.old).trace len }
-    ensures closed { IfOk result (λ found. IfNone found (Shows (D.device dev.old).trace (λ c. IsOpen gate c → ⊥))) }
-    ensures front { IfOk result (λ found. IfSome found (λ count. Shows (D.device dev.old).trace (λ c. HasFront c number gate count))) }
-    ensures some { IfOk result (λ found. IfSome found (λ count. 1 ≤ count)) }
-    ensures few { IfOk result (λ found. IfSome found (λ count. count ≤ most_in_block)) }
-    ensures within { IfOk result (λ found. IfSome found (λ count. gate + 13 ≤ len)) }
-    ensures damaged_open { (a : ℕ) (byte : Option ℕ) → IsErrOf result (Damaged a byte) → Shows (D.device dev.old).trace (IsOpen gate) }
-    ensures damaged { (a : ℕ) (byte : Option ℕ) → IsErrOf result (Damaged a byte)
-        → Shows (D.device dev.old).trace (λ c. BreaksFirst c (front_fields c number gate) a byte) }
-    ensures cause { CountsFault result DeviceFault (D.device dev.old).faults (D.device dev.new).faults }
-    ensures handed { (D.device dev.new).handed ≡ (D.device dev.old).handed }
-    ensures same { (D.device dev.new).trace ≡ (D.device dev.old).trace }
+// Whether a block may have so many rows.
+fn is_count_ok(count: u32) -> bool
+    ensures { result ≡ (nat_le 1 count && nat_le count most_in_block) }
 {
-    let front = read_piece(alloc, dev, len, gate, HEAD_LEN as u64)?;
-    if byte_at(&front, 0) != OPEN {
-        return Ok(None);
-    }
-    match check_front(&front, number) {
-        Ok(count) => Ok(Some(count)),
-        Err(why) => Err(why.behind(gate)),
-    }
-}
-
-// Adds the rows of a block whose front ends at this place, and which has so many rows.
-fn read_body<D: Disk>(
-    alloc: Global,
-    dev: &mut D,
-    len: u64,
-    from: u64,
-    count: u32,
-    tags: u32,
-    rows: &mut Vec<LogRow>,
-) -> Result<(), ScanNo>
-    requires length { HasLength (D.device dev.old).trace len }
-    requires start { from ≤ len }
-    requires few { count ≤ most_in_block }
-    requires rows { All (IsLogRow tags) rows.old.items }
-    ensures added { OnOk result (Shows (D.device dev.old).trace (λ c. AddsRows c tags from count rows.old.items rows.new.items)) }
-    ensures within { OnOk result (from + 32 * count < len) }
-    ensures rows { OnOk result (All (IsLogRow tags) rows.new.items) }
-    ensures damaged { (a : ℕ) (byte : Option ℕ) → IsErrOf result (Damaged a byte)
-        → Shows (D.device dev.old).trace (λ c. BreaksFirst c (body_fields c tags from count) a byte) }
-    ensures cause { CountsFault result DeviceFault (D.device dev.old).faults (D.device dev.new).faults }
-    ensures handed { (D.device dev.new).handed ≡ (D.device dev.old).handed }
-    ensures same { (D.device dev.new).trace ≡ (D.device dev.old).trace }
-{
-    let size = ROW_LEN as u64 * u64::from(count) + 1;
-    let body = read_piece(alloc, dev, len, from, size)?;
-    match add_body(&body, count, tags, rows) {
-        Ok(()) => Ok(()),
-        Err(why) => Err(why.behind(from)),
-    }
+    1 <= count && count <= MOST_IN_BLOCK
 }

@@ -26,10 +26,8 @@
 #![tactic(auto)]
 
 mod block_reader;
-mod body_reader;
 mod commit;
 mod difference;
-mod front_reader;
 mod history;
 mod law;
 mod layout_reader;

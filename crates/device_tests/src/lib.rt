@@ -13,3 +13,5 @@ mod recovery;
 mod spelled;
 #[cfg(test)]
 mod told;
+#[cfg(test)]
+mod windows;

@@ -1,7 +1,6 @@
 pub mod RowLaws
 pub mod VersionLaws
 pub mod BlockLaws
-pub mod BlockPieces
 pub mod Walks
 pub mod SavedRows
 pub mod FewRows

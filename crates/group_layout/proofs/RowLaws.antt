@@ -1,16 +1,17 @@
 -- A row whose fields are kept.
-use Rattle.std.proofs.Common.{◌≡◌, ℕ, suc, ◌+◌, ◌-◌, ◌<◌, ◌≤◌, inl, inr, true, List, [], ◌∷◌, ◌++◌, All, AllPairs, length, get_or, MatchOption, length-append, Option, None, Some, refl, sym, ap, ◌∙◌, subst, arith, lit<, ltb-true, leb-true}
+use Rattle.std.proofs.Common.{◌≡◌, ℕ, suc, ◌+◌, ◌-◌, ◌^◌, ◌<◌, ◌≤◌, inl, inr, true, List, [], ◌∷◌, ◌++◌, All, AllPairs, length, get_or, MatchOption, length-append, Option, None, Some, refl, sym, ap, ◌∙◌, subst, arith, lit<, ltb-true, leb-true}
 use Rattle.std.proofs.Math.Seq.{get_or-append_seam}
 use Rattle.std.proofs.lemmas.Bool.{and_parts, cases_lt}
 use Rattle.std.proofs.lemmas.Bool.Decides.{nat_tests}
 use Rattle.std.proofs.lemmas.List.Quantifiers.{all_pairs_push}
-use Rattle.archive_file.proofs.Points.{IsBytes}
 use Rattle.group_layout.specs.declared.block.BlockRow.{BlockRow}
 use Rattle.archive_file.specs.declared.layout_field.Field.{Field}
-use Rattle.archive_file.specs.LayoutFields.{BreaksFirst, Keeps, Spells}
+use Rattle.archive_file.specs.LayoutFields.{BreaksFirst, Keeps, Spells, long_at, short_at}
+use Rattle.archive_file.specs.Fields.{number_bytes, value_bytes}
+use Rattle.std.specs.Int.{w64, cast_signed}
 use Rattle.group_layout.specs.Blocks.{IsBefore, IsRow, comes_before, is_in_order, row_at, row_fields, row_image, rows_fields}
 use Rattle.archive_file.proofs.FieldLaws.{KeptUpTo, breaks_after, breaks_within, kept_more}
-use Rattle.archive_file.proofs.LayoutSpellings.{ends_value, then_byte, then_short}
+use Rattle.archive_file.proofs.Windows.{then_spelled, value_spelled}
 
 -- no field
 abbrev none : Field
@@ -31,14 +32,18 @@ module _ (c : List ℕ) (calcs windows at : ℕ) (last : Option BlockRow) (r : B
   pub row_ordered : is_in_order last r ≡ true
   row_ordered = (and_parts _ _ (kept 1 none (lit< tt)).kept).1
 
-  -- its bytes
-  pub row_spelled : IsBytes c → r ≡ row_at c at → Spells c at (row_image r) (at + 17)
-  row_spelled bytes is =
-      subst (λ x. Spells c at (row_image x) (at + 17)) (sym is)
-      (then_short c at (at + 4) (at + 17) _ bytes (kept 0 none (lit< tt)).there refl
-      (then_short c (at + 4) (at + 8) (at + 17) _ bytes (kept 1 none (lit< tt)).there (omega arith)
-      (then_byte c (at + 8) (at + 9) (at + 17) _ bytes (kept 2 none (lit< tt)).there (omega arith)
-      (ends_value c (at + 9) (at + 17) bytes (kept 3 none (lit< tt)).there (omega arith)))))
+-- its bytes, one number after the other
+pub row_spelled : (c : List ℕ) (at : ℕ) → Spells c at (number_bytes 4 (short_at c at)) (at + 4)
+    → Spells c (at + 4) (number_bytes 4 (short_at c (at + 4))) (at + 4 + 4) → Spells c (at + 8) (number_bytes 1 (get_or c (at + 8) 0)) (at + 8 + 1)
+    → Spells c (at + 9) (number_bytes 8 (long_at c (at + 9))) (at + 9 + 8) → long_at c (at + 9) < 2 ^ 64
+    → Spells c at (row_image (row_at c at)) (at + 17)
+row_spelled c at calc window kind value low =
+    let end : at + 9 + 8 ≡ at + 17 = omega arith in
+    then_spelled c at (at + 4) (at + 4) (at + 17) _ _ calc refl
+    (then_spelled c (at + 4) (at + 4 + 4) (at + 8) (at + 17) _ _ window (omega arith)
+    (then_spelled c (at + 8) (at + 8 + 1) (at + 9) (at + 17) _ _ kind (omega arith)
+    (subst (Spells c (at + 9) (value_bytes (cast_signed w64 (long_at c (at + 9))))) end
+    (value_spelled c (at + 9) (at + 9 + 8) (long_at c (at + 9)) low value))))
 
 -- ---- rows in order
 

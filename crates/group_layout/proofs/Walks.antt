@@ -1,12 +1,16 @@
 -- Blocks one after the other, and one more.
-use Rattle.std.proofs.Common.{◌≡◌, inr, ℕ, suc, ◌+◌, ◌-◌, ◌<◌, ◌≤◌, List, [], ◌∷◌, ◌++◌, map, length, get_or, Option, refl, sym, ap, ◌∙◌, subst, arith}
-use Rattle.disk_model.specs.Calls.{Shows}
-use Rattle.disk_model.specs.Gates.{IsOpen}
-use Rattle.disk_model.specs.Traces.{Trace, seen}
-use Rattle.archive_file.proofs.ReadImages.{shows_both}
-use Rattle.group_layout.specs.declared.block.Block.{Block}
+use Rattle.std.proofs.Common.{◌≡◌, inl, inr, ℕ, suc, ◌+◌, ◌-◌, ◌<◌, ◌≤◌, List, [], ◌∷◌, ◌++◌, drop, map, length, get_or, Option, refl, sym, ap, ◌∙◌, subst, arith, length-drop}
+use Rattle.std.proofs.lemmas.List.{length-replicate}
+use Rattle.disk_model.specs.Gates.{IsOpen, IsShut}
+use Rattle.archive_file.specs.declared.layout_field.Field.{Field}
+use Rattle.archive_file.specs.BlockFiles.{AreAllRead, AreRead, IsFirstBroken, Step}
 use Rattle.archive_file.specs.LayoutFields.{BreaksFirst}
-use Rattle.group_layout.specs.Blocks.{BlockParts, AreDamaged, HasBlock, HasBlocks, MayFollow, block_fields, block_size, end_of, last_of, parts_of, unsaved}
+use Rattle.archive_file.proofs.BlockFiles.{read_keeps}
+use Rattle.archive_file.proofs.Windows.{rest_spells}
+use Rattle.group_layout.specs.declared.block.Block.{Block}
+use Rattle.group_layout.specs.declared.block_reader.GroupReader.{GroupReader}
+use Rattle.group_layout.specs.Blocks.{AddsBlock, AreBlocks, AreDamaged, BlockParts, HasBlock, HasBlocks, block_fields, block_image, block_size, end_of, last_of, last_read, parts_of, unsaved}
+use Rattle.group_layout.proofs.BlockLaws.{block_here}
 
 -- the last of blocks and one more is that one
 pub last_of-push : (b : BlockParts) (bs : List BlockParts) (x : BlockParts) → last_of b (bs ++ x ∷ []) ≡ x
@@ -29,56 +33,111 @@ pub parts-push : (bs : List Block) (x : Block) → map parts_of (bs ++ x ∷ [])
 parts-push [] x = refl
 parts-push (y ∷ bs) x = ap (λ l. parts_of y ∷ l) (parts-push bs x)
 
--- the blocks that were read, and one more
-walk_on : (c : List ℕ) (calcs inputs at next : ℕ) (bs : List Block) (x : Block) (before : BlockParts)
-    → before ≡ last_of (unsaved inputs) (map parts_of bs) → next ≡ end_of at (map parts_of bs)
-    → HasBlocks c calcs (unsaved inputs) at (map parts_of bs) → HasBlock c calcs before (parts_of x) next
-    → HasBlocks c calcs (unsaved inputs) at (map parts_of (bs ++ x ∷ []))
-walk_on c calcs inputs at next bs x before last end has one =
-    subst (HasBlocks c calcs (unsaved inputs) at) (sym (parts-push bs x))
-    (has_push c calcs (unsaved inputs) at (map parts_of bs) (parts_of x) has
-    (subst (λ b. HasBlock c calcs b (parts_of x) (end_of at (map parts_of bs))) last
-    (subst (HasBlock c calcs before (parts_of x)) end one)))
+-- the last of those and one more is that one
+pub last_read-push : (first : Block) (bs : List Block) (x : Block) → last_read first (bs ++ x ∷ []) ≡ parts_of x
+last_read-push first bs x = ap (last_of (parts_of first)) (parts-push bs x) ∙ last_of-push (parts_of first) (map parts_of bs) (parts_of x)
 
--- the next block breaks a rule
-walk_breaks : (c : List ℕ) (calcs inputs at next : ℕ) (bs : List Block) (before : BlockParts) (a : ℕ) (byte : Option ℕ)
-    → before ≡ last_of (unsaved inputs) (map parts_of bs) → next ≡ end_of at (map parts_of bs)
-    → HasBlocks c calcs (unsaved inputs) at (map parts_of bs) → IsOpen next c
-    → BreaksFirst c (block_fields c calcs before next) a byte → AreDamaged c calcs inputs at a byte
-walk_breaks c calcs inputs at next bs before a byte last end has opened breaks = inr (record {
-  blocks = map parts_of bs;
-  whole = has;
-  opened = subst (λ n. IsOpen n c) end opened;
-  breaks = subst (λ n. BreaksFirst c (block_fields c calcs (last_of (unsaved inputs) (map parts_of bs)) n) a byte) end
-      (subst (λ b. BreaksFirst c (block_fields c calcs b next) a byte) last breaks);
-})
+-- ---- what a reader goes over
 
--- ---- of a device
+-- what the reader adds, and the fields that it reads next
+abbrev group_adds : GroupReader → List ℕ → ℕ → GroupReader → Type 0
+group_adds r c size s =
+    (s.calcs ≡ r.calcs) × (s.unsaved ≡ r.unsaved) × AddsBlock c r.calcs (last_read r.unsaved r.list.items) r.list.items s.list.items size
 
-pub walk_on_shown : (o : Trace) (calcs inputs at next : ℕ) (bs : List Block) (x : Block) (before : BlockParts)
-    → before ≡ last_of (unsaved inputs) (map parts_of bs) → next ≡ end_of at (map parts_of bs)
-    → Shows o (λ c. HasBlocks c calcs (unsaved inputs) at (map parts_of bs)) → Shows o (λ c. HasBlock c calcs before (parts_of x) next)
-    → Shows o (λ c. HasBlocks c calcs (unsaved inputs) at (map parts_of (bs ++ x ∷ [])))
-walk_on_shown o calcs inputs at next bs x before last end has one =
-    shows_both o (λ c. HasBlocks c calcs (unsaved inputs) at (map parts_of bs)) (λ c. HasBlock c calcs before (parts_of x) next)
-    (λ c. HasBlocks c calcs (unsaved inputs) at (map parts_of (bs ++ x ∷ [])))
-    (λ c first second. walk_on c calcs inputs at next bs x before last end first second) has one
+abbrev group_fields : GroupReader → List ℕ → List Field
+group_fields r c = block_fields c r.calcs (last_read r.unsaved r.list.items) 0
 
-pub walk_breaks_shown : (o : Trace) (calcs inputs at next : ℕ) (bs : List Block) (before : BlockParts) (a : ℕ) (byte : Option ℕ)
-    → before ≡ last_of (unsaved inputs) (map parts_of bs) → next ≡ end_of at (map parts_of bs)
-    → Shows o (λ c. HasBlocks c calcs (unsaved inputs) at (map parts_of bs)) → Shows o (IsOpen next)
-    → Shows o (λ c. BreaksFirst c (block_fields c calcs before next) a byte) → Shows o (λ c. AreDamaged c calcs inputs at a byte)
-walk_breaks_shown t calcs inputs at next bs before a byte last end has opened breaks =
-    walk_breaks (seen t) calcs inputs at next bs before a byte last end has opened breaks
+-- the blocks up to a gate, with those in memory
+pub record IsWalked (c : List ℕ) (calcs inputs : ℕ) (first : Block) (at gate : ℕ) (s : GroupReader) : Type 0 where
+  pub calcs_are : s.calcs ≡ calcs
+  pub first_is : s.unsaved ≡ first
+  pub has : HasBlocks c calcs (parts_of first) at (map parts_of s.list.items)
+  pub end_is : gate ≡ end_of at (map parts_of s.list.items)
+  pub versions_are : length (last_read first s.list.items).versions ≡ inputs
 
--- the last block that was read has as many versions as there are inputs
-pub walk_versions : (calcs inputs : ℕ) (bs : List Block) (x : Block) (before : BlockParts) → before ≡ last_of (unsaved inputs) (map parts_of bs)
-    → length (last_of (unsaved inputs) (map parts_of bs)).versions ≡ inputs → MayFollow calcs before (parts_of x)
-    → length (last_of (unsaved inputs) (map parts_of (bs ++ x ∷ []))).versions ≡ inputs
-walk_versions calcs inputs bs x before last so_far follows =
-    ap (λ l. length (last_of (unsaved inputs) l).versions) (parts-push bs x)
-    ∙ ap (λ b. length b.versions) (last_of-push (unsaved inputs) (map parts_of bs) (parts_of x))
-    ∙ follows.inputs ∙ ap (λ b. length b.versions) last ∙ so_far
+-- one more
+walk_on : (c : List ℕ) (calcs inputs : ℕ) (first : Block) (at gate size : ℕ) (s next : GroupReader) → IsWalked c calcs inputs first at gate s
+    → IsOpen gate c → group_adds s (drop gate c) size next → IsWalked c calcs inputs first at (gate + size) next
+walk_on c calcs inputs first at gate size s next so_far opened added = record {
+  calcs_are = added.0 ∙ so_far.calcs_are;
+  first_is = added.1 ∙ so_far.first_is;
+  has = subst (HasBlocks c calcs (parts_of first) at) (sym all)
+      (has_push c calcs (parts_of first) at (map parts_of s.list.items) (parts_of gain.block) so_far.has
+      (subst (λ n. HasBlock c calcs (last_read first s.list.items) (parts_of gain.block) n) so_far.end_is one));
+  end_is = (λ i. so_far.end_is i + gain.size_is i) ∙ sym (end_of-push at (map parts_of s.list.items) (parts_of gain.block)) ∙ ap (end_of at) (sym all);
+  versions_are = ap (λ l. length (last_of (parts_of first) l).versions) all
+      ∙ ap (λ b. length b.versions) (last_of-push (parts_of first) (map parts_of s.list.items) (parts_of gain.block))
+      ∙ gain.follows.inputs ∙ so_far.versions_are;
+}
+  where
+    gain : AddsBlock (drop gate c) calcs (last_read first s.list.items) s.list.items next.list.items size
+    gain = subst (λ n. AddsBlock (drop gate c) n (last_read first s.list.items) s.list.items next.list.items size) so_far.calcs_are
+        (subst (λ b. AddsBlock (drop gate c) s.calcs (last_read b s.list.items) s.list.items next.list.items size) so_far.first_is added.2)
+
+    all : map parts_of next.list.items ≡ map parts_of s.list.items ++ parts_of gain.block ∷ []
+    all = ap (map parts_of) gain.are ∙ parts-push s.list.items gain.block
+
+    starts : gate ≤ length c
+    starts = omega (arith, gain.spelled.within, gain.size_is, length-drop gate c)
+
+    one : HasBlock c calcs (last_read first s.list.items) (parts_of gain.block) gate
+    one = record {
+      opened = opened;
+      spelled = (rest_spells c gate starts 1 size (block_image (parts_of gain.block)) gain.spelled).spelled;
+      follows = gain.follows;
+    }
+
+module _ (c : List ℕ) (at inputs : ℕ) (r : GroupReader) (none : r.list.items ≡ []) (first : parts_of r.unsaved ≡ unsaved inputs) where
+  goes : (steps : List (Step GroupReader)) (s : GroupReader) (end : ℕ) → AreRead group_adds c r at steps s end → IsWalked c r.calcs inputs r.unsaved at end s
+  goes steps s end =
+      read_keeps group_adds c (λ s gate. IsWalked c r.calcs inputs r.unsaved at gate s)
+      (λ s gate size next before opened added. walk_on c r.calcs inputs r.unsaved at gate size s next before opened added) r at steps s end
+      (record {
+        calcs_are = refl;
+        first_is = refl;
+        has = subst (λ bs. HasBlocks c r.calcs (parts_of r.unsaved) at (map parts_of bs)) (sym none) tt;
+        end_is = ap (λ bs. end_of at (map parts_of bs)) (sym none);
+        versions_are = ap (λ bs. length (last_read r.unsaved bs).versions) none ∙ ap (λ b. length b.versions) first ∙ length-replicate inputs 0;
+      })
+
+  -- over all blocks
+  pub all_blocks : (s : GroupReader) (end : ℕ) → AreAllRead group_adds c r at s end → AreBlocks c r.calcs inputs at (map parts_of s.list.items)
+  all_blocks s end all =
+      let walked = goes all.steps s end all.are in
+      record {
+        blocks = subst (λ b. HasBlocks c r.calcs b at (map parts_of s.list.items)) first walked.has;
+        shut = subst (λ n. IsShut n c) walked.end_is all.shut;
+      }
+
+  -- where they end
+  pub end_there : (s : GroupReader) (end : ℕ) → AreAllRead group_adds c r at s end → end ≡ end_of at (map parts_of s.list.items)
+  end_there s end all = (goes all.steps s end all.are).end_is
+
+  -- how many versions the last one has
+  pub versions_there : (s : GroupReader) (end : ℕ) → AreAllRead group_adds c r at s end
+      → length (last_of (unsaved inputs) (map parts_of s.list.items)).versions ≡ inputs
+  versions_there s end all =
+      ap (λ b. length (last_of b (map parts_of s.list.items)).versions) (sym first) ∙ (goes all.steps s end all.are).versions_are
+
+  -- up to one that breaks a rule
+  pub breaks_there : (a : ℕ) (byte : Option ℕ) → IsFirstBroken group_adds group_fields c r at a byte → AreDamaged c r.calcs inputs at a byte
+  breaks_there a byte (inl ends) = inl ends
+  breaks_there a byte (inr broken) =
+      let s = broken.reader in
+      let walked = goes broken.steps s broken.gate broken.whole in
+      let before = last_read r.unsaved s.list.items in
+      let breaks = subst (λ n. BreaksFirst c (block_fields c n before broken.gate) a byte) walked.calcs_are
+      (subst (λ b. BreaksFirst c (block_fields c s.calcs (last_read b s.list.items) broken.gate) a byte) walked.first_is
+      (subst (λ fields. BreaksFirst c fields a byte) (block_here c broken.gate s.calcs (last_read s.unsaved s.list.items)) broken.breaks)) in
+      inr (record {
+        blocks = map parts_of s.list.items;
+        whole = subst (λ b. HasBlocks c r.calcs b at (map parts_of s.list.items)) first walked.has;
+        opened = subst (λ n. IsOpen n c) walked.end_is broken.opened;
+        breaks = subst (λ n. BreaksFirst c (block_fields c r.calcs (last_of (unsaved inputs) (map parts_of s.list.items)) n) a byte) walked.end_is
+            (subst (λ b. BreaksFirst c (block_fields c r.calcs (last_of b (map parts_of s.list.items)) broken.gate) a byte) first breaks);
+      })
+
+-- ---- the last one
 
 -- the last in memory
 pub last_is : (b : BlockParts) (bs : List Block) (x : Block) → 1 ≤ length bs → x ≡ get_or bs (length bs - 1) x

@@ -1,5 +1,5 @@
 -- Blocks: what the saves of a group leave, one after the other, each after its gate.
-use Rattle.std.specs.Prelude.{◌≡◌, ◌⊎◌, ℕ, ℤ, pos, zero, suc, ◌+◌, ◌*◌, ◌<◌, ◌≤◌, Bool, true, ◌&&◌, ◌||◌, List, [], ◌∷◌, ◌++◌, All, AllPairs, length, flat_map, replicate, slice_index, Option, None, Some, nat_eq, nat_le, nat_lt, unsigned_abs, if◌then◌else◌}
+use Rattle.std.specs.Prelude.{◌≡◌, ◌⊎◌, ℕ, ℤ, pos, zero, suc, ◌+◌, ◌*◌, ◌<◌, ◌≤◌, Bool, true, ◌&&◌, ◌||◌, List, [], ◌∷◌, ◌++◌, All, AllPairs, length, flat_map, map, replicate, slice_index, Option, None, Some, nat_eq, nat_le, nat_lt, unsigned_abs, if◌then◌else◌}
 use Rattle.std.specs.Ordering.{int_eq}
 use Rattle.std.specs.Int.{w64, cast_signed}
 use Rattle.disk_model.specs.Gates.{IsOpen, IsShut, Holds}
@@ -7,7 +7,7 @@ use Rattle.archive_file.specs.Fields.{number_bytes, value_bytes}
 use Rattle.group_layout.specs.declared.block.BlockRow.{BlockRow}
 use Rattle.group_layout.specs.declared.block.Block.{Block}
 use Rattle.archive_file.specs.declared.layout_field.Field.{Field}
-use Rattle.archive_file.specs.LayoutFields.{BreaksFirst, EndsIn, long_at, short_at}
+use Rattle.archive_file.specs.LayoutFields.{BreaksFirst, EndsIn, Spells, long_at, short_at}
 
 -- what a block records: its number, the versions of the inputs, how many windows are complete, and the rows that
 -- changed
@@ -100,6 +100,19 @@ last_of before (b ∷ bs) = last_of b bs
 abbrev pub end_of : ℕ → List BlockParts → ℕ
 end_of at [] = at
 end_of at (b ∷ bs) = end_of (at + block_size b) bs
+
+-- the last of the blocks in memory, or `first` if there is none
+abbrev pub last_read : Block → List Block → BlockParts
+last_read first bs = last_of (parts_of first) (map parts_of bs)
+
+-- a block that may follow `before` was added to those in memory. These are the bytes from its gate on, and so many of
+-- them come before the next gate.
+pub record AddsBlock (c : List ℕ) (calcs : ℕ) (before : BlockParts) (old new : List Block) (size : ℕ) : Type 0 where
+  pub block : Block
+  pub are : new ≡ old ++ block ∷ []
+  pub spelled : Spells c 1 (block_image (parts_of block)) size
+  pub follows : MayFollow calcs before (parts_of block)
+  pub size_is : size ≡ block_size (parts_of block)
 
 -- these are all blocks from the gate at a place: the gate after the last one is there, and closed
 pub record AreBlocks (c : List ℕ) (calcs inputs at : ℕ) (bs : List BlockParts) : Type 0 where

@@ -17,8 +17,8 @@
 //! * [`block_bytes`] returns the bytes of one block, and [`read_blocks`] reads blocks alone, without the layout before
 //!   them.
 //!
-//! A reader has the bytes of one block at a time in memory. It reads the front of a block, which tells how many rows
-//! the block has, and then the block with the gate behind it.
+//! `archive_file` goes over the blocks. It has the bytes of one block at a time in memory: it reads the front of a block,
+//! which tells how many rows the block has, and then the rest of it with the next gate.
 #![tactic(auto)]
 
 mod block;

@@ -1,13 +1,14 @@
 // Reading a block that is in memory.
 ghost use Rattle.std.specs.Prelude.{◌≡◌, ℕ, ◌+◌, ◌*◌, ◌^◌, ◌<◌, ◌≤◌, All, Option, IfOk, IsErrOf, OnOk, length, map, slice_index, nat_eq};
 ghost use Rattle.archive_file.specs.declared.failure.ScanNo.TheVariants.{Damaged, DeviceFault};
-ghost use Rattle.archive_file.specs.LayoutFields.{BreaksFirst, Keeps, Spells};
+ghost use Rattle.archive_file.specs.LayoutFields.{BreaksFirst, Keeps, Spells, short_at};
+ghost use Rattle.archive_file.specs.Windows.{IsWindow};
 ghost use Rattle.group_layout.specs.Blocks.{MayFollow, block_fields, block_image, block_size, last_of, parts_of, unsaved, version_fields, versions_image};
 
 use crate::block::Block;
 use crate::row_reader::read_rows;
 use crate::writer::ROW_LEN;
-use archive_file::{Field, ScanNo, check, long_at, short_at};
+use archive_file::{Field, Rest, ScanNo, Window};
 use std::alloc::Global;
 
 // Returns what counts before the first save: so many inputs at version 0.
@@ -45,41 +46,35 @@ pub(crate) fn size_of_block(b: &Block) -> usize
     17 + 4 * b.versions.len() + ROW_LEN * b.rows.len()
 }
 
-// Reads the block after the gate at a place, which follows the block `before`.
-pub(crate) fn read_block(
+// Reads a block, which follows the block `before`. The window shows it whole, from its gate to the next one.
+pub(crate) fn read_block<C: Rest>(
     alloc: Global,
-    c: &[u8],
-    gate: usize,
+    block: &Window,
     calcs: u32,
     before: &Block,
 ) -> Result<Block, ScanNo>
-    requires gate { gate < length c.now }
-    requires small { length c.now < 2 ^ 63 }
+    requires window { IsWindow C.rest block.now }
+    requires asked { let inputs = length (parts_of before.now).versions in
+        block.now.asked ≡ 17 + 4 * inputs + 17 * short_at C.rest (9 + 4 * inputs + 4) + 1 }
     ensures follows { IfOk result (λ b. MayFollow calcs (parts_of before.now) (parts_of b)) }
-    ensures spelled { IfOk result (λ b. Spells c.now (gate + 1) (block_image (parts_of b)) (gate + block_size (parts_of b))) }
-    ensures next { IfOk result (λ b. gate + block_size (parts_of b) < length c.now) }
+    ensures spelled { IfOk result (λ b. Spells C.rest 1 (block_image (parts_of b)) (block_size (parts_of b))) }
+    ensures next { IfOk result (λ b. block_size (parts_of b) < length C.rest) }
     ensures damaged { (a : ℕ) (byte : Option ℕ) → IsErrOf result (Damaged a byte)
-        → BreaksFirst c.now (block_fields c.now calcs (parts_of before.now) gate) a byte }
+        → BreaksFirst C.rest (block_fields C.rest calcs (parts_of before.now) 0) a byte }
     ensures no_fault { IsErrOf result DeviceFault → ⊥ }
 {
-    let number = long_at(c, gate + 1);
-    check(
-        c,
-        &[Field::new(gate + 1, 8, is_next(before.number, number))],
-    )?;
-    let versions = read_versions(alloc, c, gate + 9, &before.versions)?;
-    let at = gate + 9 + 4 * versions.len();
-    let windows = short_at(c, at);
-    check(
-        c,
-        &[
-            Field::new(at, 4, before.windows <= windows),
-            Field::new(at + 4, 4, true),
-        ],
-    )?;
-    let count = short_at(c, at + 4);
-    let rows = read_rows(alloc, c, at + 8, count, calcs, windows)?;
-    check(c, &[Field::new(at + 8 + ROW_LEN * rows.len(), 1, true)])?;
+    let number = block.long_at::<C>(1);
+    block.check::<C>(&[Field::new(1, 8, is_next(before.number, number))])?;
+    let versions = read_versions::<C>(alloc, block, 9, &before.versions)?;
+    let at = 9 + 4 * versions.len();
+    let windows = block.short_at::<C>(at);
+    block.check::<C>(&[
+        Field::new(at, 4, before.windows <= windows),
+        Field::new(at + 4, 4, true),
+    ])?;
+    let count = block.short_at::<C>(at + 4);
+    let rows = read_rows::<C>(alloc, block, at + 8, count, calcs, windows)?;
+    block.check::<C>(&[Field::new(at + 8 + ROW_LEN * rows.len(), 1, true)])?;
     Ok(Block {
         number,
         versions,
@@ -96,22 +91,28 @@ fn is_next(before: u64, number: u64) -> bool
 }
 
 // Reads the versions that begin at a place. The version of an input must be no less than its version in `before`.
-fn read_versions(alloc: Global, c: &[u8], at: usize, before: &[u32]) -> Result<Vec<u32>, ScanNo>
-    requires there { at ≤ length c.now }
-    requires small { length c.now < 2 ^ 63 }
+fn read_versions<C: Rest>(
+    alloc: Global,
+    block: &Window,
+    at: usize,
+    before: &[u32],
+) -> Result<Vec<u32>, ScanNo>
+    requires window { IsWindow C.rest block.now }
+    requires asked { at + 4 * length before.now ≤ block.now.asked }
+    requires there { at ≤ length C.rest }
     ensures len { IfOk result (λ v. length v.items ≡ length before.now) }
     ensures rises { IfOk result (λ v. (i : ℕ) → i < length before.now → slice_index before.now i ≤ slice_index v.items i) }
-    ensures spelled { IfOk result (λ v. Spells c.now at (versions_image v.items) (at + 4 * length before.now)) }
-    ensures kept { OnOk result (All (Keeps c.now) (version_fields c.now before.now at)) }
+    ensures spelled { IfOk result (λ v. Spells C.rest at (versions_image v.items) (at + 4 * length before.now)) }
+    ensures kept { OnOk result (All (Keeps C.rest) (version_fields C.rest before.now at)) }
     ensures damaged { (a : ℕ) (byte : Option ℕ) → IsErrOf result (Damaged a byte)
-        → BreaksFirst c.now (version_fields c.now before.now at) a byte }
+        → BreaksFirst C.rest (version_fields C.rest before.now at) a byte }
     ensures no_fault { IsErrOf result DeviceFault → ⊥ }
 {
     let mut versions = Vec::new(alloc);
     let mut next = at;
     for least in before {
-        let version = short_at(c, next);
-        check(c, &[Field::new(next, 4, *least <= version)])?;
+        let version = block.short_at::<C>(next);
+        block.check::<C>(&[Field::new(next, 4, *least <= version)])?;
         let Ok(()) = versions.push(version) else {
             return Err(ScanNo::WantOfMemory);
         };

@@ -1,13 +1,14 @@
 // Reading the rows of a block.
-ghost use Rattle.std.specs.Prelude.{◌≡◌, ℕ, ◌+◌, ◌*◌, ◌^◌, ◌<◌, ◌≤◌, true, ◌&&◌, All, Option, None, IfOk, IsErrOf, OnOk, length, nat_le, nat_lt};
+ghost use Rattle.std.specs.Prelude.{◌≡◌, ℕ, ◌+◌, ◌*◌, ◌≤◌, true, ◌&&◌, All, Option, None, IfOk, IsErrOf, OnOk, length, nat_le, nat_lt};
 ghost use Rattle.archive_file.specs.declared.failure.ScanNo.TheVariants.{Damaged, DeviceFault, WantOfMemory};
 ghost use Rattle.group_layout.specs.declared.block.BlockRow.{BlockRow};
 ghost use Rattle.archive_file.specs.LayoutFields.{BreaksFirst, Keeps, Spells};
+ghost use Rattle.archive_file.specs.Windows.{IsWindow};
 ghost use Rattle.group_layout.specs.Blocks.{AreRows, IsRow, is_calc_in_order, is_in_order, is_value_ok, row_at, row_fields, row_image, rows_fields, rows_image};
 
 use crate::block::BlockRow;
 use crate::writer::ROW_LEN;
-use archive_file::{Field, ScanNo, byte_at, check, long_at, short_at};
+use archive_file::{Field, Rest, ScanNo, Window};
 use std::alloc::Global;
 
 // The largest kind of a row.
@@ -16,30 +17,31 @@ const LAST_KIND: u8 = 3;
 // The greatest amount of a row's number: how far it may be from 0.
 const MOST_NUMBER: u64 = 1_000_000_000_000_000_000;
 
-// Reads so many rows that begin at a place. Each belongs to one of so many calculations and to one of so many windows.
-pub(crate) fn read_rows(
+// Reads so many rows that begin at a place of a block. Each belongs to one of so many calculations and to one of so many windows.
+pub(crate) fn read_rows<C: Rest>(
     alloc: Global,
-    c: &[u8],
+    block: &Window,
     at: usize,
     count: u32,
     calcs: u32,
     windows: u32,
 ) -> Result<Vec<BlockRow>, ScanNo>
-    requires there { at ≤ length c.now }
-    requires small { length c.now < 2 ^ 63 }
+    requires window { IsWindow C.rest block.now }
+    requires asked { at + 17 * count ≤ block.now.asked }
+    requires there { at ≤ length C.rest }
     ensures len { IfOk result (λ v. length v.items ≡ count) }
     ensures rows { IfOk result (λ v. AreRows calcs windows v.items) }
-    ensures spelled { IfOk result (λ v. Spells c.now at (rows_image v.items) (at + 17 * count)) }
-    ensures kept { OnOk result (All (Keeps c.now) (rows_fields c.now calcs windows None at count)) }
+    ensures spelled { IfOk result (λ v. Spells C.rest at (rows_image v.items) (at + 17 * count)) }
+    ensures kept { OnOk result (All (Keeps C.rest) (rows_fields C.rest calcs windows None at count)) }
     ensures damaged { (a : ℕ) (byte : Option ℕ) → IsErrOf result (Damaged a byte)
-        → BreaksFirst c.now (rows_fields c.now calcs windows None at count) a byte }
+        → BreaksFirst C.rest (rows_fields C.rest calcs windows None at count) a byte }
     ensures no_fault { IsErrOf result DeviceFault → ⊥ }
 {
     let mut rows = Vec::new(alloc);
     let mut next = at;
     let mut last = None;
     for _ in 0..count {
-        let row = read_row(c, next, calcs, windows, last)?;
+        let row = read_row::<C>(block, next, calcs, windows, last)?;
         let Ok(()) = rows.push(row) else {
             return Err(ScanNo::WantOfMemory);
         };
@@ -50,70 +52,68 @@ pub(crate) fn read_rows(
 }
 
 // Reads the row at a place, after the last one.
-fn read_row(
-    c: &[u8],
+fn read_row<C: Rest>(
+    block: &Window,
     at: usize,
     calcs: u32,
     windows: u32,
     last: Option<BlockRow>,
 ) -> Result<BlockRow, ScanNo>
-    requires there { at ≤ length c.now }
-    requires small { length c.now < 2 ^ 63 }
-    ensures value { IfOk result (λ r. r ≡ row_at c.now at) }
+    requires window { IsWindow C.rest block.now }
+    requires asked { at + 17 ≤ block.now.asked }
+    ensures value { IfOk result (λ r. r ≡ row_at C.rest at) }
     ensures row { IfOk result (IsRow calcs windows) }
     ensures order { IfOk result (λ r. is_in_order last r ≡ true) }
-    ensures spelled { IfOk result (λ r. Spells c.now at (row_image r) (at + 17)) }
-    ensures kept { OnOk result (All (Keeps c.now) (row_fields calcs windows last (row_at c.now at) at)) }
+    ensures spelled { IfOk result (λ r. Spells C.rest at (row_image r) (at + 17)) }
+    ensures kept { OnOk result (All (Keeps C.rest) (row_fields calcs windows last (row_at C.rest at) at)) }
     ensures damaged { (a : ℕ) (byte : Option ℕ) → IsErrOf result (Damaged a byte)
-        → BreaksFirst c.now (row_fields calcs windows last (row_at c.now at) at) a byte }
+        → BreaksFirst C.rest (row_fields calcs windows last (row_at C.rest at) at) a byte }
     ensures no_fault { IsErrOf result DeviceFault → ⊥ }
 {
-    let row = row_at(c, at);
-    check_row(c, at, calcs, windows, last, row)?;
+    let row = row_at::<C>(block, at);
+    check_row::<C>(block, at, calcs, windows, last, row)?;
     Ok(row)
 }
 
 // Reads the row at a place.
-fn row_at(c: &[u8], at: usize) -> BlockRow
-    requires there { at ≤ length c.now }
-    requires small { length c.now < 2 ^ 63 }
-    ensures { result ≡ row_at c.now at }
+fn row_at<C: Rest>(block: &Window, at: usize) -> BlockRow
+    requires window { IsWindow C.rest block.now }
+    requires asked { at + 17 ≤ block.now.asked }
+    ensures value { result ≡ row_at C.rest at }
+    ensures spelled { at + 17 ≤ length C.rest → Spells C.rest at (row_image (row_at C.rest at)) (at + 17) }
 {
     BlockRow {
-        calc: short_at(c, at),
-        window: short_at(c, at + 4),
-        kind: byte_at(c, at + 8),
-        value: long_at(c, at + 9).cast_signed(),
+        calc: block.short_at::<C>(at),
+        window: block.short_at::<C>(at + 4),
+        kind: block.byte_at::<C>(at + 8),
+        value: block.long_at::<C>(at + 9).cast_signed(),
     }
 }
 
 // Checks the row at a place, after the last one. Refuses it at the first of its fields that is not there or breaks its
 // rule.
-fn check_row(
-    c: &[u8],
+fn check_row<C: Rest>(
+    block: &Window,
     at: usize,
     calcs: u32,
     windows: u32,
     last: Option<BlockRow>,
     row: BlockRow,
 ) -> Result<(), ScanNo>
-    requires there { at ≤ length c.now }
-    requires small { length c.now < 2 ^ 63 }
-    ensures kept { OnOk result (All (Keeps c.now) (row_fields calcs windows last row at)) }
+    requires window { IsWindow C.rest block.now }
+    requires asked { at + 17 ≤ block.now.asked }
+    ensures kept { OnOk result (All (Keeps C.rest) (row_fields calcs windows last row at)) }
     ensures damaged { (a : ℕ) (byte : Option ℕ) → IsErrOf result (Damaged a byte)
-        → BreaksFirst c.now (row_fields calcs windows last row at) a byte }
+        → BreaksFirst C.rest (row_fields calcs windows last row at) a byte }
     ensures no_fault { IsErrOf result DeviceFault → ⊥ }
     ensures no_want { IsErrOf result WantOfMemory → ⊥ }
 {
-    check(
-        c,
-        &[
-            Field::new(at, 4, is_calc_ok(calcs, last, row)),
-            Field::new(at + 4, 4, is_window_ok(windows, last, row)),
-            Field::new(at + 8, 1, is_kind(row.kind)),
-            Field::new(at + 9, 8, is_value_ok(row)),
-        ],
-    )
+    block.check::<C>(&[
+        Field::new(at, 4, is_calc_ok(calcs, last, row)),
+        Field::new(at + 4, 4, is_window_ok(windows, last, row)),
+        Field::new(at + 8, 1, is_kind(row.kind)),
+        Field::new(at + 9, 8, is_value_ok(row)),
+    ])
 }
 
 // Whether a row's calculation is one of so many, and is not before that of the last row.

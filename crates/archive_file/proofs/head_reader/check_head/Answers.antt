@@ -1,18 +1,29 @@
-use Rattle.std.proofs.Common.{◌≡◌, ◌+◌, ◌∷◌, [], true, All, OnOk, ap, ◌∙◌, subst}
+use Rattle.std.proofs.Common.{◌≡◌, ◌+◌, ◌≤◌, ◌∷◌, [], true, All, OnOk, Result, arith, length, lit<, ap, ◌∙◌, subst}
 use Rattle.archive_file.specs.LayoutFields.{Keeps}
 use Rattle.archive_file.specs.TextHeads.{head_fields}
 use Rattle.archive_file.proofs.FieldLaws.{field_of}
 use Rattle.archive_file.proofs.head_reader.check_head.Goals as goal
 
 pub returns-clause-kept : goal.returns-clause-kept
-returns-clause-kept c =
+returns-clause-kept g c =
     let first = c.letter_field.ensures in
     let second = c.letter_field-2.ensures in
     let third = c.letter_field-3.ensures in
     let fourth = c.letter_field-4.ensures in
     let size = c.new.ensures in
-    let text = c.new-2.ensures ∙ ap (λ n. field_of 9 (n + 1) true) c.requires in
+    let text = c.new-2.ensures ∙ ap (λ n. field_of 9 (n + 1) true) c.requires.size in
     let same : c.letter_field.result ∷ c.letter_field-2.result ∷ c.letter_field-3.result ∷ c.letter_field-4.result ∷ c.new.result
-    ∷ c.new-2.result ∷ [] ≡ head_fields c.args.letters c.args.c.now
+    ∷ c.new-2.result ∷ [] ≡ head_fields c.args.letters g.C.Rest.rest
     = λ i. first i ∷ second i ∷ third i ∷ fourth i ∷ size i ∷ text i ∷ [] in
-    subst (λ fields. OnOk c.check.result (All (Keeps c.args.c.now) fields)) same c.check.ensures.kept
+    subst (λ fields. OnOk c.check.result (All (Keeps g.C.Rest.rest) fields)) same c.check.ensures.kept
+
+-- what follows at Ok
+at_ok : {T E : Type 0} (r : Result T E) (P Q : Type 0) → (P → Q) → OnOk r P → OnOk r Q
+at_ok r P Q then is = grind arith
+
+pub returns-clause-long : goal.returns-clause-long
+returns-clause-long g c =
+    let s = g.C.Rest.rest in
+    let fields = c.letter_field.result ∷ c.letter_field-2.result ∷ c.letter_field-3.result ∷ c.letter_field-4.result ∷ c.new.result ∷ c.new-2.result ∷ [] in
+    at_ok c.check.result (All (Keeps s) fields) (9 + (c.args.size + 1) ≤ length s)
+    (λ kept. (subst (Keeps s) c.new-2.ensures (kept 5 (field_of 0 0 true) (lit< tt))).there) c.check.ensures.kept

@@ -5,21 +5,21 @@ use Rattle.commit_log.proofs.RowLaws.{adds_more, row_breaks, row_more}
 use Rattle.commit_log.proofs.row_reader.read_rows.Goals as goal
 
 pub returns-in_err-row-clause-damaged : goal.returns-in_err-row-clause-damaged
-returns-in_err-row-clause-damaged c = λ a byte told.
+returns-in_err-row-clause-damaged g c = λ a byte told.
     let x = c.args in
     let out = err_from_is_err_and c.from_residual.result c.from_residual.ensures.1 in
-    row_breaks x.c.now x.tags x.at c.loop.next x.count c.loop.counter c.loop-test.true c.loop.invariant.kept a byte
+    row_breaks g.C.Rest.rest x.tags x.at c.loop.next x.count c.loop.counter c.loop-test.true c.loop.invariant.kept a byte
     (c.in_err-row.ensures.damaged a byte (told_through c.from_residual.result out.0 _ a byte out.1 out.2 told))
 
 pub loop-preserved : goal.loop-preserved
-loop-preserved c =
+loop-preserved g c =
     let x = c.args in
     record {
       place = omega arith;
       within = omega (arith, c.in_ok-row.ensures.spelled.within);
       below = omega arith;
-      added = adds_more x.c.now x.tags x.at c.loop.counter c.loop.next x.rows.now.items c.loop.rows.items _ c.in_ok-row.row
+      added = adds_more g.C.Rest.rest x.tags x.at c.loop.counter c.loop.next x.rows.now.items c.loop.rows.items _ c.in_ok-row.row
           c.loop.invariant.place c.loop.invariant.added c.in-Ok.ensures.items c.in_ok-row.ensures.row c.in_ok-row.ensures.spelled;
-      kept = row_more x.c.now x.tags x.at c.loop.next x.count c.loop.counter c.loop-test.true c.loop.invariant.kept
+      kept = row_more g.C.Rest.rest x.tags x.at c.loop.next x.count c.loop.counter c.loop-test.true c.loop.invariant.kept
           c.in_ok-row.ensures.kept;
     }

@@ -8,7 +8,6 @@ use Rattle.archive_file.proofs.Joins.{images_push}
 use Rattle.archive_file.specs.LayoutFields.{BreaksFirst, Keeps, Spells, short_at}
 use Rattle.group_layout.specs.Blocks.{versions_image}
 use Rattle.archive_file.proofs.FieldLaws.{field_of, spells_both, told_through}
-use Rattle.archive_file.proofs.LayoutSpellings.{spells_short}
 use Rattle.group_layout.proofs.VersionLaws.{version_breaks, version_more}
 use Rattle.group_layout.proofs.reader.read_versions.Goals as goal
 
@@ -26,25 +25,25 @@ risen xs ys n y long below here k low = elim (cases_lt k n) [
 ]
 
 pub returns-in_err-check-clause-damaged : goal.returns-in_err-check-clause-damaged
-returns-in_err-check-clause-damaged c = λ a byte told.
+returns-in_err-check-clause-damaged g c = λ a byte told.
     let x = c.args in
     let l = c.loop-least in
     let out = err_from_is_err_and c.from_residual.result c.from_residual.ensures.1 in
-    let is = c.new.ensures ∙ ap (λ v. field_of l.next 4 (nat_le (get_or x.before.now l.least-index 0) v)) c.short_at-version.ensures in
-    version_breaks x.c.now x.before.now x.at l.next l.least-index c.loop-least-test.true l.invariant.kept a byte
-    (subst (λ f. BreaksFirst x.c.now (f ∷ []) a byte) is
+    let is = c.new.ensures ∙ ap (λ v. field_of l.next 4 (nat_le (get_or x.before.now l.least-index 0) v)) c.short_at-version.ensures.value in
+    version_breaks g.C.Rest.rest x.before.now x.at l.next l.least-index c.loop-least-test.true l.invariant.kept a byte
+    (subst (λ f. BreaksFirst g.C.Rest.rest (f ∷ []) a byte) is
     (c.in_err-check.ensures.damaged a byte (told_through c.from_residual.result out.0 _ a byte out.1 out.2 told)))
 
 pub loop-least-preserved : goal.loop-least-preserved
-loop-least-preserved c =
+loop-least-preserved g c =
     let x = c.args in
     let l = c.loop-least in
     let v = c.short_at-version.result in
     let vs = l.versions.items in
-    let is = c.new.ensures ∙ ap (λ v. field_of l.next 4 (nat_le (get_or x.before.now l.least-index 0) v)) c.short_at-version.ensures in
+    let is = c.new.ensures ∙ ap (λ v. field_of l.next 4 (nat_le (get_or x.before.now l.least-index 0) v)) c.short_at-version.ensures.value in
     let pushed = c.in-Ok.ensures.items in
-    let kept = subst (λ f. All (Keeps x.c.now) (f ∷ [])) is c.in_ok-check.ensures.kept in
-    let field : Keeps x.c.now (field_of l.next 4 (nat_le (get_or x.before.now l.least-index 0) (short_at x.c.now l.next)))
+    let kept = subst (λ f. All (Keeps g.C.Rest.rest) (f ∷ [])) is c.in_ok-check.ensures.kept in
+    let field : Keeps g.C.Rest.rest (field_of l.next 4 (nat_le (get_or x.before.now l.least-index 0) (short_at g.C.Rest.rest l.next)))
     = kept 0 (field_of 0 0 true) (lit< tt) in
     record {
       place = omega arith;
@@ -52,11 +51,11 @@ loop-least-preserved c =
       len = omega (arith, ap length pushed, length-append vs (v ∷ []));
       rises = subst (λ ys. (k : ℕ) → k < l.least-index + 1 → get_or x.before.now k 0 ≤ get_or ys k 0) (sym pushed)
           (risen x.before.now vs l.least-index v l.invariant.len l.invariant.rises
-          (omega (arith, leb-true _ _ field.kept, c.short_at-version.ensures)));
-      spelled = subst (λ bytes. Spells x.c.now x.at bytes (l.next + 4))
+          (omega (arith, leb-true _ _ field.kept, c.short_at-version.ensures.value)));
+      spelled = subst (λ bytes. Spells g.C.Rest.rest x.at bytes (l.next + 4))
           (sym (ap versions_image pushed ∙ images_push (number_bytes 4) vs v))
-          (spells_both x.c.now x.at l.next (l.next + 4) (versions_image vs) (number_bytes 4 v) l.invariant.spelled
-          (subst (λ n. Spells x.c.now l.next (number_bytes 4 n) (l.next + 4)) (sym c.short_at-version.ensures)
-          (spells_short x.c.now l.next (λ i. omega (arith, c.type_inv.c i)) field.there)));
-      kept = version_more x.c.now x.before.now x.at l.next l.least-index c.loop-least-test.true l.invariant.kept kept;
+          (spells_both g.C.Rest.rest x.at l.next (l.next + 4) (versions_image vs) (number_bytes 4 v) l.invariant.spelled
+          (subst (λ n. Spells g.C.Rest.rest l.next (number_bytes 4 n) (l.next + 4)) (sym c.short_at-version.ensures.value)
+          (c.short_at-version.ensures.spelled field.there)));
+      kept = version_more g.C.Rest.rest x.before.now x.at l.next l.least-index c.loop-least-test.true l.invariant.kept kept;
     }

@@ -6,15 +6,15 @@ use Rattle.group_layout.proofs.RowLaws.{IsLastOf}
 use Rattle.group_layout.proofs.row_reader.read_rows.Given as goal
 
 abbrev pub invariant-loop : goal.invariant-loop
-invariant-loop l = record {
+invariant-loop g l = record {
   place : l.next ≡ l.initial.next + 17 * l.counter;
-  within : l.next ≤ length l.c;
+  within : l.next ≤ length g.C.Rest.rest;
   below : l.counter ≤ l.count;
   len : length l.rows.items ≡ l.counter;
-  spelled : Spells l.c l.initial.next (rows_image l.rows.items) l.next;
+  spelled : Spells g.C.Rest.rest l.initial.next (rows_image l.rows.items) l.next;
   each : All (IsRow l.calcs l.windows) l.rows.items;
   sorted : AllPairs IsBefore l.rows.items;
   last : IsLastOf l.rows.items l.last;
-  kept : KeptUpTo l.c (rows_fields l.c l.calcs l.windows None l.initial.next l.count)
-      (rows_fields l.c l.calcs l.windows l.last l.next (l.count - l.counter));
+  kept : KeptUpTo g.C.Rest.rest (rows_fields g.C.Rest.rest l.calcs l.windows None l.initial.next l.count)
+      (rows_fields g.C.Rest.rest l.calcs l.windows l.last l.next (l.count - l.counter));
 }
