@@ -1,28 +1,22 @@
 -- What becomes of a device that is opened: its layout, its free lane slots, and whether a sync is all that it gains.
-use Rattle.std.proofs.Common.{◌≡◌, inl, inr, ℕ, ◌+◌, ◌-◌, ◌<◌, ◌≤◌, false, true, cond, List}
-use Rattle.std.proofs.Common.{length, refl, sym, ◌∙◌, ap, subst, arith}
+use Rattle.std.proofs.Common.{◌≡◌, inl, inr, ℕ, ◌+◌, ◌-◌, ◌<◌, ◌≤◌, false, true, cond, List, length}
+use Rattle.std.proofs.Common.{sym, ◌∙◌, ap, subst, arith}
 use Rattle.std.proofs.lemmas.Bool.{cases_Bool}
 use Rattle.trend_num.specs.declared.tag_def.TagDef.{TagDef}
-use Rattle.trend_model.specs.State.{State, after, nothing_taken}
-use Rattle.disk_model.specs.Traces.{Trace, Synced, seen, noted}
-use Rattle.disk_model.specs.Gates.{IsNew, IsBegun, layout_calls}
-use Rattle.disk_model.specs.Calls.{Shows}
-use Rattle.event_queue.specs.Slots.{batch_at}
-use Rattle.event_queue.specs.Lanes.{IsStale}
+use Rattle.trend_model.specs.{State.State, State.after, History.Tune}
+use Rattle.disk_model.specs.{Traces.Trace, Traces.Synced, Traces.seen, Traces.noted, Gates.IsNew}
+use Rattle.disk_model.specs.{Gates.IsBegun, Gates.layout_calls, Calls.Shows}
+use Rattle.event_queue.specs.{Slots.batch_at, Lanes.IsStale}
 use Rattle.archive_file.proofs.Beginnings.{not_new}
 use Rattle.device_layout.specs.Recovery.{counting}
 use Rattle.device_layout.proofs.OneState.{one_state}
-use Rattle.crash_recovery.specs.declared.seat.Seat.{Seat}
-use Rattle.crash_recovery.specs.Journals.{IsSeat, free_in, taken_of}
-use Rattle.crash_recovery.specs.Opening.{IsReadAs, HasFree, HasFreeAtFirst, LeavesFree, MakesLayout, GainsSync, OpensAt}
-use Rattle.crash_recovery.specs.Seats.{checkpoint_calls}
-use Rattle.trend_model.specs.History.{Tune}
+use Rattle.crash_recovery.specs.{Seat, IsSeat, free_in, taken_of, IsReadAs, HasFree, HasFreeAtFirst}
+use Rattle.crash_recovery.specs.{LeavesFree, MakesLayout, GainsSync, OpensAt, checkpoint_calls}
 use Rattle.crash_recovery.proofs.Openings.{shown_before}
 
 -- a device that has the place of a journal is not new
 not_seated : (p : Seat) (c : List ℕ) → IsSeat p c → IsNew c → ⊥
-not_seated p c seat (inl short) = absurd (omega (arith, short, seat.laid.long))
-not_seated p c seat (inr shut) = shut seat.laid.opened
+not_seated p c seat x4 = grind arith
 
 -- ---- how many lane slots are free
 
@@ -55,17 +49,11 @@ seat_free p c within seat =
 
 pub free_kept : (o mid : Trace) (p : Seat) → mid ≡ noted Synced o → p.lane.used ≤ p.lane.slots
     → Shows mid (IsSeat p) → Shows o (HasFreeAtFirst p.lane.slots (free_in p))
-free_kept o mid p is within seat = shown_before o mid (HasFreeAtFirst p.lane.slots (free_in p)) is (kept mid seat)
-  where
-    kept : (m : Trace) → Shows m (IsSeat p) → Shows m (HasFreeAtFirst p.lane.slots (free_in p))
-    kept t shows = grind (arith, not_seated, seat_free)
+free_kept o mid p is within seat = grind (arith, shown_before, not_seated, seat_free)
 
 pub free_made : (o mid : Trace) (slots free : ℕ) → mid ≡ noted Synced o → free ≡ slots → Shows mid IsNew
     → Shows o (HasFreeAtFirst slots free)
-free_made o mid slots free is all new = shown_before o mid (HasFreeAtFirst slots free) is (made mid new)
-  where
-    made : (m : Trace) → Shows m IsNew → Shows m (HasFreeAtFirst slots free)
-    made t shows = record { new = λ new. all; begun = λ begun. absurd (begun shows) }
+free_made o mid slots free is all new = grind (arith, shown_before)
 
 -- without a retuning
 pub free_read : (def : TagDef) (o mid : Trace) (r : State) (slots free : ℕ) → IsReadAs def o mid false r
@@ -92,18 +80,12 @@ free_retuned def t mid r slots free read all = record {
 -- a fact of one that was not new
 pub begun_before : (o mid : Trace) (P : Type 0) → mid ≡ noted Synced o → Shows mid IsBegun
     → Shows o (λ c. IsNew c → P)
-begun_before o mid P is begun = shown_before o mid (λ c. IsNew c → P) is (so mid begun)
-  where
-    so : (m : Trace) → Shows m IsBegun → Shows m (λ c. IsNew c → P)
-    so t shows = λ new. absurd (not_new (seen t) shows new)
+begun_before o mid P is begun = grind (arith, shown_before, not_new)
 
 -- and of one that was
 pub new_before : (o mid : Trace) (P : Type 0) → mid ≡ noted Synced o → Shows mid IsNew
     → Shows o (λ c. (IsNew c → ⊥) → P)
-new_before o mid P is new = shown_before o mid (λ c. (IsNew c → ⊥) → P) is (so mid new)
-  where
-    so : (m : Trace) → Shows m IsNew → Shows m (λ c. (IsNew c → ⊥) → P)
-    so t shows = λ begun. absurd (begun shows)
+new_before o mid P is new = grind (arith, shown_before)
 
 -- of any
 pub shown_always : (o : Trace) (A : List ℕ → Type 0) (P : Type 0) → P → Shows o (λ c. A c → P)
@@ -112,8 +94,7 @@ shown_always t A P p = λ a. p
 -- a new device is none of a tag that has to be retuned
 pub layout_retuned : (def : TagDef) (o mid new : Trace) (r : State) (slots : ℕ) → IsReadAs def o mid true r
     → MakesLayout def slots o new
-layout_retuned def t mid new r slots read = λ blank. absurd (read.3.0 (ap (λ x. x.summary.tuning)
-    (one_state def (seen t) read.0 (nothing_taken def.tuning) read.1 (inl (blank, refl)))))
+layout_retuned def t mid new r slots read = grind (arith, one_state)
 
 pub synced_read : (def : TagDef) (o new : Trace) → Shows o (λ c. (IsNew c → ⊥) → new ≡ noted Synced o)
     → GainsSync def o new
@@ -156,5 +137,4 @@ opens_retuned def t mid r before first now told read synced kept put = record {
 }
   where
     begun : IsNew (seen t) → ⊥
-    begun new = read.3.0 (ap (λ x. x.summary.tuning)
-        (one_state def (seen t) read.0 (nothing_taken def.tuning) read.1 (inl (new, refl))))
+    begun new = grind (arith, one_state)

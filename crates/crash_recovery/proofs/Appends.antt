@@ -1,30 +1,19 @@
 -- A batch is put into a lane in use.
-use Rattle.disk_model.specs.Calls.{Shows}
+use Rattle.disk_model.specs.{Calls.Shows, Calls.Sees, Traces.Trace, Traces.seen, Traces.written}
+use Rattle.disk_model.specs.{Images.IsOutside, Images.FromOld, Images.IsSettled, Moments.During}
+use Rattle.disk_model.specs.{Gates.open_byte, Gates.IsOpen, Gates.IsGuarded}
 use Rattle.std.proofs.Common.{◌≡◌, ◌≢◌, ◌⊎◌, inl, inr, ⊎_elim, ℕ, ◌+◌, ◌^◌, ◌<◌, ◌≤◌, false, List, [], ◌∷◌}
-use Rattle.std.proofs.Common.{◌++◌, length, get_or, map, refl, ◌∙◌, ap, arith}
-use Rattle.std.proofs.Common.{◌-◌, true}
+use Rattle.std.proofs.Common.{◌++◌, length, get_or, map, refl, ◌∙◌, ap, arith, ◌-◌, true}
+use Rattle.std.proofs.{lemmas.Bool.cases_eq, lemmas.List.map-append}
 use Rattle.std.specs.List.{All}
-use Rattle.std.proofs.lemmas.Bool.{cases_eq}
-use Rattle.std.proofs.lemmas.List.{map-append}
-use Rattle.trend_num.specs.declared.point.Point.{Point}
-use Rattle.trend_num.specs.declared.tag_def.TagDef.{TagDef}
-use Rattle.trend_num.specs.Ranges.{InRange}
-use Rattle.trend_model.specs.History.{Raw}
-use Rattle.trend_model.specs.State.{State, replay}
-use Rattle.disk_model.specs.Traces.{Trace, seen, written}
-use Rattle.disk_model.specs.Images.{IsOutside, FromOld, IsSettled}
-use Rattle.disk_model.specs.Moments.{During}
-use Rattle.disk_model.specs.Calls.{Sees}
-use Rattle.disk_model.specs.Gates.{open_byte, IsOpen, IsGuarded}
-use Rattle.event_queue.specs.Slots.{gate_of, place_of, lane_end, batch_bytes}
-use Rattle.event_queue.specs.Lanes.{lane_points}
-use Rattle.event_queue.specs.Places.{IsFilled}
-use Rattle.event_queue.proofs.Batches.{length-batch_bytes}
-use Rattle.event_queue.proofs.Filled.{absent, whole}
-use Rattle.crash_recovery.specs.declared.seat.Seat.{Seat}
+use Rattle.trend_num.specs.{declared.point.Point.Point, declared.tag_def.TagDef.TagDef, Ranges.InRange}
+use Rattle.trend_model.specs.{History.Raw, State.State, State.replay}
+use Rattle.event_queue.specs.{Slots.gate_of, Slots.place_of, Slots.lane_end, Slots.batch_bytes}
+use Rattle.event_queue.specs.{Lanes.lane_points, Places.IsFilled}
+use Rattle.event_queue.proofs.{Batches.length-batch_bytes, Filled.absent, Filled.whole}
+use Rattle.crash_recovery.specs.{Seat, AllRecover, RecoversEither, SeatedOn, free_in, IsLaid, LaidOn}
+use Rattle.crash_recovery.specs.{restarted}
 use Rattle.device_layout.specs.Recovery.{AllFit, IsReplayed, Recovers}
-use Rattle.crash_recovery.specs.Journals.{AllRecover, RecoversEither, SeatedOn, free_in, IsLaid}
-use Rattle.crash_recovery.specs.Seats.{LaidOn, restarted}
 use Rattle.crash_recovery.proofs.Replays.{replay_append, fit_append}
 use Rattle.crash_recovery.proofs.Stored.{KeepsStored, lane_replayed, replays, recovers_kept, recovers_same}
 use Rattle.crash_recovery.proofs.DeviceReads.{now_shown, shown_now, shown_both, during_from, shown_from}
@@ -61,8 +50,7 @@ guarded_lane slots used next points a b free few guarded = record {
     outside i (inr above) = inr (omega (arith, above, free, few, length-batch_bytes next points))
 
     apart : (i : ℕ) → (i < 400) ⊎ (lane_end slots ≤ i) → i ≢ gate_of used
-    apart i (inl below) = λ is. absurd (omega (arith, below, is))
-    apart i (inr above) = λ is. absurd (omega (arith, above, is, free))
+    apart i x2 = grind arith
 
 -- a batch that the place takes
 pub record IsTaken (p : Seat) (points : List Point) : Type 0 where
@@ -79,9 +67,8 @@ pub taken_cleared : (p q : Seat) (points : List Point) → IsCleared p q → q.s
 taken_cleared p q points clear fresh some few inside small = grind arith
 
 module _ (p : Seat) (points : List Point) (batch : IsTaken p points) where
-  module _ (a b : List ℕ) (laid : IsLaid p a)
-      (guarded : IsGuarded (place_of p.lane.slots p.lane.used) (batch_bytes p.lane.next points)
-      (gate_of p.lane.used) a b) where
+  module _ (a b : List ℕ) (laid : IsLaid p a) (guarded : IsGuarded (place_of p.lane.slots p.lane.used)
+      (batch_bytes p.lane.next points) (gate_of p.lane.used) a b) where
     -- what is stored was kept
     append_keeps : KeepsStored p a b
     append_keeps = only_lane p a b laid (guarded_lane p.lane.slots p.lane.used p.lane.next points a b
@@ -95,9 +82,8 @@ module _ (p : Seat) (points : List Point) (batch : IsTaken p points) where
         batch.some batch.few batch.inside batch.small (filled_of p a laid batch.fresh) guarded shut
 
     -- it is open: the batch is there too
-    put_in : IsOpen (gate_of p.lane.used) b
-        → IsFilled p.lane.slots p.taken (p.lane.used + 1) (p.lane.next + length points) b
-        (lane_points p.lane.slots a p.taken ++ points)
+    put_in : IsOpen (gate_of p.lane.used) b → IsFilled p.lane.slots p.taken (p.lane.used + 1)
+        (p.lane.next + length points) b (lane_points p.lane.slots a p.taken ++ points)
     put_in opened = whole p.lane.slots p.taken p.lane.used p.lane.next (lane_points p.lane.slots a p.taken)
         points a b batch.free
         batch.some batch.few batch.inside batch.small (filled_of p a laid batch.fresh) guarded opened
@@ -132,19 +118,10 @@ module _ (p : Seat) (points : List Point) (batch : IsTaken p points) where
     -- and the place is one further
     laid_behind : IsOpen (gate_of p.lane.used) b
         → IsLaid (moved p false (p.lane.used + 1) (p.lane.next + length points)) b
-    laid_behind opened =
-        let filled = put_in opened in
-        laid_moved p false (p.lane.used + 1) (p.lane.next + length points) a b laid append_keeps filled.room
-        (λ e. record {
-          lane = filled.lane;
-          opened = filled.opened;
-          beyond = filled.beyond;
-          number = omega (arith, filled.number, ap length filled.points);
-        }) (λ e. absurd (cc (e)))
+    laid_behind opened = grind (arith, put_in, laid_moved, append_keeps)
 
-  module _ (o new : Trace) (laid : LaidOn p o)
-      (during : During o new (FromOld o (IsGuarded (place_of p.lane.slots p.lane.used)
-      (batch_bytes p.lane.next points) (gate_of p.lane.used)))) where
+  module _ (o new : Trace) (laid : LaidOn p o) (during : During o new (FromOld o (IsGuarded (place_of
+      p.lane.slots p.lane.used) (batch_bytes p.lane.next points) (gate_of p.lane.used)))) where
     -- what is known of what a read gave before
     known : (def : TagDef) (s : State) → AllRecover def o s → Shows o (λ c. IsLaid p c × Recovers def c s)
     known def s all = shown_both o (IsLaid p) (λ c. Recovers def c s) (laid_shown p o laid)
@@ -160,9 +137,8 @@ module _ (p : Seat) (points : List Point) (batch : IsTaken p points) where
         (settled_on p o laid) (known def s all) (λ a b q guarded. recovers_either a b q.0 guarded def s q.1
         fits) during
 
-    module _ (settled : IsSettled new) (reads : Sees new
-        (written (written (seen o) (place_of p.lane.slots p.lane.used)
-        (batch_bytes p.lane.next points)) (gate_of p.lane.used) (open_byte ∷ []))) where
+    module _ (settled : IsSettled new) (reads : Sees new (written (written (seen o) (place_of p.lane.slots
+        p.lane.used) (batch_bytes p.lane.next points)) (gate_of p.lane.used) (open_byte ∷ []))) where
       -- once all was done, the gate reads open
       opened : Shows new (IsOpen (gate_of p.lane.used))
       opened = opened_after o new _ (place_of p.lane.slots p.lane.used) (batch_bytes p.lane.next points)
@@ -172,13 +148,11 @@ module _ (p : Seat) (points : List Point) (batch : IsTaken p points) where
 
       -- each image recovers that and the batch
       pub append_durable : (def : TagDef) (s : State) → AllRecover def o s
-          → AllFit def.step s (map Raw points)
-          → AllRecover def new (replay def.step s (map Raw points))
+          → AllFit def.step s (map Raw points) → AllRecover def new (replay def.step s (map Raw points))
       append_durable def s all fits =
           now_shown new (λ c. Recovers def c (replay def.step s (map Raw points))) settled
           (shown_from o new (IsGuarded (place_of p.lane.slots p.lane.used) (batch_bytes p.lane.next points)
-          (gate_of p.lane.used))
-          (λ c. IsLaid p c × Recovers def c s) (IsOpen (gate_of p.lane.used))
+          (gate_of p.lane.used)) (λ c. IsLaid p c × Recovers def c s) (IsOpen (gate_of p.lane.used))
           (λ c. Recovers def c (replay def.step s (map Raw points)))
           (settled_on p o laid) (known def s all) opened
           (λ a b q guarded is_open. recovers_more a b q.0 guarded def s q.1 fits is_open) during)
@@ -191,5 +165,4 @@ module _ (p : Seat) (points : List Point) (batch : IsTaken p points) where
           (shown_from o new (IsGuarded (place_of p.lane.slots p.lane.used) (batch_bytes p.lane.next points)
           (gate_of p.lane.used))
           (IsLaid p) (IsOpen (gate_of p.lane.used)) (IsLaid q) (settled_on p o laid) (laid_shown p o laid)
-          opened
-          (λ a b laid_a guarded is_open. laid_behind a b laid_a guarded is_open) during))
+          opened (λ a b laid_a guarded is_open. laid_behind a b laid_a guarded is_open) during))

@@ -1,18 +1,15 @@
 -- How many calls close a lane's gates, and how many make a checkpoint.
-use Rattle.std.proofs.Common.{◌≡◌, ◌≢◌, ◌==◌, inl, inr, ℕ, zero, suc, ◌+◌, ◌-◌, ◌<◌, ◌≤◌, true, false, cond, List, [], ◌∷◌, length, get_or, refl, ◌∙◌, ap, subst, arith, add-zero}
+use Rattle.std.proofs.Common.{◌≡◌, ◌≢◌, ◌==◌, inl, inr, ℕ, zero, suc, ◌+◌, ◌-◌, ◌<◌, ◌≤◌, true, false, cond}
+use Rattle.std.proofs.Common.{List, [], ◌∷◌, length, get_or, refl, ◌∙◌, ap, subst, arith, add-zero}
 use Rattle.std.proofs.lemmas.Bool.{cases_Bool, cases_eq, eq-eqb, ne_eqb, cond-true, cond-false}
-use Rattle.disk_model.specs.Traces.{Trace, seen, written}
-use Rattle.disk_model.specs.Calls.{Sees, Shows}
-use Rattle.disk_model.specs.Images.{IsOutside}
-use Rattle.disk_model.specs.Moments.{ComesAfter}
-use Rattle.disk_model.specs.Gates.{open_byte, open_gate, open_gates, IsClosing, IsOpen}
-use Rattle.disk_model.proofs.Bytes.{torn_written}
-use Rattle.disk_model.proofs.Moments.{after_both}
+use Rattle.disk_model.specs.{Traces.Trace, Traces.seen, Traces.written, Calls.Sees, Calls.Shows}
+use Rattle.disk_model.specs.{Images.IsOutside, Moments.ComesAfter, Gates.open_byte, Gates.open_gate}
+use Rattle.disk_model.specs.{Gates.open_gates, Gates.IsClosing, Gates.IsOpen}
+use Rattle.disk_model.proofs.{Bytes.torn_written, Moments.after_both}
 use Rattle.event_queue.specs.Slots.{gate_of}
 use Rattle.device_layout.specs.Recovery.{summary_gate, summary_place}
-use Rattle.crash_recovery.specs.declared.seat.Seat.{Seat}
-use Rattle.crash_recovery.specs.Journals.{IsSeat, SeatedOn, log_end}
-use Rattle.crash_recovery.specs.Seats.{KeepsPlaces, LaidOn, checkpoint_calls, lane_calls, log_calls, record_calls, restarted, spare_slot, stale_calls}
+use Rattle.crash_recovery.specs.{Seat, IsSeat, SeatedOn, log_end, KeepsPlaces, LaidOn, checkpoint_calls}
+use Rattle.crash_recovery.specs.{lane_calls, log_calls, record_calls, restarted, spare_slot, stale_calls}
 use Rattle.crash_recovery.proofs.Places.{gate_within, reaches_on, seat_shown, slot_within}
 
 -- ---- open gates
@@ -110,8 +107,7 @@ lane_none : (slots : ℕ) (c : List ℕ) → open_gates (gate_of 0) slots c ≡ 
 lane_none slots c none = cond-true _ 0 (open_gates (gate_of 0) slots c + 1) (eq-eqb (open_gates (gate_of 0) slots c) 0 none)
 
 lane_some : (slots : ℕ) (c : List ℕ) → 0 < open_gates (gate_of 0) slots c → lane_calls slots c ≡ open_gates (gate_of 0) slots c + 1
-lane_some slots c some = cond-false _ 0 (open_gates (gate_of 0) slots c + 1)
-    (ne_eqb (open_gates (gate_of 0) slots c) 0 (λ none. absurd (omega (arith, none, some))))
+lane_some slots c some = grind (arith, cond-false, ne_eqb)
 
 stale_is : (p : Seat) (c : List ℕ) → p.stale ≡ true → stale_calls p c ≡ open_gates (gate_of 0) p.lane.used c + 1
 stale_is p c is = ap (λ b. cond b (open_gates (gate_of 0) p.lane.used c + 1) 0) is
@@ -139,40 +135,12 @@ module _ (p q r : Seat) (step : IsStepped p q r) where
   module _ (a d : List ℕ) (seat : IsSeat p a) where
     -- an overtaken lane is closed first
     closed_first : p.stale ≡ true → stale_calls p a + stale_calls r d ≡ lane_calls p.lane.slots a
-    closed_first is =
-        let none : r.lane.used ≡ 0 = step.used ∙ ap (λ x. x.lane.used) (step.restarted is) in
-        let later : stale_calls r d ≡ 0 = elim (cases_Bool r.stale) [
-          | inl over ↦ absurd (omega (arith, none, step.overtaken over))
-          | inr fresh ↦ fresh_is r d fresh
-        ] in
-        omega (arith, stale_is p a is, used_open p a step.within seat, lane_some p.lane.slots a (seat.some is), later)
+    closed_first is = grind (arith, fresh_is, stale_is, used_open, lane_some)
 
     -- any other at the end
     closed_last : p.stale ≡ false → ((i : ℕ) → gate_of 0 ≤ i → i < gate_of p.lane.slots → get_or d i 0 ≡ get_or a i 0)
         → stale_calls p a + stale_calls r d ≡ lane_calls p.lane.slots a
-    closed_last is same =
-        let used : r.lane.used ≡ p.lane.used = step.used ∙ ap (λ x. x.lane.used) (step.kept is) in
-        let all : open_gates (gate_of 0) p.lane.used a ≡ p.lane.used = all_open (gate_of 0) p.lane.used a (seat.laid.in_use is).opened in
-        let open_now : open_gates (gate_of 0) p.lane.slots a ≡ p.lane.used = used_open p a step.within seat ∙ all in
-        elim (cases_Bool r.stale) [
-          | inl over ↦
-              let some : 0 < p.lane.used = omega (arith, used, step.overtaken over) in
-              let then : open_gates (gate_of 0) r.lane.used d ≡ open_gates (gate_of 0) p.lane.used a =
-              ap (λ n. open_gates (gate_of 0) n d) used
-              ∙ same_open (gate_of 0) p.lane.used a d (λ i low below. same i low (omega (arith, below, step.within))) in
-              omega (
-                arith,
-                fresh_is p a is,
-                stale_is r d over,
-                then,
-                all,
-                open_now,
-                lane_some p.lane.slots a (omega (arith, open_now, some)),
-              )
-          | inr fresh ↦
-              let none : open_gates (gate_of 0) p.lane.slots a ≡ 0 = omega (arith, open_now, used, step.fresh fresh) in
-              omega (arith, fresh_is p a is, fresh_is r d fresh, lane_none p.lane.slots a none)
-        ]
+    closed_last is same = grind (arith, all_open, used_open, same_open, fresh_is, stale_is, lane_some, lane_none)
 
   module _ (records first second third fourth last : ℕ) (o1 o2 o3 o4 : Trace) (seated : SeatedOn p o1)
       (idle : p.stale ≡ false → o2 ≡ o1) (closed : Shows o1 (λ c. second ≡ first + stale_calls p c)) (front : KeepsPlaces 0 (gate_of 0) o1 o2)
@@ -180,22 +148,21 @@ module _ (p q r : Seat) (step : IsStepped p q r) where
       (put : fourth ≡ third + 4) (put_gates : KeepsPlaces (gate_of 0) (gate_of q.lane.slots) o3 o4)
       (restarted_last : Shows o4 (λ c. last ≡ fourth + stale_calls r c)) where
     gates_same : p.stale ≡ false → (i : ℕ) → gate_of 0 ≤ i → i < gate_of p.lane.slots → get_or (seen o4) i 0 ≡ get_or (seen o1) i 0
-    gates_same is i low below =
-        let there : i < gate_of q.lane.slots = omega (arith, below, ap (λ x. x.lane.slots) (step.kept is)) in
-        put_gates.same i low there ∙ log_gates.same i low there ∙ ap (λ o. get_or (seen o) i 0) (idle is)
+    gates_same is i low below = grind arith
 
     -- all calls of a checkpoint
     pub checkpoint_counted : Shows o1 (λ c. last ≡ first + checkpoint_calls records c)
-    checkpoint_counted = by o1 o2 o4 (seat_shown p o1 seated) closed front logged put_gates_later restarted_last gates_same
-      where
-        put_gates_later : ComesAfter o2 o4
-        put_gates_later = after_both o2 o3 o4 log_gates.later put_gates.later
-
-        by : (o1 o2 o4 : Trace) → Shows o1 (IsSeat p) → Shows o1 (λ c. second ≡ first + stale_calls p c) → KeepsPlaces 0 (gate_of 0) o1 o2
-            → Shows o2 (λ c. third ≡ second + log_calls q records c) → ComesAfter o2 o4 → Shows o4 (λ c. last ≡ fourth + stale_calls r c)
-            → (p.stale ≡ false → (i : ℕ) → gate_of 0 ≤ i → i < gate_of p.lane.slots → get_or (seen o4) i 0 ≡ get_or (seen o1) i 0)
-            → Shows o1 (λ c. last ≡ first + checkpoint_calls records c)
-        by t u v seat closed front logged later ended same = grind (arith, counts_same, records_same, gate_within, closed_first, closed_last)
+    checkpoint_counted = grind (
+      arith,
+      seat_shown,
+      gates_same,
+      after_both,
+      counts_same,
+      records_same,
+      gate_within,
+      closed_first,
+      closed_last,
+    )
 
 -- ---- the steps of a checkpoint
 

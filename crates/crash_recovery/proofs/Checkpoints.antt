@@ -1,62 +1,40 @@
 -- The summary of a core is written after its records.
-use Rattle.disk_model.specs.Calls.{Shows}
+use Rattle.disk_model.specs.Calls.{Shows, Sees}
+use Rattle.disk_model.specs.{Traces.Trace, Traces.seen, Traces.written, Images.FromOld, Images.IsSettled}
+use Rattle.disk_model.specs.{Moments.During, Gates.open_byte, Gates.IsOpen, Gates.Holds, Gates.IsGuarded}
 use Rattle.std.proofs.Common.{◌≡◌, ◌≢◌, inl, inr, ⊎_elim, ℕ, ◌+◌, ◌*◌, ◌^◌, ◌<◌, ◌≤◌, Bool, false, List, []}
-use Rattle.std.proofs.Common.{◌∷◌, ◌++◌, length, get_or, take, drop, map, Some, refl, sym, ◌∙◌, ap}
-use Rattle.std.proofs.Common.{subst, arith, length-take, length-drop, length-append}
-use Rattle.std.specs.Prelude.{nat_lt}
+use Rattle.std.proofs.Common.{◌∷◌, ◌++◌, length, get_or, take, drop, Some, refl, sym, ◌∙◌, ap, subst, arith}
+use Rattle.std.proofs.Common.{length-take, length-drop, length-append}
+use Rattle.std.proofs.{Math.Seq.take-add, lemmas.Bool.cases_eq, lemmas.Bool.cases_lt}
+use Rattle.std.proofs.{lemmas.Grind.flat_map-append, lemmas.List.drop_at, lemmas.List.drop-drop}
+use Rattle.std.specs.{Prelude.nat_lt, List.All, Int.w32, Int.w64, Int.from_be_bytes}
 use borrow.Author.Tests.{ltb-false}
-use Rattle.std.specs.List.{All}
-use Rattle.std.specs.Int.{w32, w64, from_be_bytes}
-use Rattle.std.proofs.Math.Seq.{take-add}
-use Rattle.std.proofs.lemmas.Bool.{cases_eq, cases_lt}
-use Rattle.std.proofs.lemmas.Grind.{flat_map-append}
-use Rattle.std.proofs.lemmas.List.{drop_at, drop-drop}
-use Rattle.trend_num.specs.declared.archive.Rec.{Rec}
-use Rattle.trend_num.specs.declared.archive.Summary.{Summary}
-use Rattle.trend_num.specs.declared.tag_def.TagDef.{TagDef}
-use Rattle.trend_num.specs.declared.tuning.Tuning.{Tuning}
-use Rattle.trend_num.specs.Ranges.{InRange, TuningInRange}
-use Rattle.trend_model.specs.History.{Raw}
-use Rattle.trend_model.specs.Lists.{Each}
-use Rattle.trend_model.specs.Parts.{ArePartsOk}
-use Rattle.trend_model.specs.State.{State, replay}
-use Rattle.disk_model.specs.Traces.{Trace, seen, written}
-use Rattle.disk_model.specs.Images.{IsOutside, FromOld, IsSettled}
-use Rattle.disk_model.specs.Moments.{During}
-use Rattle.disk_model.specs.Calls.{Sees}
-use Rattle.disk_model.specs.Gates.{open_byte, IsOpen, Holds, IsGuarded}
+use Rattle.trend_num.specs.{declared.archive.Rec.Rec, declared.tuning.Tuning.Tuning, Ranges.TuningInRange}
+use Rattle.trend_num.specs.{declared.archive.Summary.Summary, declared.tag_def.TagDef.TagDef, Ranges.InRange}
+use Rattle.trend_model.specs.{Lists.Each, Parts.ArePartsOk, State.State}
 use Rattle.archive_file.specs.Records.{rec_image, recs_image}
-use Rattle.archive_file.specs.Places.{AreInRange}
-use Rattle.archive_file.specs.Summaries.{summary_image, IsSummary}
-use Rattle.event_queue.specs.Slots.{gate_of, lane_end, batch_at}
-use Rattle.event_queue.specs.Lanes.{IsStale, lane_points, IsCounted, IsLane}
-use Rattle.event_queue.specs.Places.{HasRoom, IsOvertaken}
-use Rattle.event_queue.proofs.Overtaken.{overtaken_none}
-use Rattle.event_queue.proofs.SameLanes.{same_batch}
-use Rattle.crash_recovery.specs.declared.seat.Seat.{Seat}
+use Rattle.archive_file.specs.{Places.AreInRange, Summaries.summary_image, Summaries.IsSummary}
+use Rattle.event_queue.specs.{Slots.gate_of, Slots.lane_end, Slots.batch_at, Lanes.IsStale, Lanes.lane_points}
+use Rattle.event_queue.specs.{Lanes.IsCounted, Places.HasRoom, Places.IsOvertaken}
+use Rattle.event_queue.proofs.{Overtaken.overtaken_none, SameLanes.same_batch}
+use Rattle.crash_recovery.specs.{Seat, AllRecover, GoesOnFrom, RecoversEither, IsInUse, log_end, IsLaid}
+use Rattle.crash_recovery.specs.{IsOverrun, spare_slot, LaidOn, OverrunOn, IsReady, ReadyOn}
 use Rattle.device_layout.specs.declared.slot.Slot.{Slot}
-use Rattle.device_layout.specs.Headers.{name_in, tuning_in, slots_in, is_step_in, IsHeader}
+use Rattle.device_layout.specs.Headers.{tuning_in, slots_in, IsHeader}
 use Rattle.device_layout.specs.Recovery.{header_of, log_place, summary_place, summary_gate, slot_bytes}
-use Rattle.device_layout.specs.Recovery.{taken_in, records_in, counting}
-use Rattle.device_layout.specs.Recovery.{HasSummary, recovered_tuning, start_of, AllFit, IsOfTag, IsStored}
-use Rattle.device_layout.specs.Recovery.{values_beyond, IsReplayed, Recovers}
-use Rattle.crash_recovery.specs.Journals.{AllRecover, GoesOnFrom, RecoversEither, IsInUse, log_end, IsLaid, IsOverrun}
-use Rattle.crash_recovery.specs.Seats.{spare_slot, LaidOn, OverrunOn, IsReady}
-use Rattle.crash_recovery.specs.Seats.{ReadyOn}
-use Rattle.crash_recovery.proofs.Pieces.{same_piece}
-use Rattle.crash_recovery.proofs.Counting.{counting_new}
-use Rattle.device_layout.proofs.SlotNumbers.{length-summary_image, taken_spelled, records_spelled}
-use Rattle.device_layout.proofs.SlotNumbers.{summary_of_parts}
-use Rattle.crash_recovery.proofs.Stored.{records_known, not_new, recovers_same}
+use Rattle.device_layout.specs.Recovery.{taken_in, records_in, counting, recovered_tuning, start_of, IsOfTag}
+use Rattle.device_layout.specs.Recovery.{IsStored, values_beyond, IsReplayed, Recovers}
 use Rattle.crash_recovery.proofs.DeviceReads.{now_shown, shown_now, shown_so, shown_both, during_from}
 use Rattle.crash_recovery.proofs.DeviceReads.{shown_from, opened_after}
 use Rattle.crash_recovery.proofs.Places.{OnlySpare, apart_lane, slot_within, gate_within, others_kept}
 use Rattle.crash_recovery.proofs.Places.{front_kept, first_kept, log_kept, only_spare, settled_on, laid_shown}
 use Rattle.crash_recovery.proofs.Places.{laid_again, reaches_on}
-use Rattle.crash_recovery.proofs.Restarts.{in_use_fresh}
-use Rattle.crash_recovery.proofs.Appends.{filled_of}
-use Rattle.crash_recovery.proofs.Logged.{same_slots, lane_kept, room_kept}
 use Rattle.crash_recovery.proofs.Recovered.{filled_ends, recovered_at, goes_beyond, goes_on_records}
+use Rattle.crash_recovery.proofs.{Pieces.same_piece, Counting.counting_new, Restarts.in_use_fresh}
+use Rattle.crash_recovery.proofs.{Appends.filled_of, Logged.same_slots, Logged.lane_kept, Logged.room_kept}
+use Rattle.crash_recovery.proofs.Stored.{records_known, not_new, recovers_same}
+use Rattle.device_layout.proofs.SlotNumbers.{length-summary_image, taken_spelled, records_spelled}
+use Rattle.device_layout.proofs.SlotNumbers.{summary_of_parts}
 
 -- records have 17 bytes each
 length-recs_image : (rs : List Rec) → length (recs_image rs) ≡ 17 * length rs
@@ -70,8 +48,7 @@ in_range_each (r ∷ rs) each = (each.0, in_range_each rs each.1)
 
 -- bytes that are at a place end within the device
 holds_long : (at : ℕ) (bytes c : List ℕ) → at ≤ length c → Holds at bytes c → at + length bytes ≤ length c
-holds_long at bytes c le holds =
-    omega (arith, ap length holds, length-take (length bytes) (drop at c), length-drop at c)
+holds_long at bytes c le holds = grind (arith, length-take, length-drop)
 
 -- the parts of a core's state fit each other
 pub record IsFit (u : Tuning) (step : Bool) (r : State) : Type 0 where
@@ -87,8 +64,7 @@ pub fit_of : (u : Tuning) (step : Bool) (r : State) (sm : Summary) → sm ≡ r.
 fit_of u step r sm same tuned ok parts countable = record {
   tuned = tuned;
   tuned_ok = ok;
-  parts = subst (ArePartsOk u step r.records) same
-      (parts u (ap (λ (x : Summary). x.tuning) same ∙ tuned)
+  parts = subst (ArePartsOk u step r.records) same (parts u (ap (λ (x : Summary). x.tuning) same ∙ tuned)
       (omega (arith, ap (λ (x : Summary). x.taken) same, countable)));
 }
 
@@ -124,15 +100,13 @@ pub record IsLoggedFor (p : Seat) (r : State) (c : List ℕ) : Type 0 where
   pub ready : IsReady p (summary_gate (spare_slot p.counts)) r.records c
 
 module _ (p : Seat) (u : Tuning) (step : Bool) (r : State) (fit : IsFit u step r) (fresh : p.stale ≡ false)
-    (within : p.lane.used ≤ p.lane.slots)
-    (more : p.taken < r.summary.taken) where
+    (within : p.lane.used ≤ p.lane.slots) (more : p.taken < r.summary.taken) where
   -- the summary has a spelling
   spelled : IsSummary r.summary
   spelled = summary_of_parts u step r.records r.summary fit.parts fit.tuned fit.tuned_ok
 
-  module _ (a b : List ℕ) (logged : IsLoggedFor p r a)
-      (guarded : IsGuarded (summary_place (spare_slot p.counts)) (summary_image r.summary)
-      (summary_gate (spare_slot p.counts)) a b) where
+  module _ (a b : List ℕ) (logged : IsLoggedFor p r a) (guarded : IsGuarded (summary_place (spare_slot
+      p.counts)) (summary_image r.summary) (summary_gate (spare_slot p.counts)) a b) where
     -- the place is valid on it
     laid : IsLaid p a
     laid = logged.laid
@@ -175,15 +149,7 @@ module _ (p : Seat) (u : Tuning) (step : Bool) (r : State) (fit : IsFit u step r
 
       -- so do all that the summary counts
       all_long : lane_end p.lane.slots + 17 * r.summary.records ≤ length b
-      all_long =
-          omega (
-            arith,
-            fresh_long,
-            guarded.no_shorter,
-            fit.parts.ruled.counted,
-            length-drop p.records
-                r.records,
-          )
+      all_long = grind (arith, fresh_long, length-drop)
 
       -- the place is valid on it
       laid_summed : (stale : Bool) → (stale ≡ false → p.lane.used ≡ 0) → IsLaid (summed p stale r) b
@@ -263,25 +229,14 @@ module _ (p : Seat) (u : Tuning) (step : Bool) (r : State) (fit : IsFit u step r
 
               -- both parts of the log
               old_part : recs_image rs ≡ take (17 * p.records) (drop (lane_end p.lane.slots) b)
-              old_part =
-                  stored.records.records.image
-                  ∙ ap (λ n. take (17 * n) (drop (log_place a) a))
+              old_part = stored.records.records.image ∙ ap (λ n. take (17 * n) (drop (log_place a) a))
                   (sym (records_known def p a laid rs sm stored))
                   ∙ ap (λ n. take (17 * p.records) (drop (lane_end n) a)) (sym laid.slots)
                   ∙ sym (log_kept p a b laid only)
 
               -- the part that was written after them
               new_part : recs_image new ≡ take (17 * length new) (drop (log_end p) b)
-              new_part =
-                  let size = length-recs_image new in
-                  sym (same_piece (log_end p) (17 * length new) a b fits
-                  (omega (arith, fits, guarded.no_shorter)) (λ i low below.
-                  let out = apart_lane (spare_slot p.counts) i (omega (arith, low)) in
-                  guarded.outside i (omega (arith, below, fits))
-                  (subst (λ n. IsOutside (summary_place (spare_slot p.counts)) n i)
-                  (sym (length-summary_image r.summary)) out.0) out.1)
-                  ∙ ap (λ n. take n (drop (log_end p) a)) (sym size)
-                  ∙ subst (λ l. Holds (log_end p) (recs_image l) a) new_are logged.ready.logged)
+              new_part = grind (arith, length-recs_image, same_piece, fits, apart_lane, length-summary_image, new_are)
 
               -- the log holds all records of the core
               whole_log : recs_image r.records ≡ take (17 * length r.records) (drop (lane_end p.lane.slots) b)
@@ -306,12 +261,7 @@ module _ (p : Seat) (u : Tuning) (step : Bool) (r : State) (fit : IsFit u step r
 
               -- the device is this tag's
               tag : IsOfTag def b
-              tag = record {
-                opened = first_kept p a b laid only ∙ stored.tag.opened;
-                header = subst IsHeader (sym header_same) stored.tag.header;
-                same_name = ap name_in header_same ∙ stored.tag.same_name;
-                same_step = ap is_step_in header_same ∙ stored.tag.same_step;
-              }
+              tag = grind (arith, first_kept, laid, only, header_same)
 
               -- the tuning in force is that of the core
               in_force_is : recovered_tuning (tuning_in (header_of b)) r.summary.tuning ≡ u
@@ -319,45 +269,25 @@ module _ (p : Seat) (u : Tuning) (step : Bool) (r : State) (fit : IsFit u step r
 
               -- the records and the summary of the core are stored
               now_stored : IsStored def b r.records r.summary
-              now_stored = record {
-                tag = tag;
-                long = subst (λ n. lane_end n ≤ length b) slots_same
-                    (omega (arith, laid.long, guarded.no_shorter));
-                summary = subst (λ o. HasSummary b o r.summary) (sym counts_is) (spelled, slot_is);
-                records = record {
-                  counted = sym fit.parts.ruled.counted;
-                  records = record {
-                    in_range = in_range_each r.records fit.parts.ruled.records_are;
-                    image = whole_log ∙ ap (λ n. take (17 * n) (drop (lane_end p.lane.slots) b))
-                        (sym fit.parts.ruled.counted)
-                        ∙ ap (λ n. take (17 * r.summary.records) (drop (lane_end n) b)) slots_same;
-                  };
-                };
-                parts = subst (λ x. ArePartsOk x def.step r.records r.summary) (sym in_force_is)
-                    (subst (λ x. ArePartsOk u x r.records r.summary) goes.0 fit.parts);
-              }
+              now_stored = grind (
+                arith,
+                tag,
+                slots_same,
+                counts_is,
+                spelled,
+                slot_is,
+                in_range_each,
+                whole_log,
+                in_force_is,
+              )
 
               -- the lane continues from the state of the core
               start_is : r ≡ start_of b r.records r.summary
-              start_is =
-                  let tuning = fit.tuned ∙ sym (ap Some in_force_is) in
-                  λ i. record { records = r.records; summary = record r.summary { tuning = tuning i } }
+              start_is = grind (arith, in_force_is)
 
               -- and it holds nothing beyond
               now_replayed : IsReplayed def.step b (start_of b r.records r.summary) r.summary.taken r
-              now_replayed =
-                  let none = sym (overtaken_none p.lane.slots r.summary.taken b overtaken p.lane.slots
-                  (omega arith)) in
-                  let start = start_of b r.records r.summary in
-                  record {
-                    lane = subst (λ n. IsLane n b r.summary.taken n) slots_same overtaken.lane;
-                    fits = subst (λ n. AllFit def.step start (map Raw (lane_points n b r.summary.taken)))
-                        slots_same
-                        (subst (λ ps. AllFit def.step start (map Raw ps)) none tt);
-                    state = subst (λ n. r ≡ replay def.step start (map Raw (lane_points n b r.summary.taken)))
-                        slots_same
-                        (subst (λ ps. r ≡ replay def.step start (map Raw ps)) none start_is);
-                  }
+              now_replayed = grind (arith, overtaken_none, overtaken, slots_same, fits, start_is)
 
             -- so that state is recovered
             recovers_after : Recovers def b r
@@ -372,26 +302,23 @@ module _ (p : Seat) (u : Tuning) (step : Bool) (r : State) (fit : IsFit u step r
                       r.records,
                       r.summary,
                       now_stored is.0 is.1 is.2 grown.0 grown.1,
-                      now_replayed is.0
-                          is.1 is.2 grown.0 grown.1,
+                      now_replayed is.0 is.1 is.2 grown.0 grown.1,
                     )
 
   -- a core that continues has taken all that is acknowledged
   beyond_of : (a : List ℕ) → IsLaid p a → (def : TagDef) (s : State) → Recovers def a s
       → GoesOnFrom def s step r → p.lane.next ≤ r.summary.taken
-  beyond_of a laid def s recovers goes =
-      omega (
-        arith,
-        goes_beyond def p.lane.next s step r
-            (recovered_at def p a s laid (λ stale. absurd (cc (stale, fresh))) recovers) goes,
-      )
+  beyond_of a laid def s recovers goes = omega (
+    arith,
+    goes_beyond def p.lane.next s step r
+        (recovered_at def p a s laid (λ stale. absurd (cc (stale, fresh))) recovers) goes,
+  )
 
   -- ---- the calls
 
-  module _ (o new : Trace) (laid : LaidOn p o) (ready : ReadyOn p (summary_gate (spare_slot p.counts))
-      r.records o)
-      (at gate : ℕ) (bytes : List ℕ) (is_at : at ≡ summary_place (spare_slot p.counts))
-      (is_gate : gate ≡ summary_gate (spare_slot p.counts))
+  module _ (o new : Trace) (laid : LaidOn p o)
+      (ready : ReadyOn p (summary_gate (spare_slot p.counts)) r.records o) (at gate : ℕ) (bytes : List ℕ)
+      (is_at : at ≡ summary_place (spare_slot p.counts)) (is_gate : gate ≡ summary_gate (spare_slot p.counts))
       (is_bytes : bytes ≡ summary_image r.summary) where
     logged_shown : Shows o (IsLoggedFor p r)
     logged_shown = record { laid = laid_shown p o laid; ready = ready }
@@ -399,8 +326,7 @@ module _ (p : Seat) (u : Tuning) (step : Bool) (r : State) (fit : IsFit u step r
     -- and what it recovered
     known : (def : TagDef) (s : State) → AllRecover def o s → Shows o (λ c. IsLoggedFor p r c
         × Recovers def c s)
-    known def s all = shown_both o (IsLoggedFor p r) (λ c. Recovers def c s) logged_shown
-        (shown_now o (λ c. Recovers def c s) all)
+    known def s all = grind (arith, shown_both, logged_shown, shown_now)
 
     -- the summary, guarded by its gate
     as_guarded : (a b : List ℕ) → IsGuarded at bytes gate a b
@@ -414,10 +340,8 @@ module _ (p : Seat) (u : Tuning) (step : Bool) (r : State) (fit : IsFit u step r
           → During o new (RecoversEither def s r)
       summary_moments def s all goes =
           during_from o new (IsGuarded at bytes gate) (λ c. IsLoggedFor p r c × Recovers def c s)
-          (RecoversEither def s r)
-          (settled_on p o laid) (known def s all)
-          (λ a b q guarded. ⊎_elim
-          (λ opened. inr (recovers_after a b q.0 (as_guarded a b guarded) opened
+          (RecoversEither def s r) (settled_on p o laid) (known def s all)
+          (λ a b q guarded. ⊎_elim (λ opened. inr (recovers_after a b q.0 (as_guarded a b guarded) opened
           (beyond_of a q.0.laid def s q.1 goes) def s q.1 goes))
           (λ shut. inl (recovers_before a b q.0 (as_guarded a b guarded) def s q.1 shut))
           (cases_eq (get_or b (summary_gate (spare_slot p.counts)) 0) open_byte)) during
@@ -437,8 +361,7 @@ module _ (p : Seat) (u : Tuning) (step : Bool) (r : State) (fit : IsFit u step r
         -- each image recovers the state of the core
         pub summary_durable : (def : TagDef) (s : State) → AllRecover def o s → GoesOnFrom def s step r
             → AllRecover def new r
-        summary_durable def s all goes =
-            now_shown new (λ c. Recovers def c r) settled
+        summary_durable def s all goes = now_shown new (λ c. Recovers def c r) settled
             (shown_from o new (IsGuarded at bytes gate) (λ c. IsLoggedFor p r c × Recovers def c s)
             (IsOpen (summary_gate (spare_slot p.counts)))
             (λ c. Recovers def c r) (settled_on p o laid) (known def s all) opened_there
@@ -447,8 +370,7 @@ module _ (p : Seat) (u : Tuning) (step : Bool) (r : State) (fit : IsFit u step r
 
         -- the summary has overtaken the lane
         pub summary_overrun : (stale : Bool) (def : TagDef) (s : State) → AllRecover def o s
-            → GoesOnFrom def s step r
-            → OverrunOn (summed p stale r) new
+            → GoesOnFrom def s step r → OverrunOn (summed p stale r) new
         summary_overrun stale def s all goes =
             shown_from o new (IsGuarded at bytes gate) (λ c. IsLoggedFor p r c × Recovers def c s)
             (IsOpen (summary_gate (spare_slot p.counts)))
@@ -458,8 +380,7 @@ module _ (p : Seat) (u : Tuning) (step : Bool) (r : State) (fit : IsFit u step r
 
         -- and the place is valid
         pub summary_laid : (stale : Bool) → (stale ≡ false → p.lane.used ≡ 0) → LaidOn (summed p stale r) new
-        summary_laid stale used =
-            laid_again (summed p stale r) new settled
+        summary_laid stale used = laid_again (summed p stale r) new settled
             (shown_from o new (IsGuarded at bytes gate) (IsLoggedFor p r)
             (IsOpen (summary_gate (spare_slot p.counts))) (IsLaid (summed p stale r))
             (settled_on p o laid) logged_shown opened_there

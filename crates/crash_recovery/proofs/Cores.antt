@@ -1,42 +1,26 @@
 -- What was read of a device is what it recovers, and where its lane is broken.
-use Rattle.std.proofs.Common.{◌≡◌, inl, inr, ℕ, ◌+◌, ◌*◌, ◌<◌, ◌≤◌, Bool}
-use Rattle.std.proofs.Common.{false, List, [], ◌∷◌, length, take, drop, map}
-use Rattle.std.proofs.Common.{Option, Some, refl, sym, ◌∙◌, ap, ap₂, subst, arith, length-append}
+use Rattle.std.proofs.Common.{◌≡◌, inl, inr, ℕ, ◌+◌, ◌*◌, ◌<◌, ◌≤◌, Bool, false, List, [], ◌∷◌, length, take}
+use Rattle.std.proofs.Common.{drop, map, Option, Some, refl, sym, ◌∙◌, ap, ap₂, subst, arith, length-append}
 use Rattle.std.proofs.Common.{length-take, length-drop}
 use Rattle.std.proofs.lemmas.Bool.{cases_Bool}
-use Rattle.trend_num.specs.Limits.{most_records}
-use Rattle.trend_num.specs.declared.archive.Rec.{Rec}
-use Rattle.trend_num.specs.declared.archive.Summary.{Summary}
-use Rattle.trend_num.specs.declared.tag_def.TagDef.{TagDef}
-use Rattle.trend_model.specs.History.{Event, Raw}
-use Rattle.trend_model.specs.State.{State, replay}
-use Rattle.disk_model.specs.Traces.{Trace, seen}
-use Rattle.disk_model.specs.Gates.{IsOpen}
-use Rattle.archive_file.specs.Records.{recs_image, rec_image}
-use Rattle.archive_file.specs.Places.{HasRecords}
-use Rattle.event_queue.specs.declared.reader.Scanned.{Scanned}
-use Rattle.event_queue.specs.Slots.{lane_end, gate_of, batch_at}
-use Rattle.event_queue.specs.Lanes.{IsLane, IsStale, lane_points}
-use Rattle.event_queue.specs.Damages.{IsLaneDamage}
-use Rattle.event_queue.specs.Places.{IsFilled}
-use Rattle.event_queue.specs.Scans.{IsWithin, IsRead}
+use Rattle.trend_num.specs.{Limits.most_records, declared.archive.Rec.Rec, declared.archive.Summary.Summary}
+use Rattle.trend_num.specs.{declared.tag_def.TagDef.TagDef}
+use Rattle.trend_model.specs.{History.Event, History.Raw, State.State, State.replay}
+use Rattle.disk_model.specs.{Traces.Trace, Traces.seen, Gates.IsOpen, Calls.Shows}
+use Rattle.archive_file.specs.{Records.recs_image, Records.rec_image, Places.HasRecords}
+use Rattle.event_queue.specs.{declared.reader.Scanned.Scanned, Slots.lane_end, Slots.gate_of, Slots.batch_at}
+use Rattle.event_queue.specs.{Lanes.IsLane, Lanes.IsStale, Lanes.lane_points, Damages.IsLaneDamage}
+use Rattle.event_queue.specs.{Places.IsFilled, Scans.IsWithin, Scans.IsRead}
 use Rattle.event_queue.proofs.Found.{scanned_overtaken, scanned_filled}
-use Rattle.device_layout.specs.declared.failure.OpenNo.{OpenNo}
 use Rattle.device_layout.specs.declared.failure.OpenNo.TheVariants.{DeviceFault, Damaged, OtherTag, Full}
 use Rattle.device_layout.specs.declared.failure.OpenNo.TheVariants.{WantOfMemory}
-use Rattle.device_layout.specs.declared.layout_reader.Stored.{Stored}
-use Rattle.device_layout.specs.Headers.{slots_in}
-use Rattle.device_layout.specs.Recovery.{header_of, start_of, HasSummary}
-use Rattle.device_layout.specs.Recovery.{AllFit, IsRecovered}
-use Rattle.device_layout.specs.Damages.{IsValuePlace, StandsThere, IsTagDamage}
-use Rattle.device_layout.specs.Damages.IsTagDamage.{BadQueue, BadValue}
-use Rattle.crash_recovery.specs.declared.seat.Seat.{Seat}
-use Rattle.crash_recovery.specs.Journals.{IsInUse, IsSeat}
-use Rattle.disk_model.specs.Calls.{Shows}
-use Rattle.device_layout.specs.Readings.{IsReadFrom, IsCause}
-use Rattle.crash_recovery.specs.Opening.{HoldsValue, IsOverfull}
-use Rattle.crash_recovery.proofs.Stored.{taken_stored, records_stored}
-use Rattle.crash_recovery.proofs.Calls.{some_open}
+use Rattle.device_layout.specs.Recovery.{header_of, start_of, HasSummary, AllFit, IsRecovered}
+use Rattle.device_layout.specs.{declared.failure.OpenNo.OpenNo, declared.layout_reader.Stored.Stored}
+use Rattle.device_layout.specs.{Headers.slots_in, Damages.IsValuePlace, Damages.StandsThere}
+use Rattle.device_layout.specs.{Damages.IsTagDamage, Damages.IsTagDamage.BadQueue}
+use Rattle.device_layout.specs.{Damages.IsTagDamage.BadValue, Readings.IsReadFrom, Readings.IsCause}
+use Rattle.crash_recovery.specs.{Seat, IsInUse, IsSeat, HoldsValue, IsOverfull}
+use Rattle.crash_recovery.proofs.{Stored.taken_stored, Stored.records_stored, Calls.some_open}
 
 -- a record has 17 bytes
 length-recs : (rs : List Rec) → length (recs_image rs) ≡ 17 * length rs
@@ -92,8 +76,7 @@ module _ (def : TagDef) (slots : ℕ) (x : Stored) (c : List ℕ) (read : IsRead
 
   -- the lane is in use, or overtaken
   filled : s.stale ≡ false → IsFilled slots x.summary.taken s.lane.used s.lane.next c s.points.items
-  filled untold = scanned_filled slots x.summary.taken c s scanned inside
-      (subst (λ n. lane_end n ≤ length c) (sym read.slots_are) read.stored.long) untold
+  filled untold = grind (arith, scanned_filled)
 
   in_use : s.stale ≡ false → IsInUse slots x.summary.taken s.lane.used s.lane.next c
   in_use fresh = grind (arith, filled)
@@ -167,19 +150,16 @@ module _ (def : TagDef) (slots : ℕ) (x : Stored) (c : List ℕ) (read : IsRead
 
 -- the same of a device
 pub recovered_shown : (def : TagDef) (o : Trace) (slots : ℕ) (x : Stored) (s : Scanned) (step : Bool)
-    (core new : State)
-    → IsWithin slots x.summary.taken slots s → Shows o (IsReadFrom def slots x)
-    → Shows o (λ c. IsRead slots x.summary.taken c slots s)
-    → def.step ≡ step → core.records ≡ x.recs.items → core.summary ≡ record x.summary { tuning = Some x.tuning }
-    → AllFit step core (map Raw s.points.items) → new ≡ replay step core (map Raw s.points.items)
-    → Shows o (λ c. IsRecovered def c new)
+    (core new : State) → IsWithin slots x.summary.taken slots s → Shows o (IsReadFrom def slots x)
+    → Shows o (λ c. IsRead slots x.summary.taken c slots s) → def.step ≡ step → core.records ≡ x.recs.items
+    → core.summary ≡ record x.summary { tuning = Some x.tuning } → AllFit step core (map Raw s.points.items)
+    → new ≡ replay step core (map Raw s.points.items) → Shows o (λ c. IsRecovered def c new)
 recovered_shown def t slots x s step core new inside read scanned same_step records summary fit state =
     recovered def slots x (seen t) read s scanned inside step core new same_step records summary fit state
 
 pub seated_shown : (def : TagDef) (o : Trace) (slots : ℕ) (x : Stored) (s : Scanned)
     → IsWithin slots x.summary.taken slots s → Shows o (IsReadFrom def slots x)
-    → Shows o (λ c. IsRead slots x.summary.taken c slots s)
-    → Shows o (IsSeat (seat_of x s))
+    → Shows o (λ c. IsRead slots x.summary.taken c slots s) → Shows o (IsSeat (seat_of x s))
 seated_shown def t slots x s inside read scanned = seated def slots x (seen t) read s scanned inside
 
 pub queue_shown : (def : TagDef) (o : Trace) (slots : ℕ) (x : Stored) (a : ℕ) (byte : Option ℕ)
@@ -211,8 +191,7 @@ overfull_cause def t slots x s step core n (Damaged at byte) inside read scanned
     t) read s scanned inside step core n at over.0 over.1 byte same_step records summary fit full
     over.2 over.3
 overfull_cause def o slots x s step core n
-    (OtherTag found wanted) inside read scanned same_step records summary fit full over =
-    absurd over
+    (OtherTag found wanted) inside read scanned same_step records summary fit full over = absurd over
 overfull_cause def o slots x s step core n
     (Full k) inside read scanned same_step records summary fit full over = absurd over
 overfull_cause def o slots x s step core n WantOfMemory inside read scanned same_step records summary fit full over = absurd over

@@ -1,35 +1,24 @@
 -- Which summary counts, before and after a change of the slot that does not.
 use Rattle.std.proofs.Common.{◌≡◌, ◌≢◌, ◌⊎◌, inl, inr, ⊎_elim, ℕ, ◌<◌, Bool, true, false, List, get_or, take}
-use Rattle.std.proofs.Common.{Option, None, Some, refl, ◌∙◌, ap, arith}
-use Rattle.std.specs.Prelude.{nat_le, nat_eq}
-use Rattle.std.specs.Int.{w64, from_be_bytes}
+use Rattle.std.proofs.Common.{Option, None, Some, ◌∙◌, ap, arith}
 use Rattle.std.proofs.lemmas.Bool.{ne_eqb, eq-eqb, le-leb, lt-leb}
+use Rattle.std.specs.{Prelude.nat_le, Prelude.nat_eq, Int.w64, Int.from_be_bytes}
 use Rattle.disk_model.specs.Gates.{open_byte, IsOpen}
-use Rattle.device_layout.specs.declared.slot.Slot.{Slot}
-use Rattle.device_layout.specs.declared.slot.Slot.TheVariants.{First, Second}
+use Rattle.device_layout.specs.declared.slot.Slot.{Slot, TheVariants.First, TheVariants.Second}
 use Rattle.device_layout.specs.Recovery.{summary_gate, slot_bytes, is_open, taken_in, chosen, counting}
-use Rattle.crash_recovery.specs.Journals.{taken_of}
-use Rattle.crash_recovery.specs.Seats.{spare_slot}
+use Rattle.crash_recovery.specs.{taken_of, spare_slot}
 
 -- none counts where both gates are closed
 none_open : (x y z : Bool) → chosen x y z ≡ None → (x ≡ false) × (y ≡ false)
-none_open true true true is = absurd (cc (is))
-none_open true true false is = absurd (cc (is))
-none_open true false z is = absurd (cc (is))
-none_open false true z is = absurd (cc (is))
-none_open false false z is = (refl, refl)
+none_open x1 x2 z is = grind arith
 
 -- the slot that counts is open
 first_open : (x y z : Bool) → chosen x y z ≡ Some First → x ≡ true
-first_open true y z is = refl
-first_open false true z is = absurd (cc (is))
-first_open false false z is = absurd (cc (is))
+first_open x1 y z is = grind arith
 
 -- the second one too
 second_open : (x y z : Bool) → chosen x y z ≡ Some Second → y ≡ true
-second_open x true z is = refl
-second_open true false z is = absurd (cc (is))
-second_open false false z is = absurd (cc (is))
+second_open x x2 z is = grind arith
 
 -- the other gate is closed, or as it was
 none_stays : (x y z x' y' z' : Bool) → chosen x y z ≡ None → y' ≡ y → (x' ≡ false) ⊎ (x' ≡ x)
@@ -37,22 +26,14 @@ none_stays : (x y z x' y' z' : Bool) → chosen x y z ≡ None → y' ≡ y → 
 none_stays x y z x' y' z' is same_y gate = grind (arith, none_open)
 
 -- the first one counts still
-first_stays : (x y z x' y' z' : Bool) → chosen x y z ≡ Some First → x' ≡ x → (y' ≡ false)
-    ⊎ ((y' ≡ y) × (z' ≡ z))
-    → chosen x' y' z' ≡ Some First
-first_stays x y z x' y' z' is same_x (inl shut) =
-    ap (λ v. chosen v y' z') (same_x ∙ first_open x y z is) ∙ ap (λ v. chosen true v z') shut
-first_stays x y z x' y' z' is same_x (inr same) =
-    ap (λ v. chosen v y' z') same_x ∙ ap (λ v. chosen x v z') same.0 ∙ ap (λ v. chosen x y v) same.1 ∙ is
+first_stays : (x y z x' y' z' : Bool) → chosen x y z ≡ Some First → x' ≡ x
+    → (y' ≡ false) ⊎ ((y' ≡ y) × (z' ≡ z)) → chosen x' y' z' ≡ Some First
+first_stays x y z x' y' z' is same_x x9 = grind (arith, first_open)
 
 -- the second one counts still
-second_stays : (x y z x' y' z' : Bool) → chosen x y z ≡ Some Second → y' ≡ y → (x' ≡ false)
-    ⊎ ((x' ≡ x) × (z' ≡ z))
-    → chosen x' y' z' ≡ Some Second
-second_stays x y z x' y' z' is same_y (inl shut) =
-    ap (λ v. chosen v y' z') shut ∙ ap (λ v. chosen false v z') (same_y ∙ second_open x y z is)
-second_stays x y z x' y' z' is same_y (inr same) =
-    ap (λ v. chosen v y' z') same.0 ∙ ap (λ v. chosen x v z') same_y ∙ ap (λ v. chosen x y v) same.1 ∙ is
+second_stays : (x y z x' y' z' : Bool) → chosen x y z ≡ Some Second → y' ≡ y
+    → (x' ≡ false) ⊎ ((x' ≡ x) × (z' ≡ z)) → chosen x' y' z' ≡ Some Second
+second_stays x y z x' y' z' is same_y x9 = grind (arith, second_open)
 
 -- a gate that is not open
 shut_gate : (c : List ℕ) (i : Slot) → get_or c (summary_gate i) 0 ≢ open_byte → is_open c i ≡ false
@@ -64,19 +45,15 @@ same_gate : (a b : List ℕ) (i : Slot) → get_or b (summary_gate i) 0 ≡ get_
 same_gate a b i same = ap (λ n. nat_eq n open_byte) same
 
 -- both slots are as they were, so which counts more is
-same_order : (a b : List ℕ) → slot_bytes b First ≡ slot_bytes a First
-    → slot_bytes b Second ≡ slot_bytes a Second
-    → nat_le (taken_in b Second) (taken_in b First) ≡ nat_le (taken_in a Second) (taken_in a First)
-same_order a b first second =
-    λ i. nat_le (from_be_bytes w64 (take 8 (second i))) (from_be_bytes w64 (take 8 (first i)))
+same_order : (a b : List ℕ) → slot_bytes b First ≡ slot_bytes a First → slot_bytes b Second ≡ slot_bytes a
+    Second → nat_le (taken_in b Second) (taken_in b First) ≡ nat_le (taken_in a Second) (taken_in a First)
+same_order a b first second = grind arith
 
 -- both gates and both slots are as they were
 pub same_counting : (a b : List ℕ) → get_or b 384 0 ≡ get_or a 384 0 → get_or b 385 0 ≡ get_or a 385 0
     → slot_bytes b First ≡ slot_bytes a First → slot_bytes b Second ≡ slot_bytes a Second
     → counting b ≡ counting a
-same_counting a b first_gate second_gate first second =
-    λ i. chosen (nat_eq (first_gate i) open_byte) (nat_eq (second_gate i) open_byte)
-    (same_order a b first second i)
+same_counting a b first_gate second_gate first second = grind (arith, same_order)
 
 -- the slot that does not count was shut, or is as it was; the other one is as it was
 pub record LeavesCounting (counts : Option Slot) (a b : List ℕ) : Type 0 where
@@ -103,10 +80,9 @@ counting_left (Some Second) a b is leaves =
     (λ same. inr (same_gate a b First same.0, same_order a b same.1 other.1)) leaves.spare)
 
 -- the other slot was opened, and counts more events than that which counted: then it is the one that counts
-pub counting_new : (counts : Option Slot) (a b : List ℕ) → counting a ≡ counts
-    → ((i : Slot) → spare_slot counts ≢ i → (get_or b (summary_gate i) 0 ≡ get_or a (summary_gate i) 0)
-    × (slot_bytes b i ≡ slot_bytes a i))
-    → IsOpen (summary_gate (spare_slot counts)) b → taken_of a counts < taken_in b (spare_slot counts)
+pub counting_new : (counts : Option Slot) (a b : List ℕ) → counting a ≡ counts → ((i : Slot) → spare_slot
+    counts ≢ i → (get_or b (summary_gate i) 0 ≡ get_or a (summary_gate i) 0) × (slot_bytes b i ≡ slot_bytes a
+    i)) → IsOpen (summary_gate (spare_slot counts)) b → taken_of a counts < taken_in b (spare_slot counts)
     → counting b ≡ Some (spare_slot counts)
 counting_new None a b is others opened more =
     let other = others Second (λ e. absurd (cc (e))) in

@@ -1,16 +1,9 @@
 -- What a read returns of a settled device, before some calls and after them.
-use Rattle.disk_model.specs.Calls.{Shows}
-use Rattle.std.proofs.Common.{ℕ, List, [], ◌∷◌, sym}
-use Rattle.std.proofs.Common.{subst, arith}
-use Rattle.disk_model.specs.Traces.{Trace, seen}
-use Rattle.disk_model.specs.Images.{Now, FromOld, IsSettled}
-use Rattle.disk_model.specs.Moments.{During}
-use Rattle.disk_model.specs.Traces.{written}
-use Rattle.disk_model.specs.Calls.{Reaches, Sees}
-use Rattle.disk_model.specs.Gates.{open_byte, IsOpen}
-use Rattle.disk_model.proofs.Bytes.{length-written}
-use Rattle.disk_model.proofs.Images.{present}
-use Rattle.disk_model.proofs.Moments.{weaker, during_now}
+use Rattle.disk_model.specs.{Calls.Shows, Calls.Reaches, Calls.Sees, Traces.Trace, Traces.seen}
+use Rattle.disk_model.specs.{Traces.written, Images.Now, Images.FromOld, Images.IsSettled, Moments.During}
+use Rattle.disk_model.specs.{Gates.open_byte, Gates.IsOpen}
+use Rattle.std.proofs.Common.{ℕ, List, [], ◌∷◌, sym, subst, arith}
+use Rattle.disk_model.proofs.{Bytes.length-written, Images.present, Moments.weaker, Moments.during_now}
 use Rattle.crash_recovery.proofs.Pieces.{byte_written}
 
 -- so each image has it
@@ -31,13 +24,8 @@ shown_both t P Q p q = (p, q)
 
 -- what each image of the calls has, from what a read gave before
 pub during_from : (o new : Trace) (R : List ℕ → List ℕ → Type 0) (Q P : List ℕ → Type 0) → IsSettled o
-    → Shows o Q
-    → ((a b : List ℕ) → Q a → R a b → P b) → During o new (FromOld o R) → During o new P
-during_from o new R Q P settled shown step during = weaker o new (FromOld o R) P (each o settled shown) during
-  where
-    each : (o : Trace) → IsSettled o → Shows o Q → (c : List ℕ) → FromOld o R c → P c
-    each t settled shown c from =
-        step (seen t) c shown (subst (λ d. R d c) (settled.each from.0 from.1) from.2)
+    → Shows o Q → ((a b : List ℕ) → Q a → R a b → P b) → During o new (FromOld o R) → During o new P
+during_from o new R Q P settled shown step during = grind (arith, weaker)
 
 -- and what a read gives after them
 pub shown_from : (o new : Trace) (R : List ℕ → List ℕ → Type 0) (Q S P : List ℕ → Type 0)
@@ -45,12 +33,10 @@ pub shown_from : (o new : Trace) (R : List ℕ → List ℕ → Type 0) (Q S P :
     → Shows new S → ((a b : List ℕ) → Q a → R a b → S b → P b) → During o new (FromOld o R) → Shows new P
 shown_from t u R Q S P settled shown after step during =
     let from = (during_now t u (FromOld t R) during).each (seen u) (present u) in
-    step (seen t) (seen u) shown (subst (λ d. R d (seen u)) (settled.each from.0 from.1)
-    from.2) after
+    step (seen t) (seen u) shown (subst (λ d. R d (seen u)) (settled.each from.0 from.1) from.2) after
 
 -- a gate that was opened after bytes were written reads open
-pub opened_after : (o new : Trace) (P : List ℕ → Type 0) (at : ℕ) (bytes : List ℕ) (gate : ℕ)
-    → Reaches o at → Reaches o gate
-    → During o new P → Sees new (written (written (seen o) at bytes) gate (open_byte ∷ []))
+pub opened_after : (o new : Trace) (P : List ℕ → Type 0) (at : ℕ) (bytes : List ℕ) (gate : ℕ) → Reaches o at
+    → Reaches o gate → During o new P → Sees new (written (written (seen o) at bytes) gate (open_byte ∷ []))
     → Shows new (IsOpen gate)
 opened_after t u P at bytes gate room there during sees = grind (arith, length-written, byte_written)

@@ -1,19 +1,15 @@
 -- The places of the values of a lane.
-use Rattle.std.proofs.Common.{◌≡◌, ℕ, ◌+◌, ◌-◌, ◌*◌, ◌<◌, ◌≤◌, min, List, length}
-use Rattle.std.proofs.Common.{take, drop}
-use Rattle.std.proofs.Common.{get_or, Some, sym, ◌∙◌, ap, subst, arith, length-append}
+use Rattle.std.proofs.Common.{◌≡◌, ℕ, ◌+◌, ◌-◌, ◌*◌, ◌<◌, ◌≤◌, min, List, length, take, drop, get_or, Some}
+use Rattle.std.proofs.Common.{sym, ◌∙◌, ap, subst, arith, length-append}
 use Rattle.std.specs.Int.{w16, from_be_bytes}
-use Rattle.disk_model.specs.Traces.{Trace, seen}
-use Rattle.disk_model.specs.Calls.{Reads}
+use Rattle.disk_model.specs.{Traces.Trace, Traces.seen, Calls.Reads, Calls.Shows}
 use Rattle.archive_file.proofs.Logs.{part_of}
 use Rattle.event_queue.specs.Slots.{place_of, slot_at, batch_at, count_in}
 use Rattle.event_queue.specs.Lanes.{points_beyond, points_before}
-use Rattle.event_queue.proofs.Batches.{length-points_in}
-use Rattle.event_queue.proofs.Steps.{points_open, points_more, beyond_all}
-use Rattle.event_queue.proofs.Filled.{lane_points_used}
+use Rattle.event_queue.proofs.{Batches.length-points_in, Steps.points_open, Steps.points_more}
+use Rattle.event_queue.proofs.{Steps.beyond_all, Filled.lane_points_used}
 use Rattle.device_layout.specs.Damages.{IsValuePlace, StandsThere}
-use Rattle.disk_model.specs.Calls.{Shows}
-use Rattle.crash_recovery.specs.Opening.{HoldsValue}
+use Rattle.crash_recovery.specs.{HoldsValue}
 use Rattle.device_layout.proofs.Reading.{byte_here}
 
 -- the count of a slot, read of its place
@@ -24,28 +20,23 @@ count_here slots j at bytes c is size here = ap (from_be_bytes w16)
     ∙ ap (λ n. take n (drop at c)) (sym size) ∙ sym here)
 
 pub count_shown : (o : Trace) (slots j at : ℕ) (bytes : List ℕ) (m n : ℕ) → at ≡ place_of slots j + 8
-    → length bytes ≡ 2
-    → Reads o at bytes → m ≡ from_be_bytes w16 bytes → n ≡ min m 64 → Shows o (λ c. n ≡ min 64 (count_in
-    (slot_at slots c j)))
-count_shown t slots j at bytes m n is size read m_is n_is =
-    let count = count_here slots j at bytes (seen t) is size read in
-    omega (arith, count, m_is, n_is)
+    → length bytes ≡ 2 → Reads o at bytes → m ≡ from_be_bytes w16 bytes → n ≡ min m 64
+    → Shows o (λ c. n ≡ min 64 (count_in (slot_at slots c j)))
+count_shown t slots j at bytes m n is size read m_is n_is = grind (arith, count_here)
 
 -- so many of the values are in the first j slots, and `rest` more come before value n
 pub record IsCountedTo (slots taken n j rest : ℕ) (c : List ℕ) : Type 0 where
   pub counted : n ≡ length (points_before slots c taken j) + rest
 
 module _ (slots taken used n : ℕ) (c : List ℕ) (holds : HoldsValue slots taken used n c) (j : ℕ)
-    (within : used ≤ slots)
-    (below : j < used) (m : ℕ) (is : m ≡ min 64 (count_in (slot_at slots c j))) where
+    (within : used ≤ slots) (below : j < used) (m : ℕ) (is : m ≡ min 64 (count_in (slot_at slots c j))) where
   -- a used slot holds all of its batch
   all_beyond : points_beyond taken (batch_at slots c j) ≡ (batch_at slots c j).points
   all_beyond = beyond_all taken (batch_at slots c j) (holds.filled.beyond j below)
 
   -- which are so many
   held_there : length (points_beyond taken (batch_at slots c j)) ≡ m
-  held_there = ap length all_beyond ∙ length-points_in (min 64 (count_in (slot_at slots c j))) (drop 10
-      (slot_at slots c j)) ∙ sym is
+  held_there = grind (arith, all_beyond, length-points_in)
 
   -- value n is after them
   pub counted_more : (rest : ℕ) → IsCountedTo slots taken n j rest c → m ≤ rest → IsCountedTo slots taken n
@@ -54,16 +45,13 @@ module _ (slots taken used n : ℕ) (c : List ℕ) (holds : HoldsValue slots tak
 
   -- or it is among them
   pub value_here : (rest a : ℕ) → IsCountedTo slots taken n j rest c → rest < m
-      → a ≡ place_of slots j + (10 + 16 * rest)
-      → IsValuePlace slots c taken n a j rest
+      → a ≡ place_of slots j + (10 + 16 * rest) → IsValuePlace slots c taken n a j rest
   value_here rest a so_far among at = grind (arith, held_there)
 
 -- all values are counted once the used slots are
 counted_all : (slots taken used n rest : ℕ) (c : List ℕ) → HoldsValue slots taken used n c → used ≤ slots
     → IsCountedTo slots taken n used rest c → ⊥
-counted_all slots taken used n rest c holds within so_far =
-    let all = ap length (sym (lane_points_used slots taken used c within holds.filled.room) ∙ holds.filled.points) in
-    absurd (omega (arith, so_far.counted, all, holds.there))
+counted_all slots taken used n rest c holds within so_far = grind (arith, lane_points_used)
 
 -- the same of a device
 pub more_shown : (o : Trace) (slots taken used n j rest m : ℕ) → used ≤ slots → j < used

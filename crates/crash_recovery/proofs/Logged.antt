@@ -1,29 +1,23 @@
 -- Records are written after the log, and the gate of the slot that does not count is closed.
-use Rattle.disk_model.specs.Calls.{Shows}
+use Rattle.disk_model.specs.{Calls.Shows, Calls.IsNoted, Calls.Sees, Traces.Wrote, Traces.WroteInPart}
+use Rattle.disk_model.specs.{Traces.Trace, Traces.seen, Traces.written, Images.IsOutside, Images.IsTorn}
+use Rattle.disk_model.specs.{Images.Now, Images.FromOld, Images.IsSettled, Moments.During, Gates.IsShut}
+use Rattle.disk_model.specs.{Gates.HasGatesOf, Gates.AreShut, Gates.IsClosing, Gates.Holds}
 use Rattle.std.proofs.Common.{◌≡◌, ◌≢◌, inl, inr, ⊎_elim, ℕ, ◌+◌, ◌-◌, ◌<◌, ◌≤◌, min, List, length, get_or}
 use Rattle.std.proofs.Common.{take, drop, Result, sym, ◌∙◌, ap, subst, arith, length-drop}
 use Rattle.std.proofs.lemmas.List.{take_all, drop_min}
-use Rattle.trend_num.specs.declared.archive.Rec.{Rec}
-use Rattle.trend_num.specs.declared.tag_def.TagDef.{TagDef}
+use Rattle.trend_num.specs.{declared.archive.Rec.Rec, declared.tag_def.TagDef.TagDef}
 use Rattle.trend_model.specs.State.{State}
-use Rattle.disk_model.specs.Traces.{Wrote, WroteInPart, Trace, seen, written}
-use Rattle.disk_model.specs.Images.{IsOutside, IsTorn, Now, FromOld, IsSettled}
-use Rattle.disk_model.specs.Moments.{During}
-use Rattle.disk_model.specs.Calls.{IsNoted, Sees}
-use Rattle.disk_model.specs.Gates.{IsShut, HasGatesOf, AreShut, IsClosing, Holds}
-use Rattle.disk_model.proofs.Bytes.{torn_self, length-written, holds_written}
-use Rattle.disk_model.proofs.Images.{present, wrote_now}
-use Rattle.disk_model.proofs.Moments.{started, during_now, weaker, in_turn, goes_on}
-use Rattle.disk_model.proofs.Closings.{closing_self}
+use Rattle.disk_model.proofs.{Bytes.torn_self, Bytes.length-written, Bytes.holds_written, Images.present}
+use Rattle.disk_model.proofs.{Images.wrote_now, Moments.started, Moments.during_now, Moments.weaker}
+use Rattle.disk_model.proofs.{Moments.in_turn, Moments.goes_on, Closings.closing_self}
 use Rattle.archive_file.specs.Records.{recs_image}
 use Rattle.event_queue.specs.Places.{HasRoom}
 use Rattle.event_queue.proofs.SameLanes.{HasSameSlots, same_bytes, same_lane, same_points, same_beyond}
-use Rattle.crash_recovery.specs.declared.seat.Seat.{Seat}
+use Rattle.crash_recovery.specs.{Seat, AllRecover, IsInUse, log_end, IsLaid, spare_slot, LaidOn, IsLogged}
+use Rattle.crash_recovery.specs.{ReadyOn}
 use Rattle.device_layout.specs.declared.slot.Slot.{Slot}
-use Rattle.device_layout.specs.declared.slot.Slot.TheVariants.{First, Second}
 use Rattle.device_layout.specs.Recovery.{summary_place, summary_gate, slot_bytes, Recovers}
-use Rattle.crash_recovery.specs.Journals.{AllRecover, IsInUse, log_end, IsLaid}
-use Rattle.crash_recovery.specs.Seats.{spare_slot, LaidOn, IsLogged, ReadyOn}
 use Rattle.crash_recovery.proofs.Pieces.{same_piece}
 use Rattle.crash_recovery.proofs.Stored.{KeepsStored, KeepsLane, recovers_same}
 use Rattle.crash_recovery.proofs.DeviceReads.{now_shown, shown_now, shown_both, during_from, shown_from}
@@ -33,18 +27,15 @@ use Rattle.crash_recovery.proofs.Places.{laid_moved, settled_on, laid_shown, lai
 -- the records that are not counted, as they are cut off
 pub new_records : (m from : ℕ) (recs : List Rec) → from ≡ min m (length recs) → take (length recs - from)
     (drop from recs) ≡ drop m recs
-new_records m from recs is =
-    take_all (length recs - from) (drop from recs) (omega (arith, length-drop from recs))
-    ∙ ap (λ n. drop n recs) is ∙ drop_min m recs
+new_records m from recs is = grind (arith, take_all, length-drop, drop_min)
 
 -- nothing was written
 pub torn_kept : (o : Trace) (at n : ℕ) → During o o (FromOld o (IsTorn at n))
 torn_kept o at n = started o (FromOld o (IsTorn at n)) (record { each = λ c may. (c, may, torn_self at n c) })
 
 -- a write that may be torn
-pub torn_moments : {E : Type 0} (r : Result (Unit {0}) E) (o new : Trace) (at : ℕ) (bytes : List ℕ)
-    → IsNoted (Wrote at bytes) (WroteInPart at bytes) r o new
-    → During o new (FromOld o (IsTorn at (length bytes)))
+pub torn_moments : {E : Type 0} (r : Result (Unit {0}) E) (o new : Trace) (at : ℕ) (bytes : List ℕ) → IsNoted
+    (Wrote at bytes) (WroteInPart at bytes) r o new → During o new (FromOld o (IsTorn at (length bytes)))
 torn_moments r o new at bytes noted =
     goes_on (Wrote at bytes) (WroteInPart at bytes) r o o new (FromOld o (IsTorn at (length bytes)))
     (torn_kept o at (length bytes)) noted (record { each = λ c may. wrote_now r o new at bytes c noted may })
@@ -58,22 +49,16 @@ beside_gate gate i other = grind arith
 -- a write after the log, and then the gate closed
 logged_of : (at n gate : ℕ) (a m b : List ℕ) → at ≤ length a → gate < at → IsTorn at n a m
     → IsClosing gate 1 m b → IsLogged at gate a b
-logged_of at n gate a m b long before torn closing = grind (arith, beside_gate, as_before)
-  where
-    as_before : get_or m gate 0 ≡ get_or a gate 0
-    as_before = torn.outside gate (omega (arith, long, before)) (inl before)
+logged_of at n gate a m b long before torn closing = grind (arith, beside_gate)
 
 -- the gates lie after both slots
 pub gate_behind : (j : Slot) → 384 ≤ summary_gate j
-gate_behind First = omega arith
-gate_behind Second = omega arith
+gate_behind x1 = grind arith
 
 module _ (p : Seat) (a b : List ℕ) (laid : IsLaid p a) (only : OnlySpare p.counts (log_end p) a b) where
   -- the lane is as it was
   pub same_slots : HasSameSlots p.lane.slots p.lane.slots a b
-  same_slots = same_bytes p.lane.slots a b (omega (arith, laid.long))
-      (omega (arith, laid.long, only.no_shorter))
-      (λ i low below. behind_kept p a b laid only i low (omega (arith, below)))
+  same_slots = grind (arith, same_bytes, behind_kept)
 
   -- it keeps the layout, and holds the same points
   pub lane_kept : KeepsLane p.lane.slots p.taken a b
@@ -90,8 +75,7 @@ module _ (p : Seat) (a b : List ℕ) (laid : IsLaid p a) (only : OnlySpare p.cou
     lane = lane_kept.lane lane.lane;
     opened = λ k below. same_slots.forth k (omega (arith, below, within)) (lane.opened k below);
     beyond = λ k below. same_beyond p.lane.slots p.taken p.lane.slots a b same_slots k
-        (omega (arith, below, within))
-        (lane.opened k below) (lane.beyond k below);
+        (omega (arith, below, within)) (lane.opened k below) (lane.beyond k below);
     number = lane.number ∙ ap (λ ps. p.taken + length ps) (sym (lane_kept.points lane.lane));
   }
 
@@ -130,8 +114,7 @@ module _ (p : Seat) (a b : List ℕ) (laid : IsLaid p a) (logged : IsLogged (log
 -- ---- the calls
 
 module _ (p : Seat) (n gate : ℕ) (is_gate : gate ≡ summary_gate (spare_slot p.counts)) (o mid : Trace)
-    (laid : LaidOn p o)
-    (torn : During o mid (FromOld o (IsTorn (log_end p) n))) where
+    (laid : LaidOn p o) (torn : During o mid (FromOld o (IsTorn (log_end p) n))) where
   -- the gate lies before the lane
   low_gate : gate < 400
   low_gate = omega (arith, is_gate, gate_within (spare_slot p.counts))
@@ -147,8 +130,7 @@ module _ (p : Seat) (n gate : ℕ) (is_gate : gate ≡ summary_gate (spare_slot 
         from.0,
         from.1,
         logged_of (log_end p) n gate from.0 c c (each_laid.each from.0 from.1).long (omega (arith, low_gate))
-            from.2
-            (closing_self gate 1 c),
+            from.2 (closing_self gate 1 c),
       )) torn
 
   -- each image recovers what it recovered
@@ -182,10 +164,8 @@ module _ (p : Seat) (n gate : ℕ) (is_gate : gate ≡ summary_gate (spare_slot 
           ∙ sym ((settled_on p o laid).each here.0 here.1) in
           record {
             there = omega (arith, low_gate, a.long, from.2.no_shorter);
-            same = λ i low below.
-                from.2.outside i (omega (arith, low_gate, a.long, below))
-                (inl (omega (arith, low_gate, below)))
-                ∙ ap (λ d. get_or d i 0) one
+            same = λ i low below. from.2.outside i (omega (arith, low_gate, a.long, below))
+                (inl (omega (arith, low_gate, below))) ∙ ap (λ d. get_or d i 0) one
                 ∙ sym (here.2.outside i (omega (arith, low_gate, b.long, below))
                 (inl (omega (arith, low_gate, below))));
           }
@@ -193,15 +173,13 @@ module _ (p : Seat) (n gate : ℕ) (is_gate : gate ≡ summary_gate (spare_slot 
   module _ (new : Trace) (closing : During mid new (FromOld mid (IsClosing gate 1))) where
     -- after the gate was closed too
     logged_moments : During o new (FromOld o (IsLogged (log_end p) gate))
-    logged_moments =
-        in_turn o mid new (FromOld o (IsLogged (log_end p) gate)) logged_first
+    logged_moments = in_turn o mid new (FromOld o (IsLogged (log_end p) gate)) logged_first
         (weaker mid new (FromOld mid (IsClosing gate 1)) (FromOld o (IsLogged (log_end p) gate)) (λ c from.
         let first = (during_now o mid (FromOld o (IsTorn (log_end p) n)) torn).each from.0 from.1 in (
           first.0,
           first.1,
           logged_of (log_end p) n gate first.0 from.0 c (each_laid.each first.0 first.1).long
-              (omega (arith, low_gate))
-              first.2 from.2,
+              (omega (arith, low_gate)) first.2 from.2,
         )) closing)
 
     -- each image recovers what it recovered
@@ -212,8 +190,7 @@ module _ (p : Seat) (n gate : ℕ) (is_gate : gate ≡ summary_gate (spare_slot 
     pub log_laid : p.lane.used ≤ p.lane.slots → IsSettled new → LaidOn p new
     log_laid within settled =
         laid_again p new settled (shown_from o new (IsLogged (log_end p) gate) (IsLaid p) (λ c. Unit {0})
-        (IsLaid p) (settled_on p o laid)
-        (laid_shown p o laid) (any_shown new)
+        (IsLaid p) (settled_on p o laid) (laid_shown p o laid) (any_shown new)
         (λ a b laid_a step none. logged_laid p a b laid_a (subst (λ g. IsLogged (log_end p) g a b) is_gate
         step) within) logged_moments)
       where
@@ -221,9 +198,8 @@ module _ (p : Seat) (n gate : ℕ) (is_gate : gate ≡ summary_gate (spare_slot 
         any_shown u = tt
 
 -- the bytes that were written stay where a gate before them is closed
-holds_closed : (at gate : ℕ) (bytes old m b : List ℕ) → gate < at → at ≤ length old
-    → m ≡ written old at bytes → IsClosing gate 1 m b
-    → Holds at bytes b
+holds_closed : (at gate : ℕ) (bytes old m b : List ℕ) → gate < at → at ≤ length old → m ≡ written old at bytes
+    → IsClosing gate 1 m b → Holds at bytes b
 holds_closed at gate bytes old m b before long is closing =
     let size = ap length is ∙ length-written old at bytes long in
     same_piece at (length bytes) m b (omega (arith, size)) (omega (arith, size, closing.same_length))
@@ -231,16 +207,14 @@ holds_closed at gate bytes old m b before long is closing =
     ∙ ap (λ l. take (length bytes) (drop at l)) is ∙ holds_written old at bytes long
 
 -- and then all is there for a summary
-pub ready_on : (p : Seat) (gate : ℕ) (recs : List Rec) (P Q : List ℕ → Type 0) (o mid new : Trace)
-    → gate ≡ summary_gate (spare_slot p.counts) → LaidOn p o → During o mid P → During mid new Q
-    → Sees mid (written (seen o) (log_end p) (recs_image (drop p.records recs)))
-    → IsClosing gate 1 (seen mid) (seen new) → Now new (AreShut gate 1)
-    → ReadyOn p (summary_gate (spare_slot p.counts)) recs new
+pub ready_on : (p : Seat) (gate : ℕ) (recs : List Rec) (P Q : List ℕ → Type 0) (o mid new : Trace) → gate
+    ≡ summary_gate (spare_slot p.counts) → LaidOn p o → During o mid P → During mid new Q → Sees mid
+    (written (seen o) (log_end p) (recs_image (drop p.records recs))) → IsClosing gate 1 (seen mid) (seen new)
+    → Now new (AreShut gate 1) → ReadyOn p (summary_gate (spare_slot p.counts)) recs new
 unfolding LaidOn
 ready_on p gate recs P Q t u v is_gate laid first second sees closing shut = record {
   shut = subst (λ g. IsShut g (seen v)) is_gate ((shut.each (seen v) (present v)) gate
       (omega arith) (omega arith));
-  logged = holds_closed (log_end p) gate (recs_image (drop p.records recs)) (seen t) (seen u)
-      (seen v)
+  logged = holds_closed (log_end p) gate (recs_image (drop p.records recs)) (seen t) (seen u) (seen v)
       (omega (arith, is_gate, gate_within (spare_slot p.counts))) laid.laid.long sees closing;
 }

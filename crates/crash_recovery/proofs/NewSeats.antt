@@ -1,15 +1,11 @@
 -- The place of a journal on a device whose layout was just made.
-use Rattle.std.proofs.Common.{ℕ, ◌≤◌, false, List, length, None, refl}
-use Rattle.std.proofs.Common.{sym, ap, arith}
-use Rattle.trend_num.specs.declared.tag_def.TagDef.{TagDef}
-use Rattle.trend_num.specs.Names.{IsName}
-use Rattle.trend_num.specs.Ranges.{TuningInRange}
-use Rattle.disk_model.specs.Traces.{Trace, seen}
-use Rattle.disk_model.specs.Images.{IsSettled}
-use Rattle.crash_recovery.specs.declared.seat.Seat.{Seat}
-use Rattle.crash_recovery.specs.Journals.{IsSeat, SeatedOn}
+use Rattle.std.proofs.Common.{ℕ, ◌≤◌, false, List, length, None, refl, sym, ap, arith}
+use Rattle.trend_num.specs.{declared.tag_def.TagDef.TagDef, Names.IsName, Ranges.TuningInRange}
+use Rattle.disk_model.specs.{Traces.Trace, Traces.seen, Images.IsSettled}
+use Rattle.crash_recovery.specs.{Seat, IsSeat, SeatedOn}
 use Rattle.device_layout.specs.Layouts.{IsMade}
-use Rattle.device_layout.proofs.NewLayout.{made_room, made_points, made_lane, made_counting, made_header, made_slots}
+use Rattle.device_layout.proofs.NewLayout.{made_room, made_points, made_lane, made_counting, made_header}
+use Rattle.device_layout.proofs.NewLayout.{made_slots}
 
 -- the first lane slot of so many, before the first event
 abbrev pub first_seat : ℕ → Seat

@@ -1,43 +1,29 @@
 -- What each image recovers while a tag's device is opened.
-use Rattle.std.proofs.Common.{◌≡◌, ◌⊎◌, inl, inr, ⊎_elim, ℕ, ◌+◌, ◌^◌, ◌<◌, ◌≤◌, Bool, true, false, List}
-use Rattle.std.proofs.Common.{[], ◌∷◌, ◌≢◌, IfErr, OnErr, length}
-use Rattle.trend_num.specs.Limits.{most_records}
-use Rattle.std.proofs.Common.{Option, None, Some, Result, refl, sym, ◌∙◌, ap, subst, arith}
-use Rattle.trend_num.specs.declared.tuning.Tuning.{Tuning}
-use Rattle.trend_num.specs.declared.tag_def.TagDef.{TagDef}
-use Rattle.trend_model.specs.History.{Event, Tune, Origin, in_force}
-use Rattle.trend_model.specs.State.{Stands}
+use Rattle.std.proofs.Common.{◌≡◌, ◌⊎◌, inl, inr, ⊎_elim, ℕ, ◌+◌, ◌^◌, ◌<◌, ◌≤◌, Bool, true, false, List, []}
+use Rattle.std.proofs.Common.{◌∷◌, ◌≢◌, IfErr, OnErr, length, Option, Some, Result, refl, sym, ◌∙◌, ap, subst}
+use Rattle.std.proofs.Common.{arith}
+use Rattle.trend_num.specs.{Limits.most_records}
+use Rattle.trend_num.specs.declared.{tuning.Tuning.Tuning, tag_def.TagDef.TagDef}
+use Rattle.trend_model.specs.History.{Event, Tune, Origin}
+use Rattle.trend_model.specs.State.{Stands, State, nothing_taken, after, after_under}
 use Rattle.trend_model.proofs.StateLaw.{stands_after}
-use Rattle.trend_model.specs.State.{State, nothing_taken, after, after_under}
-use Rattle.disk_model.specs.Traces.{Trace, Synced, Idle, seen, noted}
-use Rattle.disk_model.specs.Images.{MayLeave}
-use Rattle.disk_model.specs.Moments.{During}
-use Rattle.disk_model.specs.Calls.{CountsFault, IsNoted}
+use Rattle.disk_model.specs.{Traces.Trace, Traces.Idle, Traces.seen, Traces.noted, Calls.Shows, Gates.IsNew}
+use Rattle.disk_model.specs.{Traces.Synced, Images.MayLeave, Moments.During, Calls.CountsFault, Calls.IsNoted}
 use Rattle.disk_model.proofs.Images.{synced_now, settled}
 use Rattle.disk_model.proofs.Moments.{started, goes_on, weaker, in_turn, during_now}
-use Rattle.crash_recovery.specs.declared.seat.Seat.{Seat}
-use Rattle.disk_model.specs.Gates.{IsNew}
-use Rattle.device_layout.specs.Recovery.{IsRecovered, Recovers, recovered_tuning as in_force_of}
-use Rattle.crash_recovery.specs.Journals.{AllRecover, GoesOnFrom, RecoversEither, IsSeat}
-use Rattle.disk_model.specs.Calls.{Shows}
-use Rattle.crash_recovery.specs.Opening.{IsOpenedAs, IsCountable, RecoversSame, IsTagLeftOrSame, StaysSame}
-use Rattle.device_layout.specs.Readings.{IsFull, IsOther, IsCause}
-use Rattle.crash_recovery.specs.Opening.{RecoversThen, OpensAs, HasSlots, IsReadAs}
-use Rattle.device_layout.specs.declared.failure.OpenNo.{OpenNo}
-use Rattle.device_layout.specs.declared.failure.OpenNo.TheVariants.{DeviceFault, Damaged, OtherTag, Full}
-use Rattle.device_layout.specs.declared.failure.OpenNo.TheVariants.{WantOfMemory}
-use Rattle.device_layout.specs.Damages.{IsTagDamage}
-use Rattle.crash_recovery.specs.TagImages.{ImageStands, StandsOpened}
+use Rattle.crash_recovery.specs.{Seat, AllRecover, GoesOnFrom, RecoversEither, IsSeat, IsOpenedAs}
+use Rattle.crash_recovery.specs.{IsCountable, RecoversSame, IsTagLeftOrSame, StaysSame, RecoversThen, OpensAs}
+use Rattle.crash_recovery.specs.{HasSlots, IsReadAs, ImageStands, StandsOpened}
+use Rattle.device_layout.specs.{Recovery.IsRecovered, Recovery.Recovers, Readings.IsCause}
+use Rattle.device_layout.specs.declared.failure.OpenNo.{TheVariants.DeviceFault, TheVariants.Full, OpenNo}
 use Rattle.device_layout.proofs.OneState.{one_state}
 
 -- ---- the sync at the beginning
 
 -- each image until then is one from before
 pub synced_during : {E : Type 0} (r : Result (Unit {0}) E) (def : TagDef) (o new : Trace)
-    → IsNoted Synced Idle r o new
-    → During o new (IsTagLeftOrSame def o)
-synced_during r def o new is =
-    weaker o new (MayLeave o) (IsTagLeftOrSame def o) (λ c may. inl may)
+    → IsNoted Synced Idle r o new → During o new (IsTagLeftOrSame def o)
+synced_during r def o new is = weaker o new (MayLeave o) (IsTagLeftOrSame def o) (λ c may. inl may)
     (goes_on Synced Idle r o o new (MayLeave o) (started o (MayLeave o) (record { each = λ c may. may })) is
     (record { each = λ c may. synced_now r o new c is may }))
 
@@ -48,13 +34,7 @@ shown_before t mid P is shows = subst (λ m. Shows m P) is shows
 -- the cause of a refusal is one of the device before
 pub cause_synced : (def : TagDef) (o mid : Trace) (why : OpenNo) → mid ≡ noted Synced o
     → IsCause def mid why → IsCause def o why
-cause_synced def o mid DeviceFault is cause = tt
-cause_synced def o mid (Damaged at byte) is cause = shown_before o mid (λ c. IsTagDamage def c at byte) is cause
-cause_synced def o mid (OtherTag found wanted) is cause =
-    shown_before o mid (λ c. IsOther def c found wanted) is cause
-cause_synced def o mid (Full records) is cause =
-    shown_before o mid (λ c. (s : State) × IsFull def c records s) is cause
-cause_synced def o mid WantOfMemory is cause = tt
+cause_synced def o mid x4 is cause = grind (arith, shown_before)
 
 -- the same images until a later device that is the same
 pub during_same : (o mid new : Trace) (P : List ℕ → Type 0) → new ≡ mid → During o mid P → During o new P
@@ -95,8 +75,7 @@ read_as def t mid retuned r is read =
       inr found.1,
       record {
         each = λ c may. subst (λ x. Recovers def x found.0) (sym ((settled t).each c (subst
-            (λ m. MayLeave m c) is may)))
-            (inr found.1);
+            (λ m. MayLeave m c) is may))) (inr found.1);
       },
       found.2,
     )
@@ -104,8 +83,7 @@ read_as def t mid retuned r is read =
 -- ---- what is opened
 
 opens_as : (def : TagDef) (retuned : Bool) (s r : State) → OpensAs def retuned s r → IsOpenedAs def s r
-opens_as def false s r opens = inl opens
-opens_as def true s r opens = inr opens
+opens_as def x2 s r opens = grind arith
 
 pub opened_shown : (def : TagDef) (o new : Trace) (retuned : Bool) (r : State) → IsReadAs def o new retuned r
     → Shows o (λ c. (s : State) × Recovers def c s × IsOpenedAs def s r)
@@ -122,14 +100,12 @@ recovers_read def t new r read = λ countable. subst (λ s. AllRecover def new s
 -- an event counts one at most
 counts_under : (step : Bool) (s : State) (e : Event) (u : Option Tuning)
     → (after_under step s e u).summary.taken ≤ s.summary.taken + 1
-counts_under step s e None = omega arith
-counts_under step s e (Some u) = omega arith
+counts_under step s e x4 = grind arith
 
 -- what a checkpoint of a retuned core promises
 abbrev pub Promises : Trace → Trace → Bool → State → Type 0
 Promises mid new step r = r.summary.taken < 10 ^ 18 → (def : TagDef) (s : State) → AllRecover def mid s
-    → GoesOnFrom def s step r
-    → During mid new (RecoversEither def s r)
+    → GoesOnFrom def s step r → During mid new (RecoversEither def s r)
 
 module _ (def : TagDef) (t : Trace) (mid new : Trace) (step : Bool) (r : State) (kind : step ≡ def.step)
     (read : IsReadAs def t mid true r) (countable : IsCountable def (seen t)) where
@@ -138,22 +114,18 @@ module _ (def : TagDef) (t : Trace) (mid new : Trace) (step : Bool) (r : State) 
   goes = (kind, (Tune def.tuning ∷ [], read.3.1))
 
   few : r.summary.taken < 10 ^ 18
-  few = ⊎_elim (λ tuned. absurd (read.3.0 tuned)) (λ less.
-      omega (
-        arith,
-        ap (λ x. x.summary.taken) read.3.1,
-        counts_under def.step read.0
-            (Tune def.tuning) read.0.summary.tuning,
-        less,
-      ))
-      (countable read.0 read.1)
+  few = ⊎_elim (λ tuned. absurd (read.3.0 tuned)) (λ less. omega (
+    arith,
+    ap (λ x. x.summary.taken) read.3.1,
+    counts_under def.step read.0 (Tune def.tuning) read.0.summary.tuning,
+    less,
+  )) (countable read.0 read.1)
 
   either_same : (c : List ℕ) → RecoversEither def read.0 r c → IsTagLeftOrSame def t c
   either_same c either = inr (read.0, r, read.1, inr read.3, either)
 
-pub stays_retuned : (def : TagDef) (o mid new : Trace) (step : Bool) (r : State) → step ≡ def.step
-    → IsReadAs def o mid true r
-    → During o mid (IsTagLeftOrSame def o) → Promises mid new step r → StaysSame def o new
+pub stays_retuned : (def : TagDef) (o mid new : Trace) (step : Bool) (r : State) → step ≡ def.step → IsReadAs
+    def o mid true r → During o mid (IsTagLeftOrSame def o) → Promises mid new step r → StaysSame def o new
 stays_retuned def t mid new step r kind read before promise = λ countable.
     in_turn t mid new (IsTagLeftOrSame def t) before
     (weaker mid new (RecoversEither def read.0 r) (IsTagLeftOrSame def t)
@@ -162,10 +134,8 @@ stays_retuned def t mid new step r kind read before promise = λ countable.
     (goes def t mid new step r kind read countable)))
 
 pub recovers_retuned : (def : TagDef) (o mid new : Trace) (step : Bool) (r : State) → step ≡ def.step
-    → IsReadAs def o mid true r
-    → (r.summary.taken < 10 ^ 18 → (d : TagDef) (s : State) → AllRecover d mid s → GoesOnFrom d s step r
-    → AllRecover d new r)
-    → RecoversThen def o new r
+    → IsReadAs def o mid true r → (r.summary.taken < 10 ^ 18 → (d : TagDef) (s : State) → AllRecover d mid s
+    → GoesOnFrom d s step r → AllRecover d new r) → RecoversThen def o new r
 recovers_retuned def t mid new step r kind read promise = λ countable.
     promise (few def t mid new step r kind read countable) def read.0 read.2
     (goes def t mid new step r kind read countable)
@@ -176,15 +146,12 @@ recovers_retuned def t mid new step r kind read promise = λ countable.
 pub cause_full : {T : Type 0} (def : TagDef) (o : Trace) (s : State) (r : Result T OpenNo) → Shows o (λ c. IsRecovered def c s)
     → IfErr r (λ why. why ≡ Full (length s.records)) → OnErr r (most_records < length s.records + 2)
     → OnErr r (s.summary.tuning ≢ Some def.tuning) → IfErr r (IsCause def o)
-cause_full def o s (Result.Ok x) recovered full many other = tt
-cause_full def o s (Result.Err why) recovered full many other = subst (IsCause def o) (sym full)
-    (s, record { recovered = inr recovered; other = other; records_are = refl; full = many })
+cause_full def o s x4 recovered full many other = grind arith
 
 -- and no fault is counted
 pub counts_full : {T : Type 0} (r : Result T OpenNo) (n before now : ℕ) → IfErr r (λ why. why ≡ Full n) → now ≡ before
     → CountsFault r DeviceFault before now
-counts_full (Result.Ok x) n before now full same = grind arith
-counts_full (Result.Err why) n before now full same = grind arith
+counts_full x1 n before now full same = grind arith
 
 -- as many are counted from where the count was before
 pub counts_on : {T U : Type 0} (why : OpenNo) (before mid now : ℕ) → mid ≡ before
@@ -193,8 +160,7 @@ counts_on why before mid now same counts = grind arith
 
 -- ---- what is recovered now
 
-pub now_read : (def : TagDef) (o mid : Trace) (r : State) → IsReadAs def o mid false r
-    → AllRecover def mid r
+pub now_read : (def : TagDef) (o mid : Trace) (r : State) → IsReadAs def o mid false r → AllRecover def mid r
 now_read def t mid r read = subst (AllRecover def mid) (sym read.3.1) read.2
 
 pub now_retuned : (def : TagDef) (o mid new : Trace) (step : Bool) (r : State) → step ≡ def.step
@@ -208,36 +174,24 @@ now_retuned def t mid new step r kind read promise =
 
 pub slots_made : (o mid : Trace) (wanted slots : ℕ) → mid ≡ noted Synced o → slots ≡ wanted → Shows mid IsNew
     → Shows o (HasSlots wanted slots)
-slots_made o mid wanted slots is same new = shown_before o mid (HasSlots wanted slots) is (made mid new)
-  where
-    made : (m : Trace) → Shows m IsNew → Shows m (HasSlots wanted slots)
-    made t shows = inl (shows, same)
+slots_made o mid wanted slots is same new = grind (arith, shown_before)
 
 pub slots_kept : (o mid : Trace) (wanted : ℕ) (p : Seat) → mid ≡ noted Synced o → Shows mid (IsSeat p)
     → Shows o (HasSlots wanted p.lane.slots)
-slots_kept o mid wanted p is seat = shown_before o mid (HasSlots wanted p.lane.slots) is (kept mid seat)
-  where
-    not_new : (c : List ℕ) → IsSeat p c → IsNew c → ⊥
-    not_new c stands (inl short) = absurd (omega (arith, short, stands.laid.long))
-    not_new c stands (inr shut) = shut stands.laid.opened
-
-    kept : (m : Trace) → Shows m (IsSeat p) → Shows m (HasSlots wanted p.lane.slots)
-    kept t shows = inr (not_new _ shows, shows.laid.slots)
+slots_kept o mid wanted p is seat = grind (arith, shown_before)
 
 -- ---- for which history it stands
 
 -- what is opened of a state that stands for it
 stands_opened : (def : TagDef) (o : Origin) (h : List Event) (s r : State) → o.step ≡ def.step → Stands o h s
     → IsOpenedAs def s r → StandsOpened def o h r
-stands_opened def o h s r step stands (inl opened) =
-    inl (ap (λ t. in_force_of (in_force o h) t) (sym stands.tuned ∙ opened.0), subst (Stands o h) (sym opened.1) stands)
-stands_opened def o h s r step stands (inr opened) =
-    inr (
-      λ tuned. opened.0 (stands.tuned ∙ ap Some tuned),
-      subst (Stands o (Tune def.tuning ∷ h)) (sym opened.1)
-          (subst (λ k. Stands o (Tune def.tuning ∷ h) (after k s (Tune def.tuning))) step (stands_after o h
-          (Tune def.tuning) s stands)),
-    )
+stands_opened def o h s r step stands (inl opened) = grind arith
+stands_opened def o h s r step stands (inr opened) = inr (
+  λ tuned. opened.0 (stands.tuned ∙ ap Some tuned),
+  subst (Stands o (Tune def.tuning ∷ h)) (sym opened.1)
+      (subst (λ k. Stands o (Tune def.tuning ∷ h) (after k s (Tune def.tuning))) step (stands_after o h
+      (Tune def.tuning) s stands)),
+)
 
 -- what the image recovers stands for it, since that is one state
 recovered_stands : (def : TagDef) (o : Origin) (h : List Event) (c : List ℕ) (s : State) → ImageStands def o h c

@@ -1,47 +1,31 @@
 -- Records and a summary that were read together.
-use Rattle.std.proofs.Common.{◌≡◌, ℕ, Bool, List, [], Some, length, get_or, subst, sym, ◌∙◌}
-use Rattle.trend_num.specs.declared.archive.Rec.{Rec}
-use Rattle.trend_num.specs.declared.archive.Summary.{Summary}
-use Rattle.trend_num.specs.declared.tuning.Tuning.{Tuning}
-use Rattle.trend_num.specs.declared.tag_def.TagDef.{TagDef}
+use Rattle.std.proofs.Common.{◌≡◌, ℕ, Bool, List, [], Some, length, get_or, subst, sym, arith}
+use Rattle.trend_num.specs.declared.archive.{Rec.Rec, Summary.Summary}
+use Rattle.trend_num.specs.declared.{tuning.Tuning.Tuning, tag_def.TagDef.TagDef}
 use Rattle.trend_model.specs.Parts.{ArePartsOk}
-use Rattle.disk_model.specs.Traces.{Trace, seen}
-use Rattle.disk_model.specs.Calls.{Shows, Reads}
+use Rattle.disk_model.specs.{Traces.Trace, Traces.seen, Calls.Shows, Calls.Reads}
 use Rattle.archive_file.specs.Places.{HasRecords}
 use Rattle.event_queue.specs.Slots.{lane_end}
-use Rattle.device_layout.specs.declared.layout_reader.Stored.{Stored}
-use Rattle.device_layout.specs.declared.slot.Slot.{Slot}
-use Rattle.device_layout.specs.Recovery.{no_summary, summary_place, HasSummary}
-use Rattle.device_layout.specs.Damages.{IsTagDamage}
+use Rattle.device_layout.specs.declared.{layout_reader.Stored.Stored, slot.Slot.Slot}
+use Rattle.device_layout.specs.{Recovery.no_summary, Recovery.summary_place, Damages.IsTagDamage}
 use Rattle.device_layout.specs.Readings.{CountsSummary, IsFoundOn, IsReadFrom}
-use Rattle.device_layout.proofs.NewLayout.{no_parts}
-use Rattle.device_layout.proofs.Reading.{parts_broken, here_at}
+use Rattle.device_layout.proofs.{NewLayout.no_parts, Reading.parts_broken, Reading.here_at}
 
 -- before the first checkpoint they can be those of a tag
 pub none_ok : (u : Tuning) (step : Bool) (rs : List Rec) (s : Summary) → (s ≡ no_summary) × (rs ≡ [])
     → ArePartsOk u step rs s
-none_ok u step rs s none =
-    subst (λ y. ArePartsOk u step rs y) (sym none.0)
-    (subst (λ l. ArePartsOk u step l no_summary) (sym none.1) (no_parts u step))
+none_ok u step rs s none = grind (arith, no_parts)
 
 -- the summary that was found counts
 found_counts : (def : TagDef) (slots : ℕ) (x : Stored) (i : Slot) (c : List ℕ) → IsFoundOn def slots x c → x.slot ≡ Some i
     → CountsSummary def slots i x.summary x.tuning c
-found_counts def slots x i c found slot = record {
-  tag = found.tag;
-  long = found.long;
-  slots_are = found.slots_are;
-  counts = found.slot ∙ slot;
-  summary = subst (λ y. HasSummary c y x.summary) (found.slot ∙ slot) found.summary;
-  tuning = found.tuning;
-}
+found_counts def slots x i c found slot = grind arith
 
 -- where they can't, the device is damaged
 pub parts_damaged : (def : TagDef) (o : Trace) (slots place : ℕ) (x : Stored) (i : Slot) (step : Bool)
     (first : List ℕ) → def.step ≡ step → place ≡ summary_place i → x.slot ≡ Some i
-    → (ArePartsOk x.tuning step x.recs.items x.summary → ⊥) → length first ≡ 1 → Reads o place first
-    → Shows o (IsFoundOn def slots x)
-    → Shows o (λ c. IsTagDamage def c (summary_place i) (Some (get_or first 0 0)))
+    → (ArePartsOk x.tuning step x.recs.items x.summary → ⊥) → length first ≡ 1 → Reads o place first → Shows o
+    (IsFoundOn def slots x) → Shows o (λ c. IsTagDamage def c (summary_place i) (Some (get_or first 0 0)))
 parts_damaged def t slots place x i step first same_step at slot broken size read found =
     let c = seen t in
     parts_broken def slots i x.summary x.tuning step x.recs.items first c same_step
@@ -51,16 +35,4 @@ parts_damaged def t slots place x i step first same_step at slot broken size rea
 -- and where they can, this was read
 pub read_from : (def : TagDef) (o : Trace) (slots : ℕ) (step : Bool) (x : Stored) → def.step ≡ step
     → ArePartsOk x.tuning step x.recs.items x.summary → Shows o (IsFoundOn def slots x) → Shows o (IsReadFrom def slots x)
-read_from def t slots step x same_step ok found = record {
-  stored = record {
-    tag = found.tag;
-    long = found.long;
-    summary = found.summary;
-    records = found.records;
-    parts = subst (λ u. ArePartsOk u def.step x.recs.items x.summary) found.tuning
-        (subst (λ k. ArePartsOk x.tuning k x.recs.items x.summary) (sym same_step) ok);
-  };
-  slots_are = found.slots_are;
-  slot = found.slot;
-  tuning = found.tuning;
-}
+read_from def t slots step x same_step ok found = grind arith

@@ -21,5 +21,4 @@ byte_written old at b le =
     let first : get_or (take 1 (drop at new)) 0 0 ≡ b = ap (λ l. get_or l 0 0)
     (holds_written old at (b ∷ []) le) in
     sym (get_or-take 1 (drop at new) 0 0 (omega arith) ∙ get_or-drop at new 0 0 ∙ ap (λ i. get_or new i 0)
-    (add-zero at))
-    ∙ first
+    (add-zero at)) ∙ first

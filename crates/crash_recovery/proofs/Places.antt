@@ -1,21 +1,14 @@
 -- The place of a journal, where only the lane has changed, or only what no summary counts.
-use Rattle.disk_model.specs.Calls.{Shows}
+use Rattle.disk_model.specs.Calls.{Shows, Reaches}
+use Rattle.disk_model.specs.{Traces.Trace, Images.IsOutside, Images.IsSettled, Gates.open_byte}
 use Rattle.std.proofs.Common.{◌≡◌, ◌≢◌, ◌⊎◌, inl, inr, ℕ, ◌+◌, ◌*◌, ◌<◌, ◌≤◌, Bool, true, false, List, length}
-use Rattle.std.proofs.Common.{get_or, take, drop, Option, None, Some, refl, sym, ◌∙◌, arith}
-use Rattle.disk_model.specs.Traces.{Trace}
-use Rattle.disk_model.specs.Images.{IsOutside, IsSettled}
-use Rattle.disk_model.specs.Calls.{Reaches}
-use Rattle.disk_model.specs.Gates.{open_byte}
-use Rattle.event_queue.specs.Slots.{lane_end}
-use Rattle.event_queue.specs.Places.{HasRoom}
-use Rattle.crash_recovery.specs.declared.seat.Seat.{Seat}
-use Rattle.device_layout.specs.declared.slot.Slot.{Slot}
-use Rattle.device_layout.specs.declared.slot.Slot.TheVariants.{First, Second}
+use Rattle.std.proofs.Common.{get_or, take, drop, Option, Some, sym, ◌∙◌, arith}
+use Rattle.event_queue.specs.{Slots.lane_end, Places.HasRoom}
+use Rattle.crash_recovery.specs.{Seat, log_end, IsInUse, IsLaid, IsSeat, SeatedOn, spare_slot, LaidOn}
+use Rattle.crash_recovery.specs.{OverrunOn}
+use Rattle.device_layout.specs.declared.slot.Slot.{Slot, TheVariants.First, TheVariants.Second}
 use Rattle.device_layout.specs.Recovery.{summary_place, summary_gate, slot_bytes}
-use Rattle.crash_recovery.specs.Journals.{log_end, IsInUse, IsLaid, IsSeat, SeatedOn}
-use Rattle.crash_recovery.specs.Seats.{spare_slot, LaidOn, OverrunOn}
-use Rattle.crash_recovery.proofs.Pieces.{same_piece}
-use Rattle.crash_recovery.proofs.Counting.{same_counting, counting_left}
+use Rattle.crash_recovery.proofs.{Pieces.same_piece, Counting.same_counting, Counting.counting_left}
 use Rattle.crash_recovery.proofs.Stored.{KeepsStored, taken_kept, records_kept}
 
 -- ---- only the lane has changed
@@ -40,9 +33,7 @@ only_lane p a b laid only = record {
 }
   where
     front : (at n : ℕ) → at + n ≤ 400 → take n (drop at b) ≡ take n (drop at a)
-    front at n le = same_piece at n a b (omega (arith, laid.long, le))
-        (omega (arith, laid.long, only.no_shorter, le))
-        (λ i low below. only.same i (omega (arith, laid.long, le, below)) (inl (omega (arith, le, below))))
+    front at n le = grind (arith, same_piece)
 
     slot_same : (i : Slot) → slot_bytes b i ≡ slot_bytes a i
     slot_same First = front 128 128 (omega arith)
@@ -59,46 +50,32 @@ pub record OnlySpare (counts : Option Slot) (end : ℕ) (a b : List ℕ) : Type 
 -- the two slots and their gates lie apart, after the header and before the lane
 apart_slot : (j i : Slot) → j ≢ i → (k : ℕ) → summary_place i ≤ k → k < summary_place i + 128
     → IsOutside (summary_place j) 128 k × (k ≢ summary_gate j)
-apart_slot First First apart k low below = absurd (apart refl)
-apart_slot First Second apart k low below = (inr (omega (arith, low)), λ e. absurd (omega (arith, e, below)))
-apart_slot Second First apart k low below = grind arith
-apart_slot Second Second apart k low below = absurd (apart refl)
+apart_slot x1 x2 apart k low below = grind arith
 
 -- a gate is no part of a slot, nor the other gate
 apart_gate : (j i : Slot) → j ≢ i → IsOutside (summary_place j) 128 (summary_gate i)
     × (summary_gate i ≢ summary_gate j)
-apart_gate First First apart = absurd (apart refl)
-apart_gate First Second apart = (inr (omega arith), λ e. absurd (omega (arith, e)))
-apart_gate Second First apart = (inr (omega arith), λ e. absurd (omega (arith, e)))
-apart_gate Second Second apart = absurd (apart refl)
+apart_gate x1 x2 apart = grind arith
 
 -- the header is no part of them
 pub apart_front : (j : Slot) (k : ℕ) → k < 128 → IsOutside (summary_place j) 128 k × (k ≢ summary_gate j)
-apart_front First k below = (inl below, λ e. absurd (omega (arith, e, below)))
-apart_front Second k below = (inl (omega (arith, below)), λ e. absurd (omega (arith, e, below)))
+apart_front x1 k below = grind arith
 
 -- nor is the lane
 pub apart_lane : (j : Slot) (k : ℕ) → 400 ≤ k → IsOutside (summary_place j) 128 k × (k ≢ summary_gate j)
-apart_lane First k low = (inr (omega (arith, low)), λ e. absurd (omega (arith, e, low)))
-apart_lane Second k low = (inr (omega (arith, low)), λ e. absurd (omega (arith, e, low)))
+apart_lane x1 k low = grind arith
 
 -- a slot lies before both gates
 pub slot_within : (j : Slot) → summary_place j + 128 ≤ 384
-slot_within First = omega arith
-slot_within Second = omega arith
+slot_within x1 = grind arith
 
 -- a gate lies before the lane
 pub gate_within : (j : Slot) → summary_gate j < 400
-gate_within First = omega arith
-gate_within Second = omega arith
+gate_within x1 = grind arith
 
 -- the slot that counts is not the other one
 pub spare_other : (counts : Option Slot) (i : Slot) → counts ≡ Some i → spare_slot counts ≢ i
-spare_other None i is = absurd (cc (is))
-spare_other (Some First) First is = λ e. absurd (cc (e))
-spare_other (Some First) Second is = absurd (cc (is))
-spare_other (Some Second) First is = absurd (cc (is))
-spare_other (Some Second) Second is = λ e. absurd (cc (e))
+spare_other x1 i is = grind arith
 
 module _ (p : Seat) (a b : List ℕ) (laid : IsLaid p a) (only : OnlySpare p.counts (log_end p) a b) where
   -- any other slot and its gate are as they were
@@ -123,8 +100,7 @@ module _ (p : Seat) (a b : List ℕ) (laid : IsLaid p a) (only : OnlySpare p.cou
 
   -- and its gate
   pub first_kept : get_or b 0 0 ≡ get_or a 0 0
-  first_kept = let out = apart_front (spare_slot p.counts) 0 (omega arith) in only.same 0 (omega arith) out.0
-      out.1
+  first_kept = grind (arith, apart_front)
 
   -- the lane and the log are as they were
   pub behind_kept : (k : ℕ) → 400 ≤ k → k < log_end p → get_or b k 0 ≡ get_or a k 0
@@ -133,9 +109,7 @@ module _ (p : Seat) (a b : List ℕ) (laid : IsLaid p a) (only : OnlySpare p.cou
   -- so the log is
   pub log_kept : take (17 * p.records) (drop (lane_end p.lane.slots) b) ≡ take (17 * p.records)
       (drop (lane_end p.lane.slots) a)
-  log_kept = same_piece (lane_end p.lane.slots) (17 * p.records) a b laid.long
-      (omega (arith, laid.long, only.no_shorter))
-      (λ k low below. behind_kept k (omega (arith, low)) below)
+  log_kept = grind (arith, same_piece, behind_kept)
 
   -- where the slot that does not count was shut or left as it was, all that is stored was kept
   pub only_spare : (get_or b (summary_gate (spare_slot p.counts)) 0 ≢ open_byte)

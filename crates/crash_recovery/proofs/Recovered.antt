@@ -1,36 +1,24 @@
 -- How many events an image recovers, and which batches end before that.
-use Rattle.std.proofs.Common.{◌≡◌, inl, inr, ⊎_elim, ℕ, zero, suc, ◌+◌, ◌-◌, ◌<◌, ◌≤◌, min, Bool, true, List}
-use Rattle.std.proofs.Common.{◌++◌, length, map, drop, Some, refl, sym, ◌∙◌, ap, subst, arith, add-zero}
-use Rattle.std.proofs.Common.{append_assoc, length-append}
-use Rattle.std.proofs.lemmas.Bool.{cases_Bool}
-use Rattle.std.proofs.lemmas.List.{length-map}
-use Rattle.trend_num.specs.declared.archive.Rec.{Rec}
-use Rattle.trend_num.specs.declared.archive.Summary.{Summary}
-use Rattle.trend_num.specs.declared.point.Point.{Point}
-use Rattle.trend_num.specs.declared.tuning.Tuning.{Tuning}
-use Rattle.trend_num.specs.declared.tag_def.TagDef.{TagDef}
-use Rattle.trend_model.specs.History.{Event, Raw}
-use Rattle.trend_model.specs.State.{State, replay}
-use Rattle.event_queue.specs.Slots.{slot_at, count_in, batch_at}
+use Rattle.std.proofs.Common.{◌≡◌, inl, inr, ⊎_elim, ℕ, zero, suc, ◌+◌, ◌-◌, ◌<◌, ◌≤◌, Bool, true, List, ◌++◌}
+use Rattle.std.proofs.Common.{length, map, Some, refl, sym, ◌∙◌, ap, subst, arith, add-zero, append_assoc}
+use Rattle.std.proofs.Common.{length-append}
+use Rattle.std.proofs.lemmas.{Bool.cases_Bool, List.length-map}
+use Rattle.trend_num.specs.declared.archive.{Rec.Rec, Summary.Summary}
+use Rattle.trend_num.specs.declared.{point.Point.Point, tuning.Tuning.Tuning, tag_def.TagDef.TagDef}
+use Rattle.trend_model.specs.{History.Event, History.Raw, State.State, State.replay}
 use Rattle.event_queue.specs.Lanes.{slot_points_of, points_before, lane_points, IsNextBehind, IsSound, IsLane}
-use Rattle.event_queue.specs.Places.{IsFilled}
-use Rattle.event_queue.proofs.Batches.{length-points_in}
+use Rattle.event_queue.specs.{Slots.batch_at, Places.IsFilled}
+use Rattle.event_queue.proofs.{Batches.length-points_in, Overtaken.overtaken_none}
 use Rattle.event_queue.proofs.Steps.{beyond_all, points_open, points_more}
-use Rattle.event_queue.proofs.Overtaken.{overtaken_none}
-use Rattle.crash_recovery.specs.declared.seat.Seat.{Seat}
+use Rattle.crash_recovery.specs.{Seat, GoesOnFrom, IsLaid, IsOverrun}
 use Rattle.device_layout.specs.Recovery.{start_of, IsReplayed, Recovers}
-use Rattle.crash_recovery.specs.Journals.{GoesOnFrom, IsLaid, IsOverrun}
 use Rattle.crash_recovery.proofs.Replays.{IsCounted, replay_counted, replay_more}
 use Rattle.crash_recovery.proofs.Stored.{taken_known, not_new, lane_replayed}
 
 -- fewer slots hold no more points
 fewer_points : (slots taken : ℕ) (c : List ℕ) (k m : ℕ)
     → length (points_before slots c taken k) ≤ length (points_before slots c taken (k + m))
-fewer_points slots taken c k zero = omega (
-  arith,
-  ap (λ n. length (points_before slots c taken n))
-      (add-zero k),
-)
+fewer_points slots taken c k zero = grind (arith, add-zero)
 fewer_points slots taken c k (suc m) =
     let longer : k + suc m ≡ k + m + 1 = omega arith in
     omega (
@@ -55,11 +43,7 @@ filled_ends slots taken used next c held within filled k below =
     sound = filled.lane.sound k there (filled.opened k below)
 
     here : length (slot_points_of slots c taken k) ≡ (batch_at slots c k).count
-    here =
-        ap length (points_open slots taken c k (filled.opened k below)
-        ∙ beyond_all taken (batch_at slots c k) (filled.beyond k below))
-        ∙ length-points_in (min 64 (count_in (slot_at slots c k))) (drop 10 (slot_at slots c k))
-        ∙ omega (arith, sound.counted.few)
+    here = grind (arith, points_open, beyond_all, length-points_in)
 
     numbered : IsNextBehind slots c taken k → (batch_at slots c k).first + (batch_at slots c k).count ≤ next
     numbered behind =
@@ -84,8 +68,7 @@ pub record IsAt (n : ℕ) (s : State) : Type 0 where
 
 -- as many as the place has acknowledged
 pub recovered_at : (def : TagDef) (p : Seat) (a : List ℕ) (s : State) → IsLaid p a
-    → (p.stale ≡ true → IsOverrun p a)
-    → Recovers def a s → IsAt p.lane.next s
+    → (p.stale ≡ true → IsOverrun p a) → Recovers def a s → IsAt p.lane.next s
 recovered_at def p a s laid over (inl new) = absurd (not_new def p a laid new.0)
 recovered_at def p a s laid over (inr is) =
     let rs = is.0 in
@@ -105,30 +88,21 @@ recovered_at def p a s laid over (inr is) =
     (cases_Bool p.stale) in
     record { tuning = now.tuning; tuned = now.tuned; taken = omega (arith, now.taken, all, taken, next) }
   where
-    overtaken : (p : Seat) (a : List ℕ) → IsLaid p a → p.stale ≡ true → IsOverrun p a
-        → IsLane p.lane.slots a p.taken p.lane.slots
-        → p.lane.next ≡ p.taken + length (lane_points p.lane.slots a p.taken)
-    overtaken p a laid stale over lane =
-        omega (
-          arith,
-          laid.number stale,
-          ap length (overtaken_none p.lane.slots p.taken a
-              (record { lane = lane; stale = over.stale }) p.lane.slots (omega arith)),
-        )
+    overtaken : (p : Seat) (a : List ℕ) → IsLaid p a → p.stale ≡ true → IsOverrun p a → IsLane p.lane.slots a
+        p.taken p.lane.slots → p.lane.next ≡ p.taken + length (lane_points p.lane.slots a p.taken)
+    overtaken p a laid stale over lane = grind (arith, overtaken_none)
 
 -- a state that continues from there has taken so many more
 pub goes_beyond : (def : TagDef) (n : ℕ) (s : State) (step : Bool) (r : State) → IsAt n s
-    → (goes : GoesOnFrom def s step r)
-    → r.summary.taken ≡ n + length goes.1.0
+    → (goes : GoesOnFrom def s step r) → r.summary.taken ≡ n + length goes.1.0
 goes_beyond def n s step r at goes =
     let counted = replay_counted def.step s goes.1.0 at.tuning at.tuned in
     omega (arith, ap (λ (x : State). x.summary.taken) goes.1.1, counted.taken, at.taken)
 
 -- and keeps the records that are stored
 pub goes_on_records : (def : TagDef) (p : Seat) (a : List ℕ) (s : State) (step : Bool) (r : State)
-    (rs : List Rec) (sm : Summary) (values : List Event)
-    → s ≡ replay def.step (start_of a rs sm) values → GoesOnFrom def s step r → (more : List Rec)
-    × (r.records ≡ rs ++ more)
+    (rs : List Rec) (sm : Summary) (values : List Event) → s ≡ replay def.step (start_of a rs sm) values
+    → GoesOnFrom def s step r → (more : List Rec) × (r.records ≡ rs ++ more)
 goes_on_records def p a s step r rs sm values is goes =
     let first = replay_more def.step (start_of a rs sm) values in
     let second = replay_more def.step s goes.1.0 in (

@@ -2,8 +2,7 @@
 use Rattle.std.proofs.Common.{◌≡◌, ℕ, ◌+◌, Bool, List, [], ◌∷◌, ◌++◌, length, Some, refl, sym, ◌∙◌, ap, arith}
 use Rattle.std.proofs.Common.{append_assoc}
 use Rattle.std.proofs.lemmas.List.{append-nil}
-use Rattle.trend_num.specs.declared.archive.Rec.{Rec}
-use Rattle.trend_num.specs.declared.tuning.Tuning.{Tuning}
+use Rattle.trend_num.specs.{declared.archive.Rec.Rec, declared.tuning.Tuning.Tuning}
 use Rattle.trend_model.specs.History.{Event}
 use Rattle.trend_model.specs.State.{State, archive_in, turned, archived, after, after_under, replay}
 use Rattle.trend_model.proofs.RulesLaw.{after_more}
@@ -53,7 +52,6 @@ replay_append step s (x ∷ xs) ys = replay_append step (after step s x) xs ys
 
 -- these find room where those do, and then these
 pub fit_append : (step : Bool) (s : State) (xs ys : List Event) → AllFit step s xs
-    → AllFit step (replay step s xs) ys
-    → AllFit step s (xs ++ ys)
+    → AllFit step (replay step s xs) ys → AllFit step s (xs ++ ys)
 fit_append step s [] ys first then = then
 fit_append step s (x ∷ xs) ys first then = (first.0, fit_append step (after step s x) xs ys first.1 then)

@@ -1,22 +1,13 @@
 -- The gates of an overtaken lane are closed.
-use Rattle.disk_model.specs.Calls.{Shows}
-use Rattle.std.proofs.Common.{◌≡◌, ◌⊎◌, inl, inr, ℕ, ◌<◌, ◌≤◌, true, false, List, length}
-use Rattle.std.proofs.Common.{ap, arith, refl}
+use Rattle.disk_model.specs.{Calls.Shows, Traces.Trace, Traces.seen, Images.Now, Images.FromOld}
+use Rattle.disk_model.specs.{Images.IsSettled, Moments.During, Gates.HasGatesOf, Gates.IsClosing}
+use Rattle.std.proofs.Common.{◌≡◌, ℕ, ◌≤◌, true, false, List, length, ap, arith}
 use Rattle.trend_num.specs.declared.tag_def.TagDef.{TagDef}
 use Rattle.trend_model.specs.State.{State}
-use Rattle.disk_model.specs.Traces.{Trace, seen}
-use Rattle.disk_model.specs.Images.{IsOutside, Now, FromOld, IsSettled}
-use Rattle.disk_model.specs.Moments.{During}
-use Rattle.disk_model.specs.Gates.{HasGatesOf, IsClosing}
-use Rattle.event_queue.specs.Slots.{gate_of, lane_end}
-use Rattle.event_queue.specs.Lanes.{IsLane}
-use Rattle.event_queue.specs.Places.{HasRoom, IsOvertaken}
-use Rattle.event_queue.proofs.Overtaken.{overtaken_none, overtaken_closing}
-use Rattle.event_queue.proofs.Filled.{lane_points_used}
-use Rattle.crash_recovery.specs.declared.seat.Seat.{Seat}
+use Rattle.event_queue.specs.{Slots.gate_of, Lanes.IsLane, Places.HasRoom, Places.IsOvertaken}
+use Rattle.event_queue.proofs.{Overtaken.overtaken_none, Overtaken.overtaken_closing, Filled.lane_points_used}
+use Rattle.crash_recovery.specs.{Seat, AllRecover, IsInUse, IsLaid, IsOverrun, LaidOn, OverrunOn, restarted}
 use Rattle.device_layout.specs.Recovery.{Recovers}
-use Rattle.crash_recovery.specs.Journals.{AllRecover, IsInUse, IsLaid, IsOverrun}
-use Rattle.crash_recovery.specs.Seats.{LaidOn, OverrunOn, restarted}
 use Rattle.crash_recovery.proofs.Stored.{KeepsLane, recovers_same}
 use Rattle.crash_recovery.proofs.DeviceReads.{now_shown, shown_now, shown_both, during_from, shown_from}
 use Rattle.crash_recovery.proofs.Places.{OnlyLane, only_lane, laid_moved, settled_on, laid_shown, laid_again}
@@ -24,11 +15,7 @@ use Rattle.crash_recovery.proofs.Places.{OnlyLane, only_lane, laid_moved, settle
 -- only the lane has changed
 closing_lane : (slots used : ℕ) (a b : List ℕ) → used ≤ slots → IsClosing (gate_of 0) used a b
     → OnlyLane slots a b
-closing_lane slots used a b le closing = grind (arith, outside)
-  where
-    outside : (i : ℕ) → (i < 400) ⊎ (lane_end slots ≤ i) → IsOutside (gate_of 0) used i
-    outside i (inl below) = inl (omega (arith, below))
-    outside i (inr above) = inr (omega (arith, above, le))
+closing_lane slots used a b le closing = grind arith
 
 module _ (p : Seat) (le : p.lane.used ≤ p.lane.slots) (a b : List ℕ)
     (closing : IsClosing (gate_of 0) p.lane.used a b) where
@@ -64,16 +51,14 @@ module _ (o new : Trace) (p : Seat) (le : p.lane.used ≤ p.lane.slots) (laid : 
       shown_both o (IsLaid p) (λ c. IsOverrun p c × Recovers def c s) (laid_shown p o laid)
       (shown_both o (IsOverrun p) (λ c. Recovers def c s) over (shown_now o (λ c. Recovers def c s) all)) in
       during_from o new (IsClosing (gate_of 0) p.lane.used) Q (λ c. Recovers def c s) (settled_on p o laid)
-      known
-      (λ a b q closing. recovers_same def p a b s q.0
+      known (λ a b q closing. recovers_same def p a b s q.0
       (only_lane p a b q.0 (closing_lane p.lane.slots p.lane.used a b le closing))
       (closing_keeps p le a b closing q.1.0) q.1.1) during
 
   -- and the lane begins anew
   pub restart_laid : p.stale ≡ true → IsSettled new → Now new (HasRoom p.lane.slots 0)
       → LaidOn (restarted p) new
-  restart_laid stale settled room =
-      laid_again (restarted p) new settled
+  restart_laid stale settled room = laid_again (restarted p) new settled
       (shown_from o new (IsClosing (gate_of 0) p.lane.used) (IsLaid p) (HasRoom p.lane.slots 0)
       (IsLaid (restarted p))
       (settled_on p o laid) (laid_shown p o laid) (shown_now new (HasRoom p.lane.slots 0) room)
@@ -91,7 +76,4 @@ room_now p o laid = now_shown o (HasRoom p.lane.slots p.lane.used) (settled_on p
 -- and the gates that a read gives
 pub gates_now : (p : Seat) (o : Trace) → p.lane.used ≤ p.lane.slots → LaidOn p o
     → Now o (HasGatesOf (seen o) (gate_of 0) p.lane.used)
-gates_now p o within laid = now_shown o (HasGatesOf (seen o) (gate_of 0) p.lane.used) (settled_on p o laid) (record {
-  there = omega (arith, within, (laid_shown p o laid).room.long);
-  same = λ i low below. refl;
-})
+gates_now p o within laid = grind (arith, now_shown, settled_on, laid_shown)

@@ -1,24 +1,17 @@
 -- The records and the summary that are stored, if only bytes besides them change.
 use Rattle.std.proofs.Common.{◌≡◌, inl, inr, ℕ, ◌*◌, ◌≤◌, Bool, List, length, get_or, take, drop, map, Option}
-use Rattle.std.proofs.Common.{None, Some, refl, sym, ◌∙◌, ap, subst, arith}
-use Rattle.std.specs.Int.{w32, w64, from_be_bytes}
-use Rattle.trend_num.specs.declared.archive.Rec.{Rec}
-use Rattle.trend_num.specs.declared.archive.Summary.{Summary}
-use Rattle.trend_num.specs.declared.tag_def.TagDef.{TagDef}
-use Rattle.trend_model.specs.History.{Raw}
-use Rattle.trend_model.specs.Parts.{ArePartsOk}
-use Rattle.trend_model.specs.State.{State, replay}
+use Rattle.std.proofs.Common.{None, Some, sym, ◌∙◌, ap, subst, arith}
+use Rattle.std.specs.Int.{w32, from_be_bytes}
+use Rattle.trend_num.specs.declared.{archive.Rec.Rec, archive.Summary.Summary, tag_def.TagDef.TagDef}
+use Rattle.trend_model.specs.{History.Raw, Parts.ArePartsOk, State.State, State.replay}
 use Rattle.archive_file.specs.Places.{AreRecords}
-use Rattle.event_queue.specs.Slots.{lane_end}
-use Rattle.event_queue.specs.Lanes.{lane_points, IsLane}
-use Rattle.crash_recovery.specs.declared.seat.Seat.{Seat}
-use Rattle.device_layout.specs.declared.slot.Slot.{Slot}
-use Rattle.device_layout.specs.Headers.{tuning_in, slots_in}
-use Rattle.disk_model.specs.Gates.{IsNew}
-use Rattle.device_layout.specs.Recovery.{header_of, log_place, slot_bytes, counting}
-use Rattle.device_layout.specs.Recovery.{HasSummary, recovered_tuning, state_of, start_of, AllFit, IsOfTag, IsStored}
+use Rattle.event_queue.specs.{Slots.lane_end, Lanes.lane_points, Lanes.IsLane}
+use Rattle.crash_recovery.specs.{Seat, taken_of, journal_records_of, IsLaid}
+use Rattle.device_layout.specs.Recovery.{header_of, log_place, slot_bytes, counting, HasSummary}
+use Rattle.device_layout.specs.Recovery.{recovered_tuning, state_of, start_of, AllFit, IsOfTag, IsStored}
 use Rattle.device_layout.specs.Recovery.{IsReplayed, Recovers}
-use Rattle.crash_recovery.specs.Journals.{taken_of, journal_records_of, IsLaid}
+use Rattle.device_layout.specs.{declared.slot.Slot.Slot, Headers.tuning_in, Headers.slots_in}
+use Rattle.disk_model.specs.Gates.{IsNew}
 use Rattle.device_layout.proofs.SlotNumbers.{taken_spelled, records_spelled}
 
 -- all bytes on which what is stored depends are as they were
@@ -33,8 +26,7 @@ pub record KeepsStored (p : Seat) (a b : List ℕ) : Type 0 where
 
 -- the summary that counts begins with how many events and how many records it has
 pub taken_stored : (c : List ℕ) (o : Option Slot) (s : Summary) → HasSummary c o s → taken_of c o ≡ s.taken
-taken_stored c None s is = sym (ap (λ (x : Summary). x.taken) is)
-taken_stored c (Some i) s has = ap (λ l. from_be_bytes w64 (take 8 l)) has.1 ∙ taken_spelled s has.0
+taken_stored c x2 s is = grind (arith, taken_spelled)
 
 pub records_stored : (c : List ℕ) (o : Option Slot) (s : Summary) → HasSummary c o s
     → journal_records_of c o ≡ s.records
@@ -44,38 +36,30 @@ records_stored c (Some i) s has = ap (λ l. from_be_bytes w32 (take 4 (drop 8 l)
 
 -- the same bytes are the same summary
 summary_same : (a b : List ℕ) (o : Option Slot) (s : Summary)
-    → ((i : Slot) → o ≡ Some i → slot_bytes b i ≡ slot_bytes a i)
-    → HasSummary a o s → HasSummary b o s
-summary_same a b None s same is = is
-summary_same a b (Some i) s same has = (has.0, same i refl ∙ has.1)
+    → ((i : Slot) → o ≡ Some i → slot_bytes b i ≡ slot_bytes a i) → HasSummary a o s → HasSummary b o s
+summary_same a b x3 s same is = grind arith
 
 -- and the same numbers
 pub taken_kept : (a b : List ℕ) (o : Option Slot)
-    → ((i : Slot) → o ≡ Some i → slot_bytes b i ≡ slot_bytes a i)
-    → taken_of b o ≡ taken_of a o
-taken_kept a b None same = refl
-taken_kept a b (Some i) same = ap (λ l. from_be_bytes w64 (take 8 l)) (same i refl)
+    → ((i : Slot) → o ≡ Some i → slot_bytes b i ≡ slot_bytes a i) → taken_of b o ≡ taken_of a o
+taken_kept a b x3 same = grind arith
 
 pub records_kept : (a b : List ℕ) (o : Option Slot)
     → ((i : Slot) → o ≡ Some i → slot_bytes b i ≡ slot_bytes a i)
     → journal_records_of b o ≡ journal_records_of a o
-records_kept a b None same = refl
-records_kept a b (Some i) same = ap (λ l. from_be_bytes w32 (take 4 (drop 8 l))) (same i refl)
+records_kept a b x3 same = grind arith
 
 module _ (def : TagDef) (p : Seat) (a : List ℕ) (laid : IsLaid p a) where
   -- of the summary that is stored, the place knows the numbers
   pub taken_known : (rs : List Rec) (s : Summary) → IsStored def a rs s → p.taken ≡ s.taken
-  taken_known rs s stored = laid.taken ∙ ap (taken_of a) laid.counts
-      ∙ taken_stored a (counting a) s stored.summary
+  taken_known rs s stored = grind (arith, taken_stored)
 
   pub records_known : (rs : List Rec) (s : Summary) → IsStored def a rs s → p.records ≡ s.records
-  records_known rs s stored = laid.records ∙ ap (journal_records_of a) laid.counts
-      ∙ records_stored a (counting a) s stored.summary
+  records_known rs s stored = grind (arith, records_stored)
 
   -- it is no new device
   pub not_new : IsNew a → ⊥
-  not_new (inl short) = absurd (omega (arith, short, laid.long))
-  not_new (inr shut) = shut laid.opened
+  not_new x1 = grind arith
 
   -- where the lane ends
   place_known : log_place a ≡ lane_end p.lane.slots
@@ -123,8 +107,7 @@ module _ (def : TagDef) (p : Seat) (a : List ℕ) (laid : IsLaid p a) where
 
     -- what a lane of this many slots replays
     pub replays : (step : Bool) (c : List ℕ) (start : State) (taken : ℕ) (s : State)
-        → header_of c ≡ header_of a
-        → IsLane p.lane.slots c taken p.lane.slots
+        → header_of c ≡ header_of a → IsLane p.lane.slots c taken p.lane.slots
         → AllFit step start (map Raw (lane_points p.lane.slots c taken))
         → s ≡ replay step start (map Raw (lane_points p.lane.slots c taken)) → IsReplayed step c start taken s
     replays step c start taken s same lane fits state = grind arith
@@ -145,8 +128,7 @@ module _ (def : TagDef) (p : Seat) (a : List ℕ) (laid : IsLaid p a) where
           is.0,
           is.1,
           stored_kept is.0 is.1 is.2,
-          subst (λ n. IsReplayed def.step b (start_of b is.0 is.1)
-              n r) taken now,
+          subst (λ n. IsReplayed def.step b (start_of b is.0 is.1) n r) taken now,
         )
 
 -- a lane that keeps the layout and holds the same points does so after a change

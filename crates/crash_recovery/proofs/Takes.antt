@@ -1,13 +1,9 @@
 -- Values that are taken one after the other.
-use Rattle.std.proofs.Common.{◌≡◌, ℕ, ◌+◌, ◌*◌, ◌<◌, ◌≤◌, Bool, List, [], ◌∷◌, ◌++◌, length, take}
-use Rattle.std.proofs.Common.{map, get_or}
-use Rattle.std.proofs.Common.{refl, sym, ◌∙◌, ap, subst, arith, rules, true, false, ⊎_elim}
-use Rattle.std.proofs.lemmas.Bool.{cases_lt}
-use Rattle.std.proofs.lemmas.List.{take_more, map-append}
-use Rattle.trend_num.specs.Limits.{most_records}
-use Rattle.trend_num.specs.declared.point.Point.{Point}
-use Rattle.trend_model.specs.History.{Event, Raw}
-use Rattle.trend_model.specs.State.{State, after, replay}
+use Rattle.std.proofs.Common.{◌≡◌, ℕ, ◌+◌, ◌*◌, ◌<◌, ◌≤◌, Bool, List, [], ◌∷◌, ◌++◌, length, take, map}
+use Rattle.std.proofs.Common.{get_or, refl, sym, ◌∙◌, ap, subst, arith, true, false}
+use Rattle.std.proofs.{lemmas.List.take_more, lemmas.List.map-append}
+use Rattle.trend_num.specs.{Limits.most_records, declared.point.Point.Point}
+use Rattle.trend_model.specs.{History.Event, History.Raw, State.State, State.after, State.replay}
 use Rattle.tag_core.specs.Core.{Core}
 use Rattle.device_layout.specs.Recovery.{AllFit}
 
@@ -25,8 +21,7 @@ fit_more step s (x ∷ es) e fit room = (fit.0, fit_more step (after step s x) e
 
 -- where too many are refused and this many are not, they are few enough
 pub few_enough : (n : ℕ) → (most_records < n → false ≡ true) → n ≤ most_records
-few_enough n never = ⊎_elim (λ more. let bad = never more in search rules) (λ few. omega (arith, few))
-    (cases_lt most_records n)
+few_enough n never = grind arith
 
 -- the first n of these values were taken
 pub record IsTakenTo (points : List Point) (n : ℕ) (start now : Core) : Type 0 where

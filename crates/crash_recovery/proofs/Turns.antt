@@ -1,24 +1,21 @@
 -- What each image recovers, from call to call.
-use Rattle.std.proofs.Common.{inl, inr, Result, Ok, Err, OnOk}
+use Rattle.std.proofs.Common.{Result, OnOk, arith}
 use Rattle.trend_num.specs.declared.tag_def.TagDef.{TagDef}
 use Rattle.trend_model.specs.State.{State}
-use Rattle.disk_model.specs.Traces.{Trace}
-use Rattle.disk_model.specs.Moments.{During}
+use Rattle.disk_model.specs.{Traces.Trace, Moments.During}
 use Rattle.disk_model.proofs.Moments.{weaker, in_turn, during_now, started}
 use Rattle.device_layout.specs.Recovery.{Recovers}
-use Rattle.crash_recovery.specs.Journals.{AllRecover, RecoversEither}
+use Rattle.crash_recovery.specs.{AllRecover, RecoversEither}
 
 -- one of two states is either
 pub either_first : (o new : Trace) (def : TagDef) (s r : State) → During o new (λ c. Recovers def c s)
     → During o new (RecoversEither def s r)
-either_first o new def s r during = weaker o new (λ c. Recovers def c s) (RecoversEither def s r)
-    (λ c is. inl is) during
+either_first o new def s r during = grind (arith, weaker)
 
 -- the second one
 pub either_second : (o new : Trace) (def : TagDef) (s r : State) → During o new (λ c. Recovers def c r)
     → During o new (RecoversEither def s r)
-either_second o new def s r during = weaker o new (λ c. Recovers def c r) (RecoversEither def s r)
-    (λ c is. inr is) during
+either_second o new def s r during = grind (arith, weaker)
 
 -- nothing was called
 pub either_kept : (o : Trace) (def : TagDef) (s r : State) → AllRecover def o s
@@ -28,8 +25,7 @@ either_kept o def s r all = either_first o o def s r (started o (λ c. Recovers 
 -- calls that leave what each image recovers, and then others
 pub then_either : (a b c : Trace) (def : TagDef) (s r : State) → During a b (λ x. Recovers def x s)
     → (AllRecover def b s → During b c (RecoversEither def s r)) → During a c (RecoversEither def s r)
-then_either a b c def s r ab bc =
-    in_turn a b c (RecoversEither def s r) (either_first a b def s r ab)
+then_either a b c def s r ab bc = in_turn a b c (RecoversEither def s r) (either_first a b def s r ab)
     (bc (during_now a b (λ x. Recovers def x s) ab))
 
 -- both leave it
@@ -45,10 +41,8 @@ then_second a b c def s r ab bc = in_turn a b c (RecoversEither def s r) ab (eit
 
 -- what follows at Ok
 pub on_ok : {T E A B : Type 0} (r : Result T E) → (A → B) → OnOk r A → OnOk r B
-on_ok (Ok x) so a = so a
-on_ok (Err e) so a = tt
+on_ok x1 so a = grind arith
 
 -- and what holds anyhow
 pub ok_always : {T E A : Type 0} (r : Result T E) → A → OnOk r A
-ok_always (Ok x) a = a
-ok_always (Err e) a = tt
+ok_always x1 a = grind arith

@@ -1,31 +1,19 @@
 -- What opening a tag's device returns.
-use Rattle.std.specs.Prelude.{◌≡◌, ◌≢◌, ◌⊎◌, ℕ, ◌+◌, ◌^◌, ◌<◌, ◌≤◌, Bool, true, false, List, length}
-use Rattle.std.specs.Prelude.{Some, slice_index}
-use Rattle.trend_num.specs.Limits.{most_records}
-use Rattle.trend_num.specs.declared.point.Point.{Point}
-use Rattle.trend_num.specs.declared.tag_def.TagDef.{TagDef}
-use Rattle.trend_model.specs.History.{Tune}
-use Rattle.trend_model.specs.State.{State, after}
-use Rattle.disk_model.specs.Traces.{Trace, Synced, moment, seen, noted}
-use Rattle.disk_model.specs.Images.{MayLeave}
-use Rattle.disk_model.specs.Moments.{During}
-use Rattle.device_layout.specs.declared.failure.OpenNo.{OpenNo}
-use Rattle.device_layout.specs.declared.failure.OpenNo.TheVariants.{DeviceFault, Damaged}
-use Rattle.device_layout.specs.declared.failure.OpenNo.TheVariants.{WantOfMemory}
-use Rattle.disk_model.specs.Gates.{open_byte, layout_calls, IsOpen, IsNew}
-use Rattle.event_queue.specs.Slots.{gate_of, batch_at}
-use Rattle.event_queue.specs.Lanes.{IsStale}
-use Rattle.event_queue.specs.Places.{IsFilled}
+use Rattle.std.specs.Prelude.{◌≡◌, ◌≢◌, ◌⊎◌, ℕ, ◌+◌, ◌^◌, ◌<◌, ◌≤◌, Bool, true, false, List, length, Some}
+use Rattle.std.specs.Prelude.{slice_index}
+use Rattle.trend_num.specs.{Limits.most_records, declared.point.Point.Point, declared.tag_def.TagDef.TagDef}
+use Rattle.trend_model.specs.{History.Tune, State.State, State.after}
+use Rattle.disk_model.specs.{Traces.Trace, Traces.Synced, Traces.moment, Traces.seen, Traces.noted}
+use Rattle.disk_model.specs.{Images.MayLeave, Moments.During, Gates.open_byte, Gates.layout_calls}
+use Rattle.disk_model.specs.{Gates.IsOpen, Gates.IsNew, Calls.Shows}
+use Rattle.device_layout.specs.declared.failure.OpenNo.TheVariants.{DeviceFault, Damaged, WantOfMemory}
+use Rattle.device_layout.specs.{declared.failure.OpenNo.OpenNo, Headers.slots_in, Recovery.header_of}
+use Rattle.device_layout.specs.{Recovery.counting, Recovery.Recovers, Layouts.IsMade, Damages.StandsThere}
+use Rattle.device_layout.specs.{Damages.IsValuePlace}
+use Rattle.event_queue.specs.{Slots.gate_of, Slots.batch_at, Lanes.IsStale, Places.IsFilled}
 use Rattle.archive_file.specs.declared.failure.PutNo.{PutNo}
+use Rattle.crash_recovery.specs.{Journals.AllRecover, Journals.taken_of, Seats.checkpoint_calls}
 use Rattle.archive_file.specs.declared.failure.PutNo.TheVariants as put
-use Rattle.device_layout.specs.Headers.{slots_in}
-use Rattle.device_layout.specs.Recovery.{header_of, counting}
-use Rattle.device_layout.specs.Recovery.{Recovers}
-use Rattle.device_layout.specs.Layouts.{IsMade}
-use Rattle.crash_recovery.specs.Journals.{AllRecover, taken_of}
-use Rattle.crash_recovery.specs.Seats.{checkpoint_calls}
-use Rattle.device_layout.specs.Damages.{StandsThere, IsValuePlace}
-use Rattle.disk_model.specs.Calls.{Shows}
 
 -- another tuning than the wanted one is in force in s, which has room for two records more, and r is s retuned
 abbrev pub IsRetuned : TagDef → State → State → Type 0

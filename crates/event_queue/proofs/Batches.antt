@@ -1,49 +1,27 @@
 -- The bytes of a batch, written and read.
-use Rattle.std.proofs.Common.{◌≡◌, ℕ, zero, suc, ◌+◌, ◌*◌, ◌^◌, ◌<◌, ◌≤◌, min, List, [], ◌∷◌, ◌++◌, length}
-use Rattle.std.proofs.Common.{get_or, take, drop, flat_map}
-use Rattle.std.proofs.Common.{refl, sym, ◌∙◌, ap, arith, append_assoc, add-one, length-append}
-use Rattle.std.proofs.lemmas.List.{take_all, drop-drop}
-use Rattle.std.proofs.lemmas.List.Elements.{All-head, All-tail}
-use Rattle.std.proofs.lemmas.Nat.{from_be_bytes-to_be_bytes_2, from_be_bytes-to_be_bytes_8}
-use Rattle.std.specs.Int.{w64, from_be_bytes}
+use Rattle.std.proofs.Common.{◌≡◌, ℕ, zero, suc, ◌+◌, ◌*◌, ◌^◌, ◌<◌, ◌≤◌, List, [], ◌∷◌, ◌++◌, length, get_or, take, drop, flat_map, refl, sym, ◌∙◌, ap, arith, append_assoc, add-one, length-append}
+use Rattle.std.proofs.lemmas.{Grind.common_steps, List.take_all, List.drop-drop, List.Elements.All-head, List.Elements.All-tail, Nat.from_be_bytes-to_be_bytes_2, Nat.from_be_bytes-to_be_bytes_8}
 use Rattle.std.specs.List.{All}
-use Rattle.trend_num.specs.declared.point.Point.{Point}
-use Rattle.trend_num.specs.Ranges.{InRange}
+use Rattle.trend_num.specs.{declared.point.Point.Point, Ranges.InRange}
 use Rattle.archive_file.specs.Fields.{number_bytes, point_bytes, point_at}
-use Rattle.archive_file.proofs.Joins.{images_more}
-use Rattle.archive_file.proofs.Points.{point_at-bytes}
-use Rattle.event_queue.specs.Slots.{batch_bytes, slot_points, count_in, batch_in}
+use Rattle.archive_file.proofs.{Joins.images_more, Points.point_at-bytes}
+use Rattle.event_queue.specs.{batch_bytes, slot_points, batch_in}
 
 -- so many points of a batch are written after its two numbers
 pub record IsWritten (first : ℕ) (points : List Point) (i : ℕ) (bytes : List ℕ) : Type 0 where
-  pub items : bytes ≡ number_bytes 8 first
-      ++ (number_bytes 2 (length points) ++ flat_map point_bytes (take i points))
+  pub items : bytes ≡ number_bytes 8 first ++ (number_bytes 2 (length points) ++ flat_map point_bytes (take i points))
   pub long : length bytes ≡ 10 + 16 * i
 
 -- one point more
 pub written_more : (first : ℕ) (points : List Point) (i : ℕ) (p : Point) (bytes new : List ℕ)
-    → IsWritten first points i bytes
-    → i < length points → p ≡ get_or points i p → new ≡ bytes ++ point_bytes p
+    → IsWritten first points i bytes → i < length points → p ≡ get_or points i p → new ≡ bytes ++ point_bytes p
     → IsWritten first points (i + 1) new
 written_more first points i p bytes new so_far there is more =
-    let image = flat_map point_bytes (take i points) in
-    let front = number_bytes 8 first in
-    let count = number_bytes 2 (length points) in
-    record {
-      items = cc (
-        append_assoc front (count ++ image) (point_bytes p),
-        append_assoc count image
-            (point_bytes p),
-        images_more point_bytes points i p there is,
-      );
-      long = ap length more ∙ length-append bytes (point_bytes p) ∙ omega (arith, so_far.long);
-    }
+    grind (arith, common_steps, append_assoc, images_more, length-append)
 
 -- none are
-pub written_none : (first : ℕ) (points : List Point) (none one two n8 n2 : List ℕ) → none ≡ [] → one ≡ none
-    ++ n8
-    → two ≡ one ++ n2 → n8 ≡ number_bytes 8 first → n2 ≡ number_bytes 2 (length points)
-    → IsWritten first points 0 two
+pub written_none : (first : ℕ) (points : List Point) (none one two n8 n2 : List ℕ) → none ≡ [] → one ≡ none ++ n8
+    → two ≡ one ++ n2 → n8 ≡ number_bytes 8 first → n2 ≡ number_bytes 2 (length points) → IsWritten first points 0 two
 written_none first points none one two n8 n2 empty put8 put2 is8 is2 = grind arith
 
 -- all are
@@ -102,16 +80,7 @@ points_in-images (p ∷ ps) more inside =
     )
 
 -- a batch is read of its bytes
-pub batch_in-bytes : (first : ℕ) (ps : List Point) (more : List ℕ) → first < 2 ^ 64 → length ps ≤ 64
-    → All InRange ps
+pub batch_in-bytes : (first : ℕ) (ps : List Point) (more : List ℕ) → first < 2 ^ 64 → length ps ≤ 64 → All InRange ps
     → batch_in (batch_bytes first ps ++ more) ≡ record { first = first; count = length ps; points = ps }
 batch_in-bytes first ps more small few inside =
-    let number : from_be_bytes w64 (take 8 (batch_bytes first ps ++ more))
-    ≡ first = from_be_bytes-to_be_bytes_8 first small in
-    let count : count_in (batch_bytes first ps ++ more) ≡ length ps = from_be_bytes-to_be_bytes_2 (length ps)
-    (omega (arith, few)) in
-    let clipped : min 64 (count_in (batch_bytes first ps ++ more)) ≡ length ps = omega (arith, count, few) in
-    let points : slot_points (min 64 (count_in (batch_bytes first ps ++ more)))
-    (flat_map point_bytes ps ++ more) ≡ ps =
-    cc (points_in-images ps more inside) in
-    λ i. record { first = number i; count = count i; points = points i }
+    grind (arith, from_be_bytes-to_be_bytes_8, from_be_bytes-to_be_bytes_2, points_in-images)

@@ -1,20 +1,11 @@
 -- A lane in use, before and after an append.
-use Rattle.std.proofs.Common.{◌≡◌, ◌≢◌, ⊎_elim, ℕ, zero, suc, ◌+◌, ◌-◌, ◌^◌, ◌<◌, ◌≤◌}
-use Rattle.std.proofs.Common.{List, ◌++◌}
-use Rattle.std.proofs.Common.{length, get_or, take, drop, ◌∙◌, ap, subst, arith, length-append}
-use Rattle.std.proofs.Common.{add-zero}
-use Rattle.std.proofs.Common.{take-append-drop}
+use Rattle.std.proofs.Common.{◌≡◌, ◌≢◌, ⊎_elim, ℕ, zero, suc, ◌+◌, ◌-◌, ◌^◌, ◌<◌, ◌≤◌, List, ◌++◌, length, get_or, take, drop, ◌∙◌, ap, arith, length-append, add-zero, take-append-drop}
+use Rattle.std.proofs.lemmas.{Bool.cases_lt, List.append-nil, List.take-take}
 use Rattle.std.specs.List.{All}
-use Rattle.std.proofs.lemmas.Bool.{cases_lt}
-use Rattle.std.proofs.lemmas.List.{append-nil, take-take}
-use Rattle.trend_num.specs.declared.point.Point.{Point}
-use Rattle.trend_num.specs.Ranges.{InRange}
+use Rattle.trend_num.specs.{declared.point.Point.Point, Ranges.InRange}
 use Rattle.disk_model.specs.Gates.{open_byte, IsOpen, IsGuarded}
-use Rattle.event_queue.specs.Slots.{gate_of, place_of, batch_bytes, slot_at, batch_at}
-use Rattle.event_queue.specs.Lanes.{slot_points_of, points_before, lane_points, IsSound, IsLane}
-use Rattle.event_queue.specs.Places.{HasRoom, IsFilled}
-use Rattle.event_queue.proofs.Batches.{length-batch_bytes, batch_in-bytes}
-use Rattle.event_queue.proofs.Rooms.{gate_outside, room_guarded}
+use Rattle.event_queue.specs.{gate_of, place_of, batch_bytes, slot_at, batch_at, slot_points_of, points_before, lane_points, IsSound, IsLane, HasRoom, IsFilled}
+use Rattle.event_queue.proofs.{Batches.length-batch_bytes, Batches.batch_in-bytes, Rooms.gate_outside, Rooms.room_guarded}
 use Rattle.event_queue.proofs.Steps.{beyond_all, lane_more, points_shut, points_open, points_more}
 use Rattle.event_queue.proofs.SameLanes.{HasSameSlots, same_slot, same_points, same_beyond, same_lane}
 
@@ -38,8 +29,7 @@ pub lane_points_used : (slots taken used : ℕ) (c : List ℕ) → used ≤ slot
     → lane_points slots c taken ≡ points_before slots c taken used
 lane_points_used slots taken used c within room =
     let whole : slots ≡ used + (slots - used) = omega arith in
-    cc (points_used slots taken used (slots - used) c
-    (λ k low below. room.shut k low (omega (arith, within, below))))
+    cc (points_used slots taken used (slots - used) c (λ k low below. room.shut k low (omega (arith, within, below))))
 
 -- and the whole keeps the layout where they do
 pub lane_used : (slots taken used : ℕ) (c : List ℕ) → HasRoom slots used c → IsLane slots c taken used
@@ -56,8 +46,7 @@ lane_front slots taken n m c le lane = record
     { sound = λ k below opened. lane.sound k (omega (arith, below, le)) opened }
 
 -- if these bytes lie at a slot's beginning, the slot holds their batch
-pub batch_held : (slots k first : ℕ) (ps : List Point) (c : List ℕ) → first < 2 ^ 64 → length ps ≤ 64
-    → All InRange ps
+pub batch_held : (slots k first : ℕ) (ps : List Point) (c : List ℕ) → first < 2 ^ 64 → length ps ≤ 64 → All InRange ps
     → take (length (batch_bytes first ps)) (drop (place_of slots k) c) ≡ batch_bytes first ps
     → batch_at slots c k ≡ record { first = first; count = length ps; points = ps }
 batch_held slots k first ps c small few inside holds =
@@ -68,9 +57,8 @@ batch_held slots k first ps c small few inside holds =
     cc (take-append-drop m slot, batch_in-bytes first ps (drop m slot) small few inside)
 
 module _ (slots taken used next : ℕ) (held batch : List Point) (old new : List ℕ) (free : used < slots)
-    (some : 1 ≤ length batch) (few : length batch ≤ 64)
-    (inside : All InRange batch) (small : next + length batch < 2 ^ 64)
-    (filled : IsFilled slots taken used next old held)
+    (some : 1 ≤ length batch) (few : length batch ≤ 64) (inside : All InRange batch)
+    (small : next + length batch < 2 ^ 64) (filled : IsFilled slots taken used next old held)
     (guarded : IsGuarded (place_of slots used) (batch_bytes next batch) (gate_of used) old new) where
   -- every other gate is as it was
   gate_same : (k : ℕ) → k < slots → k ≢ used → get_or new (gate_of k) 0 ≡ get_or old (gate_of k) 0
@@ -87,14 +75,10 @@ module _ (slots taken used next : ℕ) (held batch : List Point) (old new : List
   -- where the gate is closed, the lane holds what it held
   pub absent : get_or new (gate_of used) 0 ≢ open_byte → IsFilled slots taken used next new held
   absent shut = record {
-    room = record {
-      long = omega (arith, filled.room.long, guarded.no_shorter);
-      shut = λ k low there opened. closed k low there opened;
-    };
+    room = grind (arith, closed);
     lane = same_lane slots taken slots old new same slots (omega arith) filled.lane;
     opened = λ k before. same.forth k (omega (arith, before, free)) (filled.opened k before);
-    beyond = λ k before. same_beyond slots taken slots old new same k (omega (arith, before, free))
-        (filled.opened k before) (filled.beyond k before);
+    beyond = λ k before. grind (arith, before, same_beyond, same);
     points = same_points slots taken slots old new same slots (omega arith) ∙ filled.points;
     number = filled.number;
   }
@@ -106,20 +90,15 @@ module _ (slots taken used next : ℕ) (held batch : List Point) (old new : List
       same = grind (arith, gate_same, was_used, slot_same)
 
   -- where it is open, the lane holds the batch after that
-  pub whole : IsOpen (gate_of used) new → IsFilled slots taken (used + 1) (next + length batch) new
-      (held ++ batch)
+  pub whole : IsOpen (gate_of used) new → IsFilled slots taken (used + 1) (next + length batch) new (held ++ batch)
   whole opened = record {
     room = room;
     lane = lane_used slots taken (used + 1) new room lane;
     opened = λ k below. grind (arith, same.forth);
-    beyond = λ k below. ⊎_elim (λ before. same_beyond slots taken used old new same k before
-        (filled.opened k before) (filled.beyond k before))
-        (λ at. subst (λ i. taken < (batch_at slots new i).first + (batch_at slots new i).count) (omega arith)
-        last_beyond) (cases_lt k used);
+    beyond = λ k below. grind (arith, before, same_beyond, same, last_beyond);
     points = lane_points_used slots taken (used + 1) new (omega arith) room ∙ points_more slots taken new used
         ∙ ap (λ l. l ++ slot_points_of slots new taken used) before
-        ∙ ap (λ l. held ++ l) (points_open slots taken new used opened
-        ∙ beyond_all taken (batch_at slots new used) last_beyond ∙ ap (λ x. x.points) last);
+        ∙ ap (λ l. held ++ l) (grind (arith, points_open, beyond_all, last_beyond, last));
     number = omega (arith, filled.number, length-append held batch);
   }
     where
@@ -148,5 +127,4 @@ module _ (slots taken used next : ℕ) (held batch : List Point) (old new : List
       sound = grind (arith, count_is, first_is, before, same_beyond, same, last)
 
       lane : IsLane slots new taken (used + 1)
-      lane = lane_more slots taken new used (same_lane slots taken used old new same used (omega arith)
-          (lane_front slots taken slots used old (omega (arith, free)) filled.lane)) (λ again. sound)
+      lane = lane_more slots taken new used (grind (arith, same_lane, same, lane_front)) (λ again. sound)

@@ -1,15 +1,9 @@
 -- A lane that keeps the layout is in use, or overtaken.
-use Rattle.std.proofs.Common.{◌≡◌, ◌≢◌, ◌⊎◌, inl, inr, ⊎_elim, ℕ, zero, suc, ◌+◌, ◌-◌, ◌<◌, ◌≤◌, true}
-use Rattle.std.proofs.Common.{false, List, length, get_or}
-use Rattle.std.proofs.Common.{refl, sym, arith}
+use Rattle.std.proofs.Common.{◌≡◌, ◌≢◌, ◌⊎◌, inl, inr, ⊎_elim, ℕ, zero, suc, ◌+◌, ◌-◌, ◌<◌, ◌≤◌, true, false, List, length, get_or, refl, arith}
 use Rattle.std.proofs.lemmas.Bool.{cases_eq}
 use Rattle.trend_num.specs.declared.point.Point.{Point}
 use Rattle.disk_model.specs.Gates.{open_byte, IsOpen}
-use Rattle.event_queue.specs.declared.reader.Scanned.{Scanned}
-use Rattle.event_queue.specs.Slots.{gate_of, lane_end, batch_at}
-use Rattle.event_queue.specs.Lanes.{IsStale, lane_points, IsNextBehind, IsLane}
-use Rattle.event_queue.specs.Places.{IsFilled, IsOvertaken}
-use Rattle.event_queue.specs.Scans.{IsWithin, IsRead}
+use Rattle.event_queue.specs.{declared.reader.Scanned.Scanned, gate_of, lane_end, batch_at, IsStale, lane_points, IsNextBehind, IsLane, IsFilled, IsOvertaken, IsWithin, IsRead}
 use Rattle.event_queue.proofs.Rules.{next_beyond, told_stale, last_next}
 
 module _ (slots taken : ℕ) (c : List ℕ) where
@@ -32,22 +26,11 @@ module _ (slots taken : ℕ) (c : List ℕ) where
   used_shut n used shut are = grind arith
 
   -- one or the other
-  stale_or_used : IsLane slots c taken slots → (n : ℕ) → n ≤ slots → AreStale n
-      ⊎ ((used : ℕ) × AreUsed n used)
-  stale_or_used lane zero within = inr (
-    0,
-    record {
-      within = omega arith;
-      opened = λ k below. absurd (omega (arith, below));
-      beyond = λ k below. absurd (omega (arith, below));
-      shut = λ k low below. absurd (omega (arith, below));
-    },
-  )
+  stale_or_used : IsLane slots c taken slots → (n : ℕ) → n ≤ slots → AreStale n ⊎ ((used : ℕ) × AreUsed n used)
+  stale_or_used lane zero within = grind arith
   stale_or_used lane (suc n) within = ⊎_elim
       (λ opened. let sound = lane.sound n (omega (arith, within)) opened in ⊎_elim
-      (λ behind. inl (record {
-        stale = λ k below k_open. grind (arith, behind.before);
-      }))
+      (λ behind. grind arith)
       (λ next. inr (
         suc n,
         record {
@@ -90,15 +73,4 @@ module _ (slots taken : ℕ) (c : List ℕ) where
 
     pub scanned_filled : lane_end slots ≤ length c → s.stale ≡ false
         → IsFilled slots taken s.lane.used s.lane.next c s.points.items
-    scanned_filled long untold = record {
-      room = record { long = long; shut = read.none_behind };
-      lane = read.lane;
-      opened = λ k below. grind (arith, (last_one untold k below).opened k, read.last (omega (arith, below)));
-      beyond = λ k below. grind (arith, (last_one untold k below).beyond k, last_beyond k below);
-      points = sym read.points;
-      number = within.number;
-    }
-      where
-        last_beyond : (k : ℕ) → k < s.lane.used → taken < (batch_at slots c (s.lane.used - 1)).first +
-            (batch_at slots c (s.lane.used - 1)).count
-        last_beyond k below = grind (arith, next_beyond, last_one)
+    scanned_filled long untold = grind (arith, last_one, next_beyond)

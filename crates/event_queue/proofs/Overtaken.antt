@@ -1,14 +1,8 @@
 -- A lane that a summary has overtaken.
-use Rattle.std.proofs.Common.{◌≡◌, inl, ℕ, zero, suc, ◌<◌, ◌≤◌, List, [], ◌++◌}
-use Rattle.std.proofs.Common.{refl, sym, ◌∙◌, ap, subst, arith}
-use Rattle.std.specs.List.{All}
-use Rattle.trend_num.specs.Ranges.{InRange}
+use Rattle.std.proofs.Common.{◌≡◌, ℕ, zero, suc, ◌<◌, ◌≤◌, List, [], ◌++◌, refl, sym, ◌∙◌, ap, subst, arith}
 use Rattle.disk_model.specs.Gates.{IsOpen, IsClosing}
-use Rattle.event_queue.specs.Slots.{gate_of, batch_at}
-use Rattle.event_queue.specs.Lanes.{IsStale, slot_points_of, points_before}
-use Rattle.event_queue.specs.Places.{IsOvertaken}
-use Rattle.event_queue.proofs.Steps.{points_open}
-use Rattle.event_queue.proofs.SameLanes.{same_behind}
+use Rattle.event_queue.specs.{gate_of, batch_at, IsStale, slot_points_of, points_before, IsOvertaken}
+use Rattle.event_queue.proofs.{Steps.points_open, SameLanes.same_behind}
 
 -- it holds nothing beyond the summary
 pub overtaken_none : (slots taken : ℕ) (c : List ℕ) → IsOvertaken slots taken c → (n : ℕ) → n ≤ slots
@@ -21,22 +15,7 @@ overtaken_none slots taken c over (suc n) within =
 -- it stays overtaken where some of its gates are closed or torn
 pub overtaken_closing : (slots taken used : ℕ) (old new : List ℕ) → used ≤ slots → IsOvertaken slots taken old
     → IsClosing (gate_of 0) used old new → IsOvertaken slots taken new
-overtaken_closing slots taken used old new le over closing = record {
-  lane = record {
-    sound = λ k below opened.
-        let was = was_open k opened in
-        let sound = over.lane.sound k below was in
-        record {
-          counted = rw (batch_same k) sound.counted;
-          follows = inl (record {
-            stale = stale k below opened;
-            before = λ j j_below j_open. stale j (omega (arith, below, j_below)) j_open;
-          });
-          in_range = subst (λ x. All InRange x.points) (sym (batch_same k)) sound.in_range;
-        };
-  };
-  stale = stale;
-}
+overtaken_closing slots taken used old new le over closing = grind (arith, was_open, batch_same, stale)
   where
     was_open : (k : ℕ) → IsOpen (gate_of k) new → IsOpen (gate_of k) old
     was_open k opened = grind arith

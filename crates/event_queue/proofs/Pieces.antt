@@ -1,19 +1,13 @@
 -- What is in a piece that was read is on the device.
-use Rattle.std.proofs.Common.{◌≡◌, ◌≢◌, ℕ, ◌+◌, ◌*◌, ◌<◌, ◌≤◌, List, length, get_or, take, drop, Result}
-use Rattle.std.proofs.Common.{Ok, Err, IsErrAnd}
-use Rattle.std.proofs.Common.{sym, ◌∙◌, ap, subst, arith, add-zero}
+use Rattle.std.proofs.Common.{◌≡◌, ◌≢◌, ℕ, ◌+◌, ◌*◌, ◌<◌, ◌≤◌, List, length, get_or, take, drop, Result, Ok, Err, IsErrAnd, sym, ◌∙◌, ap, subst, arith, add-zero}
 use Rattle.disk_model.specs.Gates.{open_byte}
 use Rattle.archive_file.proofs.Logs.{part_of, byte_of}
-use Rattle.event_queue.specs.Slots.{gate_of, place_of}
-use Rattle.event_queue.specs.declared.reader.Scanned.{Scanned}
-use Rattle.event_queue.specs.Scans.{IsWithin, IsRead}
-use Rattle.event_queue.specs.Pieces.{IsOpenSlot, IsPiece}
+use Rattle.event_queue.specs.{gate_of, place_of, IsWithin, IsRead, IsOpenSlot, IsPiece, declared.reader.Scanned.Scanned}
 use Rattle.event_queue.proofs.Steps.{read_shut}
 
 -- an error that was handed on as it is
-pub handed_on : {T U E : Type 0} (r : Result T E) (q : Result U E) (e x : E) → IsErrAnd r (λ y. y ≡ e) → q
-    ≡ Err e → r ≡ Err x
-    → q ≡ Err x
+pub handed_on : {T U E : Type 0} (r : Result T E) (q : Result U E) (e x : E) → IsErrAnd r (λ y. y ≡ e) → q ≡ Err e
+    → r ≡ Err x → q ≡ Err x
 handed_on (Ok v) q e x given was told = absurd given
 handed_on (Err y) q e x given was told = let same : y ≡ x = cc (told) in cc
 
@@ -35,8 +29,7 @@ module _ (slots : ℕ) (bytes gates : List ℕ) (from : ℕ) (piece : List ℕ)
   }
 
 -- what holds of the first n slots holds of more
-pub within_wider : (slots taken n m : ℕ) (s : Scanned) → n ≤ m → IsWithin slots taken n s
-    → IsWithin slots taken m s
+pub within_wider : (slots taken n m : ℕ) (s : Scanned) → n ≤ m → IsWithin slots taken n s → IsWithin slots taken m s
 within_wider slots taken n m s wider within = grind arith
 
 -- so many slots of a piece were taken in
@@ -79,8 +72,7 @@ module _ (slots taken : ℕ) (gates : List ℕ) (from : ℕ) (piece : List ℕ) 
     taken_open slot new opened fits here within goes_on is =
         rw is (record {
           slots_same = within.slots_same ∙ same;
-          within = within_wider slots taken (from + i + 1) (from + (i + 1)) new (omega arith)
-              (rw same at within);
+          within = grind (arith, within_wider, same);
           read = λ bytes at_piece read.
               let at_slot = slot_in slots bytes gates from piece at_piece i slot there opened fits here in
               subst (λ n. IsRead slots taken bytes n new) (omega arith)

@@ -1,27 +1,12 @@
 -- The room that a lane needs: what it gives a call, and what calls leave of it.
-use Rattle.std.proofs.Common.{◌≡◌, inl, inr, ⊎_elim, ℕ, ◌+◌, ◌<◌, ◌≤◌, List}
-use Rattle.std.proofs.Common.{sym, ◌∙◌, subst, arith}
-use Rattle.std.proofs.lemmas.Bool.{cases_lt}
-use Rattle.disk_model.specs.Traces.{Trace, seen}
-use Rattle.disk_model.specs.Images.{IsOutside, Now, FromOld}
-use Rattle.disk_model.specs.Moments.{During}
-use Rattle.disk_model.specs.Calls.{Reaches}
-use Rattle.disk_model.specs.Gates.{IsShut, IsGuarded, AreShut, IsClosing}
-use Rattle.disk_model.proofs.Images.{present}
-use Rattle.disk_model.proofs.Moments.{during_now}
-use Rattle.event_queue.specs.Slots.{gate_of, place_of, lane_end}
-use Rattle.event_queue.specs.Places.{HasRoom}
+use Rattle.std.proofs.Common.{◌≡◌, inl, ℕ, ◌+◌, ◌<◌, ◌≤◌, List, subst, arith}
+use Rattle.disk_model.specs.{Traces.Trace, Traces.seen, Images.IsOutside, Images.Now, Images.FromOld, Moments.During, Calls.Reaches, Gates.IsGuarded, Gates.AreShut, Gates.IsClosing}
+use Rattle.disk_model.proofs.{Images.present, Moments.during_now}
+use Rattle.event_queue.specs.{gate_of, place_of, lane_end, HasRoom}
 
 -- what a read gives has the whole lane
-pub reaches_lane : (o : Trace) (slots used n : ℕ) → Now o (HasRoom slots used) → n ≤ lane_end slots
-    → Reaches o n
+pub reaches_lane : (o : Trace) (slots used n : ℕ) → Now o (HasRoom slots used) → n ≤ lane_end slots → Reaches o n
 reaches_lane t slots used n room le = omega (arith, (room.each (seen t) (present t)).long)
-
--- the next gate is there, and closed
-pub next_shut : (o : Trace) (slots used gate : ℕ) → Now o (HasRoom slots used) → used < slots → gate
-    ≡ gate_of used
-    → Now o (IsShut gate)
-next_shut o slots used gate room free is = grind arith
 
 -- a gate lies before all slots
 pub gate_outside : (slots used k at n : ℕ) → k < slots → at ≡ place_of slots used → IsOutside at n (gate_of k)
@@ -52,12 +37,5 @@ room_anew o new slots used room during shut = record {
   each = λ c may.
       let from = (during_now o new (FromOld o (IsClosing (gate_of 0) used)) during).each c may in
       let has = room.each from.0 from.1 in
-      record {
-        long = omega (arith, has.long, from.2.same_length);
-        shut = λ k low there. ⊎_elim (λ below. ((shut.each c may) (gate_of k) (omega arith)
-            (omega arith)).closed)
-            (λ above opened. has.shut k above there
-            (sym (from.2.same (gate_of k) (inl (inr (omega arith)))) ∙ opened))
-            (cases_lt k used);
-      };
+      record { long = omega (arith, has.long, from.2.same_length); shut = λ k low there. grind arith };
 }

@@ -1,14 +1,9 @@
 -- What a lane holds depends only on which gates are open, and on the slots that these gates guard.
-use Rattle.std.proofs.Common.{◌≡◌, inl, inr, ⊎_elim, ℕ, zero, suc, ◌+◌, ◌<◌, ◌≤◌, List, length}
-use Rattle.std.proofs.Common.{get_or}
-use Rattle.std.proofs.Common.{take, drop, refl, sym, ◌∙◌, ap, subst, arith, length-take, length-drop}
-use Rattle.std.proofs.lemmas.Bool.{cases_eq}
-use Rattle.std.proofs.lemmas.List.{get_or-drop, ext_get_or}
+use Rattle.std.proofs.Common.{◌≡◌, ⊎_elim, ℕ, zero, suc, ◌+◌, ◌<◌, ◌≤◌, List, length, get_or, take, drop, refl, sym, ◌∙◌, ap, subst, arith, length-take, length-drop}
+use Rattle.std.proofs.lemmas.{Bool.cases_eq, List.get_or-drop, List.ext_get_or}
 use Rattle.disk_model.specs.Gates.{open_byte, IsOpen}
 use Rattle.disk_model.proofs.Bytes.{holds_same}
-use Rattle.event_queue.specs.Slots.{gate_of, place_of, lane_end, slot_at, batch_in, batch_at}
-use Rattle.event_queue.specs.Lanes.{IsStale, points_beyond, slot_points_of, points_before, FollowsOn}
-use Rattle.event_queue.specs.Lanes.{IsSound, IsLane}
+use Rattle.event_queue.specs.{gate_of, place_of, lane_end, slot_at, batch_in, batch_at, IsStale, slot_points_of, points_before, FollowsOn, IsSound, IsLane}
 use Rattle.event_queue.proofs.Steps.{points_shut, points_open}
 
 -- of the first n slots the same are open, and hold the same bytes
@@ -26,8 +21,7 @@ same_behind slots k a b size same =
     (λ i below. get_or-drop at b i 0 ∙ same (at + i) (omega arith) ∙ sym (get_or-drop at a i 0)))
 
 -- bytes that agree in slot k, which is whole in both
-pub same_slot : (slots k : ℕ) (a b : List ℕ) → place_of slots k + 1034 ≤ length a
-    → place_of slots k + 1034 ≤ length b
+pub same_slot : (slots k : ℕ) (a b : List ℕ) → place_of slots k + 1034 ≤ length a → place_of slots k + 1034 ≤ length b
     → ((i : ℕ) → place_of slots k ≤ i → i < place_of slots k + 1034 → get_or b i 0 ≡ get_or a i 0)
     → slot_at slots b k ≡ slot_at slots a k
 same_slot slots k a b a_long b_long same =
@@ -45,16 +39,13 @@ module _ (slots taken n : ℕ) (a b : List ℕ) (is : HasSameSlots slots n a b) 
   -- the same points
   same_points_of : (k : ℕ) → k < n → slot_points_of slots b taken k ≡ slot_points_of slots a taken k
   same_points_of k there = ⊎_elim
-      (λ opened. points_open slots taken b k (is.forth k there opened)
-      ∙ ap (points_beyond taken) (same_batch k there opened) ∙ sym (points_open slots taken a k opened))
-      (λ shut. points_shut slots taken b k (λ opened. shut (is.back k there opened))
-      ∙ sym (points_shut slots taken a k shut))
+      (λ opened. grind (arith, points_open, same_batch))
+      (λ shut. grind (arith, points_shut))
       (cases_eq (get_or a (gate_of k) 0) open_byte)
 
   pub same_points : (m : ℕ) → m ≤ n → points_before slots b taken m ≡ points_before slots a taken m
   same_points zero within = refl
-  same_points (suc m) within =
-      cc (same_points m (omega (arith, within)), same_points_of m (omega (arith, within)))
+  same_points (suc m) within = cc (same_points m (omega (arith, within)), same_points_of m (omega (arith, within)))
 
   -- the same batches are stale
   pub same_stale : (k : ℕ) → k < n → IsOpen (gate_of k) a → IsStale taken (batch_at slots a k)
@@ -67,20 +58,8 @@ module _ (slots taken n : ℕ) (a b : List ℕ) (is : HasSameSlots slots n a b) 
   same_beyond k there opened beyond = grind (arith, same_batch)
 
   -- the same slots keep the layout
-  same_follows : (k : ℕ) → k < n → IsOpen (gate_of k) a → FollowsOn slots a taken k
-      → FollowsOn slots b taken k
-  same_follows k there opened follows = ⊎_elim
-      (λ behind. inl (record {
-        stale = same_stale k there opened behind.stale;
-        before = λ j below j_open. let j_in : j < n = omega (arith, there, below) in
-            let was = is.back j j_in j_open in same_stale j j_in was (behind.before j below was);
-      }))
-      (λ next. inr (record {
-        numbered = cc (same_batch k there opened, same_points k (omega (arith, there)));
-        opened = λ j below. is.forth j (omega (arith, there, below)) (next.opened j below);
-        beyond = λ j below. same_beyond j (omega (arith, there, below)) (next.opened j below)
-            (next.beyond j below);
-      })) follows
+  same_follows : (k : ℕ) → k < n → IsOpen (gate_of k) a → FollowsOn slots a taken k → FollowsOn slots b taken k
+  same_follows k there opened follows = grind (arith, same_stale, same_batch, same_points, same_beyond)
 
   pub same_sound : (k : ℕ) → k < n → IsOpen (gate_of k) a → IsSound slots a taken k → IsSound slots b taken k
   same_sound k there opened sound = grind (arith, same_batch, same_follows)
@@ -91,12 +70,4 @@ module _ (slots taken n : ℕ) (a b : List ℕ) (is : HasSameSlots slots n a b) 
 -- two images with the same bytes from the first gate to the last slot hold the same lane
 pub same_bytes : (slots : ℕ) (a b : List ℕ) → lane_end slots ≤ length a → lane_end slots ≤ length b
     → ((i : ℕ) → gate_of 0 ≤ i → i < lane_end slots → get_or b i 0 ≡ get_or a i 0) → HasSameSlots slots slots a b
-same_bytes slots a b a_long b_long same = record {
-  forth = λ k there opened. gate k there ∙ opened;
-  back = λ k there opened. sym (gate k there) ∙ opened;
-  same = λ k there opened. same_slot slots k a b (omega (arith, a_long, there)) (omega (arith, b_long, there))
-      (λ i low below. same i (omega (arith, low)) (omega (arith, below, there)));
-}
-  where
-    gate : (k : ℕ) → k < slots → get_or b (gate_of k) 0 ≡ get_or a (gate_of k) 0
-    gate k there = same (gate_of k) (omega arith) (omega (arith, there))
+same_bytes slots a b a_long b_long same = grind (arith, same_slot)

@@ -1,21 +1,14 @@
 -- What was read of the first slots extends to one slot more.
-use Rattle.std.proofs.Common.{◌≡◌, ◌≢◌, ◌↔◌, ⊎_elim, ℕ, ◌+◌, ◌<◌, ◌≤◌, Bool, true}
-use Rattle.std.proofs.Common.{List, [], ◌++◌, get_or, take, drop, sym, ◌∙◌, ap, subst, arith}
-use Rattle.std.proofs.Common.{add-one}
-use Rattle.std.proofs.Common.{Option, Some}
-use Rattle.std.specs.Int.{w64, from_be_bytes}
-use Rattle.std.proofs.lemmas.Bool.{cases_lt, eq-eqb, ne_eqb, le-leb, lt-leb, cond-true, cond-false}
+use Rattle.std.proofs.Common.{◌≡◌, ◌≢◌, ◌↔◌, ⊎_elim, ℕ, ◌+◌, ◌<◌, ◌≤◌, Bool, true, List, [], ◌++◌, get_or, take, drop, ap, arith, add-one, Option, Some}
 use Rattle.std.proofs.lemmas.List.{append-nil}
+use Rattle.std.proofs.lemmas.Bool.{cases_lt, eq-eqb, ne_eqb, le-leb, lt-leb, cond-true, cond-false}
+use Rattle.std.specs.Int.{w64, from_be_bytes}
 use Rattle.disk_model.specs.Gates.{open_byte, IsOpen}
 use Rattle.archive_file.specs.declared.failure.ScanNo.{ScanNo}
 use Rattle.archive_file.specs.declared.failure.ScanNo.TheVariants.{Damaged}
 use Rattle.archive_file.proofs.Logs.{byte_of}
-use Rattle.event_queue.specs.declared.reader.Scanned.{Scanned}
-use Rattle.event_queue.specs.Slots.{Batch, gate_of, place_of, count_in, slot_points, batch_in, batch_at}
-use Rattle.event_queue.specs.Lanes.{IsStale, points_beyond, slot_points_of, points_before, IsSound, IsLane}
-use Rattle.event_queue.specs.Damages.{BreaksSlotAt, IsLaneDamage}
-use Rattle.event_queue.specs.Scans.{IsRead}
-use Rattle.event_queue.specs.Pieces.{IsOpenSlot}
+use Rattle.event_queue.specs.{declared.reader.Scanned.Scanned, Batch, gate_of, place_of, count_in, slot_points, batch_in, batch_at, IsStale, points_beyond, slot_points_of, points_before, IsSound}
+use Rattle.event_queue.specs.{IsLane, BreaksSlotAt, IsLaneDamage, IsRead, IsOpenSlot}
 use Rattle.event_queue.proofs.Rules.{all_stale}
 
 -- a stale batch holds nothing beyond the summary
@@ -32,8 +25,7 @@ pub lane_more : (slots taken : ℕ) (bytes : List ℕ) (k : ℕ) → IsLane slot
 lane_more slots taken bytes k lane last =
     record {
       sound = λ j below opened. ⊎_elim (λ before. lane.sound j before opened)
-          (λ at. let is : j ≡ k = omega arith in
-          rw is (last (rw is at opened)))
+          (λ at. grind arith)
           (cases_lt j k);
     }
 
@@ -57,45 +49,19 @@ module _ (slots taken : ℕ) (bytes : List ℕ) (k : ℕ) where
       → IsRead slots taken bytes (k + 1) s
   read_shut s shut read = record {
     lane = lane_more slots taken bytes k read.lane (λ opened. absurd (shut opened));
-    points = read.points ∙ sym (cc (
-      points_more,
-      points_shut shut,
-      append-nil
-          (points_before slots bytes taken k),
-    ));
+    points = grind (arith, points_more, points_shut, append-nil);
     last = read.last;
     none_behind = λ j low below. grind (arith, read.none_behind);
-    stale = (
-      λ told. let one = read.stale.0 told in (one.0, omega (arith, one.1), one.2, one.3),
-      λ one. read.stale.1 (
-        one.0,
-        grind (arith, one.2),
-        one.2,
-        one.3,
-      ),
-    );
+    stale = (grind arith);
   }
 
   -- an open slot that keeps the layout is taken in
   pub read_open : (s new : Scanned) (stale : Bool) → IsRead slots taken bytes k s → IsOpen (gate_of k) bytes
       → IsSound slots bytes taken k → ((stale ≡ true) ↔ IsStale taken (batch_at slots bytes k))
-      → new.points.items ≡ s.points.items ++ points_beyond taken (batch_at slots bytes k) → new.lane.used
-      ≡ k + 1 → new.stale ≡ stale
-      → IsRead slots taken bytes (k + 1) new
-  read_open s new stale read opened sound tested points used told = record {
-    lane = lane;
-    points = cc (points, read.points, points_open opened, points_more);
-    last = λ some. subst (λ i. IsOpen (gate_of i) bytes) (omega (arith, used)) opened;
-    none_behind = λ j low below. absurd (omega (arith, used));
-    stale = (
-      λ yes. (k, omega arith, opened, tested.0 (sym told ∙ yes)),
-      λ one. told ∙ tested.1 (all_stale slots taken bytes (k + 1) one.0 k lane one.1 (omega arith) one.2
-          opened one.3),
-    );
-  }
-    where
-      lane : IsLane slots bytes taken (k + 1)
-      lane = lane_more slots taken bytes k read.lane (λ again. sound)
+      → new.points.items ≡ s.points.items ++ points_beyond taken (batch_at slots bytes k) → new.lane.used ≡ k + 1
+      → new.stale ≡ stale → IsRead slots taken bytes (k + 1) new
+  read_open s new stale read opened sound tested points used told =
+      grind (arith, points_open, points_more, all_stale, lane_more)
 
 -- the fields of a slot
 pub record HasFields (slot : List ℕ) (first count : ℕ) (rest : List ℕ) : Type 0 where
@@ -104,8 +70,7 @@ pub record HasFields (slot : List ℕ) (first count : ℕ) (rest : List ℕ) : T
   pub rest_is : rest ≡ drop 10 slot
 
 -- the points of a count that is one
-pub points_counted : (slot : List ℕ) (first count : ℕ) (rest : List ℕ) → HasFields slot first count rest
-    → count ≤ 64
+pub points_counted : (slot : List ℕ) (first count : ℕ) (rest : List ℕ) → HasFields slot first count rest → count ≤ 64
     → (batch_in slot).points ≡ slot_points count rest
 points_counted slot first count rest fields few = grind arith
 

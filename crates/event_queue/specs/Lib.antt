@@ -4,3 +4,9 @@ pub mod Damages
 pub mod Places
 pub mod Scans
 pub mod Pieces
+pub use Slots.*
+pub use Lanes.*
+pub use Places.*
+pub use Damages.*
+pub use Pieces.*
+pub use Scans.*

@@ -1,39 +1,27 @@
-use Rattle.std.proofs.Common.{◌≡◌, ◌∙◌, ◌+◌, ◌<◌, ◌^◌, IfOk, length, ap, refl, sym, subst, true, false}
-use Rattle.disk_model.specs.Gates.{IsNew}
-use Rattle.disk_model.specs.Traces.{Synced, noted, moment}
-use Rattle.crash_recovery.specs.Seats.{checkpoint_calls}
+use Rattle.std.proofs.Common.{◌≡◌, ◌∙◌, ◌+◌, ◌<◌, ◌^◌, IfOk, length, ap, refl, sym, subst, true, false, arith}
+use Rattle.disk_model.specs.{Gates.IsNew, Calls.Shows, Moments.During}
+use Rattle.disk_model.specs.Traces.{Synced, noted, moment, Trace}
+use Rattle.crash_recovery.specs.{checkpoint_calls, AllRecover, GoesOnFrom, HasSlots, IsTagLeftOrSame}
+use Rattle.crash_recovery.specs.{IsOpenedAs, StaysSame, RecoversThen, IsReadAs, LeavesFree, OpensAt}
 use Rattle.trend_num.specs.declared.tag_def.TagDef.{TagDef}
 use Rattle.trend_model.specs.State.{State}
-use Rattle.disk_model.specs.Traces.{Trace}
 use Rattle.device_layout.specs.Recovery.{Recovers}
-use Rattle.crash_recovery.specs.Journals.{AllRecover, GoesOnFrom}
-use Rattle.disk_model.specs.Calls.{Shows}
-use Rattle.crash_recovery.specs.Opening.{HasSlots, IsTagLeftOrSame, IsOpenedAs, StaysSame, RecoversThen, IsReadAs}
 use Rattle.device_layout.proofs.Shows.{if_ok, if_ok₂, if_err}
 use Rattle.crash_recovery.proofs.Openings.{Promises, during_same, opened_shown, recovers_read, stays_retuned}
 use Rattle.crash_recovery.proofs.Openings.{recovers_retuned, stays_read, now_read, now_retuned}
-use Rattle.disk_model.specs.Moments.{During}
-use Rattle.crash_recovery.specs.Opening.{LeavesFree, MakesLayout, GainsSync, OpensAt}
-use Rattle.crash_recovery.proofs.Afterwards.{free_read, free_retuned, layout_retuned, opens_read, opens_retuned, synced_read, synced_retuned}
+use Rattle.crash_recovery.proofs.Afterwards.{free_read, free_retuned, layout_retuned, opens_read}
+use Rattle.crash_recovery.proofs.Afterwards.{opens_retuned, synced_read, synced_retuned}
 use Rattle.crash_recovery.proofs.opening.open_tag.Goals as goal
 
 -- what was read, where it was retuned, as the device that the journal has shows it, and what a crash left of that on the way
 read_retuned : (g : _) (c : goal.After-with_checkpoint g)
     → IsReadAs c.args.def.now (g.D.Disk.device c.args.dev).trace (g.D.Disk.device c.new-2.result.dev).trace true c.in-Ok.read.core.state
-read_retuned g c =
-    let def = c.args.def.now in
-    let o = (g.D.Disk.device c.args.dev).trace in
-    let state = c.in-Ok.read.core.state in
-    subst (λ m. IsReadAs def o m true state) (sym (ap (λ j. (g.D.Disk.device j.dev).trace) c.new-2.ensures))
-    (subst (λ b. IsReadAs def o (g.D.Disk.device c.read_tag.new.dev).trace b state) c.if-read.true c.in-Ok.ensures.opened)
+read_retuned g c = grind arith
 
 left_retuned : (g : _) (c : goal.After-with_checkpoint g)
     → During (g.D.Disk.device c.args.dev).trace (g.D.Disk.device c.new-2.result.dev).trace
     (IsTagLeftOrSame c.args.def.now (g.D.Disk.device c.args.dev).trace)
-left_retuned g c =
-    let o = (g.D.Disk.device c.args.dev).trace in
-    during_same o (g.D.Disk.device c.read_tag.new.dev).trace (g.D.Disk.device c.new-2.result.dev).trace
-    (IsTagLeftOrSame c.args.def.now o) (ap (λ j. (g.D.Disk.device j.dev).trace) c.new-2.ensures) c.in-Ok.ensures.any_moment
+left_retuned g c = grind (arith, during_same)
 
 -- what the checkpoint promises of each image until then
 stays : (g : _) (c : goal.After-with_checkpoint g) (x : Trace)
@@ -103,23 +91,16 @@ read_else g c =
     (subst (λ b. IsReadAs def o (g.D.Disk.device c.read_tag.new.dev).trace b state) c.if-read.false c.in-Ok.ensures.opened)
 
 pub returns-else-read-clause-recovers : goal.returns-else-read-clause-recovers
-returns-else-read-clause-recovers g c =
-    recovers_read c.args.def.now (g.D.Disk.device c.args.dev).trace _ c.in-Ok.read.core.state (read_else g c)
+returns-else-read-clause-recovers g c = grind (arith, recovers_read, read_else)
 
 pub returns-else-read-clause-recovers_now : goal.returns-else-read-clause-recovers_now
-returns-else-read-clause-recovers_now g c =
-    λ small. now_read c.args.def.now (g.D.Disk.device c.args.dev).trace _ c.in-Ok.read.core.state (read_else g c)
+returns-else-read-clause-recovers_now g c = grind (arith, now_read, read_else)
 
 pub returns-else-read-clause-any_moment : goal.returns-else-read-clause-any_moment
-returns-else-read-clause-any_moment g c =
-    let o = (g.D.Disk.device c.args.dev).trace in
-    stays_read _ o _ (during_same o _ _ (IsTagLeftOrSame c.args.def.now o) (ap (λ j. (g.D.Disk.device j.dev).trace) c.new-2.ensures)
-    c.in-Ok.ensures.any_moment)
+returns-else-read-clause-any_moment g c = grind (arith, stays_read, during_same)
 
 pub returns-else-read-clause-opened : goal.returns-else-read-clause-opened
-returns-else-read-clause-opened g c =
-    opened_shown c.args.def.now (g.D.Disk.device c.args.dev).trace (g.D.Disk.device c.read_tag.new.dev).trace
-    c.in-Ok.read.retuned c.in-Ok.read.core.state c.in-Ok.ensures.opened
+returns-else-read-clause-opened g c = grind (arith, opened_shown)
 
 pub returns-then-read-clause-free : goal.returns-then-read-clause-free
 returns-then-read-clause-free g c = if_ok c.with_checkpoint.result _ _
@@ -142,17 +123,10 @@ returns-else-read-clause-free g c =
     (free_read c.args.def.now (g.D.Disk.device c.args.dev).trace _ _ _ _ (read_else g c) c.in-Ok.ensures.free)
 
 pub returns-else-read-clause-made : goal.returns-else-read-clause-made
-returns-else-read-clause-made g c =
-    let same = c.new-2.ensures in
-    subst (λ j. MakesLayout c.args.def.now c.args.lane_slots (g.D.Disk.device c.args.dev).trace (g.D.Disk.device j.dev).trace)
-    (sym same) c.in-Ok.ensures.made
+returns-else-read-clause-made g c = grind arith
 
 pub returns-else-read-clause-synced : goal.returns-else-read-clause-synced
-returns-else-read-clause-synced g c =
-    let same = c.new-2.ensures in
-    let o = (g.D.Disk.device c.args.dev).trace in
-    subst (λ j. GainsSync c.args.def.now o (g.D.Disk.device j.dev).trace) (sym same)
-    (synced_read c.args.def.now o (g.D.Disk.device c.read_tag.new.dev).trace c.in-Ok.ensures.synced)
+returns-else-read-clause-synced g c = grind (arith, synced_read)
 
 pub returns-then-read-clause-moment : goal.returns-then-read-clause-moment
 returns-then-read-clause-moment g c =

@@ -1,21 +1,16 @@
-use Rattle.std.proofs.Common.{◌≡◌, ◌∙◌, refl, sym, subst, length}
+use Rattle.std.proofs.Common.{◌≡◌, ◌∙◌, refl, sym, subst, arith}
 use Rattle.std.proofs.lemmas.Result.{err_from_is_err_and}
 use Rattle.trend_model.specs.State.{State}
-use Rattle.device_layout.specs.Readings.{HasLayout, IsReadFrom}
-use Rattle.device_layout.specs.Recovery.{IsRecovered}
-use Rattle.device_layout.proofs.Reading.{cause_before}
-use Rattle.device_layout.proofs.Shows.{shows_after, shows_before, if_ok}
-use Rattle.disk_model.specs.Calls.{Shows}
-use Rattle.disk_model.specs.Traces.{Trace}
+use Rattle.device_layout.specs.{Readings.HasLayout, Readings.IsReadFrom, Recovery.IsRecovered}
+use Rattle.device_layout.specs.{declared.header.Header.Header, declared.layout_reader.Stored.Stored}
+use Rattle.device_layout.proofs.{Reading.cause_before, Shows.shows_after, Shows.shows_before, Shows.if_ok}
+use Rattle.disk_model.specs.{Calls.Shows, Traces.Trace}
 use Rattle.trend_num.specs.declared.tag_def.TagDef.{TagDef}
-use Rattle.device_layout.specs.declared.header.Header.{Header}
-use Rattle.device_layout.specs.declared.layout_reader.Stored.{Stored}
-use Rattle.crash_recovery.specs.Journals.{IsSeat}
-use Rattle.crash_recovery.specs.Opening.{OpensAs}
+use Rattle.crash_recovery.specs.{IsSeat, OpensAs}
 use Rattle.crash_recovery.proofs.Openings.{cause_full, counts_full, counts_on}
+use Rattle.crash_recovery.proofs.opening.read_back.Goals.{After-tuned}
 use Rattle.crash_recovery.proofs.opening.read_back.Given as given
 use Rattle.crash_recovery.proofs.opening.read_back.Goals as goal
-use Rattle.crash_recovery.proofs.opening.read_back.Goals.{After-tuned}
 
 pub returns-in_err-stored-clause-cause : goal.returns-in_err-stored-clause-cause
 returns-in_err-stored-clause-cause g c =
@@ -31,8 +26,7 @@ returns-in_err-stored-clause-cause g c =
 parts_left : (def : TagDef) (o p q : Trace) (h : Header) (x : Stored) → p ≡ o → q ≡ p
     → (Shows p (HasLayout def h.slots h.def.tuning) → Shows p (IsReadFrom def h.slots x)) → Shows o (HasLayout def h.slots h.def.tuning)
     → Shows q (IsReadFrom def h.slots x)
-parts_left def o p q h x first second read layout =
-    shows_after p q (IsReadFrom def h.slots x) second (read (shows_after o p (HasLayout def h.slots h.def.tuning) first layout))
+parts_left def o p q h x first second read layout = grind (arith, shows_after)
 
 pub returns-in_err-seat-clause-cause : goal.returns-in_err-seat-clause-cause
 returns-in_err-seat-clause-cause g c =
@@ -44,9 +38,7 @@ returns-in_err-seat-clause-cause g c =
     (c.in_err-seat.ensures.cause def refl read))
 
 pub returns-in_err-seat-clause-counts : goal.returns-in_err-seat-clause-counts
-returns-in_err-seat-clause-counts g c =
-    let p = err_from_is_err_and c.from_residual-in_err-seat.result c.from_residual-in_err-seat.ensures.1 in
-    rw (p.1, p.2) (counts_on _ _ _ _ (c.in_ok-stored.ensures.counts.passed ∙ c.in_ok-header.ensures.counts.passed) c.in_err-seat.ensures.counts)
+returns-in_err-seat-clause-counts g c = grind (arith, err_from_is_err_and, counts_on)
 
 -- what was read of the parts, once the tag is tuned
 read : (g : given.Over) (c : After-tuned g) → Shows (g.D.Disk.device c.read_parts.new.dev).trace
@@ -83,6 +75,4 @@ returns-clause-cause g c =
     c.tuned.ensures.many c.tuned.ensures.other
 
 pub returns-clause-counts : goal.returns-clause-counts
-returns-clause-counts g c =
-    counts_full c.tuned.result (length c.in_ok-seat.core.state.records) _ _ c.tuned.ensures.full
-    (c.in_ok-seat.ensures.counts.passed ∙ c.in_ok-stored.ensures.counts.passed ∙ c.in_ok-header.ensures.counts.passed)
+returns-clause-counts g c = grind (arith, counts_full)

@@ -1,24 +1,15 @@
-use Rattle.std.proofs.Common.{◌≡◌, ◌+◌, ◌≤◌, ◌∙◌, ap, false, sym, subst, arith}
+use Rattle.std.proofs.Common.{◌≡◌, ◌+◌, ◌≤◌, ◌∙◌, false, sym, subst, arith}
 use Rattle.trend_model.specs.State.{State, nothing_taken}
-use Rattle.disk_model.specs.Gates.{IsNew, layout_calls}
+use Rattle.disk_model.specs.{Gates.IsNew, Calls.Shows, Traces.Synced, Traces.noted, Traces.moment}
 use Rattle.device_layout.specs.Recovery.{IsRecovered}
-use Rattle.disk_model.specs.Calls.{Shows}
-use Rattle.device_layout.specs.Readings.{IsCause}
-use Rattle.crash_recovery.specs.Opening.{HasSlots, OpensAs, IsTagLeftOrSame, IsReadAs}
-use Rattle.crash_recovery.specs.Journals.{IsSeat, SeatedOn}
-use Rattle.crash_recovery.proofs.Places.{seated_again}
-use Rattle.disk_model.proofs.Images.{settled}
-use Rattle.disk_model.specs.Images.{IsSettled}
-use Rattle.device_layout.proofs.Shows.{shows_after, if_ok, if_ok₂, if_err}
-use Rattle.crash_recovery.proofs.Openings.{synced_during, during_same, made_during, made_as, read_as, slots_made, slots_kept, cause_synced}
-use Rattle.disk_model.specs.Traces.{Synced, noted, moment}
-use Rattle.disk_model.specs.Gates.{IsBegun}
-use Rattle.device_layout.specs.Layouts.{IsMade}
-use Rattle.crash_recovery.specs.Opening.{HasFreeAtFirst}
-use Rattle.crash_recovery.specs.Journals.{free_in}
+use Rattle.crash_recovery.specs.{HasSlots, OpensAs, IsTagLeftOrSame, IsReadAs, IsSeat, HasFreeAtFirst}
+use Rattle.crash_recovery.specs.{free_in}
+use Rattle.crash_recovery.proofs.Openings.{synced_during, during_same, made_during, made_as, read_as}
+use Rattle.crash_recovery.proofs.Openings.{slots_made, slots_kept, cause_synced}
 use Rattle.crash_recovery.proofs.Afterwards.{free_kept, free_made, begun_before, new_before, shown_always}
-use Rattle.crash_recovery.proofs.DeviceReads.{shown_so}
-use Rattle.crash_recovery.proofs.Turns.{on_ok, ok_always}
+use Rattle.crash_recovery.proofs.{Places.seated_again, DeviceReads.shown_so, Turns.on_ok, Turns.ok_always}
+use Rattle.disk_model.proofs.Images.{settled}
+use Rattle.device_layout.proofs.Shows.{shows_after, if_ok, if_ok₂, if_err}
 use Rattle.crash_recovery.proofs.opening.read_tag.Goals as goal
 
 pub returns-in_default-clause-any_moment : goal.returns-in_default-clause-any_moment
@@ -29,8 +20,7 @@ returns-in-Ok-true-clause-any_moment g c =
     let def = c.args.def.now in
     let same = c.in-Ok-true.ensures.same in
     let blank = shows_after _ _ IsNew same (c.in-Ok-true.ensures.new c.in-Ok-true.field-0-test) in
-    made_during def _ _ _ (same ∙ c.in-Ok.ensures.noted) blank
-    (during_same _ _ _ (IsTagLeftOrSame def _) same
+    made_during def _ _ _ (same ∙ c.in-Ok.ensures.noted) blank (during_same _ _ _ (IsTagLeftOrSame def _) same
     (synced_during _ def _ _ c.sync.ensures.noted)) c.made.ensures.any_moment
 
 pub returns-in-Ok-true-clause-opened : goal.returns-in-Ok-true-clause-opened
@@ -41,19 +31,11 @@ returns-in-Ok-true-clause-opened g c =
     if_ok₂ c.made.result (λ r. r.core.state ≡ nothing_taken def.tuning) (λ r. r.retuned ≡ false)
     (λ r. IsReadAs def (g.D.Disk.device c.args.dev.now).trace (g.D.Disk.device c.made.new.dev).trace r.retuned r.core.state)
     (λ r core retuned. subst (λ b. IsReadAs def (g.D.Disk.device c.args.dev.now).trace
-    (g.D.Disk.device c.made.new.dev).trace b r.core.state)
-    (sym retuned) (made_as def _ _ _ r.core.state (same
-    ∙ c.in-Ok.ensures.noted) blank c.made.ensures.any_moment core))
-    c.made.ensures.core c.made.ensures.retuned
+    (g.D.Disk.device c.made.new.dev).trace b r.core.state) (sym retuned) (made_as def _ _ _ r.core.state (same
+    ∙ c.in-Ok.ensures.noted) blank c.made.ensures.any_moment core)) c.made.ensures.core c.made.ensures.retuned
 
 pub returns-in-Ok-true-clause-lane : goal.returns-in-Ok-true-clause-lane
-returns-in-Ok-true-clause-lane g c =
-    let o = (g.D.Disk.device c.args.dev.now).trace in
-    let same = c.in-Ok-true.ensures.same in
-    let blank = shows_after _ _ IsNew same (c.in-Ok-true.ensures.new c.in-Ok-true.field-0-test) in
-    if_ok c.made.result (λ r. r.seat.lane ≡ record { slots = c.args.lane_slots; used = 0; next = 0 })
-    (λ r. Shows o (HasSlots c.args.lane_slots r.seat.lane.slots))
-    (λ r lane. slots_made o _ _ _ (same ∙ c.in-Ok.ensures.noted) (ap (λ l. l.slots) lane) blank) c.made.ensures.lane
+returns-in-Ok-true-clause-lane g c = grind (arith, shows_after, if_ok, slots_made)
 
 pub returns-in-Ok-false-clause-any_moment : goal.returns-in-Ok-false-clause-any_moment
 returns-in-Ok-false-clause-any_moment g c =
@@ -84,13 +66,7 @@ returns-in-Ok-false-clause-lane g c =
     (λ r seat. slots_kept o mid _ r.seat is seat) c.read_back.ensures.seat
 
 pub returns-in-Ok-false-clause-cause : goal.returns-in-Ok-false-clause-cause
-returns-in-Ok-false-clause-cause g c =
-    let def = c.args.def.now in
-    let o = (g.D.Disk.device c.args.dev.now).trace in
-    let mid = (g.D.Disk.device c.is_new.new.dev).trace in
-    if_err c.read_back.result (IsCause def mid) (IsCause def o)
-    (λ why. cause_synced def o mid why (c.in-Ok-false.ensures.same ∙ c.in-Ok.ensures.noted))
-    c.read_back.ensures.cause
+returns-in-Ok-false-clause-cause g c = grind (arith, if_err, cause_synced)
 
 pub returns-clause-any_moment : goal.returns-clause-any_moment
 returns-clause-any_moment g c =
@@ -98,20 +74,10 @@ returns-clause-any_moment g c =
     during_same _ _ _ (IsTagLeftOrSame def _) c.in-Err.ensures.same (synced_during _ def _ _ c.sync.ensures.noted)
 
 pub returns-in-Ok-true-clause-free : goal.returns-in-Ok-true-clause-free
-returns-in-Ok-true-clause-free g c =
-    let o = (g.D.Disk.device c.args.dev.now).trace in
-    let same = c.in-Ok-true.ensures.same in
-    let blank = shows_after _ _ IsNew same (c.in-Ok-true.ensures.new c.in-Ok-true.field-0-test) in
-    if_ok c.made.result (λ r. free_in r.seat ≡ r.seat.lane.slots)
-    (λ r. Shows o (HasFreeAtFirst r.seat.lane.slots (free_in r.seat)))
-    (λ r all. free_made o _ _ _ (same ∙ c.in-Ok.ensures.noted) all blank) c.made.ensures.free
+returns-in-Ok-true-clause-free g c = grind (arith, shows_after, if_ok, free_made)
 
 pub returns-in-Ok-true-clause-made : goal.returns-in-Ok-true-clause-made
-returns-in-Ok-true-clause-made g c =
-    let o = (g.D.Disk.device c.args.dev.now).trace in
-    let new = (g.D.Disk.device c.made.new.dev).trace in
-    on_ok c.made.result
-    (λ made. shown_always o IsNew (Shows new (IsMade c.args.def.now c.args.lane_slots)) made) c.made.ensures.made
+returns-in-Ok-true-clause-made g c = grind (arith, on_ok, shown_always)
 
 pub returns-in-Ok-true-clause-synced : goal.returns-in-Ok-true-clause-synced
 returns-in-Ok-true-clause-synced g c =
@@ -133,37 +99,16 @@ returns-in-Ok-false-clause-free g c =
     (λ r seat within. free_kept o mid r.seat is within seat) c.read_back.ensures.seat c.read_back.ensures.used
 
 pub returns-in-Ok-false-clause-made : goal.returns-in-Ok-false-clause-made
-returns-in-Ok-false-clause-made g c =
-    let o = (g.D.Disk.device c.args.dev.now).trace in
-    let mid = (g.D.Disk.device c.is_new.new.dev).trace in
-    let new = (g.D.Disk.device c.read_back.new.dev).trace in
-    let same = c.in-Ok-false.ensures.same in
-    let begun = shows_after _ _ IsBegun same (c.in-Ok-false.ensures.begun c.in-Ok-false.field-0-test) in
-    ok_always c.read_back.result (begun_before o mid (Shows new (IsMade c.args.def.now c.args.lane_slots))
-    (same ∙ c.in-Ok.ensures.noted) begun)
+returns-in-Ok-false-clause-made g c = grind (arith, shows_after, ok_always, begun_before)
 
 pub returns-in-Ok-false-clause-synced : goal.returns-in-Ok-false-clause-synced
-returns-in-Ok-false-clause-synced g c =
-    let o = (g.D.Disk.device c.args.dev.now).trace in
-    let mid = (g.D.Disk.device c.is_new.new.dev).trace in
-    let new = (g.D.Disk.device c.read_back.new.dev).trace in
-    let is = c.read_back.ensures.same ∙ c.in-Ok-false.ensures.same ∙ c.in-Ok.ensures.noted in
-    ok_always c.read_back.result (shown_always o (λ x. IsNew x → ⊥) (new ≡ noted Synced o) is)
+returns-in-Ok-false-clause-synced g c = grind (arith, ok_always, shown_always)
 
 pub returns-in-Ok-false-clause-new_calls : goal.returns-in-Ok-false-clause-new_calls
-returns-in-Ok-false-clause-new_calls g c =
-    let o = (g.D.Disk.device c.args.dev.now).trace in
-    let mid = (g.D.Disk.device c.is_new.new.dev).trace in
-    let same = c.in-Ok-false.ensures.same in
-    let begun = shows_after _ _ IsBegun same (c.in-Ok-false.ensures.begun c.in-Ok-false.field-0-test) in
-    ok_always c.read_back.result (shown_so o (λ x. IsNew x → ⊥)
-    (λ x. IsNew x → moment (g.D.Disk.device c.read_back.new.dev).trace ≡ moment (g.D.Disk.device c.args.dev.now).trace + (layout_calls x + 1))
-    (λ x no new. absurd (no new)) (begun_before o mid ⊥ (same ∙ c.in-Ok.ensures.noted) begun))
+returns-in-Ok-false-clause-new_calls g c = grind (arith, shows_after, ok_always, shown_so, begun_before)
 
 pub returns-in-Ok-false-clause-calls : goal.returns-in-Ok-false-clause-calls
-returns-in-Ok-false-clause-calls g c =
-    ok_always c.read_back.result (shown_always (g.D.Disk.device c.args.dev.now).trace (λ x. IsNew x → ⊥)
-    (moment (g.D.Disk.device c.read_back.new.dev).trace ≡ moment (g.D.Disk.device c.args.dev.now).trace + 1) (grind arith))
+returns-in-Ok-false-clause-calls g c = grind (arith, ok_always, shown_always)
 
 pub returns-in-Ok-true-clause-calls : goal.returns-in-Ok-true-clause-calls
 returns-in-Ok-true-clause-calls g c =
@@ -174,10 +119,4 @@ returns-in-Ok-true-clause-calls g c =
     ok_always c.made.result (new_before o mid (moment (g.D.Disk.device c.made.new.dev).trace ≡ moment o + 1) (same ∙ c.in-Ok.ensures.noted) blank)
 
 pub returns-in-Ok-false-clause-seated : goal.returns-in-Ok-false-clause-seated
-returns-in-Ok-false-clause-seated g c =
-    let o = (g.D.Disk.device c.args.dev.now).trace in
-    let mid = (g.D.Disk.device c.is_new.new.dev).trace in
-    let new = (g.D.Disk.device c.read_back.new.dev).trace in
-    let settled : IsSettled new = subst IsSettled (sym (c.read_back.ensures.same ∙ c.in-Ok-false.ensures.same ∙ c.in-Ok.ensures.noted)) (settled o) in
-    if_ok c.read_back.result (λ r. Shows mid (IsSeat r.seat)) (λ r. SeatedOn r.seat new)
-    (λ r seat. seated_again r.seat new settled (shows_after mid new (IsSeat r.seat) c.read_back.ensures.same seat)) c.read_back.ensures.seat
+returns-in-Ok-false-clause-seated g c = grind (arith, settled, if_ok, seated_again, shows_after)

@@ -1,7 +1,6 @@
 use Rattle.std.proofs.lemmas.Result.{err_from_is_err_and}
 use Rattle.device_layout.specs.Readings.{IsFoundOn}
-use Rattle.device_layout.proofs.Shows.{shows_after}
-use Rattle.device_layout.proofs.Reading.{cause_before}
+use Rattle.device_layout.proofs.{Shows.shows_after, Reading.cause_before}
 use Rattle.crash_recovery.proofs.PartsFound.{read_from}
 use Rattle.crash_recovery.proofs.parts.read_parts.Goals as goal
 
@@ -19,7 +18,6 @@ pub returns-in_err-test_parts-clause-cause : goal.returns-in_err-test_parts-clau
 returns-in_err-test_parts-clause-cause g c def same_step layout =
     let slots = c.args.header.now.slots in
     let p = err_from_is_err_and c.from_residual-in_err-test_parts.result c.from_residual-in_err-test_parts.ensures.1 in
-    rw (p.1, p.2)
-    (cause_before def _ _ _ c.in_ok-stored.ensures.same
+    rw (p.1, p.2) (cause_before def _ _ _ c.in_ok-stored.ensures.same
     (c.in_err-test_parts.ensures.cause def slots same_step
     (shows_after _ _ (IsFoundOn def slots c.in_ok-stored.stored) c.in_ok-stored.ensures.same (c.in_ok-stored.ensures.found def layout))))

@@ -1,6 +1,5 @@
 use Rattle.std.proofs.Common.{◌+◌, ◌*◌, ◌<◌, ◌≤◌, length, arith}
-use Rattle.device_layout.proofs.Shows.{shows}
-use Rattle.device_layout.proofs.Causes.{reads_before}
+use Rattle.device_layout.proofs.{Shows.shows, Causes.reads_before}
 use Rattle.crash_recovery.proofs.LanePlaces.{value_told}
 use Rattle.crash_recovery.proofs.replay.overfull.Goals as goal
 

@@ -1,13 +1,11 @@
-use Rattle.std.proofs.Common.{◌<◌, ◌+◌, ap, ap₂, Err, ◌∙◌, subst, length, take, map}
+use Rattle.std.proofs.Common.{◌<◌, ◌+◌, ap, Err, subst, length, take, map, arith}
 use Rattle.trend_num.specs.Limits.{most_records}
-use Rattle.trend_model.specs.History.{Raw}
-use Rattle.trend_model.specs.State.{replay}
+use Rattle.trend_model.specs.{History.Raw, State.replay}
 use Rattle.device_layout.specs.Recovery.{AllFit}
-use Rattle.crash_recovery.specs.Opening.{HoldsValue, IsOverfull}
-use Rattle.device_layout.proofs.Shows.{shows_after}
-use Rattle.device_layout.proofs.Reading.{cause_of_scan}
-use Rattle.crash_recovery.proofs.Cores.{queue_shown, holds_shown, overfull_cause, recovered_shown, seated_shown}
-use Rattle.crash_recovery.proofs.Numbered.{numbered_read}
+use Rattle.crash_recovery.specs.{HoldsValue, IsOverfull}
+use Rattle.device_layout.proofs.{Shows.shows_after, Reading.cause_of_scan}
+use Rattle.crash_recovery.proofs.{Cores.queue_shown, Cores.holds_shown, Cores.overfull_cause}
+use Rattle.crash_recovery.proofs.{Cores.recovered_shown, Cores.seated_shown, Numbered.numbered_read}
 use Rattle.crash_recovery.proofs.replay.read_core.Goals as goal
 
 pub returns-in-Err-clause-cause : goal.returns-in-Err-clause-cause
@@ -38,24 +36,11 @@ returns-in-Err-replay-clause-cause g c def same_step read =
     (λ l. n < length l) points no.within)))))
 
 pub returns-clause-recovered : goal.returns-clause-recovered
-returns-clause-recovered g c def same_step read =
-    let s = c.in-Ok.scanned in
-    let made = c.in-Ok-from_records.ensures in
-    let core = c.in-Ok-from_records.core in
-    let done = c.in_default-replay.ensures in
-    let points = c.deref.ensures.value in
-    recovered_shown def (g.D.Disk.device c.args.dev.now).trace c.args.slots c.args.stored s c.args.step core.state c.replay.new.core.state c.in-Ok.ensures.within read
-    c.in-Ok.ensures.ok same_step made.records made.summary
-    (subst (λ k. AllFit k core.state (map Raw s.points.items)) made.step
-    (subst (λ l. AllFit core.step core.state (map Raw l)) points done.fit))
-    (done.state ∙ ap₂ (λ k l. replay k core.state (map Raw l)) made.step points)
+returns-clause-recovered g c def same_step read = grind (arith, recovered_shown)
 
 pub returns-clause-seat : goal.returns-clause-seat
 returns-clause-seat g c def read =
     seated_shown def (g.D.Disk.device c.args.dev.now).trace c.args.slots c.args.stored c.in-Ok.scanned c.in-Ok.ensures.within read c.in-Ok.ensures.ok
 
 pub returns-clause-numbered : goal.returns-clause-numbered
-returns-clause-numbered g c =
-    let s = c.args.stored in
-    numbered_read c.args.slots s.summary.taken s.summary.records c.in-Ok.scanned s.slot c.requires.some
-    c.in-Ok.ensures.within
+returns-clause-numbered g c = grind (arith, numbered_read)

@@ -1,5 +1,4 @@
-use Rattle.std.proofs.Common.{arith}
-use Rattle.std.proofs.lemmas.List.{get_or_default}
+use Rattle.std.proofs.{Common.arith, lemmas.List.get_or_default}
 use Rattle.crash_recovery.proofs.Takes.{taken_to_more, few_enough}
 use Rattle.crash_recovery.proofs.replay.replay.Goals as goal
 

@@ -1,9 +1,6 @@
-use Rattle.std.proofs.Common.{◌≡◌, ◌+◌, ◌*◌, ◌≤◌, min, length, ap, subst, ◌∙◌}
-use Rattle.std.proofs.Common.{arith}
-use Rattle.event_queue.specs.Damages.{IsLaneDamage}
-use Rattle.event_queue.specs.Scans.{IsRead, IsWithin}
-use Rattle.event_queue.proofs.Pieces.{handed_on}
-use Rattle.event_queue.proofs.Scans.{moved, with_piece, read_all, read_first}
+use Rattle.std.proofs.Common.{◌≡◌, ◌+◌, ◌*◌, ◌≤◌, min, subst, ◌∙◌, arith}
+use Rattle.event_queue.specs.{IsLaneDamage, IsWithin}
+use Rattle.event_queue.proofs.{Pieces.handed_on, Scans.moved, Scans.with_piece, Scans.read_all, Scans.read_first}
 use Rattle.event_queue.proofs.reader.scan.Goals as goal
 
 pub loop-j-init : goal.loop-j-init
@@ -36,8 +33,7 @@ returns-in_err-take_piece-clause-damaged g c = λ a byte told.
     c.deref-in-loop-j-2.result.now s (λ n bytes. IsLaneDamage n bytes c.args.taken a byte) start
     c.loop-j.invariant.slots_same
     c.in_ok-gates.ensures.len c.in_ok-gates.ensures.reads c.deref-in-loop-j.ensures.value
-    (moved _ o _ _ c.refill.new.piece.items c.loop-j.invariant.same c.slot_place.ensures
-    c.in-Ok-refill.ensures.bytes)
+    (grind (arith, moved))
     c.deref-in-loop-j-2.ensures.value c.loop-j.invariant.read (c.take_piece.ensures.damaged a byte was)
 
 pub loop-j-preserved : goal.loop-j-preserved
@@ -59,16 +55,7 @@ loop-j-preserved g c =
       handed = c.refill.ensures.handed ∙ c.loop-j.invariant.handed;
       slots_same = within.slots_same;
       within = rw next at within;
-      read = with_piece o slots c.args.taken (min from used) from c.in_ok-gates.gates.items
-          c.refill.new.piece.items c.deref-in-loop-j.result.now
-          c.deref-in-loop-j-2.result.now s (λ n bytes. IsRead n c.args.taken bytes
-          (min (64 * (c.loop-j.j + 1)) used) new) start c.loop-j.invariant.slots_same
-          c.in_ok-gates.ensures.len c.in_ok-gates.ensures.reads c.deref-in-loop-j.ensures.value
-          (moved _ o _ _ c.refill.new.piece.items c.loop-j.invariant.same c.slot_place.ensures
-          c.in-Ok-refill.ensures.bytes)
-          c.deref-in-loop-j-2.ensures.value c.loop-j.invariant.read
-          (λ bytes at_piece read. rw next at
-          (c.in_ok-take_piece.ensures.read bytes at_piece read));
+      read = grind (arith, with_piece, moved);
       long = λ more. c.in-Ok-refill.ensures.len ∙ omega (arith, c.min-count.ensures);
     }
 
@@ -76,14 +63,7 @@ pub returns-clause-ok : goal.returns-clause-ok
 returns-clause-ok g c =
     let used = c.used_of-used.result in
     let all : min (64 * c.loop-j.j) used ≡ used = omega (arith, c.div_ceil-j-end.ensures) in
-    let bound : used ≤ c.args.slots = omega (
-      arith,
-      c.used_of-used.ensures.bound,
-      c.deref.ensures.len,
-      c.in_ok-gates.ensures.len,
-      ap length
-          c.deref.ensures.value,
-    ) in
+    let bound : used ≤ c.args.slots = grind arith in
     read_all (g.D.Disk.device c.args.dev.now).trace c.args.slots c.args.taken (min (64 * c.loop-j.j) used) used
     c.in_ok-gates.gates.items c.deref.result.now c.loop-j.scanned all
     bound c.in_ok-gates.ensures.len c.in_ok-gates.ensures.reads c.deref.ensures.value

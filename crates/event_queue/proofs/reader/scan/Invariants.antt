@@ -1,6 +1,6 @@
 use Rattle.std.proofs.Common.{◌≡◌, ◌*◌, ◌<◌, min, vec_len}
 use Rattle.disk_model.specs.Traces.{seen}
-use Rattle.event_queue.specs.Scans.{IsWithin, IsRead}
+use Rattle.event_queue.specs.{IsWithin, IsRead}
 use Rattle.event_queue.proofs.reader.scan.Given as goal
 
 abbrev pub invariant-loop-j : goal.invariant-loop-j

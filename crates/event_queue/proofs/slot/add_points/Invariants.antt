@@ -1,5 +1,5 @@
 use Rattle.std.proofs.Common.{◌≡◌, ◌*◌, ◌++◌, drop}
-use Rattle.event_queue.specs.Slots.{slot_points}
+use Rattle.event_queue.specs.{slot_points}
 use Rattle.event_queue.proofs.slot.add_points.Given as goal
 
 abbrev pub invariant-loop-i : goal.invariant-loop-i

@@ -1,7 +1,7 @@
 use Rattle.std.proofs.Common.{◌≡◌, ◌*◌, drop}
 use Rattle.std.specs.List.{All}
 use Rattle.trend_num.specs.Ranges.{InRange}
-use Rattle.event_queue.specs.Slots.{slot_points}
+use Rattle.event_queue.specs.{slot_points}
 use Rattle.event_queue.proofs.slot.first_out_of_range.Given as goal
 
 abbrev pub invariant-loop-i : goal.invariant-loop-i

@@ -1,6 +1,5 @@
 use Rattle.std.proofs.Common.{sym, ap, ◌∙◌, subst}
-use Rattle.disk_model.specs.Traces.{content}
-use Rattle.disk_model.specs.Images.{IsImage}
+use Rattle.disk_model.specs.{Traces.content, Images.IsImage}
 use Rattle.told_store.proofs.law.a_fresh_device_is_what_was_read.Goals as goal
 
 pub returns-clause-reads : goal.returns-clause-reads

@@ -1,12 +1,9 @@
 use Rattle.std.proofs.Common.{◌≡◌, ◌∙◌, Bool, true, false, Some, IsTrue, List, ℕ, ap, cond, refl, subst, sym}
-use Rattle.std.specs.Prelude.{bytes_eq, string_bytes}
-use Rattle.std.specs.BTreeMap.{get_by_text}
-use Rattle.std.proofs.lemmas.Map.Text.{btree_map_updates_text}
-use Rattle.std.proofs.lemmas.Bool.{false≢true}
-use Rattle.std.proofs.lemmas.Slice.Eq.{bytes_eq-Decides}
+use Rattle.std.proofs.lemmas.{Map.Text.btree_map_updates_text, Bool.false≢true, Slice.Eq.bytes_eq-Decides}
+use Rattle.std.specs.{Prelude.bytes_eq, Prelude.string_bytes, BTreeMap.get_by_text}
 use Rattle.told_store.specs.Places.{is_placed}
-use Rattle.told_store.proofs.places.insert.Goals as goal
 use Rattle.told_store.proofs.places.insert.Goals.{In_ok-insert}
+use Rattle.told_store.proofs.places.insert.Goals as goal
 
 -- what is at a name then
 at_name : (c : In_ok-insert) (n : List ℕ) → get_by_text c.insert.new.self n

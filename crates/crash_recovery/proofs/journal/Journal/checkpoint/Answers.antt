@@ -1,10 +1,7 @@
-use Rattle.std.proofs.Common.{◌≡◌, ◌+◌, ◌<◌, OnOk, ap, length, subst, sym}
-use Rattle.crash_recovery.specs.Journals.{AllRecover, LeavesEither, Logged}
-use Rattle.disk_model.specs.Calls.{Shows}
-use Rattle.crash_recovery.specs.Seats.{checkpoint_calls}
+use Rattle.std.proofs.Common.{◌≡◌, ap, subst, sym, arith}
+use Rattle.crash_recovery.specs.{AllRecover, LeavesEither, Logged}
 use Rattle.crash_recovery.proofs.Turns.{on_ok}
 use Rattle.crash_recovery.proofs.journal.Journal.checkpoint.Goals as goal
-use Rattle.disk_model.specs.Traces.{moment}
 
 pub returns-in_default-2-clause-crash : goal.returns-in_default-2-clause-crash
 returns-in_default-2-clause-crash g c = λ small def s all goes.
@@ -19,7 +16,4 @@ returns-in_default-2-clause-crash g c = λ small def s all goes.
     })
 
 pub returns-in_default-2-clause-calls : goal.returns-in_default-2-clause-calls
-returns-in_default-2-clause-calls g c =
-    let many = length c.args.core.now.state.records in
-    subst (λ (v : Logged _). OnOk c.checkpoint.result (v.acked < c.args.core.now.state.summary.taken → Shows (g.D.Disk.device v.dev).trace
-    (λ b. moment (g.D.Disk.device c.checkpoint.new.dev).trace ≡ moment (g.D.Disk.device v.dev).trace + checkpoint_calls many b))) c.self.view_is c.checkpoint.ensures.calls
+returns-in_default-2-clause-calls g c = grind arith

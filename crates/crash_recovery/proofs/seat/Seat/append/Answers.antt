@@ -1,21 +1,18 @@
-use Rattle.std.proofs.Common.{◌+◌, false, length, subst, sym}
+use Rattle.std.proofs.Common.{arith}
 use Rattle.std.specs.Prelude.{map}
 use Rattle.trend_num.specs.declared.tag_def.TagDef.{TagDef}
-use Rattle.trend_model.specs.History.{Raw}
-use Rattle.trend_model.specs.State.{State, replay}
+use Rattle.trend_model.specs.{History.Raw, State.State, State.replay}
 use Rattle.disk_model.specs.Moments.{During}
 use Rattle.disk_model.proofs.Moments.{after_both, during_now}
-use Rattle.crash_recovery.specs.declared.seat.Seat.{Seat}
+use Rattle.crash_recovery.specs.{AllRecover, RecoversEither}
 use Rattle.device_layout.specs.Recovery.{AllFit, Recovers}
-use Rattle.crash_recovery.specs.Journals.{AllRecover, RecoversEither, SeatedOn}
-use Rattle.crash_recovery.proofs.Places.{laid_on, overrun_on, moved}
-use Rattle.crash_recovery.proofs.Appends.{IsCleared, IsTaken, cleared, taken_cleared, append_moments, append_durable}
-use Rattle.crash_recovery.proofs.Appends.{append_seated}
-use Rattle.crash_recovery.proofs.Restarts.{room_now}
-use Rattle.crash_recovery.proofs.Turns.{either_first, then_either}
+use Rattle.crash_recovery.proofs.{Places.laid_on, Places.overrun_on, Places.moved, Appends.IsCleared}
+use Rattle.crash_recovery.proofs.{Appends.IsTaken, Appends.cleared, Appends.taken_cleared}
+use Rattle.crash_recovery.proofs.{Appends.append_moments, Appends.append_durable, Appends.append_seated}
+use Rattle.crash_recovery.proofs.{Restarts.room_now, Turns.either_first, Turns.then_either}
+use Rattle.crash_recovery.proofs.{seat.Seat.append.Goals.After-append_batch}
 use Rattle.crash_recovery.proofs.seat.Seat.append.Given as given
 use Rattle.crash_recovery.proofs.seat.Seat.append.Goals as goal
-use Rattle.crash_recovery.proofs.seat.Seat.append.Goals.{After-append_batch}
 
 pub close_stale-requires-clause-laid : goal.close_stale-requires-clause-laid
 close_stale-requires-clause-laid g c = laid_on c.args.self.now _ c.requires.seated
@@ -24,21 +21,16 @@ pub append_batch-requires-clause-room : goal.append_batch-requires-clause-room
 append_batch-requires-clause-room g c = room_now c.close_stale.new.self _ c.in_ok-close_stale.ensures.laid
 
 pub returns-in_err-close_stale-clause-any_moment : goal.returns-in_err-close_stale-clause-any_moment
-returns-in_err-close_stale-clause-any_moment g c = λ def s all fits.
-    either_first _ _ def s _
+returns-in_err-close_stale-clause-any_moment g c = λ def s all fits. either_first _ _ def s _
     (c.close_stale.ensures.any_moment def s all (overrun_on c.args.self.now _ c.requires.seated))
 
 -- the lane is as it was, or empty
 clear : (g : given.Over) (c : After-append_batch g) → IsCleared c.args.self.now c.close_stale.new.self
-clear g c =
-    cleared c.args.self.now c.close_stale.new.self c.requires.within c.requires.free c.close_stale.ensures.kept
-    c.in_ok-close_stale.ensures.restarted
+clear g c = grind (arith, cleared)
 
 -- and takes the values
 batch : (g : given.Over) (c : After-append_batch g) → IsTaken c.close_stale.new.self c.args.points.now
-batch g c =
-    taken_cleared c.args.self.now c.close_stale.new.self c.args.points.now (clear g c) c.in_ok-close_stale.ensures.fresh
-    c.requires.some c.requires.few c.requires.in_range c.requires.number
+batch g c = grind (arith, taken_cleared, clear)
 
 -- a crash on the way leaves what was recovered before, or that with the values
 moments : (g : given.Over) (c : After-append_batch g) (def : TagDef) (s : State)
@@ -54,30 +46,18 @@ pub returns-in-Ok-clause-any_moment : goal.returns-in-Ok-clause-any_moment
 returns-in-Ok-clause-any_moment g c = moments g (goal.at.returns-in-Ok-clause-any_moment g c).After-append_batch
 
 pub returns-in-Err-DeviceFault-clause-any_moment : goal.returns-in-Err-DeviceFault-clause-any_moment
-returns-in-Err-DeviceFault-clause-any_moment g c =
-    moments g (goal.at.returns-in-Err-DeviceFault-clause-any_moment g c).After-append_batch
+returns-in-Err-DeviceFault-clause-any_moment g c = grind (arith, moments)
 
 pub returns-in-Ok-clause-durable : goal.returns-in-Ok-clause-durable
 returns-in-Ok-clause-durable g c = λ def s all fits.
     let at = (goal.at.returns-in-Ok-clause-durable g c).After-append_batch in
     append_durable c.close_stale.new.self c.args.points.now (batch g at) _ _ c.in_ok-close_stale.ensures.laid
-    (c.append_batch.ensures.any_moment (clear g at).free)
-    c.in-Ok.ensures.settled c.in-Ok.ensures.reads def s
+    (c.append_batch.ensures.any_moment (clear g at).free) c.in-Ok.ensures.settled c.in-Ok.ensures.reads def s
     (during_now _ _ (λ x. Recovers def x s) (c.close_stale.ensures.any_moment def s all
     (overrun_on c.args.self.now _ c.requires.seated))) fits
 
 pub returns-in-Ok-clause-seated : goal.returns-in-Ok-clause-seated
-returns-in-Ok-clause-seated g c =
-    let at = (goal.at.returns-in-Ok-clause-seated g c).After-append_batch in
-    let q = c.close_stale.new.self in
-    let batch = batch g at in
-    let new = (g.D.Disk.device c.append_batch.new.dev).trace in
-    let r : Seat = moved q false (q.lane.used + 1) (q.lane.next + length c.args.points.now) in
-    subst (λ l. SeatedOn (record q { lane = l }) new) (sym c.in-Ok.ensures.moved)
-    (subst (λ b. SeatedOn (record q { lane = r.lane; stale = b }) new) (sym batch.fresh)
-    (append_seated q c.args.points.now batch _ _ c.in_ok-close_stale.ensures.laid
-    (c.append_batch.ensures.any_moment (clear g at).free)
-    c.in-Ok.ensures.settled c.in-Ok.ensures.reads))
+returns-in-Ok-clause-seated g c = grind (arith, batch, moved, append_seated, clear)
 
 pub returns-in-Ok-clause-continues : goal.returns-in-Ok-clause-continues
 returns-in-Ok-clause-continues g c = after_both _ _ _ c.close_stale.ensures.continues c.append_batch.ensures.continues

@@ -1,20 +1,16 @@
 use Rattle.trend_num.specs.declared.tag_def.TagDef.{TagDef}
 use Rattle.trend_model.specs.State.{State}
-use Rattle.disk_model.specs.Traces.{Trace, moment}
-use Rattle.disk_model.specs.Moments.{ComesAfter, During}
+use Rattle.disk_model.specs.{Traces.Trace, Traces.moment, Moments.ComesAfter, Moments.During, Calls.Shows}
 use Rattle.disk_model.proofs.Moments.{after_both, after_self, during_now}
 use Rattle.device_layout.specs.Recovery.{Recovers}
-use Rattle.crash_recovery.specs.Journals.{AllRecover, GoesOnFrom, RecoversEither, SeatedOn}
-use Rattle.std.proofs.Common.{◌≡◌, ◌+◌, ap, arith, subst, sym, length}
-use Rattle.disk_model.specs.Calls.{Shows}
-use Rattle.crash_recovery.specs.Seats.{log_calls}
-use Rattle.crash_recovery.proofs.Calls.{checkpoint_counted}
-use Rattle.crash_recovery.proofs.Done.{done_recovers}
-use Rattle.crash_recovery.proofs.Places.{laid_on, overrun_on, seated_on}
+use Rattle.crash_recovery.specs.{AllRecover, GoesOnFrom, RecoversEither, log_calls}
+use Rattle.std.proofs.Common.{◌≡◌, ◌+◌, ap, arith, subst, length}
 use Rattle.crash_recovery.proofs.Turns.{either_kept, either_first, then_same, then_either, then_second}
+use Rattle.crash_recovery.proofs.seat.Seat.checkpoint.Goals.{After-close_stale-2, After-log_records}
+use Rattle.crash_recovery.proofs.{Calls.checkpoint_counted, Done.done_recovers, Places.laid_on}
+use Rattle.crash_recovery.proofs.{Places.overrun_on, Places.seated_on}
 use Rattle.crash_recovery.proofs.seat.Seat.checkpoint.Given as given
 use Rattle.crash_recovery.proofs.seat.Seat.checkpoint.Goals as goal
-use Rattle.crash_recovery.proofs.seat.Seat.checkpoint.Goals.{After-close_stale-2, After-log_records}
 
 -- each image recovers what it did before, until the records are written
 logged : (g : given.Over) (c : After-log_records g) (def : TagDef) (s : State)
@@ -31,8 +27,7 @@ pub returns-then-has_all_of-clause-durable : goal.returns-then-has_all_of-clause
 returns-then-has_all_of-clause-durable g c = λ small def s all goes.
     let is = c.has_all_of.ensures.0 c.if-has_all_of.true in
     done_recovers c.args.self.now _ def s c.args.core.now.step c.args.core.now.state c.requires.seated is.0
-    is.1 goes
-    all
+    is.1 goes all
 
 pub returns-then-taken-self-clause-any_moment : goal.returns-then-taken-self-clause-any_moment
 returns-then-taken-self-clause-any_moment g c = λ small def s all goes. either_kept _ def s _ all
@@ -46,9 +41,7 @@ returns-in_default-clause-any_moment g c = λ small def s all goes.
     (overrun_on c.args.self.now _ c.requires.seated))
 
 pub returns-in_err-log_records-clause-any_moment : goal.returns-in_err-log_records-clause-any_moment
-returns-in_err-log_records-clause-any_moment g c = λ small def s all goes.
-    let logged = logged g (goal.at.returns-in_err-log_records-clause-any_moment g c).After-log_records def s all in
-    either_first _ _ def s _ logged
+returns-in_err-log_records-clause-any_moment g c = grind (arith, logged, either_first)
 
 pub returns-in_err-log_records-clause-kept : goal.returns-in_err-log_records-clause-kept
 returns-in_err-log_records-clause-kept g c = λ is def s all.
@@ -56,10 +49,7 @@ returns-in_err-log_records-clause-kept g c = λ is def s all.
     during_now _ _ (λ x. Recovers def x s) logged
 
 pub returns-in_err-log_records-clause-still_seated : goal.returns-in_err-log_records-clause-still_seated
-returns-in_err-log_records-clause-still_seated g c = λ is.
-    let p = c.close_stale.new.self in
-    let seated = seated_on p _ c.in-Ok.ensures.fresh c.in-Ok.ensures.laid in
-    subst (λ d. SeatedOn p (g.D.Disk.device d).trace) (sym (c.log_records.ensures.unwritten (grind arith))) seated
+returns-in_err-log_records-clause-still_seated g c = grind (arith, seated_on)
 
 pub returns-in_default-put_summary-clause-any_moment : goal.returns-in_default-put_summary-clause-any_moment
 returns-in_default-put_summary-clause-any_moment g c = λ small def s all goes.
@@ -101,8 +91,7 @@ returns-clause-durable g c = λ small def s all goes.
     during_now _ _ (λ x. Recovers def x c.args.core.now.state) counted
 
 pub returns-clause-seated : goal.returns-clause-seated
-returns-clause-seated g c =
-    seated_on c.close_stale-2.new.self _ c.in-Ok-close_stale.ensures.fresh c.in-Ok-close_stale.ensures.laid
+returns-clause-seated g c = grind (arith, seated_on)
 
 pub returns-clause-calls : goal.returns-clause-calls
 returns-clause-calls g c = λ more.
@@ -144,11 +133,7 @@ then_closed : (g : given.Over) (c : After-close_stale-2 g) (o : Trace)
 then_closed g c o before = after_both _ _ _ (after_both _ _ _ before c.put_summary.ensures.continues) c.close_stale-2.ensures.continues
 
 pub returns-in_default-close_stale-clause-continues : goal.returns-in_default-close_stale-clause-continues
-returns-in_default-close_stale-clause-continues g c =
-    let here = goal.at.returns-in_default-close_stale-clause-continues g c in
-    then_closed g here.After-close_stale-2 _ (then_logged g here.After-log_records)
+returns-in_default-close_stale-clause-continues g c = grind (arith, then_closed, then_logged)
 
 pub returns-clause-continues : goal.returns-clause-continues
-returns-clause-continues g c =
-    let here = goal.at.returns-clause-continues g c in
-    then_closed g here.After-close_stale-2 _ (then_logged g here.After-log_records)
+returns-clause-continues g c = grind (arith, then_closed, then_logged)

@@ -2,20 +2,17 @@ use Rattle.std.proofs.Common.{◌∙◌, refl, ap, arith, length, drop, rules}
 use Rattle.archive_file.specs.Records.{recs_image}
 use Rattle.disk_model.proofs.Moments.{after_both}
 use Rattle.device_layout.specs.Recovery.{summary_gate}
-use Rattle.crash_recovery.specs.Journals.{log_end}
-use Rattle.crash_recovery.specs.Seats.{spare_slot}
-use Rattle.crash_recovery.proofs.DeviceReads.{shown_now}
-use Rattle.crash_recovery.proofs.Places.{reaches_on}
-use Rattle.crash_recovery.proofs.Logged.{put_moments, gates_torn, log_moments, log_laid, ready_on}
-use Rattle.crash_recovery.proofs.Calls.{log_counted, log_front, log_gates}
+use Rattle.crash_recovery.specs.{log_end, spare_slot}
+use Rattle.crash_recovery.proofs.{DeviceReads.shown_now, Places.reaches_on, Logged.put_moments}
+use Rattle.crash_recovery.proofs.{Logged.gates_torn, Logged.log_moments, Logged.log_laid, Logged.ready_on}
+use Rattle.crash_recovery.proofs.{Calls.log_counted, Calls.log_front, Calls.log_gates}
 use Rattle.crash_recovery.proofs.seat.Seat.log_records.Goals as goal
 
 pub returns-in_err-put_new_records-clause-any_moment : goal.returns-in_err-put_new_records-clause-any_moment
 returns-in_err-put_new_records-clause-any_moment g c = λ def s all.
     let p = c.args.self.now in
     put_moments p (length (recs_image (drop p.records c.args.recs.now))) (summary_gate (spare_slot p.counts))
-    refl _ _
-    c.requires.laid c.put_new_records.ensures.any_moment def s all
+    refl _ _ c.requires.laid c.put_new_records.ensures.any_moment def s all
 
 pub put_new_records-requires : goal.put_new_records-requires
 put_new_records-requires g c = record { room = reaches_on c.args.self.now _ (log_end c.args.self.now) c.requires.laid (omega arith) }
@@ -42,14 +39,12 @@ returns-in-Ok g c =
     let n = length (recs_image (drop p.records c.args.recs.now)) in
     record {
       any_moment = λ def s all. log_moments p n c.gate.result gate _ _ c.requires.laid
-          c.put_new_records.ensures.any_moment _
-          c.close_gates.ensures.any_moment def s all;
+          c.put_new_records.ensures.any_moment _ c.close_gates.ensures.any_moment def s all;
       laid = log_laid p n c.gate.result gate _ _ c.requires.laid c.put_new_records.ensures.any_moment _
           c.close_gates.ensures.any_moment c.requires.within c.in-Ok.ensures.settled;
       ready = ready_on p c.gate.result c.args.recs.now _ _ _ _ _ gate c.requires.laid
           c.put_new_records.ensures.any_moment c.close_gates.ensures.any_moment
-          c.in_ok-put_new_records.ensures.reads
-          c.in-Ok.ensures.reads c.in-Ok.ensures.shut;
+          c.in_ok-put_new_records.ensures.reads c.in-Ok.ensures.reads c.in-Ok.ensures.shut;
       gates = log_gates p (recs_image (drop p.records c.args.recs.now)) c.gate.result _ _ _ gate c.requires.laid
           c.put_new_records.ensures.any_moment.later c.in_ok-put_new_records.ensures.reads c.close_gates.ensures.any_moment.later
           c.in-Ok.ensures.reads;

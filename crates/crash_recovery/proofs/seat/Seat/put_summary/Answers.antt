@@ -1,33 +1,23 @@
-use Rattle.std.proofs.Common.{◌∙◌, length, sym, ap, subst, rules}
+use Rattle.std.proofs.Common.{◌∙◌, length, sym, ap, subst, rules, arith}
 use Rattle.std.proofs.lemmas.Bool.{ltb-true}
 use Rattle.std.specs.Prelude.{nat_lt}
 use Rattle.archive_file.specs.Summaries.{summary_image}
 use Rattle.device_layout.specs.Recovery.{summary_place, summary_gate}
-use Rattle.disk_model.specs.Gates.{IsShut}
-use Rattle.disk_model.specs.Traces.{seen}
-use Rattle.crash_recovery.specs.Seats.{LaidOn, OverrunOn}
-use Rattle.crash_recovery.proofs.DeviceReads.{now_shown}
-use Rattle.crash_recovery.proofs.Places.{settled_on}
-use Rattle.crash_recovery.proofs.Checkpoints.{IsFit, fit_of, none_used, summed_as, summary_moments, summary_durable}
-use Rattle.crash_recovery.proofs.Checkpoints.{summary_overrun, summary_laid}
+use Rattle.crash_recovery.specs.{LaidOn, OverrunOn}
+use Rattle.crash_recovery.proofs.Checkpoints.{IsFit, fit_of, none_used, summed_as, summary_moments}
+use Rattle.crash_recovery.proofs.Checkpoints.{summary_durable, summary_overrun, summary_laid}
+use Rattle.crash_recovery.proofs.{DeviceReads.now_shown, Places.settled_on, Calls.put_gates}
+use Rattle.crash_recovery.proofs.{seat.Seat.put_summary.Goals.After-write_guarded}
 use Rattle.device_layout.proofs.SlotNumbers.{length-summary_image}
-use Rattle.crash_recovery.proofs.Calls.{put_gates}
 use Rattle.crash_recovery.proofs.seat.Seat.put_summary.Given as given
 use Rattle.crash_recovery.proofs.seat.Seat.put_summary.Goals as goal
-use Rattle.crash_recovery.proofs.seat.Seat.put_summary.Goals.{After-write_guarded}
 
 -- the tuning that is written is the core's, and its parts fit
 fit : (g : given.Over) (c : After-write_guarded g) → IsFit c.tuning-tuning.result c.args.core.now.step c.args.core.now.state
-fit g c =
-    fit_of c.tuning-tuning.result c.args.core.now.step c.args.core.now.state c.summary-summary.result c.summary-summary.ensures.value
-    c.tuning-tuning.ensures.value c.tuning-tuning.ensures.tuned c.summary-summary.ensures.parts c.requires.countable
+fit g c = grind (arith, fit_of)
 
 pub write_guarded-requires-clause-shut : goal.write_guarded-requires-clause-shut
-write_guarded-requires-clause-shut g c =
-    let o = (g.D.Disk.device c.args.dev.now).trace in
-    let gate = c.gate.ensures ∙ ap summary_gate c.spare_slot-slot.ensures in
-    now_shown o (IsShut c.gate.result) (settled_on c.args.self.now o c.requires.laid)
-    (subst (λ k. IsShut k (seen o)) (sym gate) c.requires.ready.shut)
+write_guarded-requires-clause-shut g c = grind (arith, now_shown, settled_on)
 
 pub returns-in_default-clause-any_moment : goal.returns-in_default-clause-any_moment
 returns-in_default-clause-any_moment g c = λ def s all goes.
@@ -62,8 +52,7 @@ returns g c =
           c.requires.ready c.place.result c.gate.result c.summary_bytes.result at gate bytes
           c.write_guarded.ensures.any_moment c.in-Ok.ensures.settled c.in-Ok.ensures.reads def s all goes;
       overrun = λ def s all goes. subst (λ q. OverrunOn q new) same
-          (summary_overrun p _ _ r fit c.requires.fresh c.requires.within c.requires.more _ _
-          c.requires.laid
+          (summary_overrun p _ _ r fit c.requires.fresh c.requires.within c.requires.more _ _ c.requires.laid
           c.requires.ready c.place.result c.gate.result c.summary_bytes.result at gate bytes
           c.write_guarded.ensures.any_moment c.in-Ok.ensures.settled c.in-Ok.ensures.reads stale def s all
           goes);

@@ -1,8 +1,8 @@
 use Rattle.std.proofs.Common.{◌+◌, arith, sym, subst}
-use Rattle.event_queue.specs.Scans.{IsRead}
+use Rattle.event_queue.specs.{IsRead}
 use Rattle.event_queue.proofs.Pieces.{handed_on, slot_in, taken_none, taken_shut, taken_open}
-use Rattle.event_queue.proofs.reader.Scanned.take_piece.Goals as goal
 use Rattle.event_queue.proofs.reader.Scanned.take_piece.Goals.{then-gates-k+in_ok-take_slot, else-gates-k}
+use Rattle.event_queue.proofs.reader.Scanned.take_piece.Goals as goal
 
 pub returns-in_err-take_slot-clause-damaged : goal.returns-in_err-take_slot-clause-damaged
 returns-in_err-take_slot-clause-damaged c = λ a byte told bytes at_piece read.

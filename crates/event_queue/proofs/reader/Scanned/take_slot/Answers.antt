@@ -1,14 +1,9 @@
-use Rattle.std.proofs.Common.{◌≡◌, ◌+◌, ◌*◌, ◌<◌, ◌⊎◌, inl, inr, cond, refl, sym, ◌∙◌}
-use Rattle.std.proofs.Common.{arith}
+use Rattle.std.proofs.Common.{◌≡◌, ◌+◌, ◌*◌, ◌<◌, ◌⊎◌, inl, inr, cond, refl, arith}
 use Rattle.std.proofs.lemmas.Bool.{cond-true, cond-false, true≢false}
 use Rattle.archive_file.specs.declared.failure.ScanNo.TheVariants.{Damaged}
 use Rattle.event_queue.proofs.Steps.{damage_here}
-use Rattle.event_queue.proofs.Taken.{fields_read, within_more, count_breaks, first_breaks, point_breaks}
-use Rattle.event_queue.proofs.Taken.{taken_in}
+use Rattle.event_queue.proofs.Taken.{fields_read, within_more, count_breaks, first_breaks, point_breaks, taken_in}
 use Rattle.event_queue.proofs.reader.Scanned.take_slot.Goals as goal
-use Rattle.event_queue.proofs.reader.Scanned.take_slot.Goals.{then-count-eq0-via-then-count-eq0}
-use Rattle.event_queue.proofs.reader.Scanned.take_slot.Goals.{}
-use Rattle.event_queue.proofs.reader.Scanned.take_slot.Goals.{then-count-eq0-via-else-count-eq0+then-count-gt-BATCH_MOST}
 
 pub returns-then-count-eq0-clause-damaged : goal.returns-then-count-eq0-clause-damaged
 returns-then-count-eq0-clause-damaged c = λ a byte told bytes at_slot read.
@@ -17,11 +12,7 @@ returns-then-count-eq0-clause-damaged c = λ a byte told bytes at_slot read.
     let same : c.damage.result ≡ Damaged a byte = cc (told) in
     let fields = fields_read slot _ _ _ _ c.take_number-first.ensures.number c.take_number-first.ensures.rest
     c.take_count-count.ensures.number c.take_count-count.ensures.rest in
-    let bad : (c.take_count-count.result.0 ≡ 0) ⊎ (64 < c.take_count-count.result.0) =
-    elim c.then-count-eq0.branch [
-      | then-count-eq0-via-then-count-eq0 w ↦ inl w.if-count-eq0.true
-      | then-count-eq0-via-else-count-eq0+then-count-gt-BATCH_MOST w ↦ inr w.if-count-gt-BATCH_MOST.true
-    ] in
+    let bad : (c.take_count-count.result.0 ≡ 0) ⊎ (64 < c.take_count-count.result.0) = grind arith in
     damage_here slots c.args.taken bytes c.args.k slot 8 a byte c.damage.result c.requires.there read.lane
     at_slot
     (inl (count_breaks slots c.args.taken bytes c.args.k _ _ slot _ fields at_slot bad)) (omega arith)
@@ -36,9 +27,7 @@ returns-then-not-follows-clause-damaged c = λ a byte told bytes at_slot read.
     c.take_count-count.ensures.number c.take_count-count.ensures.rest in
     damage_here slots c.args.taken bytes c.args.k slot 0 a byte c.damage-then-not-follows.result
     c.requires.there read.lane at_slot
-    (inr (inl (first_breaks slots c.args.taken bytes c.args.k _ _ slot _ fields at_slot (omega arith)
-    (omega arith) c.args.self.now read c.requires.within _ c.is_stale-stale.ensures
-    (λ fits. true≢false (sym (c.follows.ensures.1 fits) ∙ c.if-not-follows.true))))) (omega arith)
+    (inr (inl (grind (arith, first_breaks, true≢false)))) (omega arith)
     (cc) same
 
 pub returns-in-Some-clause-damaged : goal.returns-in-Some-clause-damaged
@@ -61,8 +50,7 @@ returns-in-Some-clause-damaged c = λ a byte told bytes at_slot read.
     (cc) same
 
 -- how many points were added
-beyond_is : (c : goal.After-self-3-1) → c.if-stale.beyond
-    ≡ cond c.is_stale-stale.result 0 c.take_count-count.result.0
+beyond_is : (c : goal.After-self-3-1) → c.if-stale.beyond ≡ cond c.is_stale-stale.result 0 c.take_count-count.result.0
 beyond_is c = grind (arith, cond-true, cond-false)
 
 pub returns-clause-within : goal.returns-clause-within
