@@ -1,3 +1,4 @@
 pub mod Rounding
 pub mod Drilling
 pub mod CheckLines
+pub mod Counts

@@ -1,7 +1,7 @@
 // The line of a tag.
 ghost use Rattle.std.specs.Prelude.{◌≡◌, ◌++◌, codes, IfOk, OnOk, string_bytes};
 ghost use Rattle.std.specs.List.{count_by};
-ghost use Rattle.trend_report.specs.Lines.{counts_text, is_kept, is_late, tag_line_of, tag_text};
+ghost use Rattle.trend_report.specs.Lines.{counts_text, is_kept, tag_line_of, tag_text};
 
 use crate::point_text::put_held;
 use std::alloc::{AllocError, Global};
@@ -23,6 +23,7 @@ pub struct TagLine {
 
 /// Returns the line's content for a tag with this name, these records and this summary. Returns `WantOfMemory` if the
 /// kept or the late records are too many for a `u32`.
+#[tactic(auto, using(crate::proofs::Counts::kept_or_late))]
 pub fn line_of(name: Name, recs: &[Rec], summary: &Summary) -> Result<TagLine, WantOfMemory>
     ensures { IfOk result (λ line. line ≡ tag_line_of name recs.now summary.now) }
 {
@@ -33,7 +34,7 @@ pub fn line_of(name: Name, recs: &[Rec], summary: &Summary) -> Result<TagLine, W
         ..
     } = *summary;
     let kept = kept_count(recs);
-    let late = late_count(recs);
+    let late = recs.len() - kept;
     Ok(TagLine {
         name,
         taken,
@@ -49,13 +50,6 @@ fn kept_count(recs: &[Rec]) -> usize
     ensures { result ≡ count_by (λ r. is_kept r.kind) recs.now }
 {
     recs.iter().filter(|r| matches!(r.kind, Kind::Kept)).count()
-}
-
-// How many records are late.
-fn late_count(recs: &[Rec]) -> usize
-    ensures { result ≡ count_by (λ r. is_late r.kind) recs.now }
-{
-    recs.iter().filter(|r| matches!(r.kind, Kind::Late)).count()
 }
 
 /// Returns the line `tag NAME taken=N records=R kept=K late=L held=HELD`, with its line feed. HELD is `T,V` or `none`.
