@@ -52,7 +52,7 @@ IsHint names i = i < length names → first_place_of names (get_or names i []) �
 -- the map has the place of each name, each slot has the place of a name or none, and the names are names
 pub record HasPlaces (m : BTreeMap (Bor (List ℕ)) ℕ) (slots : List ℕ) (names : List (List ℕ)) : Type 0 where
   pub places : ArePlaces m names
-  pub count : length slots ≡ 4096
+  pub count : length slots ≡ 16384
   pub hints : All (IsHint names) slots
   pub named : All IsName names
 

@@ -12,7 +12,7 @@ use trend_num::{Name, WantOfMemory};
 
 // How many slots there are. If names share a slot, it has the place of one of them. The map has the places of all
 // names.
-const SLOTS: usize = 4096;
+const SLOTS: usize = 16384;
 
 // The entry of a slot without a name. It is no place, because there are fewer names.
 const NOBODY: u32 = u32::MAX;
@@ -127,5 +127,5 @@ fn slot_of(name: &[u8]) -> usize
     for byte in name {
         mixed = mixed.wrapping_mul(31).wrapping_add(u32::from(*byte));
     }
-    (mixed.wrapping_mul(0x9E37_79B1) >> 20) as usize
+    (mixed.wrapping_mul(0x9E37_79B1) >> 18) as usize
 }

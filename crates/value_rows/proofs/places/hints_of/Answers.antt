@@ -10,11 +10,11 @@ use Rattle.value_rows.proofs.places.hints_of.Goals.{in-Some, in_default}
 pub loop-name-init : goal.loop-name-init
 loop-name-init c =
     let names = c.args.names.now in
-    let empty : c.in_ok-hints.hints.items ≡ replicate 4096 4294967295 = search rules in
+    let empty : c.in_ok-hints.hints.items ≡ replicate 16384 4294967295 = c.in_ok-hints.ensures in
     record {
       slots = search rules;
       hints = subst (All (IsHint names)) (sym empty)
-          (All-replicate (IsHint names) 4096 4294967295 (no_hint names 4294967295 (omega (arith, c.requires.few))));
+          (All-replicate (IsHint names) 16384 4294967295 (no_hint names 4294967295 (omega (arith, c.requires.few))));
     }
 
 pub loop-name-preserved : goal.loop-name-preserved

@@ -4,6 +4,6 @@ use Rattle.value_rows.proofs.places.hints_of.Given as goal
 
 abbrev pub invariant-loop-name : goal.invariant-loop-name
 invariant-loop-name l = record {
-  slots : length l.hints.items ≡ 4096;
+  slots : length l.hints.items ≡ 16384;
   hints : All (IsHint l.names) l.hints.items;
 }
