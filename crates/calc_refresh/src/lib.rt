@@ -10,7 +10,8 @@
 //!
 //! No clause states how long a call takes. The code goes once over the new records, and once over a row of marks, one for
 //! each complete window. It evaluates the windows that are due, and `due` tells which these were. A content without room
-//! for the new records is made anew from all records of its input, with room for a quarter more.
+//! for the new records is made anew from all records of its input, with room for a quarter more. `from_saved` gives the
+//! contents that room at once.
 #![tactic(auto)]
 
 mod definition;

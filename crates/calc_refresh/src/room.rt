@@ -30,7 +30,7 @@ pub(crate) fn room_in_copies(copies: &mut [Vec<Rec>], deltas: &[Vec<Rec>]) -> Re
 
 // Makes a content of these records, with room for so many more and for a quarter of all besides. So a content that
 // grows is seldom made anew.
-fn roomy(alloc: Global, copy: &[Rec], more: usize) -> Result<Content, AllocError>
+pub(crate) fn roomy(alloc: Global, copy: &[Rec], more: usize) -> Result<Content, AllocError>
     requires copy { IsCopy copy.now }
     requires more { more < 2 ^ 32 }
     ensures records { IfOk result (λ c. c.records ≡ listed copy.now) }

@@ -11,6 +11,7 @@ ghost use Rattle.calc_refresh.specs.Sheet.{AreRowsWhole, IsCopy, IsGrid, IsGroup
 use crate::definition::GroupDefParts;
 use crate::limit::kept_end_after;
 use crate::refusal::SheetNo;
+use crate::room::roomy;
 use crate::sheet::Sheet;
 use crate::window::windows_before;
 use calc_eval::CalcValue;
@@ -119,17 +120,15 @@ fn shape_fault(windows: u64, rows: &[Vec<CalcValue>]) -> Option<SheetNo>
     None
 }
 
-// Makes the contents of the copies.
+// Makes the contents of the copies, each with room to grow.
 fn contents_of(alloc: Global, copies: &[Vec<Rec>]) -> Result<Vec<Content>, AllocError>
     requires { All IsCopy (lists_of copies.now) }
     ensures { IfOk result (λ v. map (λ c. c.records) v.items ≡ map listed (lists_of copies.now)) }
 {
     let mut contents = Vec::with_capacity(alloc, copies.len())?;
     for copy in copies {
-        match Content::from_records(alloc, copy, 0) {
-            Ok(content) => contents.push_reserved(content),
-            Err(_) => return Err(AllocError),
-        }
+        let content = roomy(alloc, copy, 0)?;
+        contents.push_reserved(content);
     }
     Ok(contents)
 }

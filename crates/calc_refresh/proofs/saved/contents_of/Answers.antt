@@ -1,19 +1,18 @@
-use Rattle.std.proofs.Common.{◌≡◌, ◌++◌, [], ◌∷◌, List, All, get_or, map, take, subst, sym, ap, ◌∙◌, arith}
+use Rattle.std.proofs.Common.{◌≡◌, ◌++◌, [], ◌∷◌, get_or, map, take, subst, sym, ap, ◌∙◌, arith}
 use Rattle.std.specs.Prelude.{Vec}
 use Rattle.std.specs.declared.alloc.Global.{Global}
 use Rattle.std.proofs.lemmas.List.{map_push}
 use Rattle.trend_num.specs.declared.archive.Rec.{Rec}
-use Rattle.trend_num.specs.Ranges.{InRange}
 use Rattle.trend_model.specs.Contents.{ContentState, listed}
 use Rattle.calc_refresh.specs.Lists.{lists_of}
 use Rattle.calc_refresh.specs.Sheet.{IsCopy}
 use Rattle.calc_refresh.proofs.Inputs.{each_read, lists_more}
 use Rattle.calc_refresh.proofs.saved.contents_of.Goals as goal
 
-pub from_records-requires : goal.from_records-requires
-from_records-requires c =
-    let here = each_read IsCopy c.args.copies.now c.loop-copy.copy-index c.copy-item.result c.loop-copy-test.true c.copy-item.is c.requires in
-    record { range = subst (λ (l : List Rec). All (λ r. InRange r.point) l) (sym c.deref.ensures.value) here.range }
+pub roomy-requires-clause-copy : goal.roomy-requires-clause-copy
+roomy-requires-clause-copy c =
+    subst IsCopy (sym c.deref.ensures.value)
+    (each_read IsCopy c.args.copies.now c.loop-copy.copy-index c.copy-item.result c.loop-copy-test.true c.copy-item.is c.requires)
 
 pub loop-copy-preserved : goal.loop-copy-preserved
 loop-copy-preserved c =
@@ -21,10 +20,10 @@ loop-copy-preserved c =
     let vs = c.args.copies.now in
     let v = c.copy-item.result in
     let next = lists_more vs i v c.loop-copy-test.true in
-    let content = c.in-Ok.content in
+    let content = c.in_ok-content.content in
     let here : v.items ≡ (get_or vs i v).items = ap (λ (w : Vec Rec Global). w.items) c.copy-item.is in
     let one : content.records ≡ listed (get_or vs i v).items =
-    c.in-Ok.ensures.records ∙ (ap listed c.deref.ensures.value ∙ ap listed here) in
+    c.in_ok-content.ensures.records ∙ (ap listed c.deref.ensures.value ∙ ap listed here) in
     record {
       read = ap (map (λ (s : ContentState). s.records)) c.push_reserved.ensures.items
           ∙ (map_push (λ (s : ContentState). s.records) c.loop-copy.contents.items content
