@@ -75,7 +75,8 @@ pub fn open_cell<D: Disk, R: Wait>(
     let Ok(recs) = Vec::from_slice(alloc, core.recs()) else {
         return Err(refused(journal.into_device()));
     };
-    let Ok(tape) = Vec::with_capacity(alloc, room as usize) else {
+    // There is room for commits too, so that the first one does not move the tape.
+    let Ok(tape) = Vec::with_capacity(alloc, room as usize + room as usize / 32 + 16) else {
         return Err(refused(journal.into_device()));
     };
     let mut poster = poster;

@@ -34,7 +34,7 @@ invariant_of-result g c =
           (told.acked ∙ count),
       open_in_step def o tape found.core c.in-Ok.content.records none told.step is c.in-Ok.ensures.content,
       open_has_room o tape (vec_capacity c.in-Ok-with_capacity.tape) c.args.room found.core.spare c.in-Ok.content.spare none
-          c.in-Ok-with_capacity.ensures.capacity told.room c.in-Ok.ensures.room (omega (arith, told.countable, count)),
+          (omega (arith, c.in-Ok-with_capacity.ensures.capacity)) told.room c.in-Ok.ensures.room (omega (arith, told.countable, count)),
       open_waits o tape c.record_count-durable.result found.journal.acked none
           (c.record_count-durable.ensures.value ∙ ap Rattle.std.proofs.Common.length (sym records)) (told.acked ∙ count),
       open_kept def o tape found.journal.failed (g.D.Disk.device dev) none told.usable recovers c.clock.ensures c.faults.ensures,
