@@ -185,7 +185,8 @@ fn parts_of(alloc: Global, stored: Stored, plant: &[u8], room: u32) -> Result<Pa
     let Ok(plant) = Vec::from_slice(alloc, plant) else {
         return Err(LogNo::WantOfMemory);
     };
-    let Ok(tape) = Vec::with_capacity(alloc, room as usize) else {
+    // There is room for commits too, so that the first one does not move the tape.
+    let Ok(tape) = Vec::with_capacity(alloc, room as usize + room as usize / 32 + 16) else {
         return Err(LogNo::WantOfMemory);
     };
     Ok(Parts {
