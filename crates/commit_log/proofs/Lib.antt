@@ -12,3 +12,4 @@ pub mod Opened
 pub mod Openings
 pub mod Acks
 pub mod Keeps
+pub mod Begun

@@ -1,11 +1,12 @@
 -- What is read from a log's device, what it is opened as, and why it is not opened.
-use Rattle.std.specs.Prelude.{◌≡◌, ◌≢◌, ◌⊎◌, ℕ, ◌+◌, ◌*◌, ◌<◌, List, ◌++◌, All, length, Option, None, Some, Err}
+use Rattle.std.specs.Prelude.{◌≡◌, ◌≢◌, ◌⊎◌, ℕ, ◌+◌, ◌*◌, ◌<◌, List, ◌++◌, All, length, Option, None, Some, IfSome, Err}
 use Rattle.archive_file.specs.declared.failure.ScanNo.{ScanNo}
 use Rattle.archive_file.specs.declared.failure.ScanNo.TheVariants as scan
 use Rattle.disk_model.specs.Calls.{CountsFault, Shows}
 use Rattle.disk_model.specs.Gates.{IsNew}
 use Rattle.disk_model.specs.Images.{MayLeave}
-use Rattle.disk_model.specs.Traces.{Synced, Trace, noted, seen}
+use Rattle.disk_model.specs.Moments.{ComesAfter, During}
+use Rattle.disk_model.specs.Traces.{HandOut, Synced, Trace, moment, noted, seen}
 use Rattle.commit_log.specs.declared.block_reader.Stored.{Stored}
 use Rattle.commit_log.specs.declared.refusal.LogNo.{LogNo}
 use Rattle.commit_log.specs.declared.refusal.LogNo.TheVariants.{DeviceFault, Damaged, OtherPlant, TooMany, WantOfMemory}
@@ -75,6 +76,21 @@ pub record StandsSame (plant : List ℕ) (tags : ℕ) (before c : List ℕ) : Ty
 -- a crash might have left this image before, or it stands for the same rows as the device before
 abbrev pub IsLogLeftOrSame : List ℕ → ℕ → Trace → List ℕ → Type 0
 IsLogLeftOrSame plant tags o c = MayLeave o c ⊎ StandsSame plant tags (seen o) c
+
+-- From one device on, the opening made another of it, and more calls made it what it is now. The opening's rows are those for
+-- which the first one stood. Until the opening ended, a crash left what it might have left before, or what stands for these
+-- rows.
+pub record IsLogOpenedWell (plant : List ℕ) (tags : ℕ) (opening : List LogRow) (opened_at : ℕ) (before now : Trace) : Type 0 where
+  pub ended : Trace
+  pub stood : Shows before (λ c. StandsForRows plant tags c opening)
+  pub same : During before ended (IsLeftOrStands plant tags opening before)
+  pub at : moment ended ≡ opened_at
+  pub later : ComesAfter ended now
+
+-- the same from what the device was when it was handed out, if that is recorded
+abbrev pub LogBeganWell : List ℕ → ℕ → List LogRow → ℕ → HandOut → Trace → Type 0
+LogBeganWell plant tags opening opened_at handed now =
+    IfSome handed.trace (λ before. IsLogOpenedWell plant tags opening opened_at before now)
 
 -- a device that is not new gains one sync, and nothing else
 abbrev pub GainsLogSync : Trace → Trace → Type 0

@@ -3,6 +3,7 @@ ghost use Rattle.std.specs.Prelude.{◌≡◌, false, true};
 ghost use Rattle.disk_model.specs.Calls.{Rose};
 ghost use Rattle.disk_model.specs.Traces.{FitsName, moment};
 ghost use Rattle.commit_log.specs.Devices.{log_name};
+ghost use Rattle.commit_log.specs.Openings.{LogBeganWell};
 ghost use Rattle.commit_log.specs.Told.{HasHistory, IsHandedOut};
 
 use crate::history::{LogHistory, LogTurn};
@@ -40,6 +41,7 @@ impl<D: Disk> Model for Log<D> {
     ghost use Rattle.disk_model.specs.Traces.{FitsName, moment};
     ghost use Rattle.commit_log.specs.Devices.{log_name};
     ghost use Rattle.commit_log.specs.Histories.{IsLogLegal, IsLogSafe};
+    ghost use Rattle.commit_log.specs.Openings.{LogBeganWell};
     ghost use Rattle.commit_log.specs.Told.{ToldLog, HasRoomForPuts, Waits, IsKept};
 
     ghost Value = { ToldLog D };
@@ -64,7 +66,8 @@ impl<D: Disk> Model for Log<D> {
         × IsKept l.plant.items l.tags l.opening.items l.opened_at l.faults l.tape.items l.next l.end l.failed
         (D.device l.dev).trace (moment (D.device l.dev).trace) (D.device l.dev).faults
         × IsLogSafe l.plant.items l.tags l.opening.items l.opened_at l.tape.items (LeftSince (D.device l.dev).trace)
-        × FitsName log_name (D.device l.dev).handed };
+        × FitsName log_name (D.device l.dev).handed
+        × LogBeganWell l.plant.items l.tags l.opening.items l.opened_at (D.device l.dev).handed (D.device l.dev).trace };
 }
 
 impl<D: Disk> Log<D> {
@@ -131,6 +134,10 @@ impl<D: Disk> Log<D> {
         ensures tape { result.1.tape.items ≡ self.tape }
         ensures acked { result.1.acked ≡ self.acked }
         ensures history { IsHandedOut result.1 (D.device result.0).trace (moment (D.device result.0).trace) (D.device result.0).faults }
+
+        // From what the device was when it was handed out, if that is recorded, until the opening ended, a crash left
+        // only what it might have left before, or what stands for the same rows.
+        ensures begun { LogBeganWell self.plant self.tags self.opening self.moment (D.device result.0).handed (D.device result.0).trace }
 
         // One fault was counted since the opening if a commit failed, and none otherwise.
         ensures rose { self.failed ≡ true → Rose self.faults (D.device result.0).faults }

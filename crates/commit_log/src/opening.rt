@@ -1,5 +1,5 @@
 // Opening a log.
-ghost use Rattle.std.specs.Prelude.{◌≡◌, ◌≢◌, ℕ, ◌+◌, ◌<◌, ◌≤◌, [], All, Option, IfErr, IfOk, IsErrOf, OnErr, OnOk, false, length, vec_capacity};
+ghost use Rattle.std.specs.Prelude.{◌≡◌, ◌≢◌, ℕ, ◌+◌, ◌<◌, ◌≤◌, [], All, Option, IfErr, IfOk, IfSome, IsErrOf, OnErr, OnOk, false, length, vec_capacity};
 ghost use Rattle.disk_model.specs.Calls.{CountsFault, Shows};
 ghost use Rattle.disk_model.specs.Gates.{IsNew, layout_calls};
 ghost use Rattle.disk_model.specs.Images.{IsSettled};
@@ -9,7 +9,7 @@ ghost use Rattle.commit_log.specs.Devices.{log_name};
 ghost use Rattle.commit_log.specs.declared.refusal.LogNo.TheVariants.{Damaged, DeviceFault, OtherPlant, TooMany};
 ghost use Rattle.commit_log.specs.Blocks.{IsLogRow};
 ghost use Rattle.commit_log.specs.Images.{LogsNothing, StandsForRows};
-ghost use Rattle.commit_log.specs.Openings.{CountsLogRefusal, GainsLogSync, GainsSyncOnly, IsLogCause, IsLogLeftOrSame, IsLeftOrStands, most_rows};
+ghost use Rattle.commit_log.specs.Openings.{CountsLogRefusal, GainsLogSync, GainsSyncOnly, IsLogCause, IsLogLeftOrSame, IsLeftOrStands, LogBeganWell, most_rows};
 ghost use Rattle.archive_file.specs.TextHeads.{TextOpensAt};
 ghost use Rattle.commit_log.specs.Told.{IsReady};
 
@@ -27,7 +27,8 @@ use std::alloc::Global;
 const MOST_ROWS: u64 = 4_000_000;
 
 /// Opens the log of a plant on a device, with room for so many puts. `plant` is the names of its `tags` tags in base
-/// order, with a line feed between two.
+/// order, with a line feed between two. If it is recorded what the device was when a store handed it out, then no call has
+/// used it since.
 ///
 /// It syncs the device first. Then it reads the device, or begins it if it is new. So a device that is not new gains one
 /// sync, and nothing else. So does a device that is refused, new or not, unless a call of it failed. A crash at any
@@ -44,6 +45,7 @@ pub fn open_log<D: Disk>(
     room: u32,
 ) -> Result<Log<D>, LogFail<D>>
     requires named { FitsName log_name (D.device dev).handed }
+    requires unused { IfSome (D.device dev).handed.trace (λ t. (D.device dev).trace ≡ t) }
 
     // The log has the rows for which the device's bytes stood.
     ensures opened { IfOk result (λ l. Shows (D.device dev).trace (λ c. StandsForRows plant.now tags c l.opening)) }
@@ -96,6 +98,7 @@ fn log_of<D: Disk>(alloc: Global, dev: D, tags: u32, room: u32, parts: Parts) ->
     requires capacity { room ≤ vec_capacity parts.tape }
     requires few { length parts.rows.items + room ≤ most_rows }
     requires named { FitsName log_name (D.device dev).handed }
+    requires begun { LogBeganWell parts.plant.items tags parts.rows.items (moment (D.device dev).trace) (D.device dev).handed (D.device dev).trace }
     ensures { result ≡ record {
       plant = parts.plant.items;
       tags = tags;

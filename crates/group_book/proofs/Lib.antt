@@ -12,3 +12,4 @@ pub mod Saving
 pub mod Loaded
 pub mod InputLists
 pub mod Evaluations
+pub mod Begun

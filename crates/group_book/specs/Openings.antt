@@ -1,18 +1,21 @@
 -- What the opening of a group's device gives, and why a device is not opened.
-use Rattle.std.specs.Prelude.{◌≡◌, ℕ, ◌<◌, ◌≤◌, List, length, map, slice_index, slice_index_or, Some, Err}
+use Rattle.std.specs.Prelude.{◌≡◌, ℕ, ◌<◌, ◌≤◌, List, length, map, slice_index, slice_index_or, Option, None, Some, IfSome, Err}
 use Rattle.trend_num.specs.declared.archive.Rec.{Rec}
 use Rattle.trend_num.specs.declared.value.CalcValue.{CalcValue}
 use Rattle.archive_file.specs.declared.failure.ScanNo.{ScanNo}
 use Rattle.archive_file.specs.declared.failure.ScanNo.TheVariants as scan
 use Rattle.disk_model.specs.Calls.{CountsFault, Shows}
-use Rattle.disk_model.specs.Traces.{Trace}
+use Rattle.disk_model.specs.Moments.{ComesAfter, During}
+use Rattle.disk_model.specs.Traces.{Device, Trace, moment}
 use Rattle.calc_refresh.specs.declared.definition.GroupDefParts.{GroupDefParts}
 use Rattle.calc_refresh.specs.declared.refusal.SheetNo.TheVariants as sheet
+use Rattle.calc_refresh.specs.Lists.{lists_of}
 use Rattle.calc_refresh.specs.Refreshed.{shape_fault}
 use Rattle.calc_refresh.specs.Sheet.{grid_of}
 use Rattle.sheet_law.specs.Windows.{complete_windows}
 use Rattle.group_layout.specs.Images.{StandsFor, IsGroupDamage}
 use Rattle.group_layout.specs.Readings.{IsLeftOrSame}
+use Rattle.group_book.specs.declared.history.GroupOpening.{GroupOpening}
 use Rattle.group_book.specs.declared.refusal.LoadNo.{LoadNo}
 use Rattle.group_book.specs.declared.refusal.LoadNo.TheVariants.{DeviceFault, Damaged, Ahead, Shape, WantOfMemory}
 use Rattle.group_book.specs.Tapes.{cut}
@@ -24,6 +27,21 @@ StandsForGroup text def versions rows c = StandsFor text def.inputs (length def.
 -- an image is one that a crash might have left before, or stands for the same
 abbrev pub BookStaysSame : List ℕ → GroupDefParts → Trace → List ℕ → Type 0
 BookStaysSame text def o c = IsLeftOrSame text def.inputs (length def.calcs.calcs) o c
+
+-- From one device on, the opening made another of it, and more calls made it what it is now. The opening is what the first
+-- one stood for. Until the opening ended, a crash left what it might have left before, or what stands for the same.
+pub record IsBookOpenedWell (text : List ℕ) (def : GroupDefParts) (o : GroupOpening) (before now : Trace) : Type 0 where
+  pub ended : Trace
+  pub stood : Shows before (StandsForGroup text def o.versions.items (lists_of o.rows.items))
+  pub same : During before ended (BookStaysSame text def before)
+  pub at : moment ended ≡ o.moment
+  pub later : ComesAfter ended now
+
+-- the same from what the device was when it was handed out, if there is a device and that is recorded
+abbrev pub BookBeganWell : {D : Type 0} → (D → Device) → List ℕ → GroupDefParts → GroupOpening → Option D → Type 0
+BookBeganWell device text def o None = Unit {0}
+BookBeganWell device text def o (Some dev) =
+    IfSome (device dev).handed.trace (λ before. IsBookOpenedWell text def o before (device dev).trace)
 
 -- the first input whose version is above the number of records that were recovered
 pub record IsAhead (versions : List ℕ) (recovered : List (List Rec)) (input version records : ℕ) : Type 0 where

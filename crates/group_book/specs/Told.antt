@@ -26,6 +26,7 @@ use Rattle.group_book.specs.declared.turn.Turn.TheVariants.{Refresh, Ask}
 use Rattle.group_book.specs.Tapes.{cut, saved_at, book_start, book_walked}
 use Rattle.group_book.specs.Histories.{AreRowsEvaluated, AreRowsOver, AreValuesInRange, IsBookLegal, IsRight}
 use Rattle.group_book.specs.Crashes.{IsBookSafe}
+use Rattle.group_book.specs.Openings.{BookBeganWell}
 
 -- what the last save left: its number, the versions and the rows, and where the next block goes
 pub record Saved : Type 0 where
@@ -129,6 +130,10 @@ IsOwnDevice device text (Some dev) = FitsName (device_name_of text) (device dev)
 -- a book with a definition text has a device, and that one may be kept under the name of its group's device
 abbrev pub IsAtHome : {D : Type 0} → (D → Device) → List ℕ → Option D → Type 0
 IsAtHome device text dev = IsOnDevice text dev × IsOwnDevice device text dev
+
+-- the device of a book is at home, and it began well
+abbrev pub IsWellHeld : {D : Type 0} → (D → Device) → List ℕ → GroupDefParts → GroupOpening → Option D → Type 0
+IsWellHeld device text def o dev = IsAtHome device text dev × BookBeganWell device text def o dev
 
 -- the trace of the device, if there is a device
 abbrev pub trace_of : {D : Type 0} → (D → Device) → Option D → Option Trace

@@ -4,6 +4,7 @@ ghost use Rattle.disk_model.specs.Calls.{Rose};
 ghost use Rattle.trend_num.specs.declared.archive.Rec.{Rec};
 ghost use Rattle.calc_refresh.specs.Lists.{lists_of};
 ghost use Rattle.calc_refresh.specs.Sheet.{grid_of};
+ghost use Rattle.group_book.specs.Openings.{BookBeganWell};
 ghost use Rattle.group_book.specs.Told.{IsBookHistory, IsOnDevice, IsOwnDevice, faults_of, moment_of, trace_of, versions_of};
 
 use crate::history::{GroupHistory, GroupOpening};
@@ -47,7 +48,7 @@ impl<D: Disk> Model for Book<D> {
     ghost use Rattle.calc_refresh.specs.Sheet.{grid_of};
     ghost use Rattle.group_book.specs.Crashes.{IsBookSafe};
     ghost use Rattle.group_book.specs.Histories.{AreRowsEvaluated, IsBookLegal};
-    ghost use Rattle.group_book.specs.Told.{ToldBook, AreFlagged, IsAtHome, IsDefined, IsKept, LeftOf, faults_of, moment_of, trace_of};
+    ghost use Rattle.group_book.specs.Told.{ToldBook, AreFlagged, IsDefined, IsKept, IsWellHeld, LeftOf, faults_of, moment_of, trace_of};
 
     ghost Value = { ToldBook D };
 
@@ -72,7 +73,7 @@ impl<D: Disk> Model for Book<D> {
         (record { number = b.number; versions = b.saved_versions.items; rows = lists_of b.saved_rows.items; end = b.end }) b.failed
         (trace_of D.device b.dev) (moment_of D.device b.dev) (faults_of D.device b.dev)
         × IsBookSafe b.text.items b.def.calcs (grid_of b.def.start b.def.period) b.opening b.sheet.copies b.tape.items (LeftOf (trace_of D.device b.dev))
-        × IsAtHome D.device b.text.items b.dev
+        × IsWellHeld D.device b.text.items b.def b.opening b.dev
         × AreRowsEvaluated b.def.calcs (grid_of b.def.start b.def.period) b.opening b.tape.items b.sheet.copies b.sheet.rows b.sheet.evals
         × AreFlagged b.unsaved.items (lists_of b.saved_rows.items) b.sheet };
 }
@@ -154,6 +155,11 @@ impl<D: Disk> Book<D> {
         ensures device { result.0 ≡ self.dev }
         ensures there { IsOnDevice self.text result.0 }
         ensures own { IsOwnDevice D.device self.text result.0 }
+
+        // From what the device was when it was handed out, if that is recorded, until the opening ended, a crash left
+        // only what it might have left before, or what stands for the same.
+        ensures begun { BookBeganWell D.device self.text self.def self.opening result.0 }
+
         ensures group { result.1.group ≡ self.group }
         ensures def { result.1.def ≡ self.def }
         ensures text { result.1.text.items ≡ self.text }

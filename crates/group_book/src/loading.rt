@@ -42,7 +42,8 @@ impl From<WantOfMemory> for LoadNo {
 /// Opens the book of a group over its device, and syncs the device first. If the device is new or has another
 /// definition text, the function begins it anew, and the book is at version 0. Otherwise the book has the versions and
 /// rows that were saved last. The book then takes, of the records that the tag of each input recovered, as many as the
-/// version says. `tags` and `recovered` have one element for each input.
+/// version says. `tags` and `recovered` have one element for each input. If it is recorded what the device was when a store
+/// handed it out, then no call has used it since.
 ///
 /// An error returns the device and the reason. `DeviceFault`: a call of the device failed. `Damaged`: its layout is
 /// damaged. `Ahead`: a version is above the number of recovered records. `Shape`: a saved row does not have exactly one
@@ -62,6 +63,7 @@ pub fn load<D: Disk>(
     requires inputs { length recovered.now ≡ def.now.inputs }
     requires copied { All IsCopy (lists_of recovered.now) }
     requires named { FitsName (device_name_of text.now) (D.device dev).handed }
+    requires unused { IfSome (D.device dev).handed.trace (λ t. (D.device dev).trace ≡ t) }
 
     // The book has what the device's bytes stood for. A crash at any moment leaves what it might have left before, or
     // what stands for the same.

@@ -17,3 +17,4 @@ pub mod LogSeats
 pub mod ShiftTags
 pub mod ShiftWindows
 pub mod ShiftRefusals
+pub mod LogBranded

@@ -19,6 +19,7 @@ use Rattle.commit_log.specs.Blocks.{IsLogRow}
 use Rattle.commit_log.specs.Images.{StandsForRows}
 use Rattle.disk_model.specs.Gates.{IsNew}
 use Rattle.archive_file.specs.TextHeads.{TextOpensAt}
+use Rattle.commit_log.specs.Openings.{IsLogOpenedWell}
 use Rattle.commit_log.specs.Tapes.{puts, log_begin}
 use Rattle.commit_log.specs.Told.{IsHandedOut, ToldLog}
 use Rattle.commit_log.proofs.Tapes.{fit_rows}
@@ -57,18 +58,18 @@ rows_known {D} device files e known tags before now ended same = by_answer e.ans
     by_answer (Ok x) is = rows (ended.as_known (λ of. subst (λ (r : Result Unit Status). IsOfOpening r) is of))
 
 -- a device fault that the status reports is one that the log's device has counted
-fault_of_unit : {D : Type 0} (device : D → Device) (files : List (List RawRow)) (notes : List LogNote) (known : KnownLog) (l : ToldLog D) (unit : UnitOf)
-    → IsSettlingRefusal device files notes known l (DeviceFault unit) → 0 < (device l.dev).faults
-fault_of_unit device files notes known l unit (OfOpening is) = absurd is.first
-fault_of_unit device files notes known l unit (OfFinding kept is) = absurd is
-fault_of_unit device files notes known l unit (OfRest kept (OfStop is)) = absurd is
-fault_of_unit device files notes known l Log (OfRest kept (OfPut unstopped is)) = is
-fault_of_unit device files notes known l (Tag n) (OfRest kept (OfPut unstopped is)) = absurd is
-fault_of_unit device files notes known l (Group n) (OfRest kept (OfPut unstopped is)) = absurd is
-fault_of_unit device files notes known l Log (OfRest kept (OfCommit unstopped is)) = is
-fault_of_unit device files notes known l (Tag n) (OfRest kept (OfCommit unstopped is)) = absurd is
-fault_of_unit device files notes known l (Group n) (OfRest kept (OfCommit unstopped is)) = absurd is
-fault_of_unit device files notes known l unit (OfMemory same) = cc same
+fault_of_unit : {D : Type 0} (faults : ℕ) (files : List (List RawRow)) (notes : List LogNote) (known : KnownLog) (l : ToldLog D) (unit : UnitOf)
+    → IsSettlingRefusal faults files notes known l (DeviceFault unit) → 0 < faults
+fault_of_unit faults files notes known l unit (OfOpening is) = absurd is.first
+fault_of_unit faults files notes known l unit (OfFinding kept is) = absurd is
+fault_of_unit faults files notes known l unit (OfRest kept (OfStop is)) = absurd is
+fault_of_unit faults files notes known l Log (OfRest kept (OfPut unstopped is)) = is
+fault_of_unit faults files notes known l (Tag n) (OfRest kept (OfPut unstopped is)) = absurd is
+fault_of_unit faults files notes known l (Group n) (OfRest kept (OfPut unstopped is)) = absurd is
+fault_of_unit faults files notes known l Log (OfRest kept (OfCommit unstopped is)) = is
+fault_of_unit faults files notes known l (Tag n) (OfRest kept (OfCommit unstopped is)) = absurd is
+fault_of_unit faults files notes known l (Group n) (OfRest kept (OfCommit unstopped is)) = absurd is
+fault_of_unit faults files notes known l unit (OfMemory same) = cc same
 
 -- a sum of counts is above the first one, or at the end of the type
 risen_sum : (before faults now : ℕ) → before < 2 ^ 64 → 0 < faults → now ≡ sum_of_counts before faults → HasLogCountRisen before now
@@ -111,32 +112,32 @@ module _ (base : Base) (h : LogHistory) where
     done_told (Err why) (Ok text) is history made = absurd (cc (is.refused))
     done_told (Err why) (Err e) is history made = tt
 
-    module _ (device : D → Device) (notes : List LogNote) (known : KnownLog) where
+    module _ (faults : ℕ) (notes : List LogNote) (known : KnownLog) where
       -- and a cause where there is none
       undone_told : (came : Result Unit Status) (told : Result (String Global) Status) → IsLogReported base h came told
-          → OnOk came (AreUnstopped notes) → OnOk came (ArePutsMade rows log) → IfErr came (IsSettlingRefusal device rows notes known log)
-          → IfErr told (IsUndone device base rows notes known log h)
+          → OnOk came (AreUnstopped notes) → OnOk came (ArePutsMade rows log) → IfErr came (IsSettlingRefusal faults rows notes known log)
+          → IfErr told (IsUndone faults base rows notes known log h)
       undone_told (Ok x) (Ok text) is ended made refused = tt
       undone_told (Ok x) (Err why) is ended made refused = OfReport ended made is.untold
       undone_told (Err why) (Ok text) is ended made refused = tt
       undone_told (Err why) (Err e) is ended made refused =
-          OfSettling (subst (IsSettlingRefusal device rows notes known log) (err_is why e (Err e) refl is.refused) refused)
+          OfSettling (subst (IsSettlingRefusal faults rows notes known log) (err_is why e (Err e) refl is.refused) refused)
         where
           err_is : (a b : Status) (r : Result (String Global) Status) → r ≡ Err b → r ≡ Err a → a ≡ b
           err_is a b r is same = cc
 
       -- a fault that a status reports was counted
-      fault_counted : (unit : UnitOf) → IsUndone device base rows notes known log h (DeviceFault unit) → 0 < (device log.dev).faults
-      fault_counted unit (OfSettling is) = fault_of_unit device rows notes known log unit is
+      fault_counted : (unit : UnitOf) → IsUndone faults base rows notes known log h (DeviceFault unit) → 0 < faults
+      fault_counted unit (OfSettling is) = fault_of_unit faults rows notes known log unit is
       fault_counted unit (OfReport ended made is) = absurd is
 
-      faults_told : (told : Result (String Global) Status) (before now : ℕ) → IfErr told (IsUndone device base rows notes known log h)
-          → before < 2 ^ 64 → now ≡ sum_of_counts before (device log.dev).faults
+      faults_told : (told : Result (String Global) Status) (before now : ℕ) → IfErr told (IsUndone faults base rows notes known log h)
+          → before < 2 ^ 64 → now ≡ sum_of_counts before faults
           → IfErr told (λ why. (unit : UnitOf) → why ≡ DeviceFault unit → HasLogCountRisen before now)
       faults_told (Ok text) before now undone small is = tt
       faults_told (Err why) before now undone small is =
-          λ unit same. risen_sum before (device log.dev).faults now small
-          (fault_counted unit (subst (IsUndone device base rows notes known log h) same undone)) is
+          λ unit same. risen_sum before faults now small
+          (fault_counted unit (subst (IsUndone faults base rows notes known log h) same undone)) is
 
 -- one fault is counted at most
 counted_once : (before faults now : ℕ) → before < 2 ^ 64 → (faults ≡ 0) ⊎ Rose 0 faults → now ≡ sum_of_counts before faults
@@ -152,9 +153,10 @@ pub is_run : {D : Type 0} (device : D → Device) (base : Base) (rows : List (Li
     → IsAsKnown first known → known.plant.items ≡ plant_text base.tags.items → known.tags ≡ length base.tags.items
     → AreOthersSame old mid → AreOthersSame mid new → new log_name ≡ (device e.dev).trace → now ≡ sum_of_counts before (device e.dev).faults
     → IsLogReported base e.history e.answer answer
+    → IsLogOpenedWell e.history.plant.items e.history.tags e.history.opening.items e.history.moment (old log_name) (device e.dev).trace
     → IsRun device base rows old new before now stops_before stops_now answer e.history
 is_run {D} device base rows known first e old mid new before now stops_before stops_now answer ended opened kept plant tags
-    others others' back counted told = record {
+    others others' back counted told since = record {
       first = first;
       opened = opened;
       known = known;
@@ -166,6 +168,7 @@ is_run {D} device base rows known first e old mid new before now stops_before st
       history = subst (λ (d : D). IsHandedOut e.history (new log_name) (moment (device d).trace) (device d).faults) ended.same_device
           (subst (λ (o : Trace). IsHandedOut e.history o (moment (device e.dev).trace) (device e.dev).faults) (sym back) ended.history);
       opened_as = λ other. opened_as other;
+      since = subst (IsLogOpenedWell e.history.plant.items e.history.tags e.history.opening.items e.history.moment (old log_name)) (sym back) since;
       notes_are = ended.notes_are;
       begun = λ other. subst (λ (l : List LogTurn). ArePutsBegun rows l) (sym is.tape)
           (ended.begun (λ of. other (foreign_told base e.history e.answer answer told of)));
@@ -175,7 +178,7 @@ is_run {D} device base rows known first e old mid new before now stops_before st
       others = λ n differs. others' n differs ∙ others n differs;
       counts = λ small. record {
         later = omega (arith, total, small);
-        told = faults_told base e.history rows ended.log device ended.notes known answer before now undone small total;
+        told = faults_told base e.history rows ended.log (device ended.log.dev).faults ended.notes known answer before now undone small total;
         once = λ other. counted_once before (device ended.log.dev).faults now small (one_fault other) total;
         faultless = text_told base e.history (now ≡ before) e.answer answer told (unrisen small e.answer refl);
       };
@@ -187,8 +190,8 @@ is_run {D} device base rows known first e old mid new before now stops_before st
     total : now ≡ sum_of_counts before (device ended.log.dev).faults
     total = counted ∙ ap (λ (d : D). sum_of_counts before (device d).faults) ended.same_device
 
-    undone : IfErr answer (IsUndone device base rows ended.notes known ended.log e.history)
-    undone = undone_told base e.history rows ended.log device ended.notes known e.answer answer told ended.ended ended.made ended.refused
+    undone : IfErr answer (IsUndone (device ended.log.dev).faults base rows ended.notes known ended.log e.history)
+    undone = undone_told base e.history rows ended.log (device ended.log.dev).faults ended.notes known e.answer answer told ended.ended ended.made ended.refused
 
     as_known : (IsOfOpening answer → ⊥) → IsAsKnown ended.log known
     as_known other = ended.as_known (λ of. other (opening_told base e.history e.answer answer told of))

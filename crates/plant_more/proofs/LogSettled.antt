@@ -20,7 +20,7 @@ use Rattle.commit_log.specs.declared.row.LogRow.{LogRow}
 use Rattle.plant_more.specs.LogKnown.{FirstDiffer, IsAsKnown, IsLogMismatch, found_numbers, known_numbers}
 use Rattle.plant_more.specs.LogMaking.{AreRowsFor, IsCommitRefusal}
 use Rattle.plant_more.specs.LogRefusals.{AreUnstopped, ArePutsMade, IsOpening, IsRestRefusal, MayBeForeignPut, OfCommit}
-use Rattle.disk_model.specs.Traces.{moment, Device}
+use Rattle.disk_model.specs.Traces.{moment}
 
 -- a log that differs from what was kept is reported as an opening
 opening_of : (found wanted : List ℕ) (why : Status) → FirstDiffer found wanted why → IsOpening why
@@ -91,10 +91,10 @@ made_on files old new (Ok x) is whole none = record { whole = whole_on files old
 made_on files old new (Err why) is whole none = tt
 
 -- why rows are not acknowledged
-pub commit_refused : {D : Type 0} (device : D → Device) (files : List (List RawRow)) (notes : List LogNote) (l : ToldLog D) (r : Result Unit Status)
-    → AreUnstopped notes → IfErr r (IsCommitRefusal device l) → IfErr r (IsRestRefusal device files notes l)
-commit_refused device files notes l (Ok x) unstopped is = tt
-commit_refused device files notes l (Err why) unstopped is = OfCommit unstopped is
+pub commit_refused : {D : Type 0} (faults : ℕ) (files : List (List RawRow)) (notes : List LogNote) (l : ToldLog D) (r : Result Unit Status)
+    → AreUnstopped notes → IfErr r (IsCommitRefusal faults) → IfErr r (IsRestRefusal faults files notes l)
+commit_refused faults files notes l (Ok x) unstopped is = tt
+commit_refused faults files notes l (Err why) unstopped is = OfCommit unstopped is
 
 -- rows for a log that is as it was kept
 pub rows_on : {D : Type 0} (files : List (List RawRow)) (l : ToldLog D) (k : KnownLog) → IsAsKnown l k → AreRowsFor k.tags files → AreRowsFor l.tags files

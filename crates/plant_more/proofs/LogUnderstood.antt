@@ -59,8 +59,8 @@ no_opening base rows old new before now why is of = by_cause is.cause
     by_cause (inr same) = subst IsOfOthers same of
 
 -- nor is one that was held
-module _ {D : Type 0} (device : D → Device) (files : List (List RawRow)) (notes : List LogNote) (known : KnownLog) (l : ToldLog D) where
-  no_settling : (why : Status) → IsSettlingRefusal device files notes known l why → IsOfOthers why → ⊥
+module _ {D : Type 0} (faults : ℕ) (files : List (List RawRow)) (notes : List LogNote) (known : KnownLog) (l : ToldLog D) where
+  no_settling : (why : Status) → IsSettlingRefusal faults files notes known l why → IsOfOthers why → ⊥
   no_settling Done (OfOpening is) of = is.first
   no_settling Done (OfFinding kept is) of = is
   no_settling Done (OfRest kept (OfStop is)) of = is
@@ -81,7 +81,7 @@ module _ {D : Type 0} (device : D → Device) (files : List (List RawRow)) (note
   no_settling WriteFault (OfMemory same) of = cc same
   no_settling other is of = absurd of
 
-  no_undone : (base : Base) (h : LogHistory) (why : Status) → IsUndone device base files notes known l h why → IsOfOthers why → ⊥
+  no_undone : (base : Base) (h : LogHistory) (why : Status) → IsUndone faults base files notes known l h why → IsOfOthers why → ⊥
   no_undone base h why (OfSettling is) of = no_settling why is of
   no_undone base h Done (OfReport ended made is) of = is
   no_undone base h BadWords (OfReport ended made is) of = is
@@ -94,7 +94,7 @@ pub no_run : {D : Type 0} (device : D → Device) (base : Base) (rows : List (Li
     → IfErr answer (λ why. IsOfOthers why → ⊥)
 no_run device base rows old new before now stops_before stops_now (Ok text) h is = tt
 no_run device base rows old new before now stops_before stops_now (Err why) h is =
-    no_undone device rows is.notes is.known is.log base h why is.undone
+    no_undone (device is.log.dev).faults rows is.notes is.known is.log base h why is.undone
 
 -- what follows of a refusal
 pub err_weaker : {T E : Type 0} {P Q : E → Type 0} (r : Result T E) → ((e : E) → P e → Q e) → IfErr r P → IfErr r Q

@@ -16,6 +16,7 @@ use Rattle.commit_log.specs.declared.history.LogHistory.{LogHistory}
 use Rattle.commit_log.specs.Images.{StandsForRows}
 use Rattle.disk_model.specs.Gates.{IsNew}
 use Rattle.archive_file.specs.TextHeads.{TextOpensAt}
+use Rattle.commit_log.specs.Openings.{IsLogOpenedWell}
 use Rattle.commit_log.specs.Tapes.{puts}
 use Rattle.commit_log.specs.Told.{IsHandedOut, ToldLog}
 use Rattle.plant_more.specs.declared.log_note.LogNote.{LogNote}
@@ -59,7 +60,7 @@ pub record IsEnded {D : Type 0} (device : D → Device) (files : List (List RawR
   pub faultless : OnOk e.answer ((device e.dev).faults ≡ log.faults)
   pub begun : (AdmitsForeignPut e.answer → ⊥) → ArePutsBegun files log.tape
   pub as_known : (IsOfOpening e.answer → ⊥) → IsAsKnown log known
-  pub refused : IfErr e.answer (IsSettlingRefusal device files notes known log)
+  pub refused : IfErr e.answer (IsSettlingRefusal (device log.dev).faults files notes known log)
 
 -- ---- no log
 
@@ -97,13 +98,13 @@ pub record IsLogOpenedAs (base : Base) (before : Trace) (h : LogHistory) : Type 
   pub opened_at : TextOpensAt IsNew before h.moment
   pub opening : Shows before (λ c. StandsForRows (plant_text base.tags.items) (length base.tags.items) c h.opening.items)
 
--- Why a log is not done. Either it was refused after its workers had ended. Or only its report is missing: there was no
+-- Why a log is not done, if its device has counted so many faults. Either it was refused after its workers had ended. Or only its report is missing: there was no
 -- memory, or a tag could get too many records.
-pub data IsUndone {D : Type 0} (device : D → Device) (base : Base) (rows : List (List RawRow)) (notes : List LogNote) (known : KnownLog)
+pub data IsUndone {D : Type 0} (faults : ℕ) (base : Base) (rows : List (List RawRow)) (notes : List LogNote) (known : KnownLog)
     (l : ToldLog D) (h : LogHistory) (why : Status) : Type 0 where
-  OfSettling : IsSettlingRefusal device rows notes known l why → IsUndone device base rows notes known l h why
+  OfSettling : IsSettlingRefusal faults rows notes known l why → IsUndone faults base rows notes known l h why
   OfReport : AreUnstopped notes → ArePutsMade rows l → IsReportRefusal base.tags.items (log_rows h) why
-      → IsUndone device base rows notes known l h why
+      → IsUndone faults base rows notes known l h why
 
 -- a count has risen, or is the largest value of its type
 abbrev pub HasLogCountRisen : ℕ → ℕ → Type 0
@@ -124,7 +125,9 @@ pub record CountsLog (answer : Result (String Global) Status) (before now : ℕ)
 -- copy of that opening, to which a mismatch of the opening is told. The log's history is legal. A
 -- crash at any moment since its opening leaves of the device the opening's rows followed by the oldest puts, with all
 -- acknowledged rows among them.
--- Unless the answer is a mismatch of the opening, its opening has the rows for which the device stood. Unless the answer
+-- Whatever the answer is, a crash until the opening ended left of the device what it might have left before, or what stands
+-- for the rows of the history's opening. Unless the answer is a mismatch of the opening, its opening has the rows for which
+-- the device stood. Unless the answer
 -- admits a put of no file, the log has of each collector only its first rows, in order, and no other put. The log is
 -- done, or there is a cause. If it is done, no pass stopped a worker, and each worker found memory. The store counted
 -- `before` faults before it, and counts `now` after it.
@@ -141,11 +144,12 @@ pub record IsRun {D : Type 0} (device : D → Device) (base : Base) (rows : List
   pub given : new log_name ≡ (device log.dev).trace
   pub history : IsHandedOut h (new log_name) (moment (device log.dev).trace) (device log.dev).faults
   pub opened_as : (IsOfOpening answer → ⊥) → IsLogOpenedAs base (old log_name) h
+  pub since : IsLogOpenedWell h.plant.items h.tags h.opening.items h.moment (old log_name) (new log_name)
   pub notes_are : AreNotes D rows stops_before stops_now notes
   pub begun : (AdmitsForeignPut answer → ⊥) → ArePutsBegun rows h.tape.items
   pub ended : OnOk answer (AreUnstopped notes)
   pub done : IfOk answer (λ text. IsDone base rows h (string_bytes text))
-  pub undone : IfErr answer (IsUndone device base rows notes known log h)
+  pub undone : IfErr answer (IsUndone (device log.dev).faults base rows notes known log h)
   pub others : AreOthersSame old new
   pub counts : before < 2 ^ 64 → CountsLog answer before now
 

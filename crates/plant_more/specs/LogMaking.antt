@@ -1,7 +1,6 @@
 -- How a log gets the rows that it lacks, and why it does not get them.
 use Rattle.std.specs.Prelude.{◌≡◌, ℕ, ◌<◌, List, [], ◌∷◌, ◌++◌, All, length, sum_by, ⊤}
 use Rattle.trend_num.specs.Ranges.{InRange}
-use Rattle.disk_model.specs.Traces.{Device}
 use Rattle.plant_status.specs.declared.unit.Unit.TheVariants.{Log as LogUnit}
 use Rattle.plant_status.specs.declared.mismatch.Place.TheVariants.{Log as LogPlace}
 use Rattle.plant_status.specs.declared.mismatch.Seen.TheVariants.{Number}
@@ -30,16 +29,17 @@ AreRowsFor tags files = All (All (IsRowFor tags)) files
 abbrev pub IsRowPut : {D : Type 0} → LogRow → ToldLog D → ToldLog D → Type 0
 IsRowPut row old new = new ≡ record old { tape = old.tape ++ Put row ∷ [] }
 
--- Why a row is not put. Either the device of the log has counted a fault; or the log has no room any more. Then as many
+-- Why a row is not put, if the device of the log has counted so many faults. Either it has counted one; or the log has no room any more. Then as many
 -- rows were put as it had room for, and they are fewer than have to be put in all. The status reports both numbers.
-abbrev pub IsPutRefusal : {D : Type 0} → (D → Device) → ℕ → ToldLog D → Status → Type 0
-IsPutRefusal device total l (DeviceFault LogUnit) = 0 < (device l.dev).faults
-IsPutRefusal device total l (Mismatch (LogPlace place) (Number kept) (Number told)) =
+abbrev pub IsPutRefusal : {D : Type 0} → ℕ → ℕ → ToldLog D → Status → Type 0
+IsPutRefusal faults total l (DeviceFault LogUnit) = 0 < faults
+IsPutRefusal faults total l (Mismatch (LogPlace place) (Number kept) (Number told)) =
     (place ≡ length l.tape) × (kept ≡ length (puts l.tape)) × (kept ≡ l.room) × (told ≡ total) × (kept < told)
-IsPutRefusal device total l other = ⊥
+IsPutRefusal faults total l other = ⊥
 
--- why rows are not acknowledged: the device of the log has counted a fault, or there was no memory
-abbrev pub IsCommitRefusal : {D : Type 0} → (D → Device) → ToldLog D → Status → Type 0
-IsCommitRefusal device l (DeviceFault LogUnit) = 0 < (device l.dev).faults
-IsCommitRefusal device l WantOfMemory = ⊤
-IsCommitRefusal device l other = ⊥
+-- why rows are not acknowledged, if the device of the log has counted so many faults: it has counted one, or there was no
+-- memory
+abbrev pub IsCommitRefusal : ℕ → Status → Type 0
+IsCommitRefusal faults (DeviceFault LogUnit) = 0 < faults
+IsCommitRefusal faults WantOfMemory = ⊤
+IsCommitRefusal faults other = ⊥

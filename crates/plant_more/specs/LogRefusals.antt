@@ -14,7 +14,6 @@ use Rattle.plant_more.specs.declared.log_known.KnownLog.{KnownLog}
 use Rattle.plant_more.specs.LogFinding.{AreWhole, IsPutMismatch}
 use Rattle.plant_more.specs.LogKnown.{IsAsKnown, IsLogMismatch}
 use Rattle.plant_more.specs.LogMaking.{IsCommitRefusal, IsPutRefusal, total_rows}
-use Rattle.disk_model.specs.Traces.{Device}
 
 -- ---- the notes of workers
 
@@ -42,21 +41,21 @@ pub record AreUnstopped (notes : List LogNote) : Type 0 where
   pub none_halted : All (λ n. n.ending ≢ Halted) notes
   pub all_found : All (λ n. n.ending ≢ WantOfMemory) notes
 
--- the refusals, in order: a worker was stopped or found no memory; a row is not put; rows are not acknowledged
-pub data IsRestRefusal {D : Type 0} (device : D → Device) (files : List (List RawRow)) (notes : List LogNote) (l : ToldLog D) (why : Status)
+-- the refusals of a log whose device has counted so many faults, in order: a worker was stopped or found no memory; a row is not put; rows are not acknowledged
+pub data IsRestRefusal {D : Type 0} (faults : ℕ) (files : List (List RawRow)) (notes : List LogNote) (l : ToldLog D) (why : Status)
     : Type 0 where
-  OfStop : IsStop notes why → IsRestRefusal device files notes l why
-  OfPut : AreUnstopped notes → IsPutRefusal device (total_rows files) l why → IsRestRefusal device files notes l why
-  OfCommit : AreUnstopped notes → IsCommitRefusal device l why → IsRestRefusal device files notes l why
+  OfStop : IsStop notes why → IsRestRefusal faults files notes l why
+  OfPut : AreUnstopped notes → IsPutRefusal faults (total_rows files) l why → IsRestRefusal faults files notes l why
+  OfCommit : AreUnstopped notes → IsCommitRefusal faults why → IsRestRefusal faults files notes l why
 
--- The refusals, in order: the log differs from the copy of its opening; a put is not its collector's next row; one of
+-- The refusals of a log whose device has counted so many faults, in order: the log differs from the copy of its opening; a put is not its collector's next row; one of
 -- the refusals above. A lack of memory may come at any time.
-pub data IsSettlingRefusal {D : Type 0} (device : D → Device) (files : List (List RawRow)) (notes : List LogNote) (known : KnownLog)
+pub data IsSettlingRefusal {D : Type 0} (faults : ℕ) (files : List (List RawRow)) (notes : List LogNote) (known : KnownLog)
     (l : ToldLog D) (why : Status) : Type 0 where
-  OfOpening : IsLogMismatch l known why → IsSettlingRefusal device files notes known l why
-  OfFinding : IsAsKnown l known → IsPutMismatch files l.tape why → IsSettlingRefusal device files notes known l why
-  OfRest : IsAsKnown l known → IsRestRefusal device files notes l why → IsSettlingRefusal device files notes known l why
-  OfMemory : why ≡ status.WantOfMemory → IsSettlingRefusal device files notes known l why
+  OfOpening : IsLogMismatch l known why → IsSettlingRefusal faults files notes known l why
+  OfFinding : IsAsKnown l known → IsPutMismatch files l.tape why → IsSettlingRefusal faults files notes known l why
+  OfRest : IsAsKnown l known → IsRestRefusal faults files notes l why → IsSettlingRefusal faults files notes known l why
+  OfMemory : why ≡ status.WantOfMemory → IsSettlingRefusal faults files notes known l why
 
 -- the refusal is a mismatch of the opening
 abbrev pub IsOpening : Status → Type 0

@@ -29,7 +29,7 @@ pub(crate) fn put_missing<D: Disk>(
     ensures found { AreFound (row_lists_of files.now) log.new.tape next.new }
     ensures whole { OnOk result (AreWhole (row_lists_of files.now) log.new.tape) }
     ensures same { IsSameLog log.old log.new }
-    ensures refused { IfErr result (IsPutRefusal D.device (total_rows (row_lists_of files.now)) log.new) }
+    ensures refused { IfErr result (IsPutRefusal (D.device log.new.dev).faults (total_rows (row_lists_of files.now)) log.new) }
 {
     let total = row_total(files);
     for collector in 0..files.len() {
@@ -67,7 +67,7 @@ fn put_file<D: Disk>(
     ensures all { OnOk result (slice_index next.new collector ≡ length (rows_in (row_lists_of files.now) collector)) }
     ensures others { AreOthersSame collector next.old next.new }
     ensures same { IsSameLog log.old log.new }
-    ensures refused { IfErr result (IsPutRefusal D.device (total_rows (row_lists_of files.now)) log.new) }
+    ensures refused { IfErr result (IsPutRefusal (D.device log.new.dev).faults (total_rows (row_lists_of files.now)) log.new) }
 {
     for place in next[collector]..files[collector].len() {
         put_next(log, files, next, collector, total)?;
@@ -93,7 +93,7 @@ fn put_next<D: Disk>(
     ensures advanced { OnOk result (next.new ≡ slice_set next.old collector (slice_index next.old collector + 1)) }
     ensures unchanged { OnErr result (next.new ≡ next.old) }
     ensures same { IsSameLog log.old log.new }
-    ensures refused { IfErr result (IsPutRefusal D.device (total_rows (row_lists_of files.now)) log.new) }
+    ensures refused { IfErr result (IsPutRefusal (D.device log.new.dev).faults (total_rows (row_lists_of files.now)) log.new) }
 {
     let Some(row) = row_at(&files[collector], collector as u32, next[collector]) else {
         unreachable!()
@@ -110,7 +110,7 @@ fn put_row<D: Disk>(log: &mut Log<D>, row: LogRow, total: u64) -> Result<(), Sta
     requires fewer { length (puts log.old.tape) < total }
     ensures put { OnOk result (IsRowPut row log.old log.new) }
     ensures unchanged { OnErr result (log.new ≡ log.old) }
-    ensures refused { IfErr result (IsPutRefusal D.device total log.new) }
+    ensures refused { IfErr result (IsPutRefusal (D.device log.new.dev).faults total log.new) }
 {
     let place = log.tape().len() as u64;
     match log.put(row) {
@@ -130,7 +130,7 @@ pub(crate) fn commit_rest<D: Disk>(log: &mut Log<D>) -> Result<(), Status>
     ensures none_waits { OnOk result (rows_waiting log.new ≡ 0) }
     ensures usable { OnOk result (log.new.failed ≡ false) }
     ensures committed { IsCommitted log.old log.new }
-    ensures refused { IfErr result (IsCommitRefusal D.device log.new) }
+    ensures refused { IfErr result (IsCommitRefusal (D.device log.new.dev).faults) }
 {
     match commit_waiting(log) {
         Ok(()) => Ok(()),

@@ -2,6 +2,7 @@
 ghost use Rattle.std.specs.Prelude.{◌≡◌, ◌^◌, ◌<◌, IfErr, IfOk, OnErr, length};
 ghost use Rattle.disk_model.specs.Traces.{FitsName};
 ghost use Rattle.commit_log.specs.Devices.{log_name};
+ghost use Rattle.commit_log.specs.Openings.{LogBeganWell};
 ghost use Rattle.plant_more.specs.LogNotes.{row_lists_of};
 ghost use Rattle.plant_more.specs.LogMaking.{AreRowsFor, total_rows};
 ghost use Rattle.plant_more.specs.LogHeadline.{IsEnded};
@@ -40,6 +41,8 @@ pub(crate) fn hold<D: Disk + Send, P: Passes, R: Threads + Wait + Sync>(
     ensures ended { IfOk result (IsEnded D.device (row_lists_of files.now) known.now
         (P.stops passes.old) (P.stops passes.new)) }
     ensures named { IfOk result (λ e. FitsName log_name (D.device e.dev).handed) }
+    ensures since { IfOk result (λ e. LogBeganWell e.history.plant.items e.history.tags e.history.opening.items e.history.moment
+        (D.device e.dev).handed (D.device e.dev).trace) }
     ensures unbegun { OnErr result (P.stops passes.new ≡ P.stops passes.old) }
     ensures unchanged { IfErr result (λ back. back ≡ log) }
 {

@@ -36,7 +36,7 @@ pub(crate) fn settle<D: Disk>(
     ensures usable { OnOk result (log.new.failed ≡ false) }
     ensures begun { (AdmitsForeignPut result → ⊥) → ArePutsBegun (row_lists_of files.now) log.new.tape }
     ensures known { (IsOfOpening result → ⊥) → IsAsKnown log.new known.now }
-    ensures refused { IfErr result (IsSettlingRefusal D.device (row_lists_of files.now) notes.now known.now log.new) }
+    ensures refused { IfErr result (IsSettlingRefusal (D.device log.new.dev).faults (row_lists_of files.now) notes.now known.now log.new) }
 {
     compare_log(log, known)?;
     let Ok(mut next) = none_found(alloc, files.len()) else {
@@ -62,7 +62,7 @@ fn complete<D: Disk>(
     ensures usable { OnOk result (log.new.failed ≡ false) }
     ensures begun { ArePutsBegun (row_lists_of files.now) log.new.tape }
     ensures same { IsSameLog log.old log.new }
-    ensures refused { IfErr result (IsRestRefusal D.device (row_lists_of files.now) notes.now log.new) }
+    ensures refused { IfErr result (IsRestRefusal (D.device log.new.dev).faults (row_lists_of files.now) notes.now log.new) }
 {
     check_endings(notes)?;
     put_missing(log, files, next)?;

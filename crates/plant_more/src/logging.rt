@@ -1,7 +1,8 @@
 // The command `log`: putting the rows of a plan's collectors into the log of a plant.
-ghost use Rattle.std.specs.Prelude.{◌≡◌, ◌^◌, ◌<◌, ◌≤◌, All, Err, IfErr, IfOk, IfSome, IsTrue, None, OnOk, length};
+ghost use Rattle.std.specs.Prelude.{◌≡◌, ◌^◌, ◌<◌, ◌≤◌, All, Err, IfErr, IfOk, IfSome, IsTrue, None, OnOk, Some, length};
 ghost use Rattle.std.specs.Option.{IsSome};
 ghost use Rattle.trend_num.specs.Ranges.{TuningInRange};
+ghost use Rattle.branded_disk.specs.Pasts.{IsWholePast};
 ghost use Rattle.commit_log.specs.Blocks.{IsLogRow};
 ghost use Rattle.plant_files.specs.Collected.{most_collector_rows};
 ghost use Rattle.plant_files.specs.Faults.{IsFaultOfPlanned};
@@ -22,12 +23,14 @@ use crate::log_opening::{LOG_NAME, take_log};
 use crate::log_report::report;
 use crate::log_session::{EndedLog, hold};
 use crate::plant_text::plant_text;
+use branded_disk::{Begun, Branded, give_back};
 use byte_io::Files;
 use commit_log::{Log, LogHistory};
 use disk_model::Store;
 use plant_files::{CollectedFiles, read_collected};
 use plant_status::{Passes, Status};
 use std::alloc::Global;
+use std::marker::Brand;
 use std::sync::Wait;
 use std::thread::Threads;
 use tag_base::Base;
@@ -87,20 +90,21 @@ pub(crate) fn log_plan<F: Files, S: Store, P: Passes, R: Threads + Wait + Sync>(
         (F.failed_name files.new)) }
 {
     match read_collected(alloc, files, base, plan) {
-        Ok(read) => log_read(rt, alloc, store, passes, &read),
+        Ok(read) => log_read::<Brand, S, P, R>(rt, alloc, store, passes, &read),
         Err(why) => Logged::refused(why),
     }
 }
 
-// Opens the log of a base, and runs the collectors of a plan on it. More than 2^32 - 1 collectors are refused as
+// Opens the log of a base, and runs the collectors of a plan on it. `K` tells what each device is at that moment. More than 2^32 - 1 collectors are refused as
 // WantOfMemory.
-fn log_read<S: Store, P: Passes, R: Threads + Wait + Sync>(
+fn log_read<K: Begun, S: Store, P: Passes, R: Threads + Wait + Sync>(
     rt: &R,
     alloc: Global,
     store: &mut S,
     passes: &mut P,
     read: &CollectedFiles,
 ) -> Logged
+    requires begun { IsWholePast K.before (S.device_at store.old) }
     requires base { IsGoodBase read.now.base }
     requires rows { AreRowsOfBase read.now.base (row_lists_of read.now.rows.items) }
     requires few { total_rows (row_lists_of read.now.rows.items) ≤ most_collector_rows }
@@ -120,7 +124,7 @@ fn log_read<S: Store, P: Passes, R: Threads + Wait + Sync>(
         Err(_) => return Logged::refused(Status::WantOfMemory),
     };
     let PreparedLog { text, tags, room } = prepared;
-    let log = match take_log(alloc, store, &text, tags, room) {
+    let log = match take_log::<K, S>(alloc, store, &text, tags, room) {
         Ok(log) => log,
         Err(why) => return Logged::refused(why),
     };
@@ -157,7 +161,7 @@ fn prepare(alloc: Global, base: &Base, rows: &[Vec<RawRow>]) -> Result<PreparedL
 }
 
 // Gives back the device of a log on which no collector was started, for lack of memory.
-fn unready<S: Store>(store: &mut S, log: Log<S::Dev>) -> Logged
+fn unready<K: Begun, S: Store>(store: &mut S, log: Log<Branded<S::Dev, K>>) -> Logged
     requires place { IsTrue (S.has_place store.old log_name) }
     ensures answer { result.answer ≡ Err Status.WantOfMemory }
     ensures none { result.log ≡ None }
@@ -165,12 +169,12 @@ fn unready<S: Store>(store: &mut S, log: Log<S::Dev>) -> Logged
         (S.fault_count store.old) (S.fault_count store.new) }
 {
     let (dev, _) = log.into_history();
-    store.give_back(LOG_NAME, dev);
+    give_back(store, LOG_NAME, dev);
     Logged::refused(Status::WantOfMemory)
 }
 
 // Runs the collectors on an open log, and gives its device back. If there is no memory for the workers, none begins.
-fn log_open<S: Store, P: Passes, R: Threads + Wait + Sync>(
+fn log_open<K: Begun, S: Store, P: Passes, R: Threads + Wait + Sync>(
     rt: &R,
     alloc: Global,
     store: &mut S,
@@ -178,7 +182,7 @@ fn log_open<S: Store, P: Passes, R: Threads + Wait + Sync>(
     base: &Base,
     rows: &[Vec<RawRow>],
     known: &KnownLog,
-    log: Log<S::Dev>,
+    log: Log<Branded<S::Dev, K>>,
 ) -> Logged
     requires few { length rows.now < 2 ^ 32 }
     requires tuned { All (λ def. TuningInRange def.tuning) base.now.tags.items }
@@ -189,6 +193,7 @@ fn log_open<S: Store, P: Passes, R: Threads + Wait + Sync>(
     requires tags { known.now.tags ≡ length base.now.tags.items }
     requires place { IsTrue (S.has_place store.old log_name) }
     ensures run { (old : TracesByName) → AreOthersSame old (S.device_at store.old)
+        → K.before log_name ≡ Some (old log_name)
         → IsLogOpened S.Dev.device (plant_text base.now.tags.items) (length base.now.tags.items)
         (total_rows (row_lists_of rows.now)) (old log_name) log
         → IfSome result.log (IsRun S.Dev.device base.now (row_lists_of rows.now)
@@ -209,7 +214,7 @@ fn log_open<S: Store, P: Passes, R: Threads + Wait + Sync>(
                 answer,
             },
         ) => {
-            store.give_back(LOG_NAME, dev);
+            give_back(store, LOG_NAME, dev);
             Logged {
                 answer: reported(alloc, base, answer, &history),
                 log: Some(history),

@@ -8,12 +8,13 @@ use Rattle.std.proofs.Math.Seq.{get_or-append_seam}
 use Rattle.trend_num.specs.declared.archive.Rec.{Rec}
 use Rattle.disk_model.specs.Moments.{During}
 use Rattle.disk_model.specs.Traces.{Trace, Device}
+use Rattle.branded_disk.specs.Pasts.{IsUnused, Past}
 use Rattle.tag_base.specs.declared.definition.GroupDef.{GroupDef}
 use Rattle.group_book.specs.declared.refusal.LoadNo.{LoadNo}
 use Rattle.group_book.specs.Openings.{IsBookCause, BookStaysSame}
 use Rattle.group_book.specs.Told.{ToldBook}
 use Rattle.disk_model.proofs.Moments.{started}
-use Rattle.plant_store.specs.Groups.{AreBooksOpened, AreDistinct, AreNamesOf, AreOtherGroupsSame, DeviceTraces, IsBookOpened, device_name, group_parts_of, input_records_of, group_definition_text, group_trace_at}
+use Rattle.plant_store.specs.Groups.{AreBooksOpened, AreDistinct, AreNamesOf, AreOtherGroupsSame, DeviceTraces, IsBookOpened, device_name, group_parts_of, input_records_of, group_definition_text, group_trace_at, AreGroupsUnused}
 use Rattle.plant_store.specs.BookSteps.{AreOtherNamesSame, IsCauseAt, RestStaysSame, StaysSameOf}
 use Rattle.plant_store.proofs.BookNames.{apart, as_many, named_at}
 
@@ -167,6 +168,16 @@ was_at : (groups : List GroupDef) (names : List (String Global)) (i : ℕ) (g : 
 was_at groups names i g n old now are distinct at others =
     ap now at.named ∙ subst (λ (x : GroupDef). group_trace_at now x ≡ group_trace_at old x) (sym at.is)
     (unreached groups names i i g old now are distinct (omega arith) at.there others)
+
+-- and it is what it was when the command began, if that is told
+pub group_unused : (before : Past) (groups : List GroupDef) (names : List (String Global)) (many i : ℕ) (g : GroupDef) (n : List ℕ)
+    (old now : DeviceTraces) → AreNamesOf groups names → AreDistinct groups → many ≡ i → IsAt groups names i g n
+    → AreOtherNamesSame many names old now → AreGroupsUnused before groups old → IsUnused before now n
+group_unused before groups names many i g n old now are distinct count at others unused =
+    let was = was_at groups names i g n old now are distinct at (subst (λ k. AreOtherNamesSame k names old now) count others) in
+    subst (λ (x : Trace). IfSome (before n) (λ t. x ≡ t)) (sym was)
+    (subst (λ m. IfSome (before m) (λ t. group_trace_at old g ≡ t)) (sym at.named)
+    (subst (λ (x : GroupDef). IsUnused before old (device_name x.name)) (sym at.is) (unused i g at.there)))
 
 -- one group more
 pub next_at : {D : Type 0} (device : D → Device) (groups : List GroupDef) (names : List (String Global))

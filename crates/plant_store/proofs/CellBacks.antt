@@ -1,13 +1,16 @@
 -- Cells that are given back one after the other.
-use Rattle.std.proofs.Common.{◌≡◌, ◌≢◌, ℕ, ◌+◌, ◌^◌, ◌<◌, ◌≤◌, true, List, [], ◌∷◌, ◌++◌, length, take, drop, get_or, refl, sym, ◌∙◌, ap, subst, arith}
-use Rattle.std.specs.Prelude.{All}
+use Rattle.std.proofs.Common.{◌≡◌, ◌≢◌, ℕ, ◌+◌, ◌^◌, ◌<◌, ◌≤◌, true, List, [], ◌∷◌, ◌++◌, Option, Some, length, take, drop, get_or, refl, sym, ◌∙◌, ap, subst, arith}
+use Rattle.std.specs.Prelude.{All, IfSome}
 use Rattle.std.proofs.lemmas.List.{get_or_default, get_or-take, length-take-le, length_push, take_all, take_more}
 use Rattle.std.proofs.lemmas.List.Elements.{All-nil, All-push, All-weaker}
 use Rattle.std.proofs.lemmas.Slice.Zip.{all_zipped_more}
 use Rattle.disk_model.specs.Calls.{sum_of_counts}
 use Rattle.disk_model.specs.Traces.{Trace, Device}
 use Rattle.tag_cell.specs.declared.history.TagHistory.{TagHistory}
+use Rattle.tag_cell.specs.declared.history.TagOpening.{TagOpening}
+use Rattle.tag_cell.specs.Crashes.{BeganWell, IsOpenedWell}
 use Rattle.tag_cell.specs.Told.{ToldCell}
+use Rattle.branded_disk.specs.Pasts.{Past, past_of}
 use Rattle.plant_store.proofs.TagTurns.{zip_weaker}
 use Rattle.plant_store.specs.CellClosings.{AreGivenBack, AreHistoriesAt, AreHistoriesOf, CountsCells, HasRisen, IsBackAt, IsHistoryAt, IsHistoryOfCell}
 use Rattle.tag_cell.specs.Devices.{device_name}
@@ -137,12 +140,23 @@ begun {D} device names cells rest histories traces count is none =
     (subst (λ (l : List (ToldCell D)). AreClosed device names cells l [] traces traces count count) (sym is)
     (none_closed device names cells traces count))
 
+-- what was opened of a device that is given back began well from what the store had when the command began
+begun_at : (past : Past) (dev : Device) (def : TagDef) (o : TagOpening) (h : TagHistory) (name : List ℕ) (now : Trace)
+    → h.def ≡ def → h.opening ≡ o → name ≡ device_name def.name → dev.handed.name ≡ Some (device_name def.name)
+    → dev.handed.trace ≡ past_of past dev.handed.name → now ≡ dev.trace → BeganWell def o dev.handed dev.trace
+    → IfSome (past name) (λ t. IsOpenedWell h.def h.opening t now)
+begun_at past dev def o h name now def_is opening_is own named started says well =
+    let start : dev.handed.trace ≡ past name = started ∙ ap (past_of past) named ∙ ap past (sym own) in
+    rw (def_is, opening_is, says)
+    (subst (λ (t : Option Trace). IfSome t (λ x. IsOpenedWell def o x dev.trace)) start well)
+
 -- all devices are given back, so each history is that of the device under its name
 pub all_closed : {D : Type 0} (device : D → Device) (names : List (List ℕ)) (cells rest : List (ToldCell D))
     (histories : List TagHistory) (old now : List ℕ → Trace) (before count : ℕ)
     → AreClosed device names cells rest histories old now before count → length histories ≡ length cells
-    → length names ≡ length cells → AreGivenBack device names cells old now × AreHistoriesAt now names histories
-all_closed {D} device names cells rest histories old now before count closed all long =
+    → length names ≡ length cells → (past : Past) → ((d : D) → (device d).handed.trace ≡ past_of past (device d).handed.name)
+    → AreGivenBack device names cells old now × AreHistoriesAt past now names histories
+all_closed {D} device names cells rest histories old now before count closed all long past started =
     let back = subst (λ l. AreGivenBack device l cells old now) (take_all (length histories) names (omega (arith, all, long)))
     (subst (λ l. AreGivenBack device (take (length histories) names) l old now)
     (take_all (length histories) cells (omega (arith, all))) closed.back) in
@@ -151,10 +165,14 @@ all_closed {D} device names cells rest histories old now before count closed all
       back,
       zip_joined (λ name (c : ToldCell D). IsBackAt device now name c) (λ (c : ToldCell D) (h : TagHistory). IsHistoryOfCell
           (device c.journal.dev) c h)
-          (λ name (h : TagHistory). IsHistoryAt name (now name) h)
+          (λ name (h : TagHistory). IsHistoryAt name (past name) (now name) h)
           (λ name c h says is. record {
             dev = device c.journal.dev;
             is = is.history;
             back = λ same. says (same ∙ ap (λ (d : TagDef). device_name d.name) is.def_is);
+            begun = λ same.
+                let own = same ∙ ap (λ (d : TagDef). device_name d.name) is.def_is in
+                begun_at past (device c.journal.dev) c.def c.opening h name (now name) is.def_is is.opening_is own is.named
+                (started c.journal.dev) (says own) is.begun;
           }) names cells histories back.given told,
     )

@@ -1,6 +1,6 @@
 -- Why the opening of tags stops.
 use Rattle.std.proofs.Common.{◌≡◌, ◌≢◌, inl, inr, ℕ, ◌+◌, ◌^◌, ◌<◌, ◌≤◌, List, [], ◌∷◌, ◌++◌, length, map, take, get_or, Err, refl, sym, ◌∙◌, ap, subst, arith}
-use Rattle.std.specs.Prelude.{All, String}
+use Rattle.std.specs.Prelude.{All, IfSome, String}
 use Rattle.std.specs.declared.alloc.Global.{Global}
 use Rattle.std.proofs.lemmas.List.{length_push, map_push, take_more}
 use Rattle.std.proofs.lemmas.List.Sums.{sum_by_push}
@@ -11,6 +11,7 @@ use Rattle.trend_num.specs.declared.tag_def.TagDef.{TagDef}
 use Rattle.tag_core.specs.Core.{Core}
 use Rattle.disk_model.specs.Calls.{CountsFault, Rose, sum_of_counts}
 use Rattle.disk_model.specs.Traces.{Trace, Device}
+use Rattle.branded_disk.specs.Pasts.{IsUnused, Past}
 use Rattle.device_layout.specs.declared.failure.OpenNo.{OpenNo}
 use Rattle.device_layout.specs.declared.failure.OpenNo.TheVariants.{DeviceFault, Damaged, OtherTag, Full, WantOfMemory}
 use Rattle.device_layout.specs.Readings.{IsCause}
@@ -20,7 +21,7 @@ use Rattle.plant_status.specs.declared.status.Status.TheVariants.{Limit}
 use Rattle.tag_cell.specs.Told.{ToldCell}
 use Rattle.plant_store.specs.TagRefusals.{status_of, CountsStore, IsRefusedAt, IsRefusal, IsTooMuch}
 use Rattle.tag_cell.specs.Devices.{device_name}
-use Rattle.plant_store.specs.Tags.{tag_trace_of, AllStaySame, AreDistinct, AreTagsOpened, AreOtherTagsSame, tag_records_in}
+use Rattle.plant_store.specs.Tags.{tag_trace_of, AllStaySame, AreDistinct, AreTagsOpened, AreOtherTagsSame, tag_records_in, AreTagsUnused}
 use Rattle.plant_store.proofs.TagEndings.{counted}
 use Rattle.plant_store.proofs.TagTurns.{IsTag, not_reached, one_longer, reached}
 use Rattle.plant_store.specs.CellClosings.{AreGivenBack, CountsCells}
@@ -118,6 +119,16 @@ pub opened_since : {D : Type 0} (tags : List TagDef) (i : ℕ) (def : TagDef) (t
     → IsCellOpened def (tag_trace_of old def) dev c
 opened_since tags i def text old now dev c others distinct tag named is =
     subst (λ o. IsCellOpened def o dev c) (ap now named ∙ not_reached tags i i def old now others distinct tag (omega arith)) is
+
+-- its device is what it was when the command began, if that is told
+pub still_unused : (before : Past) (tags : List TagDef) (i : ℕ) (def : TagDef) (text : List ℕ) (old now : List ℕ → Trace)
+    → AreOtherTagsSame (take i tags) old now → AreDistinct tags → IsTag tags i def → text ≡ device_name def.name
+    → AreTagsUnused before tags old → IsUnused before now text
+still_unused before tags i def text old now others distinct tag named unused =
+    subst (IsUnused before now) (sym named)
+    (subst (λ (x : Trace). IfSome (before (device_name def.name)) (λ t. x ≡ t))
+    (sym (not_reached tags i i def old now others distinct tag (omega arith)))
+    (subst (λ (d : TagDef). IsUnused before old (device_name d.name)) (sym tag.is) (unused i def tag.there)))
 
 -- at a tag with which there are too many records
 pub stopped_full : {D : Type 0} (device : D → Device) (tags : List TagDef) (i : ℕ) (def : TagDef)

@@ -1,6 +1,6 @@
 -- The names of devices: under which one may be kept, and that of a group's from its definition text.
-use Rattle.std.proofs.Common.{◌≡◌, ◌==◌, ℕ, Bool, true, false, ◌&&◌, cond, List, [], ◌∷◌, ◌++◌, Some, IfSome, refl, sym, ◌∙◌, ap, subst, arith}
-use Rattle.std.specs.Prelude.{codes}
+use Rattle.std.proofs.Common.{◌≡◌, ◌==◌, ℕ, Bool, true, false, ◌&&◌, cond, List, [], ◌∷◌, ◌++◌, Option, None, Some, IfSome, refl, sym, ◌∙◌, ap, subst, arith}
+use Rattle.std.specs.Prelude.{IsSome, codes}
 use Rattle.std.specs.List.{list_all}
 use Rattle.std.proofs.lemmas.Bool.Decides.{nat_tests}
 use Rattle.trend_num.specs.Names.{IsName, is_name_byte}
@@ -12,6 +12,14 @@ use Rattle.plant_store.specs.Groups.{device_name, group_definition_text}
 -- a device that was handed out under a name may be kept under it
 pub fits : (h : HandOut) (given own : List ℕ) → h.name ≡ Some given → given ≡ own → FitsName own h
 fits h given own named same = subst (λ o. IfSome o (λ n. n ≡ own)) (sym named) same
+
+-- a device that was handed out under a name, and may be kept under this one, was handed out under this one
+pub own_name : (h : HandOut) (own : List ℕ) → FitsName own h → IsSome h.name → h.name ≡ Some own
+own_name h own fits some = of h.name fits some
+  where
+    of : (o : Option (List ℕ)) → IfSome o (λ n. n ≡ own) → IsSome o → o ≡ Some own
+    of None fits some = absurd (cc some)
+    of (Some n) fits some = ap Some fits
 
 both_left : (b c : Bool) → (b && c) ≡ true → b ≡ true
 both_left true c e = refl

@@ -1,6 +1,6 @@
 -- The devices of tags and those of groups.
 use Rattle.std.proofs.Common.{◌≡◌, ◌≢◌, ◌≤◌, ℕ, List, [], ◌∷◌, ◌++◌, length, get_or, codes, sym, ◌∙◌, subst, arith}
-use Rattle.std.specs.Prelude.{All, String, vec_capacity}
+use Rattle.std.specs.Prelude.{All, IfSome, String, vec_capacity}
 use Rattle.std.specs.declared.alloc.Global.{Global}
 use Rattle.std.proofs.lemmas.List.{append_assoc, same_from_push}
 use Rattle.std.proofs.lemmas.List.Elements.{All-map}
@@ -8,6 +8,8 @@ use Rattle.trend_num.specs.Names.{IsName}
 use Rattle.trend_num.specs.declared.tag_def.TagDef.{TagDef}
 use Rattle.tag_base.specs.declared.definition.Base.{Base}
 use Rattle.tag_base.specs.declared.definition.GroupDef.{GroupDef}
+use Rattle.disk_model.specs.Traces.{Trace}
+use Rattle.branded_disk.specs.Pasts.{Past}
 use Rattle.plant_store.specs.Tags as tag
 use Rattle.tag_cell.specs.Devices.{device_name}
 use Rattle.plant_store.specs.Groups as group
@@ -31,6 +33,13 @@ pub groups_same : (tags : List TagDef) (old new : DeviceTraces) → tag.AreOther
     → group_trace_at new g ≡ group_trace_at old g
 groups_same tags old new others g =
     others (group.device_name g.name) (λ k d below same. names_apart (get_or tags k d).name g.name (sym same))
+
+-- so they are what they were when the command began, if that is told
+pub groups_unused : (before : Past) (tags : List TagDef) (gs : List GroupDef) (old new : DeviceTraces) → tag.AreOtherTagsSame tags old new
+    → group.AreGroupsUnused before gs old → group.AreGroupsUnused before gs new
+groups_unused before tags gs old new others unused k g below =
+    let d = get_or gs k g in
+    subst (λ (x : Trace). IfSome (before (group.device_name d.name)) (λ t. x ≡ t)) (sym (groups_same tags old new others d)) (unused k g below)
 
 -- and those of tags where those of groups alone have
 pub tags_same : (gs : List GroupDef) (old new : DeviceTraces) → group.AreOtherGroupsSame gs old new → (t : TagDef)

@@ -1,16 +1,18 @@
 -- Books whose devices are given back, and the histories that they leave.
-use Rattle.std.specs.Prelude.{◌≡◌, ℕ, ◌<◌, true, false, List, [], ◌∷◌, length, slice_index_or, string_bytes, Option, None, Some, String}
+use Rattle.std.specs.Prelude.{◌≡◌, ℕ, ◌<◌, true, false, List, [], ◌∷◌, length, slice_index_or, string_bytes, Option, None, Some, String, IfSome}
 use Rattle.std.specs.declared.alloc.Global.{Global}
 use Rattle.disk_model.specs.Calls.{Rose, sum_of_counts}
 use Rattle.disk_model.specs.Traces.{Trace, Device}
 use Rattle.calc_refresh.specs.Lists.{lists_of}
 use Rattle.calc_refresh.specs.Sheet.{grid_of}
 use Rattle.group_book.specs.declared.history.GroupHistory.{GroupHistory}
+use Rattle.group_book.specs.Openings.{BookBeganWell}
 use Rattle.group_book.specs.Told.{IsBookHistory, IsOnDevice, ToldBook, device_name_of, trace_of, versions_of, moment_of, faults_of}
 use Rattle.plant_store.specs.Groups.{DeviceTraces}
 
 -- This is the history of the group of a book, on the book's device. The book's sheet is that of its definition. If the
 -- book has failed, the device has counted one fault since the opening. Otherwise it has counted none.
+-- It was handed out under the name of the group's device, and began well.
 pub record IsHistoryOfBook {D : Type 0} (device : D → Device) (b : ToldBook D) (h : GroupHistory) : Type 0 where
   pub group : h.group ≡ b.group
   pub def : h.def ≡ b.def
@@ -27,6 +29,8 @@ pub record IsHistoryOfBook {D : Type 0} (device : D → Device) (b : ToldBook D)
   pub there : IsOnDevice b.text b.dev
   pub rose : b.failed ≡ true → Rose b.opening.faults (faults_of device b.dev)
   pub faultless : b.failed ≡ false → faults_of device b.dev ≡ b.opening.faults
+  pub named : IfSome b.dev (λ dev. (device dev).handed.name ≡ Some (device_name_of b.text))
+  pub begun : BookBeganWell device b.text b.def b.opening b.dev
 
 -- there is one history for each book, at the same place
 pub record AreHistoriesOf {D : Type 0} (device : D → Device) (books : List (ToldBook D))

@@ -1,14 +1,16 @@
 -- Giving back the devices of cells.
-use Rattle.std.specs.Prelude.{◌≡◌, ◌≢◌, ◌⊎◌, ℕ, ◌-◌, ◌^◌, ◌<◌, ◌≤◌, true, false, List, All}
+use Rattle.std.specs.Prelude.{◌≡◌, ◌≢◌, ◌⊎◌, ℕ, ◌-◌, ◌^◌, ◌<◌, ◌≤◌, true, false, List, All, Option, Some, IfSome}
 use Rattle.std.specs.List.{AllZip}
 use Rattle.disk_model.specs.Calls.{Rose}
 use Rattle.disk_model.specs.Traces.{Trace, Device}
 use Rattle.tag_cell.specs.declared.history.TagHistory.{TagHistory}
+use Rattle.branded_disk.specs.Pasts.{Past}
+use Rattle.tag_cell.specs.Crashes.{BeganWell, IsOpenedWell}
 use Rattle.tag_cell.specs.Told.{ToldCell, IsCellHistory}
 use Rattle.tag_cell.specs.Devices.{device_name}
 
 -- This is the history of a cell, on this device. If the cell's journal has failed, the device has counted one fault
--- since the opening. Otherwise it has counted none.
+-- since the opening. Otherwise it has counted none. It was handed out under the name of the tag's device, and began well.
 pub record IsHistoryOfCell {D : Type 0} (dev : Device) (c : ToldCell D) (h : TagHistory) : Type 0 where
   pub def_is : h.def ≡ c.def
   pub opening_is : h.opening ≡ c.opening
@@ -19,21 +21,24 @@ pub record IsHistoryOfCell {D : Type 0} (dev : Device) (c : ToldCell D) (h : Tag
   pub history : IsCellHistory h dev
   pub rose : c.journal.failed ≡ true → Rose c.opening.faults dev.faults
   pub faultless : c.journal.failed ≡ false → dev.faults ≡ c.opening.faults
+  pub named : dev.handed.name ≡ Some (device_name c.def.name)
+  pub begun : BeganWell c.def c.opening dev.handed dev.trace
 
 -- there is one history for each of these cells, at the same place, on the cell's device
 abbrev pub AreHistoriesOf : {D : Type 0} → (D → Device) → List (ToldCell D) → List TagHistory → Type 0
 AreHistoriesOf {D} device cells histories = AllZip (λ (c : ToldCell D) h. IsHistoryOfCell (device c.journal.dev) c h) cells histories
 
--- A history is that of a tag's device. The store has the device under this name, if it is the name of the device of the
--- history's tag.
-pub record IsHistoryAt (name : List ℕ) (now : Trace) (h : TagHistory) : Type 0 where
+-- A history is that of a tag's device. If this is the name of the device of the history's tag, then the store has the device
+-- under it; and from what the store had there when the command began, if that is told, the tag was opened well.
+pub record IsHistoryAt (name : List ℕ) (start : Option Trace) (now : Trace) (h : TagHistory) : Type 0 where
   pub dev : Device
   pub is : IsCellHistory h dev
   pub back : name ≡ device_name h.def.name → now ≡ dev.trace
+  pub begun : name ≡ device_name h.def.name → IfSome start (λ t. IsOpenedWell h.def h.opening t now)
 
 -- each history is that of the device that the store has under the name at its place
-abbrev pub AreHistoriesAt : (List ℕ → Trace) → List (List ℕ) → List TagHistory → Type 0
-AreHistoriesAt traces names histories = AllZip (λ name h. IsHistoryAt name (traces name) h) names histories
+abbrev pub AreHistoriesAt : Past → (List ℕ → Trace) → List (List ℕ) → List TagHistory → Type 0
+AreHistoriesAt before traces names histories = AllZip (λ name h. IsHistoryAt name (before name) (traces name) h) names histories
 
 -- the store has the device of a cell under this name, if it is the name of the device of the cell's tag
 abbrev pub IsBackAt : {D : Type 0} → (D → Device) → (List ℕ → Trace) → List ℕ → ToldCell D → Type 0

@@ -5,6 +5,7 @@ use Rattle.trend_num.specs.declared.archive.Rec.{Rec}
 use Rattle.disk_model.specs.Calls.{Shows}
 use Rattle.disk_model.specs.Moments.{During}
 use Rattle.disk_model.specs.Traces.{Trace, Device}
+use Rattle.branded_disk.specs.Pasts.{IsUnused, Past}
 use Rattle.calc_refresh.specs.declared.definition.GroupDefParts.{GroupDefParts}
 use Rattle.calc_refresh.specs.Lists.{lists_of}
 use Rattle.calc_refresh.specs.Sheet.{AreRowsWhole}
@@ -37,6 +38,10 @@ AreNamesOf groups names = map string_bytes names ≡ map (λ g. device_name g.na
 -- all groups in the list have different names
 abbrev pub AreDistinct : List GroupDef → Type 0
 AreDistinct groups = AllPairs (λ a b. a.name ≢ b.name) groups
+
+-- the device of each of these groups of which it is told what it was is that still
+abbrev pub AreGroupsUnused : Past → List GroupDef → DeviceTraces → Type 0
+AreGroupsUnused before groups now = All (λ g. IsUnused before now (device_name g.name)) groups
 
 -- the definition of a group that its book is made with
 abbrev pub group_parts_of : GroupDef → GroupDefParts

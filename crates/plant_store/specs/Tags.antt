@@ -6,6 +6,7 @@ use Rattle.trend_model.specs.History.{Event, Origin}
 use Rattle.trend_model.specs.State.{State}
 use Rattle.tag_core.specs.Core.{Core}
 use Rattle.disk_model.specs.Traces.{Trace}
+use Rattle.branded_disk.specs.Pasts.{IsUnused, Past}
 use Rattle.device_layout.specs.Recovery.{Recovers}
 use Rattle.disk_model.specs.Calls.{Shows}
 use Rattle.crash_recovery.specs.Opening.{IsOpenedAs, StaysSame, RecoversThen, MakesLayout, GainsSync}
@@ -19,6 +20,10 @@ tag_trace_of traces def = traces (device_name def.name)
 -- all tags in the list have different names
 abbrev pub AreDistinct : List TagDef → Type 0
 AreDistinct tags = AllPairs (λ a b. a.name ≢ b.name) tags
+
+-- the device of each of these tags of which it is told what it was is that still
+abbrev pub AreTagsUnused : Past → List TagDef → (List ℕ → Trace) → Type 0
+AreTagsUnused before tags now = All (λ def. IsUnused before now (device_name def.name)) tags
 
 -- An opened tag has what its device recovers, as it is opened. For each history for which the device stood, the core
 -- stands for that history, or for it followed by a retuning. The core is of the tag's kind.

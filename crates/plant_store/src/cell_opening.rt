@@ -4,13 +4,15 @@ ghost use Rattle.std.specs.Arc.{arc_value};
 ghost use Rattle.trend_num.specs.Limits.{most_stored};
 ghost use Rattle.trend_num.specs.Ranges.{TuningInRange};
 ghost use Rattle.snapshot_table.specs.Boards.{new_posters};
-ghost use Rattle.plant_store.specs.Tags.{AllStaySame, AreDistinct, AreOtherTagsSame};
+ghost use Rattle.branded_disk.specs.Pasts.{branded};
+ghost use Rattle.plant_store.specs.Tags.{AllStaySame, AreDistinct, AreOtherTagsSame, AreTagsUnused};
 ghost use Rattle.plant_store.specs.TagRefusals.{CountsStore, IsRefusal};
 ghost use Rattle.plant_store.specs.CellNames.{HasPlaces, device_names_of, texts};
 ghost use Rattle.plant_store.specs.CellOpenings.{AreCellsOpened, records_opened};
 
 use crate::cell_closing::close_cells;
 use crate::cell_turns::open_all;
+use branded_disk::{Begun, Branded};
 use disk_model::{Disk, Store};
 use plant_status::Status;
 use snapshot_table::{Board, Poster};
@@ -22,9 +24,11 @@ use trend_num::TagDef;
 /// Opens each tag of a base in order over its device, as a cell with room for so many takes. A device that does not
 /// exist is made, with 64 lane slots. `names` are those of the tags' devices, and `posters` those of a new board.
 ///
+/// If it is told what a device was when the command began, it has to be that still.
+///
 /// It stops at the first tag that is not opened, or with which the tags together have too many records. Then it gives
 /// every device back, and returns the refusal.
-pub fn open_cells<S: Store, R: Wait>(
+pub fn open_cells<K: Begun, S: Store, R: Wait>(
     rt: &R,
     alloc: Global,
     store: &mut S,
@@ -33,17 +37,18 @@ pub fn open_cells<S: Store, R: Wait>(
     rooms: &[u32],
     board: &Arc<Board, Global>,
     posters: Vec<Poster>,
-) -> Result<Vec<Cell<S::Dev>>, Status>
+) -> Result<Vec<Cell<Branded<S::Dev, K>>>, Status>
     requires tuned { All (λ def. TuningInRange def.tuning) tags.now }
     requires few { length tags.now < 2 ^ 32 }
     requires distinct { AreDistinct tags.now }
+    requires unused { AreTagsUnused K.before tags.now (S.device_at store.old) }
     requires names { texts names.now ≡ device_names_of tags.now }
     requires rooms { length rooms.now ≡ length tags.now }
     requires posters { posters.items ≡ new_posters 0 (arc_value board.now) }
     requires places { length tags.now ≤ length (arc_value board.now) }
 
     // Each cell is what its tag's device recovers, and has its room. The store keeps a place for each device.
-    ensures opened { IfOk result (λ cells. AreCellsOpened S.Dev.device tags.now
+    ensures opened { IfOk result (λ cells. AreCellsOpened (branded S.Dev.device K.before) tags.now
         (S.device_at store.old) cells.items) }
     ensures as_many { IfOk result (λ cells. length cells.items ≡ length tags.now) }
     ensures rooms { IfOk result (λ cells. map (λ c. c.room) cells.items ≡ rooms.now) }

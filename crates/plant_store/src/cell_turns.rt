@@ -3,6 +3,7 @@ ghost use Rattle.std.specs.Prelude.{◌≡◌, ◌≢◌, ◌^◌, ◌<◌, ◌�
 ghost use Rattle.std.specs.Arc.{arc_value};
 ghost use Rattle.trend_num.specs.Limits.{most_stored};
 ghost use Rattle.trend_num.specs.Ranges.{TuningInRange};
+ghost use Rattle.branded_disk.specs.Pasts.{IsUnused, branded};
 ghost use Rattle.disk_model.specs.Calls.{CountsFault};
 ghost use Rattle.device_layout.specs.declared.failure.OpenNo.TheVariants.{DeviceFault};
 ghost use Rattle.device_layout.specs.Readings.{IsCause};
@@ -10,7 +11,7 @@ ghost use Rattle.crash_recovery.specs.Opening.{StaysSame};
 ghost use Rattle.snapshot_table.specs.Boards.{PostsTo, new_posters};
 ghost use Rattle.snapshot_table.specs.Snaps.{nothing};
 ghost use Rattle.tag_cell.specs.Devices.{device_name};
-ghost use Rattle.plant_store.specs.Tags.{AreDistinct, AreOtherTagsSame};
+ghost use Rattle.plant_store.specs.Tags.{AreDistinct, AreOtherTagsSame, AreTagsUnused};
 ghost use Rattle.plant_store.specs.CellNames.{HasPlaces, device_names_of, texts};
 ghost use Rattle.plant_store.specs.CellOpenings.{AreCellsOpened, IsCellOpened, records_opened};
 ghost use Rattle.plant_store.specs.CellStops.{IsStopped};
@@ -18,6 +19,7 @@ ghost use Rattle.plant_store.specs.CellStops.{IsStopped};
 use crate::cell_closing::close_cell;
 use crate::tag_device::LANE_SLOTS;
 use crate::tag_refusal::{MAX_STORE_RECORDS, status_of, too_many};
+use branded_disk::{Begun, Branded, give_back, take};
 use crash_recovery::{OpenFail, OpenNo};
 use disk_model::{Disk, Store};
 use plant_status::Status;
@@ -30,7 +32,7 @@ use trend_num::TagDef;
 // Opens each tag in order, and appends its cell to `cells`, which has room for all. It stops at the first tag that is
 // not opened, or with which there are too many records. The device of that tag is given back. Those of the cells before
 // it are still out.
-pub(crate) fn open_all<S: Store, R: Wait>(
+pub(crate) fn open_all<K: Begun, S: Store, R: Wait>(
     rt: &R,
     alloc: Global,
     store: &mut S,
@@ -39,18 +41,19 @@ pub(crate) fn open_all<S: Store, R: Wait>(
     rooms: &[u32],
     board: &Arc<Board, Global>,
     posters: Vec<Poster>,
-    cells: &mut Vec<Cell<S::Dev>>,
+    cells: &mut Vec<Cell<Branded<S::Dev, K>>>,
 ) -> Result<(), Status>
     requires tuned { All (λ def. TuningInRange def.tuning) tags.now }
     requires few { length tags.now < 2 ^ 32 }
     requires distinct { AreDistinct tags.now }
+    requires unused { AreTagsUnused K.before tags.now (S.device_at store.old) }
     requires names { texts names.now ≡ device_names_of tags.now }
     requires rooms { length rooms.now ≡ length tags.now }
     requires posters { posters.items ≡ new_posters 0 (arc_value board.now) }
     requires places { length tags.now ≤ length (arc_value board.now) }
     requires none { cells.old.items ≡ [] }
     requires room { length tags.now ≤ vec_capacity cells.old }
-    ensures opened { AreCellsOpened S.Dev.device (take (length cells.new.items) tags.now)
+    ensures opened { AreCellsOpened (branded S.Dev.device K.before) (take (length cells.new.items) tags.now)
         (S.device_at store.old) cells.new.items }
     ensures within { length cells.new.items ≤ length tags.now }
     ensures places { HasPlaces (S.has_place store.new) (take (length cells.new.items) (texts names.now)) }
@@ -60,7 +63,7 @@ pub(crate) fn open_all<S: Store, R: Wait>(
     ensures rooms { OnOk result (map (λ c. c.room) cells.new.items ≡ rooms.now) }
     ensures few_records { OnOk result (records_opened cells.new.items ≤ most_stored) }
     ensures passed { OnOk result (S.fault_count store.new ≡ S.fault_count store.old) }
-    ensures stopped { IfErr result (IsStopped S.Dev.device tags.now cells.new.items (S.device_at store.old)
+    ensures stopped { IfErr result (IsStopped (branded S.Dev.device K.before) tags.now cells.new.items (S.device_at store.old)
         (S.device_at store.new) (S.fault_count store.old) (S.fault_count store.new)) }
 {
     let mut posters = posters.into_iter();
@@ -86,7 +89,7 @@ pub(crate) fn open_all<S: Store, R: Wait>(
 }
 
 // Opens a tag over the device of this name. If the tag is not opened, the device is given back.
-fn open_one<S: Store, R: Wait>(
+fn open_one<K: Begun, S: Store, R: Wait>(
     rt: &R,
     alloc: Global,
     store: &mut S,
@@ -95,12 +98,13 @@ fn open_one<S: Store, R: Wait>(
     room: u32,
     board: &Arc<Board, Global>,
     poster: Poster,
-) -> Result<Cell<S::Dev>, OpenNo>
+) -> Result<Cell<Branded<S::Dev, K>>, OpenNo>
     requires tuned { TuningInRange def.now.tuning }
     requires here { PostsTo (arc_value board.now) poster }
     requires unposted { poster.last ≡ nothing }
     requires named { name.now ≡ device_name def.now.name }
-    ensures opened { IfOk result (λ c. IsCellOpened def.now (S.device_at store.old name.now) (S.Dev.device c.journal.dev) c) }
+    requires unused { IsUnused K.before (S.device_at store.old) name.now }
+    ensures opened { IfOk result (λ c. IsCellOpened def.now (S.device_at store.old name.now) (branded S.Dev.device K.before c.journal.dev) c) }
     ensures room { IfOk result (λ c. c.room ≡ room) }
     ensures place { OnOk result (IsTrue (S.has_place store.new name.now)) }
     ensures passed { OnOk result (S.fault_count store.new ≡ S.fault_count store.old) }
@@ -114,13 +118,13 @@ fn open_one<S: Store, R: Wait>(
     let Ok(board) = Arc::try_clone(board) else {
         return Err(OpenNo::WantOfMemory);
     };
-    let Ok(dev) = store.device(name) else {
+    let Ok(dev) = take(store, name) else {
         return Err(OpenNo::DeviceFault);
     };
     match open_cell(rt, alloc, dev, def, LANE_SLOTS, room, board, poster) {
         Ok(cell) => Ok(cell),
         Err(OpenFail { dev, why }) => {
-            store.give_back(name, dev);
+            give_back(store, name, dev);
             Err(why)
         }
     }

@@ -6,9 +6,10 @@ ghost use Rattle.trend_num.specs.Ranges.{TuningInRange};
 ghost use Rattle.calc_refresh.specs.Sheet.{IsCopy};
 ghost use Rattle.snapshot_table.specs.Boards.{new_posters};
 ghost use Rattle.tag_base.specs.Groups.{IsSoundGroup};
-ghost use Rattle.plant_store.specs.Tags.{AllStaySame, AreDistinct};
+ghost use Rattle.branded_disk.specs.Pasts.{branded};
+ghost use Rattle.plant_store.specs.Tags.{AllStaySame, AreDistinct, AreTagsUnused};
 ghost use Rattle.plant_store.specs.CellOpenings.{AreCellsOpened, records_opened};
-ghost use Rattle.plant_store.specs.Groups.{AllStaySame as AllGroupsStaySame, AreBooksOpened, AreDistinct as AreDistinctGroups, AreNamesOf, AreOtherGroupsSame};
+ghost use Rattle.plant_store.specs.Groups.{AllStaySame as AllGroupsStaySame, AreBooksOpened, AreDistinct as AreDistinctGroups, AreGroupsUnused, AreNamesOf, AreOtherGroupsSame};
 ghost use Rattle.plant_store.specs.BookRefusals.{CountsStore, IsRefusal};
 ghost use Rattle.plant_store.specs.BookSteps.{HavePlaces};
 ghost use Rattle.plant_store.specs.Openings.{AreRestSame, CountsPlant, IsPlantRefusal, cell_records_in};
@@ -18,6 +19,7 @@ use crate::book_opening::open_books;
 use crate::cell_closing::close_cells;
 use crate::cell_opening::open_cells;
 use crate::shelf::Shelf;
+use branded_disk::{Begun, Branded};
 use disk_model::{Disk, Store};
 use group_book::Book;
 use plant_status::Status;
@@ -37,9 +39,11 @@ pub struct OpenPlant<D: Disk> {
 /// Opens the tags of a base in order as cells, each with room for so many takes. Then it opens the groups as books over
 /// the records of those cells. A device that does not exist is made. `posters` are those of a new board.
 ///
+/// If it is told what a device was when the command began, it has to be that still.
+///
 /// It stops at the first tag or group that is not opened, or at the tag with which the tags together have too many
 /// records. Then it gives every device back, and returns the refusal.
-pub fn open_plant<S: Store, R: Wait>(
+pub fn open_plant<K: Begun, S: Store, R: Wait>(
     rt: &R,
     alloc: Global,
     store: &mut S,
@@ -48,11 +52,13 @@ pub fn open_plant<S: Store, R: Wait>(
     rooms: &[u32],
     board: &Arc<Board, Global>,
     posters: Vec<Poster>,
-) -> Result<OpenPlant<S::Dev>, Status>
+) -> Result<OpenPlant<Branded<S::Dev, K>>, Status>
     requires tuned { All (λ def. TuningInRange def.tuning) base.now.tags.items }
     requires distinct { AreDistinct base.now.tags.items }
     requires sound { All (IsSoundGroup (length base.now.tags.items)) base.now.groups.items }
     requires distinct_groups { AreDistinctGroups base.now.groups.items }
+    requires unused { AreTagsUnused K.before base.now.tags.items (S.device_at store.old) }
+    requires unused_groups { AreGroupsUnused K.before base.now.groups.items (S.device_at store.old) }
     requires shelf { IsShelfFor base.now shelf.now }
     requires rooms { length rooms.now ≡ length base.now.tags.items }
     requires posters { posters.items ≡ new_posters 0 (arc_value board.now) }
@@ -60,9 +66,9 @@ pub fn open_plant<S: Store, R: Wait>(
 
     // Each cell is what its tag's device recovers. Each book has what its group's device stands for, over the records
     // of the cells. The store keeps a place for each device.
-    ensures tags { IfOk result (λ plant. AreCellsOpened S.Dev.device base.now.tags.items
+    ensures tags { IfOk result (λ plant. AreCellsOpened (branded S.Dev.device K.before) base.now.tags.items
         (S.device_at store.old) plant.cells.items) }
-    ensures groups { IfOk result (λ plant. AreBooksOpened S.Dev.device base.now.groups.items
+    ensures groups { IfOk result (λ plant. AreBooksOpened (branded S.Dev.device K.before) base.now.groups.items
         (cell_records_in plant.cells.items) (S.device_at store.old) plant.books.items) }
     ensures as_many_cells { IfOk result (λ plant. length plant.cells.items ≡ length base.now.tags.items) }
     ensures as_many_books { IfOk result (λ plant. length plant.books.items ≡ length base.now.groups.items) }
@@ -97,17 +103,18 @@ pub fn open_plant<S: Store, R: Wait>(
 }
 
 // Opens the groups of a base over the records of its tags' cells.
-fn open_groups<S: Store>(
+fn open_groups<K: Begun, S: Store>(
     alloc: Global,
     store: &mut S,
     base: &Base,
     names: &[String],
-    cells: &[Cell<S::Dev>],
-) -> Result<Vec<Book<S::Dev>>, Status>
+    cells: &[Cell<Branded<S::Dev, K>>],
+) -> Result<Vec<Book<Branded<S::Dev, K>>>, Status>
     requires sound { All (IsSoundGroup (length cells.now)) base.now.groups.items }
     requires distinct { AreDistinctGroups base.now.groups.items }
+    requires unused { AreGroupsUnused K.before base.now.groups.items (S.device_at store.old) }
     requires names { AreNamesOf base.now.groups.items names.now }
-    ensures opened { IfOk result (λ books. AreBooksOpened S.Dev.device base.now.groups.items
+    ensures opened { IfOk result (λ books. AreBooksOpened (branded S.Dev.device K.before) base.now.groups.items
         (cell_records_in cells.now) (S.device_at store.old) books.items) }
     ensures as_many { IfOk result (λ books. length books.items ≡ length base.now.groups.items) }
     ensures places { OnOk result (HavePlaces (length base.now.groups.items) names.now (S.has_place store.new)) }

@@ -1,6 +1,7 @@
 // One group: opening its book, and giving its device back.
 ghost use Rattle.std.specs.Prelude.{◌≡◌, ◌≢◌, ℕ, ◌^◌, ◌<◌, List, All, IfErr, IfOk, IsTrue, OnErr, OnOk, length, map};
 ghost use Rattle.calc_refresh.specs.Sheet.{IsCopy};
+ghost use Rattle.branded_disk.specs.Pasts.{IsUnused, branded};
 ghost use Rattle.disk_model.specs.Calls.{CountsFault};
 ghost use Rattle.group_layout.specs.Readings.{GainsGroupSync};
 ghost use Rattle.tag_base.specs.Groups.{IsSoundGroup};
@@ -11,6 +12,7 @@ ghost use Rattle.plant_store.specs.BookEndings.{IsBackUnder, IsHistoryOfBook, co
 ghost use Rattle.plant_store.specs.BookSteps.{StaysSameOf};
 
 use crate::group_parts::{Prepared, prepare};
+use branded_disk::{Begun, Branded, give_back, take};
 use disk_model::Store;
 use group_book::{Book, GroupHistory, LoadFail, LoadNo, load};
 use std::alloc::Global;
@@ -20,20 +22,21 @@ use trend_num::Rec;
 /// Opens the group at this place of a base over the device of this name, and over the records of its inputs' tags.
 /// `records` has, for each tag of the base, the records that it recovered. A device that does not exist is made. If the
 /// group is not opened, the device is given back. [`book_status`](crate::book_status) has the status for the error.
-pub fn open_book<S: Store>(
+pub fn open_book<K: Begun, S: Store>(
     alloc: Global,
     store: &mut S,
     place: u32,
     group: &GroupDef,
     name: &str,
     records: &[&[Rec]],
-) -> Result<Book<S::Dev>, LoadNo>
+) -> Result<Book<Branded<S::Dev, K>>, LoadNo>
     requires sound { IsSoundGroup (length records.now) group.now }
     requires copied { All (λ r. IsCopy r.now) records.now }
     requires named { name.now ≡ device_name group.now.name }
+    requires unused { IsUnused K.before (S.device_at store.old) name.now }
 
     // The book is that of the group, with what its device and its tags have.
-    ensures opened { IfOk result (IsBookOpened S.Dev.device place group.now
+    ensures opened { IfOk result (IsBookOpened (branded S.Dev.device K.before) place group.now
         (input_records_of (map (λ r. r.now) records.now) group.now) (S.device_at store.old name.now)) }
 
     // A refusal states its cause. A crash at any moment then leaves of the device what a crash might have left before, or
@@ -56,7 +59,7 @@ pub fn open_book<S: Store>(
     let Ok(prepared) = prepare(alloc, group, records) else {
         return Err(LoadNo::WantOfMemory);
     };
-    let Ok(dev) = store.device(name) else {
+    let Ok(dev) = take(store, name) else {
         return Err(LoadNo::DeviceFault);
     };
     let Prepared {
@@ -68,7 +71,7 @@ pub fn open_book<S: Store>(
     match load(alloc, dev, place, &def, &text, tags, &recovered) {
         Ok(book) => Ok(book),
         Err(LoadFail { dev, why }) => {
-            store.give_back(name, dev);
+            give_back(store, name, dev);
             Err(why)
         }
     }
@@ -76,17 +79,21 @@ pub fn open_book<S: Store>(
 
 /// Gives the device of a book back under this name, if it has one, and returns what happened to its group. It takes no
 /// memory. The faults of the device are added to those of the store.
-pub fn close_book<S: Store>(store: &mut S, name: &str, book: Book<S::Dev>) -> GroupHistory
+pub fn close_book<K: Begun, S: Store>(
+    store: &mut S,
+    name: &str,
+    book: Book<Branded<S::Dev, K>>,
+) -> GroupHistory
     requires place { IsTrue (S.has_place store.old name.now) }
-    ensures history { IsHistoryOfBook S.Dev.device book result }
-    ensures given { IsBackUnder S.Dev.device book name.now (S.device_at store.old name.now) (S.device_at store.new name.now) }
+    ensures history { IsHistoryOfBook (branded S.Dev.device K.before) book result }
+    ensures given { IsBackUnder (branded S.Dev.device K.before) book name.now (S.device_at store.old name.now) (S.device_at store.new name.now) }
     ensures places { (n : List ℕ) → IsTrue (S.has_place store.old n) → IsTrue (S.has_place store.new n) }
     ensures others { (n : List ℕ) → n ≢ name.now → S.device_at store.new n ≡ S.device_at store.old n }
-    ensures counted { S.fault_count store.new ≡ count_after S.Dev.device book.dev (S.fault_count store.old) }
+    ensures counted { S.fault_count store.new ≡ count_after (branded S.Dev.device K.before) book.dev (S.fault_count store.old) }
 {
     let (dev, history) = book.into_history();
     if let Some(dev) = dev {
-        store.give_back(name, dev);
+        give_back(store, name, dev);
     }
     history
 }

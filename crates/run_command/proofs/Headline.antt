@@ -1,5 +1,5 @@
 -- The promise of a session, from its cells and books.
-use Rattle.std.proofs.Common.{◌≡◌, ◌∙◌, ◌<◌, ◌≤◌, ◌+◌, ℕ, Bool, List, [], ◌∷◌, ◌++◌, All, Option, Result, Ok, Err, IfErr, IfOk, String, arith, ap, ap₂, sym, subst, refl, length, map, take, get_or}
+use Rattle.std.proofs.Common.{◌≡◌, ◌∙◌, ◌<◌, ◌≤◌, ◌+◌, ℕ, Bool, List, [], ◌∷◌, ◌++◌, All, Option, Result, Ok, Err, IfErr, IfOk, String, arith, ap, ap₂, sym, subst, refl, length, map, take, get_or, Some}
 use Rattle.std.specs.Prelude.{◌≢◌, ◌*◌, ◌^◌, nat_eq, if◌then◌else◌}
 use Rattle.std.specs.List.{AllZip, fold, sum_by}
 use Rattle.std.specs.declared.alloc.Global.{Global}
@@ -64,6 +64,7 @@ use Rattle.group_layout.specs.Images.{IsUnsaved}
 use Rattle.tag_cell.specs.Devices.{device_name}
 use Rattle.plant_store.specs.Tags.{IsOpened, tag_trace_of}
 use Rattle.plant_store.specs.CellClosings.{AreHistoriesAt, AreHistoriesOf, IsHistoryAt, IsHistoryOfCell}
+use Rattle.branded_disk.specs.Pasts.{told_of}
 use Rattle.plant_store.specs.CellNames.{device_names_of}
 use Rattle.plant_store.specs.CellOpenings.{AreCellsOpened, IsCellOpened, records_opened}
 use Rattle.plant_store.specs.Groups.{AreBooksOpened, DeviceTraces, IsBookOpened, group_parts_of, group_definition_text, group_trace_at, input_records_of}
@@ -86,10 +87,11 @@ use Rattle.plant_status.proofs.Elements.{element}
 -- ---- tags
 
 -- the history of a cell is sound
-sound_tag : (def : TagDef) (trace : Trace) (t : TagHistory) → IsHistoryAt (device_name def.name) trace t → IsTagSound def t trace
-sound_tag def trace t at =
+sound_tag : (def : TagDef) (before now : Trace) (t : TagHistory) → IsHistoryAt (device_name def.name) (Some before) now t
+    → IsTagSound def t before now
+sound_tag def before now t at =
     let is = at.is in
-    let own : t.def.name ≡ def.name → at.dev.trace ≡ trace = λ same. sym (at.back (ap device_name (sym same))) in
+    let own : t.def.name ≡ def.name → at.dev.trace ≡ now = λ same. sym (at.back (ap device_name (sym same))) in
     let s : State = record { records = t.recs.items; summary = t.summary } in
     record {
       replayed = is.replayed;
@@ -100,15 +102,17 @@ sound_tag def trace t at =
       safe = λ same. subst (λ o. IsSafe t.def t.opening t.tape.items (LeftSince o)) (own same) is.safe;
       clocked = λ same. subst (HasMade (cell_walked (cell_start t.opening) t.tape.items).moment) (own same) is.past;
       opened_before = λ same. subst (HasMade t.opening.moment) (own same) is.opened_before;
+      begun = λ same. at.begun (ap device_name (sym same));
       pulled = pulls_durable t.def t.opening t.tape.items s t.acked is.replayed;
     }
 
-pub sound_tags : (new : DeviceTraces) (defs : List TagDef) (ts : List TagHistory) → AreHistoriesAt new (device_names_of defs) ts
-    → AllZip (λ (def : TagDef) t. IsTagSound def t (tag_trace_of new def)) defs ts
-sound_tags new [] [] is = tt
-sound_tags new [] (t ∷ ts) is = absurd is
-sound_tags new (d ∷ ds) [] is = absurd is
-sound_tags new (d ∷ ds) (t ∷ ts) is = (sound_tag d (tag_trace_of new d) t is.0, sound_tags new ds ts is.1)
+pub sound_tags : (old new : DeviceTraces) (defs : List TagDef) (ts : List TagHistory)
+    → AreHistoriesAt (told_of old) new (device_names_of defs) ts
+    → AllZip (λ (def : TagDef) t. IsTagSound def t (tag_trace_of old def) (tag_trace_of new def)) defs ts
+sound_tags old new [] [] is = tt
+sound_tags old new [] (t ∷ ts) is = absurd is
+sound_tags old new (d ∷ ds) [] is = absurd is
+sound_tags old new (d ∷ ds) (t ∷ ts) is = (sound_tag d (tag_trace_of old d) (tag_trace_of new d) t is.0, sound_tags old new ds ts is.1)
 
 -- what has the definition and the opening of a cell was opened as the cell was
 pub tag_opened : {D : Type 0} (device : D → Device) → (def : TagDef) (before : Trace)
@@ -295,7 +299,7 @@ group_opened device i d before recovered records b group def text o same was gro
 
 module _ {D : Type 0} (device : D → Device) (base : Base) (old new : DeviceTraces) where
   pub sound_groups : (cells : List (Cell D)) (books : List (Book D)) (s : Session) → IsOver device base old new cells books s
-      → AreGroupsSound base new s
+      → AreGroupsSound base old new s
   sound_groups cells books s is =
       let many : length s.groups.items ≡ length books = is.groups.as_many in
       record {
@@ -310,6 +314,7 @@ module _ {D : Type 0} (device : D → Device) (base : Base) (old new : DeviceTra
               safe = λ some. (is.group_devices.each i d g below some).is.safe;
               clocked = λ some. (is.group_devices.each i d g below some).is.past;
               opened_before = λ some. (is.group_devices.each i d g below some).is.opened_before;
+              begun = λ some. (is.group_devices.each i d g below some).begun;
             };
       }
 

@@ -26,3 +26,4 @@ pub mod DrillPulls
 pub mod DrillSound
 pub mod DrillFormulas
 pub mod Foreign
+pub mod TagDevices

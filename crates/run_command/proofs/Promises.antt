@@ -78,7 +78,7 @@ promised device name plan_name told old new before now stops_before stops_now an
       rows = is.rows;
       queries = is.queries;
       planned = is.planned;
-      tags = sound_tags new is.base.tags.items s.tags.items run.over.devices;
+      tags = sound_tags old new is.base.tags.items s.tags.items run.over.devices;
       groups = sound_groups device is.base old new run.cells run.books s run.over;
       opened_as = opened_as;
       begun = λ none. begun device is.base old new is.given run.cells run.books s run.over 0 0 is.rows is.queries

@@ -7,6 +7,7 @@ use Rattle.trend_model.specs.State.{Stands}
 use Rattle.disk_model.specs.Memory.{DiskState, handed_as}
 use Rattle.disk_model.specs.Stores.{empty_trace}
 use Rattle.disk_model.specs.Traces.{Device}
+use Rattle.branded_disk.specs.Pasts.{branded, told_of}
 use Rattle.tag_base.specs.declared.definition.Base.{Base}
 use Rattle.tag_base.specs.declared.definition.GroupDef.{GroupDef}
 use Rattle.tag_cell.specs.declared.history.TagHistory.{TagHistory}
@@ -87,8 +88,12 @@ pub record IsRunInPhases {D : Type 0} (device : D → Device) (base : Base) (fir
   pub undone : IfErr answer (IsDrillUndone base first second held.opened held.opened_books held.cells held.books s)
 
 -- a device in memory, as a proof sees it
+abbrev pub device_seen : DiskState → Device
+device_seen d = record { handed = handed_as d.name; trace = d.trace; faults = d.faults }
+
+-- the same of a store that had no device when the command began
 abbrev pub memory_device : DiskState → Device
-memory_device d = record { handed = handed_as d.name; trace = d.trace; faults = d.faults }
+memory_device = branded device_seen (told_of fresh_devices)
 
 -- ---- what is promised of it
 
@@ -160,8 +165,8 @@ pub record IsDrilled (number tags events stops_before stops_now : ℕ) (answer :
   pub base : Base
   pub devices : DeviceTraces
   pub base_is : IsDrillBase tags base
-  pub tags_are : AllZip (λ def t. IsTagSound def t (tag_trace_of devices def)) base.tags.items s.tags.items
-  pub groups : AreGroupsSound base devices s
+  pub tags_are : AllZip (λ def t. IsTagSound def t (tag_trace_of fresh_devices def) (tag_trace_of devices def)) base.tags.items s.tags.items
+  pub groups : AreGroupsSound base fresh_devices devices s
   pub opened_as : (IsOfOpening answer → ⊥) → AreUnitsOpened base fresh_devices s
   pub new : (IsOfOpening answer → ⊥) → AreNew base s
   pub begun : (AdmitsForeign answer → ⊥) → IsBegun (phase_item 0) (drill_rows_of number tags 0 (events / 2)) [] s

@@ -84,8 +84,8 @@ pub record IsPromised (name plan_name : List ℕ) (told : ToldFiles) (before now
   pub rows : List (List RawRow)
   pub queries : List (List Query)
   pub planned : IsPlanned name plan_name told base plan rows queries
-  pub tags : AllZip (λ (def : TagDef) t. IsTagSound def t (tag_trace_of now def)) base.tags.items s.tags.items
-  pub groups : AreGroupsSound base now s
+  pub tags : AllZip (λ (def : TagDef) t. IsTagSound def t (tag_trace_of before def) (tag_trace_of now def)) base.tags.items s.tags.items
+  pub groups : AreGroupsSound base before now s
   pub opened_as : (IsOfOpening answer → ⊥) → AreUnitsOpened base before s
   pub begun : (AdmitsForeign answer → ⊥) → IsBegun take_item rows queries s
   pub done : IfOk answer (λ text. IsDoneSo take_item (λ i. turns_in i plan.refreshers.items) base rows queries s

@@ -18,6 +18,8 @@ use Rattle.plant_files.specs.PlanRows.{IsPlanned, IsPlanningRefusal}
 use Rattle.calc_refresh.specs.Lists.{lists_of}
 use Rattle.tag_cell.specs.Told.{ToldCell as Cell}
 use Rattle.group_book.specs.declared.history.GroupHistory.{GroupHistory}
+use Rattle.branded_disk.specs.Pasts.{told_of}
+use Rattle.group_book.specs.Openings.{IsBookOpenedWell}
 use Rattle.group_book.specs.Told.{IsBookHistory as IsGroupHistory, ToldBook as Book}
 use Rattle.collector_pool.specs.declared.note.WorkerNote.{WorkerNote}
 use Rattle.session_audit.specs.declared.cell_opening.Kept.{Kept}
@@ -99,17 +101,20 @@ abbrev pub AreDefined : {D : Type 0} → List GroupDef → List (Book D) → Typ
 AreDefined {D} groups books = (i : ℕ) (g : GroupDef) (b : Book D) → i < length books
     → (slice_index_or books i b).def ≡ group_parts_of (slice_index_or groups i g)
 
--- a history is that of a group's device, which has made these calls
-pub record IsGroupHistoryAt (trace : Trace) (g : GroupHistory) : Type 0 where
+-- A history is that of a group's device, which was so when the command began and is so now. It was opened well from then on.
+pub record IsGroupHistoryAt (before now : Trace) (g : GroupHistory) : Type 0 where
   pub faults : ℕ
-  pub is : IsGroupHistory g (Some trace) (moment trace) faults
+  pub is : IsGroupHistory g (Some now) (moment now) faults
+  pub begun : IsBookOpenedWell g.text.items g.def g.opening before now
 
--- each history of a group that has the group's text is that of the device that a store has under the group's name
-pub record AreGroupHistoriesAt (groups : List GroupDef) (traces : DeviceTraces) (histories : List GroupHistory) : Type 0 where
+-- each history of a group that has the group's text is that of the device that a store had and has under the group's name
+pub record AreGroupHistoriesAt (groups : List GroupDef) (before now : DeviceTraces) (histories : List GroupHistory) : Type 0 where
   pub each : (i : ℕ) (d : GroupDef) (g : GroupHistory) → i < length histories → (slice_index_or histories i g).text.items ≡ group_definition_text (slice_index_or groups i d)
-      → IsGroupHistoryAt (group_trace_at traces (slice_index_or groups i d)) (slice_index_or histories i g)
+      → IsGroupHistoryAt (group_trace_at before (slice_index_or groups i d)) (group_trace_at now (slice_index_or groups i d))
+      (slice_index_or histories i g)
 
--- The histories of a session are those of these cells and books. Each is that of the device under its name. No device
+-- The histories of a session are those of these cells and books. Each is that of the device under its name, and was opened
+-- well from what that device was before. No device
 -- but those of the base's tags and groups has changed, and no log was written.
 pub record IsOver {D : Type 0} (device : D → Device) (base : Base) (old new : DeviceTraces)
     (cells : List (Cell D)) (books : List (Book D)) (s : Session) : Type 0 where
@@ -117,8 +122,8 @@ pub record IsOver {D : Type 0} (device : D → Device) (base : Base) (old new : 
   pub groups : AreGroupHistoriesOf device books s.groups.items
   pub as_many_tags : length cells ≡ length base.tags.items
   pub as_many_groups : length books ≡ length base.groups.items
-  pub devices : AreHistoriesAt new (device_names_of base.tags.items) s.tags.items
-  pub group_devices : AreGroupHistoriesAt base.groups.items new s.groups.items
+  pub devices : AreHistoriesAt (told_of old) new (device_names_of base.tags.items) s.tags.items
+  pub group_devices : AreGroupHistoriesAt base.groups.items old new s.groups.items
   pub others : AreRestSame base old new
   pub no_log : s.log ≡ None
 

@@ -11,7 +11,7 @@ use Rattle.disk_model.specs.Moments.{LeftSince}
 use Rattle.disk_model.specs.Traces.{Trace, moment}
 use Rattle.tag_cell.specs.declared.entry.Entry.{Entry}
 use Rattle.tag_cell.specs.declared.history.TagHistory.{TagHistory}
-use Rattle.tag_cell.specs.Crashes.{IsSafe}
+use Rattle.tag_cell.specs.Crashes.{IsOpenedWell, IsSafe}
 use Rattle.tag_cell.specs.Replays.{IsLegal, IsTapeReplayed}
 use Rattle.tag_cell.specs.Tapes.{cell_start, cell_walked, opened, taken}
 use Rattle.sheet_law.specs.declared.grid.Grid.{Grid}
@@ -23,6 +23,7 @@ use Rattle.group_book.specs.declared.history.GroupHistory.{GroupHistory}
 use Rattle.group_book.specs.declared.turn.Turn.{Turn}
 use Rattle.group_book.specs.Crashes.{IsBookSafe as IsGroupSafe}
 use Rattle.group_book.specs.Histories.{AreRowsEvaluated, IsBookLegal as IsGroupLegal}
+use Rattle.group_book.specs.Openings.{IsBookOpenedWell}
 use Rattle.group_book.specs.Tapes.{book_start, book_walked}
 use Rattle.plant_store.specs.Groups.{DeviceTraces, IsGroupOpening, group_parts_of, group_definition_text, group_trace_at, input_records_of}
 use Rattle.tag_base.specs.declared.definition.Base.{Base}
@@ -60,13 +61,16 @@ HasMade many t = many ≤ moment t
 -- Replaying the takes from the opening gives each entry of the tape, and the state at the end. The tag is kept for every
 -- history for which its opening stands. After a crash at any moment since the opening, the tag's device, with these calls,
 -- has the oldest values that were taken since, among them all acknowledged ones. No moment of its opening or of a commit
--- is above the number of these calls. Each pull of a group ended where the acknowledged records ended then.
-pub record IsTagSound (def : TagDef) (t : TagHistory) (trace : Trace) : Type 0 where
+-- is above the number of these calls. From what the device was before the command until its opening ended, a crash left
+-- what it might have left before, or what recovers the same; the opening is what the device then recovers. Each pull of a
+-- group ended where the acknowledged records ended then.
+pub record IsTagSound (def : TagDef) (t : TagHistory) (before now : Trace) : Type 0 where
   pub replayed : IsTapeReplayed t.def t.opening t.tape.items (record { records = t.recs.items; summary = t.summary }) t.acked
   pub kept : (org : Origin) (h : List Event) → org.step ≡ t.def.step → Stands org h (opened t.opening) → IsKeptFor org h t
-  pub safe : t.def.name ≡ def.name → IsSafe t.def t.opening t.tape.items (LeftSince trace)
-  pub clocked : t.def.name ≡ def.name → HasMade (cell_walked (cell_start t.opening) t.tape.items).moment trace
-  pub opened_before : t.def.name ≡ def.name → HasMade t.opening.moment trace
+  pub safe : t.def.name ≡ def.name → IsSafe t.def t.opening t.tape.items (LeftSince now)
+  pub clocked : t.def.name ≡ def.name → HasMade (cell_walked (cell_start t.opening) t.tape.items).moment now
+  pub opened_before : t.def.name ≡ def.name → HasMade t.opening.moment now
+  pub begun : t.def.name ≡ def.name → IsOpenedWell t.def t.opening before now
   pub pulled : ArePullsDurable t.def t.opening t.tape.items
 
 -- the core that a tag of this definition was opened as; its room for records does not matter here and is set to 0
@@ -92,15 +96,17 @@ grid g = grid_of g.def.start g.def.period
 -- complete window. Rows and replies are from scratch in each window that was due since the opening, and in any other those
 -- of the opening. As many values were evaluated as the refreshes had due. After a crash at any moment since the opening,
 -- the device of a group with a definition text has one of the versions since the last save before the crash, with its rows.
--- No moment of the opening or of a save is above the number of calls of the device.
-pub record IsGroupSound (d : GroupDef) (g : GroupHistory) (trace : Trace) : Type 0 where
+-- No moment of the opening or of a save is above the number of calls of the device. The opening is what the device stood for
+-- before the command; until it ended a crash left what it might have left before, or what stands for the same.
+pub record IsGroupSound (d : GroupDef) (g : GroupHistory) (before now : Trace) : Type 0 where
   pub defined : IsGroup g.def.inputs g.def.calcs × IsGrid (grid g)
   pub kept : IsGroupLegal g.def.calcs (grid g) g.opening g.tape.items g.versions.items (lists_of g.copies.items) (lists_of g.rows.items)
   pub evaluated : AreRowsEvaluated g.def.calcs (grid g) g.opening g.tape.items (lists_of g.copies.items) (lists_of g.rows.items) g.evals
   pub safe : g.text.items ≡ group_definition_text d → IsGroupSafe g.text.items g.def.calcs (grid g) g.opening (lists_of g.copies.items) g.tape.items
-      (LeftSince trace)
-  pub clocked : g.text.items ≡ group_definition_text d → HasMade (book_walked (book_start g.opening) g.tape.items).moment trace
-  pub opened_before : g.text.items ≡ group_definition_text d → HasMade g.opening.moment trace
+      (LeftSince now)
+  pub clocked : g.text.items ≡ group_definition_text d → HasMade (book_walked (book_start g.opening) g.tape.items).moment now
+  pub opened_before : g.text.items ≡ group_definition_text d → HasMade g.opening.moment now
+  pub begun : g.text.items ≡ group_definition_text d → IsBookOpenedWell g.text.items g.def g.opening before now
 
 -- a fact of each group of a session, at its place, with its definition in the base
 abbrev pub AtEachGroup : Base → Session → (ℕ → GroupDef → GroupHistory → Type 0) → Type 0
@@ -108,9 +114,9 @@ AtEachGroup base s P = (i : ℕ) (d : GroupDef) (g : GroupHistory) → i < lengt
     → P i (slice_index_or base.groups.items i d) (slice_index_or s.groups.items i g)
 
 -- a session has the groups of a base, and each is sound
-pub record AreGroupsSound (base : Base) (devices : DeviceTraces) (s : Session) : Type 0 where
+pub record AreGroupsSound (base : Base) (before now : DeviceTraces) (s : Session) : Type 0 where
   pub as_many : length s.groups.items ≡ length base.groups.items
-  pub each : AtEachGroup base s (λ i d g. IsGroupSound d g (group_trace_at devices d))
+  pub each : AtEachGroup base s (λ i d g. IsGroupSound d g (group_trace_at before d) (group_trace_at now d))
 
 -- The base has this group at this place. It was opened as what its device, with these calls, stood for, after these records
 -- of the tags of its inputs were recovered.

@@ -1,4 +1,5 @@
 // The end of a session: its devices are given back, and its report is made.
+ghost use Rattle.branded_disk.specs.Pasts.{IsWholePast, branded};
 ghost use Rattle.plant_files.specs.PlanRows.{IsGoodBase};
 ghost use Rattle.plant_store.specs.Closings.{CountsClosed};
 ghost use Rattle.plant_store.specs.Groups.{DeviceTraces};
@@ -10,6 +11,7 @@ ghost use Rattle.std.specs.Prelude.{length, vec_len, ◌+◌, ◌<◌, ◌^◌, 
 use crate::copies::checked;
 use crate::phase::EndedPhase;
 use crate::work::Given;
+use branded_disk::{Begun, Branded};
 use collector_pool::Work;
 use disk_model::Store;
 use plant_status::Status;
@@ -18,14 +20,15 @@ use session_report::{Session, report};
 use std::alloc::Global;
 use tag_base::Base;
 
-// Gives back the devices of a session whose last phase has ended, and makes its report.
-pub(crate) fn close<S: Store>(
+// Gives back the devices of a session whose last phase has ended, and makes its report. `K` tells what each device was
+// when the command began.
+pub(crate) fn close<K: Begun, S: Store>(
     alloc: Global,
     store: &mut S,
     base: &Base,
     given: &Given,
     shelf: Shelf,
-    ended: EndedPhase<S::Dev>,
+    ended: EndedPhase<Branded<S::Dev, K>>,
 ) -> (Result<String, Status>, Session)
     requires workers { length given.now.work.collectors.items + length given.now.work.readers.items < 2 ^ 32 }
     requires good { IsGoodBase base.now }
@@ -33,10 +36,10 @@ pub(crate) fn close<S: Store>(
     requires places { HasPlacesOf shelf (S.has_place store.old) }
     requires cells { vec_len ended.cells ≡ length base.now.tags.items }
     requires books { vec_len ended.books ≡ length base.now.groups.items }
-    ensures over { (old : DeviceTraces) → AreRestSame base.now old (S.device_at store.old)
-        → IsOver S.Dev.device base.now old (S.device_at store.new) ended.cells.items ended.books.items
+    ensures over { (old : DeviceTraces) → IsWholePast K.before old → AreRestSame base.now old (S.device_at store.old)
+        → IsOver (branded S.Dev.device K.before) base.now old (S.device_at store.new) ended.cells.items ended.books.items
         result.1 }
-    ensures counts { S.fault_count store.old < 2 ^ 64 → CountsClosed S.Dev.device ended.cells.items ended.books.items
+    ensures counts { S.fault_count store.old < 2 ^ 64 → CountsClosed (branded S.Dev.device K.before) ended.cells.items ended.books.items
         (S.fault_count store.old) (S.fault_count store.new) }
     ensures notes { result.1.workers ≡ ended.notes }
     ensures told { IsReported base.now given.now result.1 ended.answer result.0 }

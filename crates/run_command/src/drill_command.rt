@@ -1,4 +1,5 @@
 // The command `drill`: a generated plant, run as a session of two phases.
+ghost use Rattle.branded_disk.specs.Pasts.{IsWholePast, branded};
 ghost use Rattle.calc_refresh.specs.Lists.{lists_of};
 ghost use Rattle.plant_files.specs.PlanRows.{IsGoodBase};
 ghost use Rattle.plant_store.specs.Groups.{DeviceTraces};
@@ -19,12 +20,14 @@ use crate::drill_plant::{drill_base, drill_files};
 use crate::opening::{OpenSession, open_session};
 use crate::run::Ran;
 use crate::work::{Given, given_of};
+use branded_disk::{Begun, Branded};
 use disk_model::{MemStore, Store};
 use plant_status::{Passes, Status};
 use plant_store::{OpenPlant, Shelf};
 use session_report::Session;
 use snapshot_table::Board;
 use std::alloc::Global;
+use std::marker::Brand;
 use std::sync::Wait;
 use std::thread::Threads;
 use tag_base::Base;
@@ -75,7 +78,7 @@ fn run_drill<P: Passes, R: Threads + Wait + Sync>(
     ensures unstopped { result.session ≡ None → P.stops passes.new ≡ P.stops passes.old }
 {
     let mut store = MemStore::new(Vec::new(alloc));
-    hold_in(
+    hold_in::<Brand, MemStore, P, R>(
         rt,
         alloc,
         &mut store,
@@ -136,8 +139,9 @@ fn phase_of(
     given_of(alloc, base, &[], rows, Vec::new(alloc), earlier, phases)
 }
 
-// Opens the devices of a base in a store, and runs the session of two phases over them.
-pub(crate) fn hold_in<S: Store, P: Passes, R: Threads + Wait + Sync>(
+// Opens the devices of a base in a store, and runs the session of two phases over them. `K` tells what each device is at
+// that moment.
+pub(crate) fn hold_in<K: Begun, S: Store, P: Passes, R: Threads + Wait + Sync>(
     rt: &R,
     alloc: Global,
     store: &mut S,
@@ -146,6 +150,7 @@ pub(crate) fn hold_in<S: Store, P: Passes, R: Threads + Wait + Sync>(
     first: &Given,
     second: &Given,
 ) -> Ran
+    requires begun { IsWholePast K.before (S.device_at store.old) }
     requires good { IsGoodBase base.now }
     requires first { AreGivenFor (length base.now.tags.items) (length base.now.groups.items) first.now }
     requires second { AreGivenFor (length base.now.tags.items) (length base.now.groups.items) second.now }
@@ -154,14 +159,14 @@ pub(crate) fn hold_in<S: Store, P: Passes, R: Threads + Wait + Sync>(
     requires no_readers { first.now.work.readers.items ≡ [] }
     requires no_more_readers { second.now.work.readers.items ≡ [] }
     ensures held { OnOk result.answer (IsSome result.session) }
-    ensures session { IfSome result.session (IsRunInPhases S.Dev.device base.now first.now second.now
+    ensures session { IfSome result.session (IsRunInPhases (branded S.Dev.device K.before) base.now first.now second.now
         (S.device_at store.old) (S.device_at store.new) (S.fault_count store.old) (S.fault_count store.new)
         (P.stops passes.old) (P.stops passes.new) result.answer) }
     ensures unheld { result.session ≡ None → IfErr result.answer (IsDrillUnopened base.now (S.device_at store.old)
         (S.device_at store.new) (S.fault_count store.old) (S.fault_count store.new)) }
     ensures unstopped { result.session ≡ None → P.stops passes.new ≡ P.stops passes.old }
 {
-    match open_session(rt, alloc, store, base, &second.rooms, 0) {
+    match open_session::<K, S, R>(rt, alloc, store, base, &second.rooms, 0) {
         Ok(
             OpenSession {
                 shelf,
@@ -183,7 +188,7 @@ pub(crate) fn hold_in<S: Store, P: Passes, R: Threads + Wait + Sync>(
 }
 
 // Runs the session of a plant that is open, and gives its devices back.
-fn hold_drill<S: Store, P: Passes, R: Threads + Wait + Sync>(
+fn hold_drill<K: Begun, S: Store, P: Passes, R: Threads + Wait + Sync>(
     rt: &R,
     alloc: Global,
     store: &mut S,
@@ -192,7 +197,7 @@ fn hold_drill<S: Store, P: Passes, R: Threads + Wait + Sync>(
     first: &Given,
     second: &Given,
     shelf: Shelf,
-    plant: OpenPlant<S::Dev>,
+    plant: OpenPlant<Branded<S::Dev, K>>,
     board: &Board,
 ) -> (Result<String, Status>, Session)
     requires good { IsGoodBase base.now }
@@ -209,9 +214,9 @@ fn hold_drill<S: Store, P: Passes, R: Threads + Wait + Sync>(
     requires defined { AreDefined base.now.groups.items plant.books.items }
     requires roomy { AreRoomy second.now.rooms.items plant.cells.items }
     requires board { vec_len plant.cells ≤ length board.now }
-    ensures { (old : DeviceTraces) (before : ℕ) → AreUnitsOpen S.Dev.device base.now old plant.cells.items
+    ensures { (old : DeviceTraces) (before : ℕ) → IsWholePast K.before old → AreUnitsOpen (branded S.Dev.device K.before) base.now old plant.cells.items
         plant.books.items → AreRestSame base.now old (S.device_at store.old) → (before < 2 ^ 64 → S.fault_count store.old ≡ before)
-        → IsRunInPhases S.Dev.device base.now first.now second.now old (S.device_at store.new)
+        → IsRunInPhases (branded S.Dev.device K.before) base.now first.now second.now old (S.device_at store.new)
         before (S.fault_count store.new) (P.stops passes.old) (P.stops passes.new) result.0 result.1 }
 {
     let OpenPlant { cells, books } = plant;

@@ -1,4 +1,5 @@
 // The beginning of a session: its board is made, and the devices of its base are opened.
+ghost use Rattle.branded_disk.specs.Pasts.{IsWholePast, branded};
 ghost use Rattle.plant_files.specs.PlanRows.{IsGoodBase};
 ghost use Rattle.plant_store.specs.Openings.{AreRestSame, CountsPlant};
 ghost use Rattle.plant_store.specs.Shelves.{HasPlacesOf, IsShelfFor};
@@ -7,6 +8,7 @@ ghost use Rattle.snapshot_table.specs.Boards.{LooksAt, new_posters};
 ghost use Rattle.std.specs.Arc.{arc_value};
 ghost use Rattle.std.specs.Prelude.{All, IfErr, IfOk, length, map, vec_len, ◌<◌, ◌^◌, ◌≡◌, ◌≤◌};
 
+use branded_disk::{Begun, Branded};
 use disk_model::{Disk, Store};
 use plant_status::Status;
 use plant_store::{OpenPlant, Shelf, open_plant, shelf_for};
@@ -54,20 +56,21 @@ pub(crate) struct OpenSession<D: Disk> {
     pub(crate) plant: OpenPlant<D>,
 }
 
-// Opens the devices of a base for a session with so many readers. Each tag gets room for the takes that `rooms` gives.
-pub(crate) fn open_session<S: Store, R: Wait>(
+// Opens the devices of a base for a session with so many readers. `K` tells what each device is at that moment. Each tag gets room for the takes that `rooms` gives.
+pub(crate) fn open_session<K: Begun, S: Store, R: Wait>(
     rt: &R,
     alloc: Global,
     store: &mut S,
     base: &Base,
     rooms: &[u32],
     readers: u32,
-) -> Result<OpenSession<S::Dev>, Status>
+) -> Result<OpenSession<Branded<S::Dev, K>>, Status>
+    requires begun { IsWholePast K.before (S.device_at store.old) }
     requires good { IsGoodBase base.now }
     requires rooms { length rooms.now ≡ length base.now.tags.items }
 
     // The devices are open, and the result holds what gives them back.
-    ensures opened { IfOk result (λ o. AreUnitsOpen S.Dev.device base.now (S.device_at store.old)
+    ensures opened { IfOk result (λ o. AreUnitsOpen (branded S.Dev.device K.before) base.now (S.device_at store.old)
         o.plant.cells.items o.plant.books.items) }
     ensures defined { IfOk result (λ o. AreDefined base.now.groups.items o.plant.books.items) }
     ensures rooms { IfOk result (λ o. map (λ c. c.room) o.plant.cells.items ≡ rooms.now) }

@@ -1,4 +1,5 @@
 // The command `run`: the plan of one file over the base of another, as a session of one phase.
+ghost use Rattle.branded_disk.specs.Pasts.{IsWholePast, branded};
 ghost use Rattle.calc_refresh.specs.Lists.{lists_of};
 ghost use Rattle.plant_files.specs.Faults.{IsFaultOfPlanned};
 ghost use Rattle.plant_files.specs.PlanRows.{IsGoodBase, IsPlanned};
@@ -20,6 +21,7 @@ use crate::close::close;
 use crate::opening::{OpenSession, open_session};
 use crate::phase::hold_phase;
 use crate::work::{Given, given_of};
+use branded_disk::{Begun, Branded};
 use byte_io::Files;
 use disk_model::Store;
 use plant_files::{SessionFiles, read_session};
@@ -27,6 +29,7 @@ use plant_status::{Passes, Status};
 use plant_store::OpenPlant;
 use session_report::Session;
 use std::alloc::Global;
+use std::marker::Brand;
 use std::sync::Wait;
 use std::thread::Threads;
 use tag_base::Base;
@@ -119,13 +122,13 @@ fn run_read<S: Store, P: Passes, R: Threads + Wait + Sync>(
         queries,
     } = read;
     match given_of(alloc, &base, &plan.refreshers, rows, queries, 0, 0) {
-        Ok(given) => run_given(rt, alloc, store, passes, &base, &given),
+        Ok(given) => run_given::<Brand, S, P, R>(rt, alloc, store, passes, &base, &given),
         Err(_) => Ran::refused(Status::WantOfMemory),
     }
 }
 
-// Opens the devices of a base, and runs the session of this work over them.
-fn run_given<S: Store, P: Passes, R: Threads + Wait + Sync>(
+// Opens the devices of a base, and runs the session of this work over them. `K` tells what each device is at that moment.
+fn run_given<K: Begun, S: Store, P: Passes, R: Threads + Wait + Sync>(
     rt: &R,
     alloc: Global,
     store: &mut S,
@@ -133,11 +136,12 @@ fn run_given<S: Store, P: Passes, R: Threads + Wait + Sync>(
     base: &Base,
     given: &Given,
 ) -> Ran
+    requires begun { IsWholePast K.before (S.device_at store.old) }
     requires good { IsGoodBase base.now }
     requires given { AreGivenFor (length base.now.tags.items) (length base.now.groups.items) given.now }
     requires inputs { lists_of given.now.inputs.items ≡ map (λ d. d.inputs.items) base.now.groups.items }
     ensures held { OnOk result.answer (IsSome result.session) }
-    ensures session { IfSome result.session (IsRun S.Dev.device base.now given.now
+    ensures session { IfSome result.session (IsRun (branded S.Dev.device K.before) base.now given.now
         (S.device_at store.old) (S.device_at store.new) (S.fault_count store.old) (S.fault_count store.new) (P.stops passes.old)
         (P.stops passes.new) result.answer) }
     ensures unheld { result.session ≡ None → IfErr result.answer (IsUnopened base.now (S.device_at store.old)
@@ -148,7 +152,7 @@ fn run_given<S: Store, P: Passes, R: Threads + Wait + Sync>(
     ensures other { result.session ≡ None → IfErr result.answer IsNoReadFault }
 {
     let readers = given.work.readers.len() as u32;
-    match open_session(rt, alloc, store, base, &given.rooms, readers) {
+    match open_session::<K, S, R>(rt, alloc, store, base, &given.rooms, readers) {
         Ok(opened) => {
             let (answer, session) = hold_open(rt, alloc, store, passes, base, given, opened);
             Ran {
@@ -161,14 +165,14 @@ fn run_given<S: Store, P: Passes, R: Threads + Wait + Sync>(
 }
 
 // Runs the session of a plant that is open, and gives its devices back.
-fn hold_open<S: Store, P: Passes, R: Threads + Wait + Sync>(
+fn hold_open<K: Begun, S: Store, P: Passes, R: Threads + Wait + Sync>(
     rt: &R,
     alloc: Global,
     store: &mut S,
     passes: &mut P,
     base: &Base,
     given: &Given,
-    opened: OpenSession<S::Dev>,
+    opened: OpenSession<Branded<S::Dev, K>>,
 ) -> (Result<String, Status>, Session)
     requires good { IsGoodBase base.now }
     requires given { AreGivenFor (length base.now.tags.items) (length base.now.groups.items) given.now }
@@ -182,9 +186,9 @@ fn hold_open<S: Store, P: Passes, R: Threads + Wait + Sync>(
     requires board { vec_len opened.plant.cells ≤ length (arc_value opened.board) }
     requires lookers { vec_len opened.lookers ≡ vec_len given.now.work.readers }
     requires looks { All (LooksAt (arc_value opened.board)) opened.lookers.items }
-    ensures { (old : DeviceTraces) (before : ℕ) → AreUnitsOpen S.Dev.device base.now old
+    ensures { (old : DeviceTraces) (before : ℕ) → IsWholePast K.before old → AreUnitsOpen (branded S.Dev.device K.before) base.now old
         opened.plant.cells.items opened.plant.books.items → AreRestSame base.now old (S.device_at store.old) → (before < 2 ^ 64 → S.fault_count store.old ≡ before)
-        → IsRun S.Dev.device base.now given.now old (S.device_at store.new)
+        → IsRun (branded S.Dev.device K.before) base.now given.now old (S.device_at store.new)
         before (S.fault_count store.new) (P.stops passes.old) (P.stops passes.new) result.0 result.1 }
 {
     let OpenSession {

@@ -14,6 +14,7 @@ ghost use Rattle.store_commands.specs.FrameRows.{AreFrameRows, IsFrameRowsRefusa
 
 use crate::frame_names::CalcPlace;
 use crate::groups::{records_of, refresh_once, refusal_of};
+use branded_disk::Untold;
 use calc_refresh::CalcValue;
 use disk_model::Store;
 use group_book::{GroupHistory, GroupOpening};
@@ -64,7 +65,7 @@ pub(crate) fn rows_of<S: Store>(
         return Err(Status::WantOfMemory);
     };
     let at = place.group as u32;
-    let mut book = match open_book(alloc, store, at, group, name, &records) {
+    let mut book = match open_book::<Untold, S>(alloc, store, at, group, name, &records) {
         Ok(book) => book,
         Err(why) => return Err(book_status(at, why)),
     };

@@ -10,6 +10,7 @@ ghost use Rattle.store_commands.specs.Replies.{rows_in};
 ghost use Rattle.store_commands.specs.GroupRows.{AllGainSync, AreGroupsTold, IsGroupRowsRefusal, tag_records};
 ghost use Rattle.store_commands.specs.Refreshing.{AreCutBooks, AreRefreshedOnce, HaveDevicesOf, IsCutBook, IsOverIn, IsOverSome, IsRefreshedOnce, book_cells, refresh_status};
 
+use branded_disk::Untold;
 use disk_model::{Disk, Store};
 use group_book::{Book, GroupHistory, RefreshNo};
 use plant_status::{Status, What};
@@ -50,7 +51,7 @@ pub(crate) fn histories_of<S: Store>(
     let Ok(mut histories) = Vec::with_capacity(alloc, groups.len()) else {
         return Err(Status::WantOfMemory);
     };
-    let mut books = open_books(alloc, store, groups, &names, &records)?;
+    let mut books = open_books::<Untold, S>(alloc, store, groups, &names, &records)?;
     let refreshed = refresh_all(&mut books, &records);
     close_books(store, &names, books, &mut histories);
     refreshed.and(Ok(histories))

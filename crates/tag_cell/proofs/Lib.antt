@@ -6,3 +6,4 @@ pub mod Commits
 pub mod Pulls
 pub mod Takes
 pub mod Openings
+pub mod Begun

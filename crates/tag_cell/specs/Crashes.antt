@@ -1,10 +1,13 @@
 -- What a crash leaves of a cell's device.
-use Rattle.std.specs.Prelude.{◌≡◌, ℕ, ◌+◌, ◌-◌, ◌^◌, ◌<◌, ◌≤◌, Bool, List, length, take, map, min, nat_eq, if◌then◌else◌}
+use Rattle.std.specs.Prelude.{◌≡◌, IfSome, ℕ, ◌+◌, ◌-◌, ◌^◌, ◌<◌, ◌≤◌, Bool, List, length, take, map, min, nat_eq, if◌then◌else◌}
 use Rattle.trend_num.specs.declared.point.Point.{Point}
 use Rattle.trend_num.specs.declared.tag_def.TagDef.{TagDef}
 use Rattle.trend_model.specs.History.{Raw}
 use Rattle.trend_model.specs.State.{State, replay}
+use Rattle.disk_model.specs.Traces.{HandOut, Trace, moment}
+use Rattle.disk_model.specs.Moments.{ComesAfter}
 use Rattle.device_layout.specs.Recovery.{AllFit, Recovers}
+use Rattle.crash_recovery.specs.Opening.{RecoversThen, StaysSame}
 use Rattle.archive_file.specs.declared.failure.PutNo.{PutNo}
 use Rattle.archive_file.specs.declared.failure.PutNo.TheVariants as put
 use Rattle.tag_cell.specs.declared.entry.CommitNo.{CommitNo}
@@ -45,3 +48,16 @@ count_written free waiting = if nat_eq free 0 then waiting else min 64 waiting
 abbrev pub refusal_of : PutNo → CommitNo
 refusal_of put.DeviceFault = commit.DeviceFault
 refusal_of put.WantOfMemory = commit.WantOfMemory
+
+-- From one device on, the opening made another of it, and more calls made it what it is now. Until the opening ended, a
+-- crash left what it might have left before, or what recovers the same. The opening is what the device then recovers.
+pub record IsOpenedWell (def : TagDef) (o : TagOpening) (before now : Trace) : Type 0 where
+  pub ended : Trace
+  pub same : StaysSame def before ended
+  pub recovers : RecoversThen def before ended (opened o)
+  pub at : moment ended ≡ o.moment
+  pub later : ComesAfter ended now
+
+-- the same from what the device was when it was handed out, if that is recorded
+abbrev pub BeganWell : TagDef → TagOpening → HandOut → Trace → Type 0
+BeganWell def o handed now = IfSome handed.trace (λ before. IsOpenedWell def o before now)

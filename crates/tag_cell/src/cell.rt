@@ -1,6 +1,7 @@
 // A cell: a tag with all that lies under its lock.
 ghost use Rattle.std.specs.Prelude.{◌≡◌, IsTrue, true, false, length};
 ghost use Rattle.disk_model.specs.Traces.{FitsName};
+ghost use Rattle.tag_cell.specs.Crashes.{BeganWell};
 ghost use Rattle.tag_cell.specs.Devices.{device_name};
 ghost use Rattle.tag_cell.specs.Told.{IsCellHistory};
 
@@ -42,7 +43,7 @@ impl<D: Disk> Model for Cell<D> {
     ghost use Rattle.disk_model.specs.Moments.{LeftSince};
     ghost use Rattle.disk_model.specs.Traces.{FitsName};
     ghost use Rattle.tag_cell.specs.Replays.{IsTapeReplayed};
-    ghost use Rattle.tag_cell.specs.Crashes.{IsSafe};
+    ghost use Rattle.tag_cell.specs.Crashes.{BeganWell, IsSafe};
     ghost use Rattle.tag_cell.specs.Devices.{device_name};
     ghost use Rattle.tag_cell.specs.Told.{ToldCell, IsInStep, HasRoomForTakes, Waits, IsKept, IsPosted};
 
@@ -65,7 +66,8 @@ impl<D: Disk> Model for Cell<D> {
         (D.device c.journal.dev)
         × IsSafe c.def c.opening c.tape.items (LeftSince (D.device c.journal.dev).trace)
         × IsPosted (arc_value c.board) c.poster c.core.state
-        × FitsName (device_name c.def.name) (D.device c.journal.dev).handed };
+        × FitsName (device_name c.def.name) (D.device c.journal.dev).handed
+        × BeganWell c.def c.opening (D.device c.journal.dev).handed (D.device c.journal.dev).trace };
 }
 
 impl<D: Disk> Cell<D> {
@@ -142,6 +144,10 @@ impl<D: Disk> Cell<D> {
         ensures rose { self.journal.failed ≡ true → Rose self.opening.faults (D.device result.0).faults }
         ensures faultless { self.journal.failed ≡ false → (D.device result.0).faults ≡ self.opening.faults }
         ensures named { FitsName (device_name self.def.name) (D.device result.0).handed }
+
+        // From what the device was when it was handed out, if that is recorded, until the opening ended, a crash left
+        // only what it might have left before, or what recovers the same.
+        ensures begun { BeganWell self.def self.opening (D.device result.0).handed (D.device result.0).trace }
     {
         let Cell {
             def,

@@ -1,5 +1,5 @@
 // The opening of a cell.
-ghost use Rattle.std.specs.Prelude.{◌≡◌, ◌*◌, ◌<◌, ◌≤◌, [], IfOk, IfErr, false};
+ghost use Rattle.std.specs.Prelude.{◌≡◌, ◌*◌, ◌<◌, ◌≤◌, [], IfOk, IfErr, IfSome, false};
 ghost use Rattle.std.specs.Arc.{arc_value};
 ghost use Rattle.trend_num.specs.Ranges.{TuningInRange};
 ghost use Rattle.trend_model.specs.State.{State};
@@ -27,7 +27,8 @@ use tag_core::TagCore;
 use trend_num::{Snap, TagDef, WantOfMemory};
 
 /// Opens the device of a tag, with room for `room` takes, and posts what the tag shows at first. The poster has to be
-/// one of this board that has posted nothing. What the device is opened as, and why it is refused, follows `open_tag`.
+/// one of this board that has posted nothing. If it is recorded what the device was when a store handed it out, then no
+/// call has used it since. What the device is opened as, and why it is refused, follows `open_tag`.
 pub fn open_cell<D: Disk, R: Wait>(
     rt: &R,
     alloc: Global,
@@ -44,6 +45,7 @@ pub fn open_cell<D: Disk, R: Wait>(
     requires here { PostsTo (arc_value board) poster }
     requires unposted { poster.last ≡ nothing }
     requires named { FitsName (device_name def.now.name) (D.device dev).handed }
+    requires unused { IfSome (D.device dev).handed.trace (λ t. (D.device dev).trace ≡ t) }
     ensures any_moment { IfOk result (λ c. StaysSame def.now (D.device dev).trace (D.device c.journal.dev).trace) }
     ensures any_moment_refused { IfErr result (λ e. StaysSame def.now (D.device dev).trace (D.device e.dev).trace) }
     ensures opened { IfOk result (λ c. Shows (D.device dev).trace (λ seen. (s : State) × Recovers def.now seen s

@@ -3,19 +3,22 @@ use Rattle.std.proofs.lemmas.List.{length-map}
 use Rattle.disk_model.specs.Calls.{Shows}
 use Rattle.disk_model.specs.Moments.{During, LeftSince}
 use Rattle.disk_model.specs.Traces.{FitsName, moment}
+use Rattle.trend_num.specs.declared.value.CalcValue.{CalcValue}
 use Rattle.calc_check.specs.Group.{calculation}
 use Rattle.calc_refresh.specs.declared.definition.GroupDefParts.{GroupDefParts}
 use Rattle.calc_refresh.specs.Lists.{lists_of}
 use Rattle.calc_refresh.specs.Sheet.{SheetState, grid_of}
+use Rattle.group_layout.specs.Images.{StandsFor}
 use Rattle.group_layout.specs.Readings.{IsLeftOrSame, IsReadOf}
 use Rattle.group_book.specs.declared.history.GroupOpening.{GroupOpening}
 use Rattle.group_book.specs.declared.turn.Turn.{Turn}
 use Rattle.group_book.specs.Crashes.{IsBookSafe}
 use Rattle.group_book.specs.Histories.{AreRowsEvaluated, IsBookLegal}
-use Rattle.group_book.specs.Openings.{BookStaysSame, IsBookCause}
-use Rattle.group_book.specs.Told.{AreFlagged, IsAtHome, IsDefined, IsKept, Saved, device_name_of}
+use Rattle.group_book.specs.Openings.{BookStaysSame, IsBookCause, StandsForGroup}
+use Rattle.group_book.specs.Told.{AreFlagged, IsDefined, IsKept, IsWellHeld, Saved, device_name_of}
 use Rattle.sheet_law.specs.declared.grid.Grid.{Grid}
 use Rattle.sheet_law.specs.Windows.{complete_windows}
+use Rattle.group_book.proofs.Begun.{began_well}
 use Rattle.group_book.proofs.Evaluations.{evaluated_first}
 use Rattle.group_book.proofs.Flags.{flagged_saved}
 use Rattle.group_book.proofs.Loaded.{loaded_holds, loaded_ready, opened_kept, opened_legal, opened_safe, scan_cause}
@@ -80,6 +83,14 @@ invariant_of-result g c =
     (subst (λ (w : Grid). All (λ row. length row ≡ complete_windows w s.copies) s.rows) (ap (λ (x : SheetState). x.grid) is.sheet)
     is.whole.windows)
     (ap (λ (x : SheetState). x.evals) is.sheet) in
+    let stood : Shows (D.device c.args.dev).trace (StandsForGroup c.args.text.now def o.versions.items (lists_of o.rows.items)) =
+    subst (λ (l : List ℕ). Shows (D.device c.args.dev).trace (StandsForGroup c.args.text.now def l (lists_of o.rows.items))) (sym is.opening_versions)
+    (subst (λ (l : List (List CalcValue)). Shows (D.device c.args.dev).trace (StandsForGroup c.args.text.now def g'.versions.items l)) (sym is.opening_rows)
+    (subst (λ (n : ℕ). Shows (D.device c.args.dev).trace (λ x. StandsFor c.args.text.now def.inputs n x g'.versions.items (lists_of g'.rows.items)))
+    calcs c.in-Ok.ensures.stood)) in
+    let began = began_well D.device c.args.text.now def o c.args.dev dev c.requires.unused c.open_group.ensures.handed stood
+    (subst (λ (n : ℕ). During (D.device c.args.dev).trace (D.device dev).trace (IsLeftOrSame c.args.text.now def.inputs n (D.device c.args.dev).trace))
+    calcs c.open_group.ensures.any_moment) c.clock.ensures in
     let left = LeftSince (D.device dev).trace in
     let tape : [] ≡ c.new.result.items = sym c.new.ensures.items in
     let defined : IsDefined def c.args.tags.items s = record {
@@ -94,21 +105,21 @@ invariant_of-result g c =
     × IsBookLegal d.calcs (grid_of d.start d.period) o c.new.result.items vs s.copies s.rows
     × IsKept r.text.items d o c.new.result.items s.copies saved false (Some (D.device dev).trace) (moment (D.device dev).trace) (D.device dev).faults
     × IsBookSafe r.text.items d.calcs (grid_of d.start d.period) o s.copies c.new.result.items left
-    × IsAtHome D.device r.text.items (Some dev)
+    × IsWellHeld D.device r.text.items d o (Some dev)
     × AreRowsEvaluated d.calcs (grid_of d.start d.period) o c.new.result.items s.copies s.rows s.evals
     × AreFlagged r.unsaved.items saved.rows s) (sym is.def)
     (subst (λ (l : List Turn). IsDefined def c.args.tags.items s
     × IsBookLegal def.calcs (grid_of def.start def.period) o l vs s.copies s.rows
     × IsKept r.text.items def o l s.copies saved false (Some (D.device dev).trace) (moment (D.device dev).trace) (D.device dev).faults
     × IsBookSafe r.text.items def.calcs (grid_of def.start def.period) o s.copies l left
-    × IsAtHome D.device r.text.items (Some dev)
+    × IsWellHeld D.device r.text.items def o (Some dev)
     × AreRowsEvaluated def.calcs (grid_of def.start def.period) o l s.copies s.rows s.evals
     × AreFlagged r.unsaved.items saved.rows s) tape
     (subst (λ (t : List ℕ). IsDefined def c.args.tags.items s
     × IsBookLegal def.calcs (grid_of def.start def.period) o [] vs s.copies s.rows
     × IsKept t def o [] s.copies saved false (Some (D.device dev).trace) (moment (D.device dev).trace) (D.device dev).faults
     × IsBookSafe t def.calcs (grid_of def.start def.period) o s.copies [] left
-    × IsAtHome D.device t (Some dev)
+    × IsWellHeld D.device t def o (Some dev)
     × AreRowsEvaluated def.calcs (grid_of def.start def.period) o [] s.copies s.rows s.evals
     × AreFlagged r.unsaved.items saved.rows s) (sym is.text) (
       defined,
@@ -117,7 +128,7 @@ invariant_of-result g c =
           holds (moment (D.device dev).trace) (D.device dev).faults c.clock.ensures inputs (sym c.faults.ensures),
       opened_safe c.args.text.now def o s.copies s.rows vs saved copied opened opened_rows saved_versions saved_rows first.rows_are (D.device dev).trace ready
           holds (moment (D.device dev).trace) (D.device dev).faults c.clock.ensures c.requires.group.named refl,
-      (λ some. refl, subst (FitsName (device_name_of c.args.text.now)) (sym c.open_group.ensures.handed) c.requires.named),
+      ((λ some. refl, subst (FitsName (device_name_of c.args.text.now)) (sym c.open_group.ensures.handed) c.requires.named), began),
       first,
       flagged_saved r.unsaved.items saved.rows s is.flags saved_rows is.whole,
     )))

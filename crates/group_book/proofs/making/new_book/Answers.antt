@@ -45,7 +45,7 @@ invariant_of-result g c =
       subst (λ tape. IsBookSafe c.new.result.items made.calcs (grid_of made.start made.period) o s.copies tape (LeftOf None)) empty
           (fresh_safe def made c.in_ok-def.ensures o s c.in_ok-versions.versions.items saved c.in_ok-sheet.ensures.empty
           c.in_ok-sheet.ensures.scratch versions c.in_ok-zeros.ensures rows saved_versions saved_rows c.new.result.items),
-      (λ some. absurd (some c.new.ensures.items), tt),
+      ((λ some. absurd (some c.new.ensures.items), tt), tt),
       subst (λ tape. AreRowsEvaluated made.calcs (grid_of made.start made.period) o tape s.copies s.rows s.evals) empty
           (fresh_evaluated def made c.in_ok-def.ensures o s c.in_ok-versions.versions.items saved c.in_ok-sheet.ensures.empty
           c.in_ok-sheet.ensures.scratch versions c.in_ok-zeros.ensures rows saved_versions saved_rows c.in_ok-sheet.ensures.whole),

@@ -28,3 +28,8 @@ returns-in-Ok-clause-ended g c = record {
   as_known = c.settle-answer.ensures.known;
   refused = rw (← c.deref.ensures.value) c.settle-answer.ensures.refused;
 }
+
+pub returns-in-Ok-clause-since : goal.returns-in-Ok-clause-since
+returns-in-Ok-clause-since g c =
+    let log = c.into_history-dev.ensures in
+    rw (log.plant, log.tags, log.opening, log.moment) log.begun

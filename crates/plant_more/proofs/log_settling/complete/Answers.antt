@@ -27,7 +27,7 @@ returns-clause-same g c = same_log_on _ _ _ c.put_missing.ensures.same c.commit_
 pub returns-clause-refused : goal.returns-clause-refused
 returns-clause-refused g c =
     let good = c.in_ok-check_endings.ensures in
-    commit_refused g.D.Disk.device (row_lists_of c.args.files.now) c.args.notes.now c.commit_rest.new.log c.commit_rest.result
+    commit_refused (g.D.Disk.device c.commit_rest.new.log.dev).faults (row_lists_of c.args.files.now) c.args.notes.now c.commit_rest.new.log c.commit_rest.result
     (record { none_halted = good.none_halted; all_found = good.all_found }) c.commit_rest.ensures.refused
 
 pub returns-in_err-check_endings-clause-begun : goal.returns-in_err-check_endings-clause-begun

@@ -3,6 +3,7 @@ use Rattle.std.specs.Prelude.{IfErr, IfSome}
 use Rattle.std.specs.declared.alloc.Global.{Global}
 use Rattle.plant_status.specs.declared.status.Status.{Status}
 use Rattle.value_rows.specs.declared.raw.RawRow.{RawRow}
+use Rattle.branded_disk.proofs.Pasts.{unused}
 use Rattle.plant_more.specs.LogNotes.{row_lists_of}
 use Rattle.plant_more.specs.LogHeadline.{IsRun, IsUnopened}
 use Rattle.plant_more.specs.LogMaking.{total_rows}
@@ -74,7 +75,10 @@ returns-in-Ok-known_of-clause-run g c =
     old (g.S.Store.device_at c.log_open.new.store) n (g.S.Store.fault_count c.log_open.new.store)
     (g.P.Passes.stops c.args.passes.now) (g.P.Passes.stops c.log_open.new.passes) c.log_open.result.answer))
     c.in-Ok-take_log.ensures.faultless
-    (c.log_open.ensures.run old c.in-Ok-take_log.ensures.others
+    (c.log_open.ensures.run old c.in-Ok-take_log.ensures.others (c.requires.begun log_name)
     (opened_for device _ _ _ _ _ _ (old log_name) c.in-Ok-take_log.log
     (c.deref-2.ensures.value ∙ c.in-Ok.ensures.text) c.in-Ok.ensures.tags
     (c.in-Ok.ensures.room ∙ (ap total c.deref.ensures.value ∙ sym (ap total c.deref-in-Ok-known_of.ensures.value))) c.in-Ok-take_log.ensures.opened)))
+
+pub take_log-requires-clause-unused : goal.take_log-requires-clause-unused
+take_log-requires-clause-unused g c κs within = unused g.K.Begun.before (g.S.Store.device_at c.args.store.now) c.requires.begun log_name

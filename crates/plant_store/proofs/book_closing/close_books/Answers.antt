@@ -2,6 +2,7 @@ use Rattle.std.proofs.Common.{◌≡◌, ◌∙◌, ◌≤◌, ◌∷◌, [], ap
 use Rattle.std.specs.Vec.Iter.{into_iter_items, into_iter_len}
 use Rattle.std.proofs.lemmas.Grind.{common_steps}
 use Rattle.group_book.specs.declared.history.GroupHistory.{GroupHistory}
+use Rattle.branded_disk.specs.Pasts.{branded}
 use Rattle.plant_store.specs.CellClosings.{HasRisen}
 use Rattle.plant_store.specs.BookEndings.{counts_after}
 use Rattle.plant_store.proofs.BookLoops.{begun, has_place, one_more}
@@ -38,7 +39,7 @@ loop-book-preserved g c =
           c.close_book-history.ensures.given c.close_book-history.ensures.others c.close_book-history.ensures.places
           c.close_book-history.ensures.counted;
       room = omega (arith, before.room, c.in-Some.ensures.len, c.push_reserved.ensures.capacity, c.push_reserved.ensures.len);
-      told = one_told D.device c.args.books.items _ c.loop-book.histories.items _ c.loop-book.place c.in-Some.book
+      told = one_told (branded D.device g.K.Begun.before) c.args.books.items _ c.loop-book.histories.items _ c.loop-book.place c.in-Some.book
           history before.told before.as_many (before.going.rest ∙ c.in-Some.ensures.items) c.close_book-history.ensures.history
           c.push_reserved.ensures.items;
       as_many = omega (
@@ -61,8 +62,8 @@ returns-clause-given g c = λ i b s below.
 
 -- the faults of all devices are added
 added : (g : _) (c : After-destroy_empty g) → g.S.Store.fault_count c.loop-book.store
-    ≡ counts_after g.S.Dev.Disk.device c.args.books.items (g.S.Store.fault_count c.args.store.now)
-added g c = counted_all g.S.Dev.Disk.device c.args.books.items (into_iter_items c.loop-book.rest)
+    ≡ counts_after (branded g.S.Dev.Disk.device g.K.Begun.before) c.args.books.items (g.S.Store.fault_count c.args.store.now)
+added g c = counted_all (branded g.S.Dev.Disk.device g.K.Begun.before) c.args.books.items (into_iter_items c.loop-book.rest)
     (g.S.Store.fault_count c.args.store.now) (g.S.Store.fault_count c.loop-book.store) _ c.in_default.ensures.variant
     c.loop-book.invariant.going.count c.loop-book.invariant.going.counted
 
@@ -70,18 +71,18 @@ pub returns-clause-later : goal.returns-clause-later
 returns-clause-later g c = λ small.
     let first = g.S.Store.fault_count c.args.store.now in
     subst (λ n. first ≤ n) (sym (added g (goal.at.returns-clause-later g c).After-destroy_empty))
-    (counts_later g.S.Dev.Disk.device c.args.books.items first small)
+    (counts_later (branded g.S.Dev.Disk.device g.K.Begun.before) c.args.books.items first small)
 
 pub returns-clause-rose : goal.returns-clause-rose
 returns-clause-rose g c = λ small i b below some.
     let first = g.S.Store.fault_count c.args.store.now in
     subst (HasRisen first) (sym (added g (goal.at.returns-clause-rose g c).After-destroy_empty))
-    (counts_rose g.S.Dev.Disk.device c.args.books.items first i b small below some)
+    (counts_rose (branded g.S.Dev.Disk.device g.K.Begun.before) c.args.books.items first i b small below some)
 
 pub returns-clause-faultless : goal.returns-clause-faultless
 returns-clause-faultless g c = λ small none.
     added g (goal.at.returns-clause-faultless g c).After-destroy_empty
-    ∙ counts_none g.S.Dev.Disk.device c.args.books.items (g.S.Store.fault_count c.args.store.now) small none
+    ∙ counts_none (branded g.S.Dev.Disk.device g.K.Begun.before) c.args.books.items (g.S.Store.fault_count c.args.store.now) small none
 
 pub returns-clause-others : goal.returns-clause-others
 returns-clause-others g c = λ n other. c.loop-book.invariant.going.back.others n

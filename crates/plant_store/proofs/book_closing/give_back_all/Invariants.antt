@@ -1,10 +1,11 @@
 use Rattle.std.specs.Vec.Iter.{into_iter_items, into_iter_len}
+use Rattle.branded_disk.specs.Pasts.{branded}
 use Rattle.plant_store.proofs.BookLoops.{AreGoingBack}
 use Rattle.plant_store.proofs.book_closing.give_back_all.Given as goal
 
 abbrev pub invariant-loop-book : goal.invariant-loop-book
 invariant-loop-book g l = record {
-  going : AreGoingBack g.S.Dev.Disk.device l.names l.fn.books.items (into_iter_items l.rest) l.place
+  going : AreGoingBack (branded g.S.Dev.Disk.device g.K.Begun.before) l.names l.fn.books.items (into_iter_items l.rest) l.place
       (into_iter_len l.rest) (g.S.Store.device_at l.fn.store) (g.S.Store.device_at l.store) (g.S.Store.has_place l.fn.store)
       (g.S.Store.has_place l.store) (g.S.Store.fault_count l.fn.store) (g.S.Store.fault_count l.store);
 }

@@ -2,9 +2,10 @@ use Rattle.std.proofs.Common.{◌∙◌, ◌^◌, ◌<◌, ◌∷◌, [], ap, ar
 use Rattle.std.proofs.lemmas.Result.{err_from_is_err_and}
 use Rattle.group_book.specs.declared.refusal.LoadNo.TheVariants.{DeviceFault}
 use Rattle.group_book.specs.Told.{ToldBook}
+use Rattle.branded_disk.specs.Pasts.{branded}
 use Rattle.plant_store.proofs.Counts.{counted_since}
 use Rattle.plant_store.proofs.BookNames.{as_many, one_place}
-use Rattle.plant_store.proofs.BookTurns.{IsSoFar, at_place, cause_at, next_at, others_at, others_same, rest_at}
+use Rattle.plant_store.proofs.BookTurns.{IsSoFar, at_place, cause_at, group_unused, next_at, others_at, others_same, rest_at}
 use Rattle.plant_store.proofs.book_opening.open_all.Goals as goal
 
 pub loop-place-preserved : goal.loop-place-preserved
@@ -16,12 +17,12 @@ loop-place-preserved g c =
     let i = c.loop-place.place in
     let at = at_place groups names i c.index-groups-place.result c.index-names-place.result c.as_str-name.result.now c.requires.names
     c.loop-place-test.true c.index-groups-place.is c.index-names-place.is c.as_str-name.ensures.value in
-    let next = next_at D.device groups names (map (λ r. r.now) c.args.records.now)
+    let next = next_at (branded D.device g.K.Begun.before) groups names (map (λ r. r.now) c.args.records.now)
     (g.S.Store.device_at c.args.store.now) (g.S.Store.device_at c.loop-place.store) (g.S.Store.device_at c.open_book.new.store)
     c.loop-place.books.items i c.index-groups-place.result c.as_str-name.result.now c.index-names-place.result c.in_ok-book.book
     before.so_far c.requires.names c.requires.distinct before.count at c.in_ok-book.ensures.opened c.open_book.ensures.others in
     record {
-      so_far = subst (λ l. IsSoFar D.device groups names (map (λ r. r.now) c.args.records.now)
+      so_far = subst (λ l. IsSoFar (branded D.device g.K.Begun.before) groups names (map (λ r. r.now) c.args.records.now)
           (g.S.Store.device_at c.args.store.now) (g.S.Store.device_at c.open_book.new.store) l) (sym c.push_reserved.ensures.items) next;
       count = omega (
         arith,
@@ -44,6 +45,16 @@ open_book-requires-clause-named g c κs within =
     (at_place c.args.groups.now c.args.names.now c.loop-place.place c.index-groups-place.result c.index-names-place.result
     c.as_str-name.result.now c.requires.names c.loop-place-test.true c.index-groups-place.is c.index-names-place.is
     c.as_str-name.ensures.value).named
+
+pub open_book-requires-clause-unused : goal.open_book-requires-clause-unused
+open_book-requires-clause-unused g c κs within =
+    let before = c.loop-place.invariant in
+    group_unused g.K.Begun.before c.args.groups.now c.args.names.now (length c.loop-place.books.items) c.loop-place.place
+    c.index-groups-place.result c.as_str-name.result.now (g.S.Store.device_at c.args.store.now) (g.S.Store.device_at c.loop-place.store)
+    c.requires.names c.requires.distinct before.count
+    (at_place c.args.groups.now c.args.names.now c.loop-place.place c.index-groups-place.result c.index-names-place.result
+    c.as_str-name.result.now c.requires.names c.loop-place-test.true c.index-groups-place.is c.index-names-place.is
+    c.as_str-name.ensures.value) before.so_far.others c.requires.unused
 
 pub returns-in_err-book-clause-rest : goal.returns-in_err-book-clause-rest
 returns-in_err-book-clause-rest g c =

@@ -1,6 +1,7 @@
 use Rattle.std.proofs.Common.{◌≡◌, ◌∙◌, Err, ap, arith, get_or, length, map, subst, sym}
 use Rattle.disk_model.specs.Calls.{CountsFault, Rose}
 use Rattle.group_book.specs.declared.refusal.LoadNo.TheVariants.{DeviceFault}
+use Rattle.branded_disk.specs.Pasts.{branded}
 use Rattle.plant_store.specs.BookRefusals.{CountsStore, IsRefusal, status_of}
 use Rattle.plant_store.specs.BookSteps.{AreOtherNamesSame}
 use Rattle.plant_store.proofs.BookCauses.{all_faultless, all_same, counted, fails, told_all}
@@ -32,11 +33,11 @@ returns-in-Err-clause-refused g c =
     let status : c.book_status.result ≡ status_of (length books) why = c.book_status.ensures
     ∙ ap (λ n. status_of n why) (c.len-group.ensures ∙ c.open_all.new.books.ok.0) in
     subst (IsRefusal c.args.groups.now records old before (g.S.Store.fault_count c.give_back_all.new.store)) (sym status)
-    (told_all D.device c.args.groups.now records old books before _ why c.open_all.ensures.opened some
+    (told_all (branded D.device g.K.Begun.before) c.args.groups.now records old books before _ why c.open_all.ensures.opened some
     c.in-Err.ensures.cause (λ small is.
     let counts = c.in-Err.ensures.counts small in
     let same = c.give_back_all.ensures.counted
-    ∙ all_faultless D.device c.args.groups.now records old books _ (omega (arith, some)) c.open_all.ensures.opened
+    ∙ all_faultless (branded D.device g.K.Begun.before) c.args.groups.now records old books _ (omega (arith, some)) c.open_all.ensures.opened
     (stays_small why DeviceFault before _ small counts) in
     subst (Rose before) (sym same) (fails why before _ counts is)))
 
@@ -44,7 +45,7 @@ pub returns-in-Err-clause-any_moment : goal.returns-in-Err-clause-any_moment
 returns-in-Err-clause-any_moment g c =
     let D = g.S.Dev.Disk in
     let books = c.open_all.new.books.items in
-    all_same D.device c.args.groups.now c.args.names.now (map (λ r. r.now) c.args.records.now)
+    all_same (branded D.device g.K.Begun.before) c.args.groups.now c.args.names.now (map (λ r. r.now) c.args.records.now)
     (g.S.Store.device_at c.args.store.now) (g.S.Store.device_at c.open_all.new.store) (g.S.Store.device_at c.give_back_all.new.store) books
     c.requires.names c.requires.distinct (omega (arith, c.in-Err.ensures.some)) c.open_all.ensures.opened c.open_all.ensures.rest
     c.give_back_all.ensures.given
@@ -68,7 +69,7 @@ returns-in-Err-clause-counts g c = λ small.
     let before = g.S.Store.fault_count c.args.store.now in
     let counts = c.in-Err.ensures.counts small in
     let same = c.give_back_all.ensures.counted
-    ∙ all_faultless D.device c.args.groups.now records old books _ (omega (arith, c.in-Err.ensures.some))
+    ∙ all_faultless (branded D.device g.K.Begun.before) c.args.groups.now records old books _ (omega (arith, c.in-Err.ensures.some))
     c.open_all.ensures.opened (stays_small why DeviceFault before _ small counts) in
     let status : c.book_status.result ≡ status_of (length books) why = c.book_status.ensures
     ∙ ap (λ n. status_of n why) (c.len-group.ensures ∙ c.open_all.new.books.ok.0) in

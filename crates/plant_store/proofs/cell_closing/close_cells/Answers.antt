@@ -3,6 +3,7 @@ use Rattle.std.specs.Vec.Iter.{into_iter_items, into_iter_len}
 use Rattle.std.proofs.lemmas.List.{length-map}
 use Rattle.std.proofs.lemmas.List.Elements.{All-get_or}
 use Rattle.std.proofs.lemmas.Grind.{common_steps}
+use Rattle.branded_disk.specs.Pasts.{branded}
 use Rattle.plant_store.specs.CellClosings.{AreGivenBack, AreHistoriesAt}
 use Rattle.plant_store.specs.CellNames.{texts}
 use Rattle.plant_store.proofs.CellBacks.{all_closed, begun, one_closed}
@@ -12,7 +13,7 @@ use Rattle.plant_store.proofs.cell_closing.close_cells.Goals.{After-destroy_empt
 
 pub loop-cell-init : goal.loop-cell-init
 loop-cell-init g c = record {
-  closed = begun g.S.Dev.Disk.device (texts c.args.names.now) c.args.cells.items
+  closed = begun (branded g.S.Dev.Disk.device g.K.Begun.before) (texts c.args.names.now) c.args.cells.items
       (into_iter_items c.into_iter-rest.result) c.args.histories.now.items (g.S.Store.device_at c.args.store.now)
       (g.S.Store.fault_count c.args.store.now) c.into_iter-rest.ensures.rest c.requires.none;
   count = omega (arith, c.into_iter-rest.ensures.len, ap length c.requires.none, c.args.cells.ok.0);
@@ -48,7 +49,7 @@ loop-cell-preserved g c =
     ∙ ap (λ k. get_or (texts names) k (string_bytes c.index-names-len.result)) place) in
     let at : c.as_str.result.now ≡ get_or (texts names) (length histories.items) c.as_str.result.now =
     named ∙ ap (λ d. get_or (texts names) (length histories.items) d) (sym c.as_str.ensures.value) in
-    let more = one_closed g.S.Dev.Disk.device (texts names) c.args.cells.items
+    let more = one_closed (branded g.S.Dev.Disk.device g.K.Begun.before) (texts names) c.args.cells.items
     (into_iter_items c.loop-cell.rest) (into_iter_items c.next.new.self) histories.items (g.S.Store.device_at c.args.store.now)
     (g.S.Store.device_at c.loop-cell.store) (g.S.Store.device_at c.close_cell-history.new.store)
     (g.S.Store.fault_count c.args.store.now) (g.S.Store.fault_count c.loop-cell.store)
@@ -71,12 +72,12 @@ loop-cell-preserved g c =
 
 -- all cells are closed
 closed : (g : _) (c : After-destroy_empty g) → let now = g.S.Store.device_at c.loop-cell.store in
-    AreGivenBack g.S.Dev.Disk.device (texts c.args.names.now) c.args.cells.items (g.S.Store.device_at c.args.store.now) now
-    × AreHistoriesAt now (texts c.args.names.now) c.loop-cell.histories.items
+    AreGivenBack (branded g.S.Dev.Disk.device g.K.Begun.before) (texts c.args.names.now) c.args.cells.items (g.S.Store.device_at c.args.store.now) now
+    × AreHistoriesAt g.K.Begun.before now (texts c.args.names.now) c.loop-cell.histories.items
 closed g c =
     let none : into_iter_len c.loop-cell.rest ≡ 0 = grind (arith, common_steps) in
     all_closed _ _ _ _ _ _ _ _ _ c.loop-cell.invariant.closed (omega (arith, c.loop-cell.invariant.count, none))
-    (omega (arith, length-map c.args.names.now string_bytes, c.requires.as_many, c.args.cells.ok.0))
+    (omega (arith, length-map c.args.names.now string_bytes, c.requires.as_many, c.args.cells.ok.0)) g.K.Begun.before (λ d. refl)
 
 pub returns-clause-given_back : goal.returns-clause-given_back
 returns-clause-given_back g c = (closed g (goal.at.returns-clause-given_back g c).After-destroy_empty).0

@@ -1,5 +1,6 @@
 use Rattle.std.proofs.Common.{length, take, ◌∙◌, sym, arith}
 use Rattle.std.proofs.lemmas.List.{length-take-le}
+use Rattle.branded_disk.specs.Pasts.{branded}
 use Rattle.plant_store.proofs.TagDevices.{still}
 use Rattle.plant_store.proofs.TagEndings.{of_all}
 use Rattle.plant_store.proofs.CellLabels.{apart_texts, as_many_names, places_front, places_whole}
@@ -50,7 +51,7 @@ up : (g : _) (c : After-close_cells g)
     → IsGivenUp c.args.tags.now (take (length c.open_all.new.cells.items) c.args.tags.now) (g.S.Store.device_at c.args.store.now)
     (g.S.Store.device_at c.open_all.new.store) (g.S.Store.device_at c.close_cells.new.store) (g.S.Store.fault_count c.args.store.now)
     (g.S.Store.fault_count c.close_cells.new.store) c.in-Err.why
-up g c = given_up g.S.Dev.Disk.device c.args.names.now c.args.tags.now
+up g c = given_up (branded g.S.Dev.Disk.device g.K.Begun.before) c.args.names.now c.args.tags.now
     c.open_all.new.cells.items c.len-opened.result _ _ _ _ (g.S.Store.fault_count c.open_all.new.store) _ _ c.requires.names
     (omega (arith, c.len-opened.ensures, c.open_all.new.cells.ok.0)) c.open_all.ensures.opened c.in-Err.ensures.stopped
     c.close_cells.ensures.given_back c.close_cells.ensures.counts

@@ -13,6 +13,7 @@ use Rattle.crash_recovery.specs.Opening.{StaysSame}
 use Rattle.device_layout.specs.declared.failure.OpenNo.TheVariants.{DeviceFault}
 use Rattle.device_layout.specs.Readings.{IsCause}
 use Rattle.tag_cell.specs.Told.{ToldCell}
+use Rattle.branded_disk.specs.Pasts.{branded}
 use Rattle.plant_store.specs.TagRefusals.{status_of}
 use Rattle.plant_store.proofs.Counts.{counted_since}
 use Rattle.plant_store.proofs.TagEndings.{of_all}
@@ -20,7 +21,7 @@ use Rattle.plant_store.specs.CellOpenings.{records_opened}
 use Rattle.plant_store.specs.CellStops.{IsStopped}
 use Rattle.plant_store.proofs.TagTurns.{reached}
 use Rattle.plant_store.proofs.CellFronts.{posts_to}
-use Rattle.plant_store.proofs.CellHalts.{opened_more, opened_since, records_more, rooms_more, stopped_full, stopped_there}
+use Rattle.plant_store.proofs.CellHalts.{opened_more, opened_since, records_more, rooms_more, still_unused, stopped_full, stopped_there}
 use Rattle.plant_store.proofs.CellLabels.{as_many_names, named_at, places_more}
 use Rattle.plant_store.proofs.CellLists.{next_of, no_some}
 use Rattle.plant_store.proofs.cell_turns.open_all.Goals as goal
@@ -58,6 +59,16 @@ open_one-requires-clause-named g c κs within =
     (omega (arith, c.len-tag.ensures, c.loop-def.cells.ok.0, c.loop-def.invariant.first.count)) c.index-names-tag.is
     c.as_str-name.ensures.value).named
 
+pub open_one-requires-clause-unused : goal.open_one-requires-clause-unused
+open_one-requires-clause-unused g c κs within =
+    let inv = c.loop-def.invariant in
+    let at = named_at c.args.names.now c.args.tags.now c.loop-def.def-index c.len-tag.result c.index-names-tag.result
+    c.as_str-name.result.now c.def-item.result c.requires.names c.loop-def-test.true c.def-item.is
+    (omega (arith, c.len-tag.ensures, c.loop-def.cells.ok.0, inv.first.count)) c.index-names-tag.is c.as_str-name.ensures.value in
+    still_unused g.K.Begun.before c.args.tags.now c.loop-def.def-index c.def-item.result c.as_str-name.result.now
+    (g.S.Store.device_at c.args.store.now) (g.S.Store.device_at c.loop-def.store) inv.others c.requires.distinct at.tag at.named
+    c.requires.unused
+
 pub returns-in-Err-clause-others : goal.returns-in-Err-clause-others
 returns-in-Err-clause-others g c =
     let inv = c.loop-def.invariant in
@@ -81,9 +92,9 @@ returns-in-Err-clause-stopped g c =
     let new = g.S.Store.device_at c.open_one.new.store in
     let status : c.status_of.result ≡ status_of i c.in-Err.why =
     c.status_of.ensures ∙ ap (λ n. status_of n c.in-Err.why) at.place in
-    subst (IsStopped g.S.Dev.Disk.device c.args.tags.now c.loop-def.cells.items (g.S.Store.device_at c.args.store.now) new
+    subst (IsStopped (branded g.S.Dev.Disk.device g.K.Begun.before) c.args.tags.now c.loop-def.cells.items (g.S.Store.device_at c.args.store.now) new
     (g.S.Store.fault_count c.args.store.now) (g.S.Store.fault_count c.open_one.new.store)) (sym status)
-    (stopped_there g.S.Dev.Disk.device c.args.tags.now i def c.loop-def.cells.items
+    (stopped_there (branded g.S.Dev.Disk.device g.K.Begun.before) c.args.tags.now i def c.loop-def.cells.items
     (g.S.Store.device_at c.args.store.now) now new (g.S.Store.fault_count c.args.store.now)
     (g.S.Store.fault_count c.open_one.new.store) c.in-Err.why c.requires.distinct inv.first inv.others at.tag
     (λ n apart. c.open_one.ensures.others n (λ e. apart (e ∙ at.named)))
@@ -124,9 +135,9 @@ returns-then-records-gt-MAX_STORE_RECORDS-clause-stopped g c =
     let number_is : c.loop-def.records + length c.recs.result.now
     ≡ records_opened c.loop-def.cells.items + length cell.opening.recs.items =
     omega (arith, inv.records, ap (length {A = Rec}) c.recs.ensures.records, ap (λ (s : State). length s.records) is.state_is) in
-    subst (IsStopped g.S.Dev.Disk.device tags c.loop-def.cells.items old new (g.S.Store.fault_count c.args.store.now)
+    subst (IsStopped (branded g.S.Dev.Disk.device g.K.Begun.before) tags c.loop-def.cells.items old new (g.S.Store.fault_count c.args.store.now)
     (g.S.Store.fault_count c.close_cell.new.store)) (sym c.too_many.ensures)
-    (stopped_full g.S.Dev.Disk.device tags i def c.as_str-name.result.now
+    (stopped_full (branded g.S.Dev.Disk.device g.K.Begun.before) tags i def c.as_str-name.result.now
     c.loop-def.cells.items cell old now new (g.S.Store.fault_count c.args.store.now) (g.S.Store.fault_count c.open_one.new.store)
     (g.S.Store.fault_count c.close_cell.new.store) (c.loop-def.records + length c.recs.result.now) c.requires.distinct inv.first
     inv.others at.tag at.named
@@ -150,9 +161,9 @@ loop-def-preserved g c =
     c.as_str-name.result.now c.def-item.result c.requires.names c.loop-def-test.true c.def-item.is
     (omega (arith, c.len-tag.ensures, c.loop-def.cells.ok.0, inv.first.count)) c.index-names-tag.is c.as_str-name.ensures.value in
     let others = reached tags i def old now new inv.others at.tag (λ n apart. c.open_one.ensures.others n (λ e. apart (e ∙ at.named))) in
-    let is = opened_since tags i def c.as_str-name.result.now old now (g.S.Dev.Disk.device cell.journal.dev) cell inv.others c.requires.distinct at.tag at.named
+    let is = opened_since tags i def c.as_str-name.result.now old now (branded g.S.Dev.Disk.device g.K.Begun.before cell.journal.dev) cell inv.others c.requires.distinct at.tag at.named
     c.in-Ok.ensures.opened in
-    let more = opened_more g.S.Dev.Disk.device tags i def c.loop-def.cells.items
+    let more = opened_more (branded g.S.Dev.Disk.device g.K.Begun.before) tags i def c.loop-def.cells.items
     c.push_reserved.new.self.items cell old inv.first at.tag is c.push_reserved.ensures.items in
     let places = places_more (g.S.Store.has_place c.loop-def.store) (g.S.Store.has_place c.open_one.new.store) names i
     c.len-tag.result c.index-names-tag.result c.as_str-name.result.now inv.places c.open_one.ensures.kept_places

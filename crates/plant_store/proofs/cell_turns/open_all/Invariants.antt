@@ -3,6 +3,7 @@ use Rattle.std.specs.Prelude.{IsTrue}
 use Rattle.std.specs.Arc.{arc_value}
 use Rattle.std.specs.Vec.Iter.{into_iter_items, into_iter_len}
 use Rattle.snapshot_table.specs.Boards.{new_posters}
+use Rattle.branded_disk.specs.Pasts.{branded}
 use Rattle.plant_store.specs.Tags.{AreOtherTagsSame}
 use Rattle.plant_store.specs.CellNames.{HasPlaces, texts}
 use Rattle.plant_store.specs.CellOpenings.{records_opened}
@@ -11,7 +12,7 @@ use Rattle.plant_store.proofs.cell_turns.open_all.Given as goal
 
 abbrev pub invariant-loop-def : goal.invariant-loop-def
 invariant-loop-def g l = record {
-  first : AreFirst g.S.Dev.Disk.device l.tags l.def-index l.cells.items
+  first : AreFirst (branded g.S.Dev.Disk.device g.K.Begun.before) l.tags l.def-index l.cells.items
       (g.S.Store.device_at l.fn.store);
   records : l.records ≡ records_opened l.cells.items;
   room : vec_capacity l.cells ≡ vec_capacity l.fn.cells;

@@ -2,6 +2,7 @@ use Rattle.std.proofs.Common.{◌≢◌, ap, arith, length, string_bytes, subst,
 use Rattle.std.specs.Prelude.{AllPairs, IsTrue, String}
 use Rattle.std.specs.declared.alloc.Global.{Global}
 use Rattle.std.proofs.lemmas.List.Elements.{All-weaker}
+use Rattle.branded_disk.specs.Pasts.{branded}
 use Rattle.plant_store.specs.CellClosings.{AreGivenBack, AreHistoriesAt}
 use Rattle.plant_store.specs.CellNames.{AreApart, HasPlaces, texts}
 use Rattle.plant_store.specs.BookEndings.{AreGivenBack as AreBooksBack}
@@ -63,19 +64,19 @@ returns-clause-back g c =
     let old = g.S.Store.device_at c.args.store.now in
     let mid = g.S.Store.device_at c.close_books.new.store in
     let new = g.S.Store.device_at c.close_cells.new.store in
-    all_back D.device c.args.shelf cells books old mid new c.requires.shelf
+    all_back (branded D.device g.K.Begun.before) c.args.shelf cells books old mid new c.requires.shelf
     (omega (arith, c.requires.groups, c.args.plant.books.ok.0))
-    (subst (λ l. AreBooksBack D.device l books old mid) c.deref.ensures.value c.close_books.ensures.given)
+    (subst (λ l. AreBooksBack (branded D.device g.K.Begun.before) l books old mid) c.deref.ensures.value c.close_books.ensures.given)
     (subst (λ l. AreOtherNamesSame (length l) l old mid) c.deref.ensures.value c.close_books.ensures.others)
-    (subst (λ l. AreGivenBack D.device (texts l) cells mid new) c.deref-2.ensures.value c.close_cells.ensures.given_back)
+    (subst (λ l. AreGivenBack (branded D.device g.K.Begun.before) (texts l) cells mid new) c.deref-2.ensures.value c.close_cells.ensures.given_back)
 
 pub returns-clause-devices : goal.returns-clause-devices
 returns-clause-devices g c =
-    subst (λ l. AreHistoriesAt (g.S.Store.device_at c.close_cells.new.store) (texts l) c.close_cells.new.histories.items)
+    subst (λ l. AreHistoriesAt g.K.Begun.before (g.S.Store.device_at c.close_cells.new.store) (texts l) c.close_cells.new.histories.items)
     c.deref-2.ensures.value c.close_cells.ensures.devices
 
 pub returns-clause-counts : goal.returns-clause-counts
-returns-clause-counts g c = λ small. all_counted g.S.Dev.Disk.device c.args.plant.cells.items c.args.plant.books.items
+returns-clause-counts g c = λ small. all_counted (branded g.S.Dev.Disk.device g.K.Begun.before) c.args.plant.cells.items c.args.plant.books.items
     (g.S.Store.fault_count c.args.store.now) (g.S.Store.fault_count c.close_books.new.store)
     (g.S.Store.fault_count c.close_cells.new.store) small c.close_books.ensures.counted (c.close_books.ensures.later small)
     (c.close_books.ensures.rose small) (c.close_books.ensures.faultless small) c.close_cells.ensures.counts

@@ -4,6 +4,7 @@ use Rattle.std.proofs.lemmas.List.{length-map}
 use Rattle.trend_num.specs.declared.archive.Rec.{Rec}
 use Rattle.calc_refresh.specs.Sheet.{IsCopy}
 use Rattle.tag_base.specs.Groups.{IsSoundGroup}
+use Rattle.branded_disk.specs.Pasts.{branded}
 use Rattle.plant_store.specs.Groups as group
 use Rattle.plant_store.specs.BookRefusals as groups
 use Rattle.plant_store.specs.BookRefusals.{OfMemory}
@@ -17,6 +18,10 @@ returns-in_default-clause-refused g c = OfMemory refl
 
 pub returns-in_default-clause-any_moment : goal.returns-in_default-clause-any_moment
 returns-in_default-clause-any_moment g c = λ k d below. still (get_or c.args.base.now.groups.items k d) _
+
+pub open_books-requires-clause-unused : goal.open_books-requires-clause-unused
+open_books-requires-clause-unused g c κs within =
+    subst (λ l. group.AreGroupsUnused g.K.Begun.before l (g.S.Store.device_at c.args.store.now)) (sym c.deref.ensures.value) c.requires.unused
 
 pub open_books-requires-clause-sound : goal.open_books-requires-clause-sound
 open_books-requires-clause-sound g c κs within =
@@ -36,9 +41,9 @@ returns-clause-opened g c =
     let D = g.S.Dev.Disk in
     let old = g.S.Store.device_at c.args.store.now in
     let lists = ap (map (λ r. r.now)) c.deref-2.ensures.value ∙ c.in-Ok.ensures.records in
-    subst (λ gs. IfOk c.open_books.result (λ books. group.AreBooksOpened D.device gs (cell_records_in c.args.cells.now) old
+    subst (λ gs. IfOk c.open_books.result (λ books. group.AreBooksOpened (branded D.device g.K.Begun.before) gs (cell_records_in c.args.cells.now) old
     books.items)) c.deref.ensures.value
-    (subst (λ l. IfOk c.open_books.result (λ books. group.AreBooksOpened D.device c.deref.result.now l old
+    (subst (λ l. IfOk c.open_books.result (λ books. group.AreBooksOpened (branded D.device g.K.Begun.before) c.deref.result.now l old
     books.items)) lists c.open_books.ensures.opened)
 
 pub returns-clause-as_many : goal.returns-clause-as_many

@@ -6,6 +6,7 @@ use Rattle.std.proofs.lemmas.Result.{err_from_is_err_and}
 use Rattle.trend_num.specs.declared.tag_def.TagDef.{TagDef}
 use Rattle.tag_base.specs.Groups.{IsSoundGroup}
 use Rattle.tag_cell.specs.Told.{ToldCell}
+use Rattle.branded_disk.specs.Pasts.{branded}
 use Rattle.plant_store.specs.TagRefusals as tags
 use Rattle.plant_store.specs.Tags as tag
 use Rattle.plant_store.proofs.TagDevices.{still}
@@ -19,7 +20,7 @@ use Rattle.plant_store.proofs.BookDevices.{books_before, same_untouched}
 use Rattle.plant_store.proofs.BookTurns.{still as still_group}
 use Rattle.plant_store.specs.Openings.{OfTags, cell_records_in}
 use Rattle.plant_store.proofs.Endings.{count_kept, given_up_counts, given_up_groups, given_up_refused, others_kept, rest_same, tags_count, tags_kept}
-use Rattle.plant_store.proofs.Labels.{groups_same}
+use Rattle.plant_store.proofs.Labels.{groups_same, groups_unused}
 use Rattle.plant_store.proofs.opening.open_plant.Goals as goal
 
 -- ---- there is no memory before a device is taken
@@ -38,6 +39,10 @@ returns-in_default-clause-same_groups g c = λ k d there. still_group (get_or c.
 pub open_cells-requires-clause-names : goal.open_cells-requires-clause-names
 open_cells-requires-clause-names g c κs within =
     ap texts c.deref-2.ensures.value ∙ c.requires.shelf.tag_names_are ∙ ap device_names_of (sym c.deref.ensures.value)
+
+pub open_cells-requires-clause-unused : goal.open_cells-requires-clause-unused
+open_cells-requires-clause-unused g c κs within =
+    subst (λ l. tag.AreTagsUnused g.K.Begun.before l (g.S.Store.device_at c.args.store.now)) (sym c.deref.ensures.value) c.requires.unused
 
 pub returns-in_err-cells-clause-refused : goal.returns-in_err-cells-clause-refused
 returns-in_err-cells-clause-refused g c =
@@ -93,9 +98,16 @@ pub open_groups-requires-clause-names : goal.open_groups-requires-clause-names
 open_groups-requires-clause-names g c κs within =
     subst (group.AreNamesOf c.args.base.now.groups.items) (sym c.deref-3.ensures.value) c.requires.shelf.group_names_are
 
+pub open_groups-requires-clause-unused : goal.open_groups-requires-clause-unused
+open_groups-requires-clause-unused g c κs within =
+    groups_unused g.K.Begun.before c.args.base.now.tags.items c.args.base.now.groups.items (g.S.Store.device_at c.args.store.now)
+    (g.S.Store.device_at c.open_cells.new.store)
+    (subst (λ l. tag.AreOtherTagsSame l (g.S.Store.device_at c.args.store.now) (g.S.Store.device_at c.open_cells.new.store)) c.deref.ensures.value
+    c.open_cells.ensures.others) c.requires.unused_groups
+
 pub returns-in-Ok-open_groups-clause-tags : goal.returns-in-Ok-open_groups-clause-tags
 returns-in-Ok-open_groups-clause-tags g c =
-    subst (λ l. AreCellsOpened g.S.Dev.Disk.device l (g.S.Store.device_at c.args.store.now) c.in_ok-cells.cells.items)
+    subst (λ l. AreCellsOpened (branded g.S.Dev.Disk.device g.K.Begun.before) l (g.S.Store.device_at c.args.store.now) c.in_ok-cells.cells.items)
     c.deref.ensures.value c.in_ok-cells.ensures.opened
 
 pub returns-in-Ok-open_groups-clause-as_many_cells : goal.returns-in-Ok-open_groups-clause-as_many_cells
@@ -112,8 +124,8 @@ returns-in-Ok-open_groups-clause-groups g c =
     let mid = g.S.Store.device_at c.open_cells.new.store in
     books_before gs (cell_records_in cells) old mid
     (groups_same ts old mid (subst (λ l. tag.AreOtherTagsSame l old mid) c.deref.ensures.value c.open_cells.ensures.others))
-    D.device books
-    (subst (λ l. group.AreBooksOpened D.device gs (cell_records_in l) mid books) c.deref-4.ensures.value
+    (branded D.device g.K.Begun.before) books
+    (subst (λ l. group.AreBooksOpened (branded D.device g.K.Begun.before) gs (cell_records_in l) mid books) c.deref-4.ensures.value
     c.in-Ok-open_groups.ensures.opened)
 
 pub returns-in-Ok-open_groups-clause-places : goal.returns-in-Ok-open_groups-clause-places
@@ -180,12 +192,12 @@ returns-clause-refused g c =
     let last = g.S.Store.fault_count c.open_groups.new.store in
     let now = g.S.Store.fault_count c.close_cells.new.store in
     let passed = c.in_ok-cells.ensures.passed in
-    let opened = subst (λ l. AreCellsOpened D.device l old cells) c.deref.ensures.value
+    let opened = subst (λ l. AreCellsOpened (branded D.device g.K.Begun.before) l old cells) c.deref.ensures.value
     c.in_ok-cells.ensures.opened in
-    given_up_refused D.device c.args.base.now cells old mid new before first last now why opened
+    given_up_refused (branded D.device g.K.Begun.before) c.args.base.now cells old mid new before first last now why opened
     c.in_ok-cells.ensures.few_records
     (subst (λ l. tag.AreOtherTagsSame l old mid) c.deref.ensures.value c.open_cells.ensures.others) passed
-    (count_kept D.device ts old cells before first last now why opened passed c.in-Err.ensures.counts
+    (count_kept (branded D.device g.K.Begun.before) ts old cells before first last now why opened passed c.in-Err.ensures.counts
     c.close_cells.ensures.counts)
     (subst (λ l. groups.IsRefusal gs (cell_records_in l) mid first last why) c.deref-4.ensures.value c.in-Err.ensures.refused)
 
@@ -196,10 +208,10 @@ returns-clause-same_tags g c =
     let old = g.S.Store.device_at c.args.store.now in
     let after = g.S.Store.device_at c.open_groups.new.store in
     let new = g.S.Store.device_at c.close_cells.new.store in
-    tags_kept D.device c.args.shelf.now.tag_names.items c.args.base.now.tags.items cells old after new
+    tags_kept (branded D.device g.K.Begun.before) c.args.shelf.now.tag_names.items c.args.base.now.tags.items cells old after new
     c.requires.shelf.tag_names_are
-    (subst (λ l. AreCellsOpened D.device l old cells) c.deref.ensures.value c.in_ok-cells.ensures.opened)
-    (subst (λ l. AreGivenBack D.device (texts l) cells after new) c.deref-in-Err.ensures.value c.close_cells.ensures.given_back)
+    (subst (λ l. AreCellsOpened (branded D.device g.K.Begun.before) l old cells) c.deref.ensures.value c.in_ok-cells.ensures.opened)
+    (subst (λ l. AreGivenBack (branded D.device g.K.Begun.before) (texts l) cells after new) c.deref-in-Err.ensures.value c.close_cells.ensures.given_back)
 
 pub returns-clause-same_groups : goal.returns-clause-same_groups
 returns-clause-same_groups g c =
@@ -209,9 +221,9 @@ returns-clause-same_groups g c =
     let mid = g.S.Store.device_at c.open_cells.new.store in
     let after = g.S.Store.device_at c.open_groups.new.store in
     let new = g.S.Store.device_at c.close_cells.new.store in
-    given_up_groups D.device c.args.base.now c.args.shelf.now.tag_names.items cells old mid after new c.requires.shelf.tag_names_are
+    given_up_groups (branded D.device g.K.Begun.before) c.args.base.now c.args.shelf.now.tag_names.items cells old mid after new c.requires.shelf.tag_names_are
     (subst (λ l. tag.AreOtherTagsSame l old mid) c.deref.ensures.value c.open_cells.ensures.others)
-    (subst (λ l. AreGivenBack D.device (texts l) cells after new) c.deref-in-Err.ensures.value c.close_cells.ensures.given_back)
+    (subst (λ l. AreGivenBack (branded D.device g.K.Begun.before) (texts l) cells after new) c.deref-in-Err.ensures.value c.close_cells.ensures.given_back)
     c.in-Err.ensures.any_moment
 
 pub returns-clause-others : goal.returns-clause-others
@@ -226,8 +238,8 @@ returns-clause-others g c =
     let new = g.S.Store.device_at c.close_cells.new.store in
     rest_same c.args.base.now old mid after new
     (subst (λ l. tag.AreOtherTagsSame l old mid) c.deref.ensures.value c.open_cells.ensures.others) c.open_groups.ensures.others
-    (others_kept D.device names ts cells after new c.requires.shelf.tag_names_are
-    (subst (λ l. AreGivenBack D.device (texts l) cells after new) c.deref-in-Err.ensures.value c.close_cells.ensures.given_back))
+    (others_kept (branded D.device g.K.Begun.before) names ts cells after new c.requires.shelf.tag_names_are
+    (subst (λ l. AreGivenBack (branded D.device g.K.Begun.before) (texts l) cells after new) c.deref-in-Err.ensures.value c.close_cells.ensures.given_back))
 
 pub returns-clause-counts : goal.returns-clause-counts
 returns-clause-counts g c =
@@ -241,8 +253,8 @@ returns-clause-counts g c =
     let last = g.S.Store.fault_count c.open_groups.new.store in
     let now = g.S.Store.fault_count c.close_cells.new.store in
     let passed = c.in_ok-cells.ensures.passed in
-    let opened = subst (λ l. AreCellsOpened D.device l old cells) c.deref.ensures.value
+    let opened = subst (λ l. AreCellsOpened (branded D.device g.K.Begun.before) l old cells) c.deref.ensures.value
     c.in_ok-cells.ensures.opened in
     given_up_counts before first last now why passed
-    (count_kept D.device ts old cells before first last now why opened passed c.in-Err.ensures.counts
+    (count_kept (branded D.device g.K.Begun.before) ts old cells before first last now why opened passed c.in-Err.ensures.counts
     c.close_cells.ensures.counts) c.in-Err.ensures.counts

@@ -10,6 +10,7 @@ use Rattle.group_layout.specs.Readings.{GainsGroupSync}
 use Rattle.group_book.specs.Openings.{StandsForGroup, BookStaysSame}
 use Rattle.group_book.specs.Tapes.{cut}
 use Rattle.group_book.specs.Told.{device_name_of}
+use Rattle.branded_disk.specs.Pasts.{branded}
 use Rattle.plant_store.specs.Groups.{group_parts_of, input_records_of, group_definition_text}
 use Rattle.plant_store.proofs.BookTurns.{held_by, still, untouched}
 use Rattle.plant_store.proofs.DeviceNames.{fits, text_names}
@@ -20,21 +21,21 @@ load-requires-clause-named g c =
     let group = c.args.group.now in
     let made = c.in-Ok.ensures in
     let text : c.deref.result.now ≡ group_definition_text group = c.deref.ensures.value ∙ made.text in
-    fits (g.S.Dev.Disk.device c.in-Ok-device.dev).handed _ _ c.in-Ok-device.ensures.named
+    fits (branded g.S.Dev.Disk.device g.K.Begun.before c.in-Ok-take.dev).handed _ _ c.in-Ok-take.ensures.named
     (c.requires.named ∙ sym (text_names group made.named) ∙ ap device_name_of (sym text))
 
 pub returns-in_default-clause-same : goal.returns-in_default-clause-same
 returns-in_default-clause-same g c = still c.args.group.now _
 
-pub returns-in_default-device-clause-same : goal.returns-in_default-device-clause-same
-returns-in_default-device-clause-same g c = untouched c.args.group.now _ _ (c.in_default-device.ensures.unchanged _)
+pub returns-in_default-take-clause-same : goal.returns-in_default-take-clause-same
+returns-in_default-take-clause-same g c = untouched c.args.group.now _ _ (c.in_default-take.ensures.unchanged _)
 
 pub returns-in-Ok-load-clause-opened : goal.returns-in-Ok-load-clause-opened
 returns-in-Ok-load-clause-opened g c =
     let D = g.S.Dev.Disk in
     let group = c.args.group.now in
     let made = c.in-Ok.ensures in
-    let told = c.in-Ok-device.ensures in
+    let told = c.in-Ok-take.ensures in
     let is = c.in-Ok-load.ensures in
     let b = c.in-Ok-load.book in
     let text : c.deref.result.now ≡ group_definition_text group = c.deref.ensures.value ∙ made.text in
@@ -51,13 +52,13 @@ returns-in-Ok-load-clause-opened g c =
       tags = is.tags ∙ made.tags;
       opening = record {
         stood = subst (λ (o : Trace). Shows o (StandsForGroup (group_definition_text group) (group_parts_of group) vs rows)) told.told
-            (subst (λ (t : List ℕ). Shows (D.device c.in-Ok-device.dev).trace (StandsForGroup t (group_parts_of group) vs rows)) text
-            (subst (λ (d : GroupDefParts). Shows (D.device c.in-Ok-device.dev).trace (StandsForGroup c.deref.result.now d vs rows)) made.def
+            (subst (λ (t : List ℕ). Shows (branded D.device g.K.Begun.before c.in-Ok-take.dev).trace (StandsForGroup t (group_parts_of group) vs rows)) text
+            (subst (λ (d : GroupDefParts). Shows (branded D.device g.K.Begun.before c.in-Ok-take.dev).trace (StandsForGroup c.deref.result.now d vs rows)) made.def
             is.opened));
         within = sym (is.versions ∙ ap (map length) copies);
         faults = is.faults ∙ (is.faultless ∙ told.faultless);
         moment = subst (λ (o : Trace). TextOpensAt (IsUnsaved (group_definition_text group)) o b.opening.moment) told.told
-            (subst (λ (t : List ℕ). TextOpensAt (IsUnsaved t) (D.device c.in-Ok-device.dev).trace b.opening.moment) text is.opened_at);
+            (subst (λ (t : List ℕ). TextOpensAt (IsUnsaved t) (branded D.device g.K.Begun.before c.in-Ok-take.dev).trace b.opening.moment) text is.opened_at);
       };
       moment = is.moment;
       versions = is.versions;
@@ -70,12 +71,12 @@ returns-in-Ok-load-clause-opened g c =
       has_device = is.device;
       faultless = is.faultless ∙ told.faultless;
       synced = held_by b.dev _ (λ dev here.
-          subst (λ (o : Trace). GainsGroupSync (group_definition_text group) o (D.device dev).trace) told.told
-          (subst (λ (t : List ℕ). GainsGroupSync t (D.device c.in-Ok-device.dev).trace (D.device dev).trace) text (is.synced dev here)));
+          subst (λ (o : Trace). GainsGroupSync (group_definition_text group) o (branded D.device g.K.Begun.before dev).trace) told.told
+          (subst (λ (t : List ℕ). GainsGroupSync t (branded D.device g.K.Begun.before c.in-Ok-take.dev).trace (branded D.device g.K.Begun.before dev).trace) text (is.synced dev here)));
       same = held_by b.dev _ (λ dev here.
-          subst (λ (o : Trace). During o (D.device dev).trace (BookStaysSame (group_definition_text group) (group_parts_of group) o)) told.told
-          (subst (λ (t : List ℕ). During (D.device c.in-Ok-device.dev).trace (D.device dev).trace (BookStaysSame t (group_parts_of group) (D.device c.in-Ok-device.dev).trace)) text
-          (subst (λ (d : GroupDefParts). During (D.device c.in-Ok-device.dev).trace (D.device dev).trace
-          (BookStaysSame c.deref.result.now d (D.device c.in-Ok-device.dev).trace)) made.def
+          subst (λ (o : Trace). During o (branded D.device g.K.Begun.before dev).trace (BookStaysSame (group_definition_text group) (group_parts_of group) o)) told.told
+          (subst (λ (t : List ℕ). During (branded D.device g.K.Begun.before c.in-Ok-take.dev).trace (branded D.device g.K.Begun.before dev).trace (BookStaysSame t (group_parts_of group) (branded D.device g.K.Begun.before c.in-Ok-take.dev).trace)) text
+          (subst (λ (d : GroupDefParts). During (branded D.device g.K.Begun.before c.in-Ok-take.dev).trace (branded D.device g.K.Begun.before dev).trace
+          (BookStaysSame c.deref.result.now d (branded D.device g.K.Begun.before c.in-Ok-take.dev).trace)) made.def
           (is.any_moment dev here))));
     }

@@ -2,6 +2,7 @@ use Rattle.std.proofs.Common.{Vec, arith, length, subst, sym}
 use Rattle.std.specs.Prelude.{IfErr, OnOk}
 use Rattle.std.specs.declared.alloc.Global.{Global}
 use Rattle.collector_pool.specs.declared.note.WorkerNote.{WorkerNote}
+use Rattle.branded_disk.specs.Pasts.{branded}
 use Rattle.session_audit.specs.FirstPulls.{HaveFirstPulls}
 use Rattle.run_command.proofs.Continued.{inputs_of_base}
 use Rattle.run_command.proofs.Told.{foreign_told, held_told, ran_told}
@@ -17,7 +18,7 @@ hold_both-ended-requires-clause-inputs g c κs within =
     c.requires.defined
 
 pub returns : goal.returns
-returns g c old before was rest same =
+returns g c old before whole was rest same =
     let base = c.args.base.now in
     let first = c.args.first.now in
     let second = c.args.second.now in
@@ -25,9 +26,9 @@ returns g c old before was rest same =
     let end = c.hold_both-ended.ensures in
     let closed = c.close-answer.ensures in
     let s = c.close-answer.result.1 in
-    rw c.drill_answer.ensures (phases_told g.S.Dev.Disk.device base first second old _ before _ _ _
-    _ s (held_told g.S.Dev.Disk.device base second old _ before _ _ _ _ ended _ s was
-    (closed.over old rest) same closed.counts end.same_cells end.same_books
+    rw c.drill_answer.ensures (phases_told (branded g.S.Dev.Disk.device g.K.Begun.before) base first second old _ before _ _ _
+    _ s (held_told (branded g.S.Dev.Disk.device g.K.Begun.before) base second old _ before _ _ _ _ ended _ s was
+    (closed.over old whole rest) same closed.counts end.same_cells end.same_books
     (subst (λ (v : Vec WorkerNote Global). OnOk ended.answer (HaveAllEnded v.items)) (sym closed.notes) end.ended) end.made end.pulled closed.told)
     (subst (λ (v : Vec WorkerNote Global). AreNotesOfBoth first.work second.work (g.P.Passes.stops c.args.passes.now)
     (g.P.Passes.stops c.hold_both-ended.new.passes) v.items) (sym closed.notes) end.notes)

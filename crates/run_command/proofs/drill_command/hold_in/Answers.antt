@@ -8,7 +8,7 @@ hold_drill-answer-requires-clause-roomy g c κs within =
 
 pub returns-in-Ok-clause-session : goal.returns-in-Ok-clause-session
 returns-in-Ok-clause-session g c =
-    c.hold_drill-answer.ensures (g.S.Store.device_at c.args.store.now) (g.S.Store.fault_count c.args.store.now) c.in-Ok.ensures.opened
+    c.hold_drill-answer.ensures (g.S.Store.device_at c.args.store.now) (g.S.Store.fault_count c.args.store.now) c.requires.begun c.in-Ok.ensures.opened
     c.open_session.ensures.others c.in-Ok.ensures.counts
 
 pub returns-in-Err-clause-unheld : goal.returns-in-Err-clause-unheld

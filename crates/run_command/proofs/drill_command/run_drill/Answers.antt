@@ -1,9 +1,10 @@
 use Rattle.std.proofs.Common.{◌≡◌, ◌∙◌, ℕ, [], ap, subst, List}
 use Rattle.disk_model.specs.Stores.{Devices, named, trace_at}
 use Rattle.disk_model.specs.Traces.{Trace}
+use Rattle.branded_disk.specs.Pasts.{branded, told_of}
 use Rattle.run_command.proofs.Results.{err_weaker}
 use Rattle.run_command.proofs.Told.{some_weaker}
-use Rattle.run_command.specs.Drills.{IsDrillUnopened, IsRunInPhases, memory_device}
+use Rattle.run_command.specs.Drills.{IsDrillUnopened, IsRunInPhases, device_seen}
 use Rattle.run_command.proofs.DrillUnopened.{wants_memory}
 use Rattle.run_command.proofs.drill_command.run_drill.Goals as goal
 
@@ -15,10 +16,10 @@ returns-clause-session g c =
     some_weaker c.hold_in.result.session (λ s is. (
       new,
       c.hold_in.new.store.faults,
-      subst (λ (ds : Devices). IsRunInPhases memory_device drill.base drill.first drill.second
+      subst (λ (ds : Devices). IsRunInPhases (branded device_seen (told_of (trace_at ds))) drill.base drill.first drill.second
           (trace_at ds) new 0 c.hold_in.new.store.faults (g.P.Passes.stops c.args.passes.now)
           (g.P.Passes.stops c.hold_in.new.passes) c.hold_in.result.answer s) none
-          (subst (λ (n : ℕ). IsRunInPhases memory_device drill.base drill.first drill.second
+          (subst (λ (n : ℕ). IsRunInPhases (branded device_seen (told_of (trace_at c.new-store.result.devices))) drill.base drill.first drill.second
           (trace_at c.new-store.result.devices) new n c.hold_in.new.store.faults (g.P.Passes.stops c.args.passes.now)
           (g.P.Passes.stops c.hold_in.new.passes) c.hold_in.result.answer s) c.new-store.ensures.faults is),
     )) c.hold_in.ensures.session

@@ -1,4 +1,5 @@
 use Rattle.std.proofs.Common.{arith}
+use Rattle.branded_disk.proofs.Pasts.{unused}
 use Rattle.run_command.specs.Runs.{OfPlant}
 use Rattle.run_command.proofs.opening.open_session.Goals as goal
 
@@ -34,3 +35,10 @@ returns-in-Err-clause-refused g c = OfPlant c.in-Err.ensures.refused (record {
   groups = c.in-Err.ensures.same_groups;
   others = c.open_plant.ensures.others;
 })
+
+pub open_plant-requires-clause-unused : goal.open_plant-requires-clause-unused
+open_plant-requires-clause-unused g c κs within = λ k d below. unused g.K.Begun.before (g.S.Store.device_at c.args.store.now) c.requires.begun _
+
+pub open_plant-requires-clause-unused_groups : goal.open_plant-requires-clause-unused_groups
+open_plant-requires-clause-unused_groups g c κs within = λ k d below.
+    unused g.K.Begun.before (g.S.Store.device_at c.args.store.now) c.requires.begun _

@@ -2,6 +2,7 @@ use Rattle.std.proofs.Common.{Vec, arith, length, sym, subst}
 use Rattle.std.specs.Prelude.{IfErr, OnOk}
 use Rattle.std.specs.declared.alloc.Global.{Global}
 use Rattle.collector_pool.specs.declared.note.WorkerNote.{WorkerNote}
+use Rattle.branded_disk.specs.Pasts.{branded}
 use Rattle.run_command.specs.Runs.{IsUndone}
 use Rattle.run_command.specs.Endings.{HaveAllEnded}
 use Rattle.run_command.specs.Sessions.{AreNotes, AreNotesOfAll}
@@ -19,15 +20,15 @@ pub hold_phase-ended-requires-clause-looks : goal.hold_phase-ended-requires-clau
 hold_phase-ended-requires-clause-looks g c κs within = rw c.deref.ensures c.requires.looks
 
 pub returns : goal.returns
-returns g c old before was rest same =
+returns g c old before whole was rest same =
     let given = c.args.given.now in
     let ended = c.hold_phase-ended.result in
     let end = c.hold_phase-ended.ensures in
     let closed = c.close.ensures in
     let s = c.close.result.1 in
     record {
-      held = held_told g.S.Dev.Disk.device c.args.base.now given old _ before _ _ _ _ ended _ s
-          was (closed.over old rest) same closed.counts end.same_cells end.same_books
+      held = held_told (branded g.S.Dev.Disk.device g.K.Begun.before) c.args.base.now given old _ before _ _ _ _ ended _ s
+          was (closed.over old whole rest) same closed.counts end.same_cells end.same_books
           (subst (λ (v : Vec WorkerNote Global). OnOk ended.answer (HaveAllEnded v.items)) (sym closed.notes) end.ended) end.made end.pulled closed.told;
       notes = subst (λ (v : Vec WorkerNote Global). AreNotes given.work (g.P.Passes.stops c.args.passes.now)
           (g.P.Passes.stops c.hold_phase-ended.new.passes) v.items) (sym closed.notes) end.notes;

@@ -1,5 +1,6 @@
 use Rattle.std.proofs.Common.{Vec, ap, map, ◌∙◌}
 use Rattle.std.specs.declared.alloc.Global.{Global}
+use Rattle.branded_disk.specs.Pasts.{branded, told_of}
 use Rattle.value_rows.specs.declared.asked.Query.{Query}
 use Rattle.value_rows.specs.declared.raw.RawRow.{RawRow}
 use Rattle.calc_refresh.specs.Lists.{lists_of}
@@ -14,7 +15,7 @@ pub returns-in-Ok-clause-promised : goal.returns-in-Ok-clause-promised
 returns-in-Ok-clause-promised g c = λ name plan_name told planned.
     let D = g.S.Dev.Disk in
     let made = c.in-Ok.ensures in
-    some_weaker c.run_given.result.session (λ s is. promised D.device name plan_name told _ _ _ _ _ _
+    some_weaker c.run_given.result.session (λ s is. promised (branded D.device (told_of (g.S.Store.device_at c.args.store.now))) name plan_name told _ _ _ _ _ _
     c.run_given.result.answer s (record {
       base = c.args.read.base;
       plan = c.args.read.plan;

@@ -10,6 +10,7 @@ use Rattle.group_book.specs.Openings.{IsBookCause}
 use Rattle.disk_model.specs.Moments.{During}
 use Rattle.disk_model.specs.Traces.{Trace}
 use Rattle.group_book.specs.Openings.{BookStaysSame}
+use Rattle.branded_disk.specs.Pasts.{branded, untold}
 use Rattle.plant_store.specs.BookEndings.{IsBackUnder, trace_after}
 use Rattle.plant_store.specs.Groups.{IsBookOpened, group_definition_text, group_parts_of, group_trace_at, input_records_of}
 use Rattle.plant_store.proofs.BookCauses.{fails}
@@ -53,10 +54,10 @@ returns-in-Ok-refreshed-clause-rows g c =
     let book = c.in-Ok-open_book.book in
     let lists = ap (map (λ r. r.now)) c.deref.ensures.value ∙ c.in-Ok.ensures.records in
     let lists_then = ap (map (λ r. r.now)) c.deref-2.ensures.value ∙ c.in-Ok.ensures.records in
-    let opened = subst (λ n. IsBookOpened D.device i group (input_records_of records group) (old n) book) c.requires.name
-    (subst (λ l. IsBookOpened D.device i group (input_records_of l group) (old c.args.name.now) book) lists
+    let opened = subst (λ n. IsBookOpened (branded D.device untold) i group (input_records_of records group) (old n) book) c.requires.name
+    (subst (λ l. IsBookOpened (branded D.device untold) i group (input_records_of l group) (old c.args.name.now) book) lists
     c.in-Ok-open_book.ensures.opened) in
-    rows_of_book D.device i group records (group_trace_at old group) book opened c.refresh_once-refreshed.new.book
+    rows_of_book (branded D.device untold) i group records (group_trace_at old group) book opened c.refresh_once-refreshed.new.book
     c.close_book-history.result c.args.place.calc c.both_rows.result.saved.items c.both_rows.result.refreshed.items
     (subst (λ l. IsRefreshedOnce l book c.refresh_once-refreshed.new.book) lists_then c.in-Ok-refreshed.ensures.refreshed)
     c.close_book-history.ensures.history c.refresh_once-refreshed.ensures.same_grid c.refresh_once-refreshed.ensures.inputs
@@ -92,16 +93,16 @@ returns-clause-refused g c =
     let closed = c.refresh_once-refreshed.new.book in
     let lists = ap (map (λ r. r.now)) c.deref.ensures.value ∙ c.in-Ok.ensures.records in
     let lists_then = ap (map (λ r. r.now)) c.deref-2.ensures.value ∙ c.in-Ok.ensures.records in
-    let opened = subst (λ n. IsBookOpened D.device i group (input_records_of records group) (old n) book) c.requires.name
-    (subst (λ l. IsBookOpened D.device i group (input_records_of l group) (old c.args.name.now) book) lists
+    let opened = subst (λ n. IsBookOpened (branded D.device untold) i group (input_records_of records group) (old n) book) c.requires.name
+    (subst (λ l. IsBookOpened (branded D.device untold) i group (input_records_of l group) (old c.args.name.now) book) lists
     c.in-Ok-open_book.ensures.opened) in
-    let synced = given_back D.device i group records (group_trace_at old group) book opened closed (group_trace_at mid group)
+    let synced = given_back (branded D.device untold) i group records (group_trace_at old group) book opened closed (group_trace_at mid group)
     (group_trace_at new group) (GainsGroupSync (group_definition_text group) (group_trace_at old group)) (ap (λ b. b.dev) c.in-Err-refreshed.ensures.unchanged)
-    (subst (λ n. new n ≡ trace_after D.device closed.dev (mid n)) c.requires.name
+    (subst (λ n. new n ≡ trace_after (branded D.device untold) closed.dev (mid n)) c.requires.name
     (c.close_book-history.ensures.given (c.requires.name ∙ sym opened.named
     ∙ ap (λ b. device_name_of b.text) (sym c.in-Err-refreshed.ensures.unchanged)))) opened.synced in
     subst (IsFrameRowsRefusal i group recovered (group_trace_at old group) (group_trace_at new group) before now) (sym c.refusal_of.ensures)
-    (over_book D.device i group records (group_trace_at old group) book opened (group_trace_at new group) before now
+    (over_book (branded D.device untold) i group records (group_trace_at old group) book opened (group_trace_at new group) before now
     c.in-Err-refreshed.no c.refresh_once-refreshed.ensures.same_grid
     synced
     (subst (λ l. IsOverIn (book_cells book.def (lists_at l book.tags)) (lists_at l book.tags) c.in-Err-refreshed.no) lists_then
@@ -109,9 +110,9 @@ returns-clause-refused g c =
 
 -- what holds of the calls of the book's device holds of those under its name
 kept : (g : _) (c : goal.After-drop-records-in-Ok-refreshed g) (P : Trace → Type 0)
-    → (IsBookOpened g.S.Dev.Disk.device c.args.place.group c.args.group.now (input_records_of (tag_records c.args.cores.now) c.args.group.now)
+    → (IsBookOpened (branded g.S.Dev.Disk.device untold) c.args.place.group c.args.group.now (input_records_of (tag_records c.args.cores.now) c.args.group.now)
     (group_trace_at (g.S.Store.device_at c.args.store.now) c.args.group.now) c.in-Ok-open_book.book
-    → IfSome c.in-Ok-open_book.book.dev (λ d. P (g.S.Dev.Disk.device d).trace))
+    → IfSome c.in-Ok-open_book.book.dev (λ d. P (branded g.S.Dev.Disk.device untold d).trace))
     → P (group_trace_at (g.S.Store.device_at c.close_book-history.new.store) c.args.group.now)
 kept g c P holds =
     let D = g.S.Dev.Disk in
@@ -125,12 +126,12 @@ kept g c P holds =
     let closed = c.refresh_once-refreshed.new.book in
     let lists = ap (map (λ r. r.now)) c.deref.ensures.value ∙ c.in-Ok.ensures.records in
     let lists_then = ap (map (λ r. r.now)) c.deref-2.ensures.value ∙ c.in-Ok.ensures.records in
-    let opened = subst (λ n. IsBookOpened D.device i group (input_records_of records group) (old n) book) c.requires.name
-    (subst (λ l. IsBookOpened D.device i group (input_records_of l group) (old c.args.name.now) book) lists
+    let opened = subst (λ n. IsBookOpened (branded D.device untold) i group (input_records_of records group) (old n) book) c.requires.name
+    (subst (λ l. IsBookOpened (branded D.device untold) i group (input_records_of l group) (old c.args.name.now) book) lists
     c.in-Ok-open_book.ensures.opened) in
-    refreshed_back D.device i group records (group_trace_at old group) book opened closed (group_trace_at mid group) (group_trace_at new group) P
+    refreshed_back (branded D.device untold) i group records (group_trace_at old group) book opened closed (group_trace_at mid group) (group_trace_at new group) P
     (subst (λ l. IsRefreshedOnce l book closed) lists_then c.in-Ok-refreshed.ensures.refreshed)
-    (subst (λ n. IsBackUnder D.device closed n (mid n) (new n)) c.requires.name c.close_book-history.ensures.given)
+    (subst (λ n. IsBackUnder (branded D.device untold) closed n (mid n) (new n)) c.requires.name c.close_book-history.ensures.given)
     (holds opened)
 
 pub returns-in-Ok-refreshed-clause-synced : goal.returns-in-Ok-refreshed-clause-synced
@@ -143,3 +144,26 @@ returns-in-Ok-refreshed-clause-same g c =
     let group = c.args.group.now in
     let o = group_trace_at (g.S.Store.device_at c.args.store.now) group in
     kept g c (λ t. During o t (BookStaysSame (group_definition_text group) (group_parts_of group) o)) (λ opened. opened.same)
+
+pub returns-clause-same : goal.returns-clause-same
+returns-clause-same g c =
+    let device = branded g.S.Dev.Disk.device untold in
+    let group = c.args.group.now in
+    let i = c.args.place.group in
+    let records = tag_records c.args.cores.now in
+    let old = g.S.Store.device_at c.args.store.now in
+    let mid = g.S.Store.device_at c.open_book.new.store in
+    let new = g.S.Store.device_at c.close_book-history.new.store in
+    let o = group_trace_at old group in
+    let book = c.in-Ok-open_book.book in
+    let closed = c.refresh_once-refreshed.new.book in
+    let lists = ap (map (λ r. r.now)) c.deref.ensures.value ∙ c.in-Ok.ensures.records in
+    let opened = subst (λ n. IsBookOpened device i group (input_records_of records group) (old n) book) c.requires.name
+    (subst (λ l. IsBookOpened device i group (input_records_of l group) (old c.args.name.now) book) lists
+    c.in-Ok-open_book.ensures.opened) in
+    given_back device i group records o book opened closed (group_trace_at mid group) (group_trace_at new group)
+    (λ t. During o t (BookStaysSame (group_definition_text group) (group_parts_of group) o))
+    (ap (λ b. b.dev) c.in-Err-refreshed.ensures.unchanged)
+    (subst (λ n. new n ≡ trace_after device closed.dev (mid n)) c.requires.name
+    (c.close_book-history.ensures.given (c.requires.name ∙ sym opened.named
+    ∙ ap (λ b. device_name_of b.text) (sym c.in-Err-refreshed.ensures.unchanged)))) opened.same

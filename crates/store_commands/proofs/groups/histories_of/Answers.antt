@@ -3,6 +3,7 @@ use Rattle.std.specs.Prelude.{String}
 use Rattle.std.specs.declared.alloc.Global.{Global}
 use Rattle.std.proofs.lemmas.Result.{IfErr-weaker, err_from_is_err_and}
 use Rattle.calc_refresh.specs.Sheet.{IsCopy}
+use Rattle.branded_disk.specs.Pasts.{branded, untold}
 use Rattle.plant_store.specs.BookEndings.{AreGivenBack}
 use Rattle.plant_store.specs.Groups.{AreBooksOpened, AreNamesOf}
 use Rattle.plant_store.specs.BookRefusals.{IsRefusal}
@@ -24,6 +25,9 @@ returns-in_default-records_of-clause-same g c = λ k d below. still (get_or c.ar
 pub returns-in_default-with_capacity-clause-same : goal.returns-in_default-with_capacity-clause-same
 returns-in_default-with_capacity-clause-same g c = λ k d below. still (get_or c.args.groups.now k d) _
 
+pub open_books-requires-clause-unused : goal.open_books-requires-clause-unused
+open_books-requires-clause-unused g c κs within = λ k d below. tt
+
 pub returns-in_err-books-clause-refused : goal.returns-in_err-books-clause-refused
 returns-in_err-books-clause-refused g c =
     let lists = ap (map (λ r. r.now)) c.deref-2.ensures.value ∙ c.in-Ok-records_of.ensures.records in
@@ -41,9 +45,9 @@ refresh_all-refreshed-requires-clause-cut g c =
     let D = g.S.Dev.Disk in
     let old = g.S.Store.device_at c.args.store.now in
     let same = ap (map (λ r. r.now)) (c.deref-2.ensures.value ∙ sym c.deref-3.ensures.value) in
-    cut_books D.device c.args.groups.now (map (λ r. r.now) c.deref-3.result.now) old
+    cut_books (branded D.device untold) c.args.groups.now (map (λ r. r.now) c.deref-3.result.now) old
     c.in_ok-books.books.items c.in_ok-books.ensures.as_many
-    (subst (λ l. AreBooksOpened D.device c.args.groups.now l old c.in_ok-books.books.items) same
+    (subst (λ l. AreBooksOpened (branded D.device untold) c.args.groups.now l old c.in_ok-books.books.items) same
     c.in_ok-books.ensures.opened)
 
 pub close_books-requires-clause-as_many : goal.close_books-requires-clause-as_many
@@ -80,9 +84,9 @@ returns-clause-told g c =
     let lists = ap (map (λ r. r.now)) c.deref-2.ensures.value ∙ c.in-Ok-records_of.ensures.records in
     let lists_then = ap (map (λ r. r.now)) c.deref-3.ensures.value ∙ c.in-Ok-records_of.ensures.records in
     ok_and _ c.refresh_all-refreshed.result c.close_books.new.histories c.and.result c.and.ensures (λ once.
-    all_told D.device groups (tag_records c.args.cores.now) old books closed c.close_books.new.histories.items
+    all_told (branded D.device untold) groups (tag_records c.args.cores.now) old books closed c.close_books.new.histories.items
     c.in_ok-books.ensures.as_many
-    (subst (λ l. AreBooksOpened D.device groups l old books) lists c.in_ok-books.ensures.opened)
+    (subst (λ l. AreBooksOpened (branded D.device untold) groups l old books) lists c.in_ok-books.ensures.opened)
     c.refresh_all-refreshed.ensures.same (subst (λ l. AreRefreshedOnce l books closed) lists_then once) c.close_books.ensures.closed)
     c.refresh_all-refreshed.ensures.refreshed
 
@@ -95,13 +99,13 @@ returns-clause-refused g c =
     let lists = ap (map (λ r. r.now)) c.deref-2.ensures.value ∙ c.in-Ok-records_of.ensures.records in
     let lists_then = ap (map (λ r. r.now)) c.deref-3.ensures.value ∙ c.in-Ok-records_of.ensures.records in
     err_and _ _ c.refresh_all-refreshed.result c.close_books.new.histories c.and.result c.and.ensures (λ why over.
-    over_some D.device groups (tag_records c.args.cores.now) old (g.S.Store.device_at c.close_books.new.store) books _ _
+    over_some (branded D.device untold) groups (tag_records c.args.cores.now) old (g.S.Store.device_at c.close_books.new.store) books _ _
     why c.in_ok-books.ensures.as_many
-    (subst (λ l. AreBooksOpened D.device groups l old books) lists c.in_ok-books.ensures.opened)
-    (all_synced D.device groups c.in-Ok.names.items (map (λ r. r.now) c.deref-2.result.now) old
+    (subst (λ l. AreBooksOpened (branded D.device untold) groups l old books) lists c.in_ok-books.ensures.opened)
+    (all_synced (branded D.device untold) groups c.in-Ok.names.items (map (λ r. r.now) c.deref-2.result.now) old
     (g.S.Store.device_at c.open_books.new.store) (g.S.Store.device_at c.close_books.new.store) books c.refresh_all-refreshed.new.books.items
     c.in-Ok.ensures.names c.in_ok-books.ensures.as_many c.in_ok-books.ensures.opened c.refresh_all-refreshed.ensures.same
-    (subst (λ l. AreGivenBack D.device l c.refresh_all-refreshed.new.books.items (g.S.Store.device_at c.open_books.new.store)
+    (subst (λ l. AreGivenBack (branded D.device untold) l c.refresh_all-refreshed.new.books.items (g.S.Store.device_at c.open_books.new.store)
     (g.S.Store.device_at c.close_books.new.store)) c.deref-4.ensures.value c.close_books.ensures.given))
     (subst (λ l. IsOverSome l books why) lists_then over)) c.refresh_all-refreshed.ensures.refused
 
@@ -118,10 +122,10 @@ returns-clause-same g c =
     let new = g.S.Store.device_at c.close_books.new.store in
     let mid = g.S.Store.device_at c.open_books.new.store in
     let closed = c.refresh_all-refreshed.new.books.items in
-    all_back D.device c.args.groups.now c.in-Ok.names.items (map (λ r. r.now) c.deref-2.result.now)
+    all_back (branded D.device untold) c.args.groups.now c.in-Ok.names.items (map (λ r. r.now) c.deref-2.result.now)
     (g.S.Store.device_at c.args.store.now) mid new c.in_ok-books.books.items closed c.in-Ok.ensures.names
     c.in_ok-books.ensures.as_many c.in_ok-books.ensures.opened c.refresh_all-refreshed.ensures.same
-    (subst (λ l. AreGivenBack D.device l closed mid new) c.deref-4.ensures.value c.close_books.ensures.given)
+    (subst (λ l. AreGivenBack (branded D.device untold) l closed mid new) c.deref-4.ensures.value c.close_books.ensures.given)
 
 pub returns-clause-others : goal.returns-clause-others
 returns-clause-others g c = λ n none.
@@ -137,7 +141,7 @@ returns-clause-counts g c = λ small.
     let D = g.S.Dev.Disk in
     let first = c.in_ok-books.ensures.counts small in
     counts_same c.and.result (c.close_books.ensures.faultless (subst (λ n. n < 2 ^ 64) (sym first) small)
-    (none_counted D.device c.args.groups.now (map (λ r. r.now) c.deref-2.result.now)
+    (none_counted (branded D.device untold) c.args.groups.now (map (λ r. r.now) c.deref-2.result.now)
     (g.S.Store.device_at c.args.store.now) c.in_ok-books.books.items c.refresh_all-refreshed.new.books.items
     c.in_ok-books.ensures.as_many c.in_ok-books.ensures.opened c.refresh_all-refreshed.ensures.same)
     ∙ first)
@@ -149,7 +153,7 @@ returns-clause-synced g c =
     let mid = g.S.Store.device_at c.open_books.new.store in
     let closed = c.refresh_all-refreshed.new.books.items in
     ok_always c.and.result
-    (all_synced D.device c.args.groups.now c.in-Ok.names.items (map (λ r. r.now) c.deref-2.result.now)
+    (all_synced (branded D.device untold) c.args.groups.now c.in-Ok.names.items (map (λ r. r.now) c.deref-2.result.now)
     (g.S.Store.device_at c.args.store.now) mid new c.in_ok-books.books.items closed c.in-Ok.ensures.names
     c.in_ok-books.ensures.as_many c.in_ok-books.ensures.opened c.refresh_all-refreshed.ensures.same
-    (subst (λ l. AreGivenBack D.device l closed mid new) c.deref-4.ensures.value c.close_books.ensures.given))
+    (subst (λ l. AreGivenBack (branded D.device untold) l closed mid new) c.deref-4.ensures.value c.close_books.ensures.given))

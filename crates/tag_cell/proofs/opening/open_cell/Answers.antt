@@ -5,13 +5,14 @@ use Rattle.trend_num.specs.declared.archive.Summary.{Summary}
 use Rattle.trend_model.specs.State.{State}
 use Rattle.crash_recovery.specs.Journals.{AllRecover}
 use Rattle.device_layout.specs.Recovery.{Recovers}
-use Rattle.crash_recovery.specs.Opening.{IsOpenedAs}
+use Rattle.crash_recovery.specs.Opening.{IsOpenedAs, RecoversThen}
 use Rattle.disk_model.specs.Calls.{Shows}
 use Rattle.disk_model.specs.Traces.{FitsName}
 use Rattle.tag_cell.specs.Devices.{device_name}
 use Rattle.tag_cell.specs.declared.history.TagOpening.{TagOpening}
 use Rattle.tag_cell.specs.Tapes.{opened}
 use Rattle.tag_cell.proofs.Openings.{same_state, open_replayed, open_in_step, open_has_room, open_waits, open_kept, open_safe, open_posted}
+use Rattle.tag_cell.proofs.Begun.{began_well}
 use Rattle.tag_cell.proofs.opening.open_cell.Goals as goal
 
 pub invariant_of-result : goal.invariant_of-result
@@ -42,6 +43,8 @@ invariant_of-result g c =
       open_posted (arc_value c.args.board) c.args.poster c.post.new.poster c.summary-summary.result found.core.state c.requires.here
           c.post.ensures summary,
       subst (FitsName (device_name def.name)) (sym told.handed) c.requires.named,
+      began_well def o (g.D.Disk.device c.args.dev) (g.D.Disk.device dev) c.requires.unused told.handed told.any_moment
+          (subst (RecoversThen def (g.D.Disk.device c.args.dev).trace trace) is told.recovers) c.clock.ensures,
     )
 
 pub returns-clause-opened : goal.returns-clause-opened

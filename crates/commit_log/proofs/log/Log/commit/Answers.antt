@@ -11,6 +11,8 @@ use Rattle.commit_log.specs.Blocks.{log_block_size, most_in_block}
 use Rattle.commit_log.specs.Tapes.{puts}
 use Rattle.commit_log.specs.Told.{AreRowsAcknowledged, IsKept, ToldLog}
 use Rattle.commit_log.specs.Writes.{IsBlockOf}
+use Rattle.commit_log.specs.Openings.{LogBeganWell}
+use Rattle.commit_log.proofs.Begun.{still_well}
 use Rattle.commit_log.proofs.Acks.{oldest_are}
 use Rattle.commit_log.proofs.Beginnings.{length-block_image}
 use Rattle.commit_log.proofs.Commits.{committed, kept_faulted, writing_safe}
@@ -121,6 +123,16 @@ ends g c is =
 own : (g : given.Over) (c : After-write_guarded g) → FitsName log_name (g.D.Disk.device c.write_guarded.new.dev).handed
 own g c = subst (FitsName log_name) (sym c.write_guarded.ensures.handed) c.self.invariant.5
 
+-- and what was opened of it began well
+begun : (g : given.Over) (c : After-write_guarded g)
+    → let s = c.self.inside in
+    let dev = g.D.Disk.device c.write_guarded.new.dev in
+    LogBeganWell s.plant.items s.tags s.opening.items s.opened_at dev.handed dev.trace
+begun g c =
+    let s = c.self.inside in
+    still_well s.plant.items s.tags s.opening.items s.opened_at (g.D.Disk.device s.dev) (g.D.Disk.device c.write_guarded.new.dev)
+    c.write_guarded.ensures.handed c.write_guarded.ensures.any_moment.later c.self.invariant.6
+
 pub invariant_of-self-in-Ok : goal.invariant_of-self-in-Ok
 invariant_of-self-in-Ok g c =
     let s = c.self.inside in
@@ -134,7 +146,7 @@ invariant_of-self-in-Ok g c =
     c.write_guarded.ensures.any_moment c.in-Ok.ensures.reads c.in-Ok.ensures.settled refl _
     (longer g here.After-push_reserved) _ _ s.count s.room c.in-Some.end s.failed c.if-self.false (counted g at) was.1 room
     (ends g here.After-push_reserved is) c.in-Ok.ensures.cause.passed was.4 in
-    (now.0, now.1, now.2, now.3, now.4, own g at)
+    (now.0, now.1, now.2, now.3, now.4, own g at, begun g at)
 
 pub invariant_of-self-in-Err : goal.invariant_of-self-in-Err
 invariant_of-self-in-Err g c =
@@ -152,7 +164,7 @@ invariant_of-self-in-Err g c =
       writing_safe _ _ _ _ _ _ _ _ _ _ _ _ was.0 was.2 (kept g at) _ _ _ (block g at) (some g at) (few g at) _ was.4
           c.write_guarded.ensures.any_moment,
     ) in
-    (now.0, now.1, now.2, now.3, now.4, own g at)
+    (now.0, now.1, now.2, now.3, now.4, own g at, begun g at)
 
 pub returns-in-Ok-clause-committed : goal.returns-in-Ok-clause-committed
 returns-in-Ok-clause-committed g c = λ more.

@@ -29,4 +29,4 @@ invariant_of-self g c =
           (D.device s.dev).faults was.2 was.3,
       put_safe s.tags o s.opened_at tape row s.plant.items (LeftSince (D.device s.dev).trace) was.4,
     ) in
-    (now.0, now.1, now.2, now.3, now.4, was.5)
+    (now.0, now.1, now.2, now.3, now.4, was.5, was.6)

@@ -18,8 +18,10 @@ use Rattle.group_layout.specs.Blocks.{block_size, parts_of}
 use Rattle.group_book.specs.declared.turn.Turn.TheVariants.{Save}
 use Rattle.group_book.specs.Crashes.{IsBookSafe}
 use Rattle.group_book.specs.Histories.{AreRowsEvaluated}
+use Rattle.group_book.specs.Openings.{BookBeganWell}
 use Rattle.group_book.specs.Saves.{HasAllChanges, IsSaved, ListsChanges}
-use Rattle.group_book.specs.Told.{IsAtHome, IsKept, IsOwnDevice, LeftOf, Saved, ToldBook, device_name_of, faults_of, moment_of, trace_of}
+use Rattle.group_book.specs.Told.{IsKept, IsOwnDevice, IsWellHeld, LeftOf, Saved, ToldBook, device_name_of, faults_of, moment_of, trace_of}
+use Rattle.group_book.proofs.Begun.{still_well}
 use Rattle.group_book.proofs.Evaluations.{evaluated_saved}
 use Rattle.group_book.proofs.Flags.{flagged_changes, flagged_saved}
 use Rattle.group_book.proofs.Saving.{IsNextBlock, KeepsAll, book_saved, keeps_alike, kept_faulted, kept_there, next_block_is, safe_writing}
@@ -60,7 +62,19 @@ own_after : (g : given.Over) (c : After-put_block g) → IsOwnDevice g.D.Disk.de
 own_after g c =
     let text = c.self.inside.text.items in
     subst (FitsName (device_name_of text)) (sym c.put_block.ensures.handed)
-    (subst (IsOwnDevice g.D.Disk.device text) c.in-Some.is c.self.invariant.4.1)
+    (subst (IsOwnDevice g.D.Disk.device text) c.in-Some.is c.self.invariant.4.0.1)
+
+-- it is at home, and it began well
+held_after : (g : given.Over) (c : After-put_block g)
+    → let s = c.self.inside in
+    IsWellHeld g.D.Disk.device s.text.items s.def s.opening (Some c.put_block.new.dev)
+held_after g c =
+    let s = c.self.inside in (
+      (λ some. refl, own_after g c),
+      still_well g.D.Disk.device s.text.items s.def s.opening c.in-Some.dev c.put_block.new.dev
+          c.put_block.ensures.handed c.put_block.ensures.any_moment.later
+          (subst (BookBeganWell g.D.Disk.device s.text.items s.def s.opening) c.in-Some.is c.self.invariant.4.1),
+    )
 
 -- the block is the next one
 next : (g : given.Over) (c : After-put_block g)
@@ -147,7 +161,7 @@ invariant_of-self-in-Ok g c =
       kept'.0,
       kept'.1,
       kept'.2,
-      (λ some. refl, own_after g at),
+      held_after g at,
       subst (λ l. AreRowsEvaluated s.def.calcs grid s.opening l copies s.sheet.rows s.sheet.evals) (sym longer)
           (evaluated_saved s.def.calcs grid s.opening copies s.sheet.rows s.sheet.evals tape b.number ended was.5),
       flagged_saved c.clear_flags.new.flags.items rows s.sheet
@@ -234,7 +248,7 @@ invariant_of-self-in-Err-DeviceFault g c =
     let new = (D.device c.put_block.new.dev).trace in
     let ticks' : ℕ = moment (D.device c.put_block.new.dev).trace in
     let faults' : ℕ = (D.device c.put_block.new.dev).faults in
-    keeps_alike s.text.items s.def s.tags.items s.opening s.versions.items s.sheet saved true (Some new) ticks' faults' (IsAtHome D.device s.text.items (Some c.put_block.new.dev))
+    keeps_alike s.text.items s.def s.tags.items s.opening s.versions.items s.sheet saved true (Some new) ticks' faults' (IsWellHeld D.device s.text.items s.def s.opening (Some c.put_block.new.dev))
     tape c.make_place.new.tape.items saved.rows
     (lists_of (with_items s.saved_rows c.make_room.new.rows).items) s.unsaved.items c.make_room.new.flags.items c.make_place.ensures.same
     (roomy s.saved_rows c.deref_mut.result.now c.make_room.new.rows (omega (arith, c.make_room.auto.rows, c.deref_mut.ensures.len))
@@ -247,7 +261,7 @@ invariant_of-self-in-Err-DeviceFault g c =
       safe_writing s.text.items s.def s.opening tape s.versions.items copies s.sheet.rows saved (D.device c.in-Some.dev).trace
           (moment (D.device c.in-Some.dev).trace) (D.device c.in-Some.dev).faults was.0.group was.0.grid was.0.copies was.1 was.5.rows_are kept b is safe new
           c.put_block.ensures.any_moment,
-      (λ some. refl, own_after g at),
+      held_after g at,
       was.5,
       was.6,
     )
@@ -260,12 +274,12 @@ invariant_of-self-in_err-make_room g c =
     = record { number = s.number; versions = s.saved_versions.items; rows = lists_of s.saved_rows.items; end = s.end } in
     keeps_alike s.text.items s.def s.tags.items s.opening s.versions.items s.sheet saved s.failed (Some (D.device c.in-Some.dev).trace)
     (moment (D.device c.in-Some.dev).trace)
-    (D.device c.in-Some.dev).faults (IsAtHome D.device s.text.items (Some c.in-Some.dev)) s.tape.items c.make_place.new.tape.items saved.rows
+    (D.device c.in-Some.dev).faults (IsWellHeld D.device s.text.items s.def s.opening (Some c.in-Some.dev)) s.tape.items c.make_place.new.tape.items saved.rows
     (lists_of (with_items s.saved_rows c.make_room.new.rows).items) s.unsaved.items c.make_room.new.flags.items c.make_place.ensures.same
     (roomy s.saved_rows c.deref_mut.result.now c.make_room.new.rows (omega (arith, c.make_room.auto.rows, c.deref_mut.ensures.len))
     c.make_room.ensures.same_rows c.deref_mut.ensures.value) c.make_room.ensures.same_flags
     (subst (λ d. KeepsAll s.text.items s.def s.tags.items s.opening s.versions.items s.sheet saved s.failed (trace_of D.device d)
-    (moment_of D.device d) (faults_of D.device d) (IsAtHome D.device s.text.items d) s.tape.items saved.rows s.unsaved.items)
+    (moment_of D.device d) (faults_of D.device d) (IsWellHeld D.device s.text.items s.def s.opening d) s.tape.items saved.rows s.unsaved.items)
     c.in-Some.is c.self.invariant)
 
 pub invariant_of-self-in-Err-WantOfMemory : goal.invariant_of-self-in-Err-WantOfMemory
@@ -276,12 +290,12 @@ invariant_of-self-in-Err-WantOfMemory g c =
     = record { number = s.number; versions = s.saved_versions.items; rows = lists_of s.saved_rows.items; end = s.end } in
     keeps_alike s.text.items s.def s.tags.items s.opening s.versions.items s.sheet saved s.failed (Some (D.device c.put_block.new.dev).trace)
     (moment (D.device c.put_block.new.dev).trace)
-    (D.device c.put_block.new.dev).faults (IsAtHome D.device s.text.items (Some c.put_block.new.dev)) s.tape.items c.make_place.new.tape.items saved.rows
+    (D.device c.put_block.new.dev).faults (IsWellHeld D.device s.text.items s.def s.opening (Some c.put_block.new.dev)) s.tape.items c.make_place.new.tape.items saved.rows
     (lists_of (with_items s.saved_rows c.make_room.new.rows).items) s.unsaved.items c.make_room.new.flags.items c.make_place.ensures.same
     (roomy s.saved_rows c.deref_mut.result.now c.make_room.new.rows (omega (arith, c.make_room.auto.rows, c.deref_mut.ensures.len))
     c.make_room.ensures.same_rows c.deref_mut.ensures.value) c.make_room.ensures.same_flags
     (subst (λ d. KeepsAll s.text.items s.def s.tags.items s.opening s.versions.items s.sheet saved s.failed (trace_of D.device d)
-    (moment_of D.device d) (faults_of D.device d) (IsAtHome D.device s.text.items d) s.tape.items saved.rows s.unsaved.items)
+    (moment_of D.device d) (faults_of D.device d) (IsWellHeld D.device s.text.items s.def s.opening d) s.tape.items saved.rows s.unsaved.items)
     (c.in-Some.is ∙ ap Some (sym (c.in-Err-WantOfMemory.ensures.no_memory (ap Err c.in-Err-WantOfMemory.field-0-is)))) c.self.invariant)
 
 pub next_block-requires : goal.next_block-requires

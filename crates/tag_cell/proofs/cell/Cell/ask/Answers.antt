@@ -44,4 +44,5 @@ invariant_of-self-2 g c =
       safe_entry s.def s.opening tape tape' e (LeftSince (g.D.Disk.device dev).trace) tt was.5 longer,
       was.6,
       was.7,
+      was.8,
     )

@@ -12,6 +12,7 @@ use Rattle.tag_cell.specs.Replays.{IsTapeReplayed}
 use Rattle.tag_cell.specs.Told.{IsCommitted, IsKept, ToldCell, Waits, takes_waiting}
 use Rattle.tag_cell.proofs.Tapes.{taken-append}
 use Rattle.tag_cell.proofs.Takes.{entry_in_step, entry_has_room}
+use Rattle.tag_cell.proofs.Begun.{still_well}
 use Rattle.tag_cell.proofs.Crashes.{safe_more}
 use Rattle.tag_cell.proofs.Commits.{commit_during, commit_kept, commit_replayed, commit_safe, commit_waits, is_committed, kept_refused, told, with_tape, most_acked, part_is, rest_is, rest_range, waiting, written_some, written_most}
 use Rattle.tag_cell.proofs.cell.Cell.commit.Given as given
@@ -101,6 +102,8 @@ invariant_of-self-in_err-entries g c =
           c.write_waiting.ensures.any_moment)),
       was.6,
       subst (FitsName (device_name s.def.name)) (sym c.write_waiting.ensures.handed) was.7,
+      still_well s.def o (g.D.Disk.device s.journal.dev) (g.D.Disk.device journal'.dev) c.write_waiting.ensures.handed
+          c.write_waiting.ensures.continues was.8,
     )
 
 pub returns-in_err-entries-clause-idle : goal.returns-in_err-entries-clause-idle
@@ -171,6 +174,8 @@ invariant_of-self-2 g c =
           (λ few. kept'.recovers wrote.usable few),
       was.6,
       subst (FitsName (device_name s.def.name)) (sym c.write_waiting.ensures.handed) was.7,
+      still_well s.def o (g.D.Disk.device s.journal.dev) (g.D.Disk.device journal'.dev) c.write_waiting.ensures.handed
+          c.write_waiting.ensures.continues was.8,
     )
 
 pub returns-clause-idle : goal.returns-clause-idle

@@ -48,4 +48,5 @@ invariant_of-self-2 g c =
       take_posted (arc_value s.board) s.poster c.post.new.poster c.taken.result held s.core.state core'.state was.6 c.post.ensures
           c.taken.ensures took.held,
       was.7,
+      was.8,
     )
