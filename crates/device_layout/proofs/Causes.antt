@@ -1,37 +1,20 @@
 -- What was read and why it was refused.
-use Rattle.std.proofs.Common.{◌≡◌, ℕ, ◌<◌, ◌≤◌, Bool, List, length, get_or, nat_eq, nat_le}
-use Rattle.std.proofs.Common.{Option, Some, subst, arith}
+use Rattle.std.proofs.Common.{◌≡◌, ℕ, ◌<◌, ◌≤◌, List, length, get_or, nat_eq, nat_le, Option, Some, subst, arith}
 use Rattle.std.specs.Int.{w64, from_be_bytes}
-use Rattle.trend_num.specs.declared.archive.Summary.{Summary}
-use Rattle.trend_num.specs.declared.archive.Rec.{Rec}
-use Rattle.trend_num.specs.declared.tuning.Tuning.{Tuning}
-use Rattle.trend_num.specs.declared.tag_def.TagDef.{TagDef}
-use Rattle.trend_model.specs.Parts.{ArePartsOk}
-use Rattle.disk_model.specs.Traces.{Trace, seen}
-use Rattle.disk_model.specs.Calls.{Reads, HasLength}
-use Rattle.disk_model.specs.Gates.{open_byte, IsBegun}
-use Rattle.archive_file.specs.Places.{HasRecords, IsDamage}
-use Rattle.archive_file.specs.Summaries.{summary_image, IsSummary}
+use Rattle.trend_num.specs.{declared.archive.Summary.Summary, declared.tuning.Tuning.Tuning, declared.tag_def.TagDef.TagDef}
+use Rattle.disk_model.specs.{Traces.Trace, Traces.seen, Calls.Reads, Calls.HasLength, Calls.Shows, Gates.open_byte, Gates.IsBegun}
+use Rattle.archive_file.specs.{Places.HasRecords, Places.IsDamage, Summaries.summary_image, Summaries.IsSummary}
 use Rattle.event_queue.specs.Slots.{lane_end}
-use Rattle.device_layout.specs.declared.header.Header.{Header}
-use Rattle.device_layout.specs.declared.layout_reader.Stored.{Stored}
-use Rattle.device_layout.specs.declared.slot.Slot.{Slot}
-use Rattle.device_layout.specs.Headers.{IsHeaderBroken}
-use Rattle.device_layout.specs.Recovery.{summary_place, slot_bytes, chosen, counting, recovered_tuning}
-use Rattle.device_layout.specs.Damages.{IsTagDamage}
-use Rattle.disk_model.specs.Calls.{Shows}
-use Rattle.device_layout.specs.Readings.{IsOther, HasHeader, HasLayout, CountsSummary, IsFoundOn}
-use Rattle.device_layout.proofs.Reading.{header_broken, counting_read, here_at, records_broken}
-use Rattle.device_layout.proofs.Reading.{parts_broken}
-use Rattle.device_layout.proofs.Reading.{is_other, counts_summary, stored_some}
+use Rattle.device_layout.specs.{declared.header.Header.Header, declared.layout_reader.Stored.Stored, declared.slot.Slot.Slot, IsHeaderBroken, slot_bytes, chosen, counting, recovered_tuning}
+use Rattle.device_layout.specs.{IsTagDamage, IsOther, HasHeader, HasLayout, CountsSummary, IsFoundOn}
+use Rattle.device_layout.proofs.Reading.{header_broken, counting_read, here_at, records_broken, is_other, counts_summary, stored_some}
 
 -- the same bytes were read before some calls that changed nothing
 pub reads_before : (o p : Trace) (at : ℕ) (bytes : List ℕ) → p ≡ o → Reads p at bytes → Reads o at bytes
 reads_before o p at bytes same read = subst (λ x. Reads x at bytes) same read
 
 -- a broken header
-pub header_cause : (def : TagDef) (o : Trace) (bytes : List ℕ) (len at : ℕ) → length bytes ≡ 128
-    → Reads o 0 bytes
+pub header_cause : (def : TagDef) (o : Trace) (bytes : List ℕ) (len at : ℕ) → length bytes ≡ 128 → Reads o 0 bytes
     → HasLength o len → 128 ≤ len → at < 128 → IsHeaderBroken bytes at → Shows o IsBegun
     → Shows o (λ c. IsTagDamage def c at (Some (get_or bytes at 0)))
 header_cause def t bytes len at size read is long within broken opened =
@@ -44,9 +27,8 @@ other_cause def t h opened has differs = is_other def (seen t) h opened.opened h
 
 -- the slot that counts
 pub counting_shown : (o : Trace) (a b d : ℕ) (first second gates : List ℕ) (m n : ℕ) (result : Option Slot)
-    → length first ≡ 8 → length second ≡ 8 → length gates ≡ 2 → a ≡ 128 → b ≡ 256 → d ≡ 384
-    → Reads o a first → Reads o b second → Reads o d gates → m ≡ from_be_bytes w64 first
-    → n ≡ from_be_bytes w64 second
+    → length first ≡ 8 → length second ≡ 8 → length gates ≡ 2 → a ≡ 128 → b ≡ 256 → d ≡ 384 → Reads o a first
+    → Reads o b second → Reads o d gates → m ≡ from_be_bytes w64 first → n ≡ from_be_bytes w64 second
     → result ≡ chosen (nat_eq (get_or gates 0 0) open_byte) (nat_eq (get_or gates 1 0) open_byte) (nat_le n m)
     → Shows o (λ c. counting c ≡ result)
 counting_shown t a b d first second gates m n result fs ss gs at_a at_b at_d fr sr gr m_is n_is is =
@@ -57,22 +39,8 @@ counting_shown t a b d first second gates m n result fs ss gs at_a at_b at_d fr 
 pub records_cause : (def : TagDef) (o : Trace) (slots log : ℕ) (i : Slot) (s : Summary) (u : Tuning) (a : ℕ)
     (byte : Option ℕ) → log ≡ lane_end slots → Shows o (λ c. IsDamage c log s.records a byte)
     → Shows o (CountsSummary def slots i s u) → Shows o (λ c. IsTagDamage def c a byte)
-records_cause def t slots log i s u a byte is damage has = records_broken def slots i s u (seen
-    t) a byte
+records_cause def t slots log i s u a byte is damage has = records_broken def slots i s u (seen t) a byte
     (subst (λ n. IsDamage (seen t) n s.records a byte) is damage) has
-
--- records and a summary that can't be
-pub parts_cause : (def : TagDef) (o : Trace) (slots log place : ℕ) (i : Slot) (s : Summary) (u : Tuning)
-    (step : Bool)
-    (rs : List Rec) (first : List ℕ) → def.step ≡ step → log ≡ lane_end slots → place ≡ summary_place i
-    → Shows o (λ c. HasRecords c log s.records rs) → (ArePartsOk u step rs s → ⊥) → length first ≡ 1
-    → Reads o place first
-    → Shows o (CountsSummary def slots i s u) → Shows o (λ c. IsTagDamage def c (summary_place i) (Some
-    (get_or first 0 0)))
-parts_cause def t slots log place i s u step rs first same_step is at records broken size read has =
-    parts_broken def slots i s u step rs first (seen t) same_step
-    (subst (λ n. HasRecords (seen t) n s.records rs) is records) broken size
-    (here_at first place (summary_place i) (seen t) at read) has
 
 -- a summary that counts
 pub counts_shown : (def : TagDef) (o : Trace) (slots : ℕ) (made : Tuning) (i : Slot) (s : Summary) (u : Tuning)
@@ -82,9 +50,7 @@ pub counts_shown : (def : TagDef) (o : Trace) (slots : ℕ) (made : Tuning) (i :
 counts_shown def o slots made i s u has counts whole bytes tuning = grind (arith, counts_summary)
 
 -- all that is stored
-pub stored_shown : (def : TagDef) (o : Trace) (slots : ℕ) (i : Slot) (s : Summary) (u : Tuning)
-    (x : Stored)
-    → Shows o (CountsSummary def slots i s u)
-    → Shows o (λ c. HasRecords c (lane_end slots) s.records x.recs.items)
+pub stored_shown : (def : TagDef) (o : Trace) (slots : ℕ) (i : Slot) (s : Summary) (u : Tuning) (x : Stored)
+    → Shows o (CountsSummary def slots i s u) → Shows o (λ c. HasRecords c (lane_end slots) s.records x.recs.items)
     → x.slot ≡ Some i → x.summary ≡ s → x.tuning ≡ u → Shows o (IsFoundOn def slots x)
 stored_shown def o slots i s u x has records slot summary tuning = grind (arith, stored_some)

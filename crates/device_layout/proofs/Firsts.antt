@@ -1,13 +1,11 @@
 -- The first of some places at which a test fails, as a loop comes to it.
-use Rattle.std.proofs.Common.{◌≡◌, ℕ, ◌+◌, ◌<◌, ◌≤◌, Bool, true, false, Option, cond, eqb}
-use Rattle.std.proofs.Common.{arith}
+use Rattle.std.proofs.Common.{◌≡◌, ℕ, ◌+◌, ◌<◌, ◌≤◌, Bool, true, false, Option, cond, eqb, arith}
 use Rattle.std.proofs.lemmas.Bool.{cond-false, eq-eqb, ne_eqb}
 use Rattle.std.specs.Option.{MatchOption}
-use Rattle.device_layout.specs.Firsts.{HoldsFrom, FailsFirst}
+use Rattle.device_layout.specs.{HoldsFrom, FailsFirst}
 
 -- it holds at one place more
-pub holds_more : (test : ℕ → Bool) (from i : ℕ) → HoldsFrom test from i → test i ≡ true
-    → HoldsFrom test from (i + 1)
+pub holds_more : (test : ℕ → Bool) (from i : ℕ) → HoldsFrom test from i → test i ≡ true → HoldsFrom test from (i + 1)
 holds_more test from i before here = grind arith
 
 -- a test by cases of its place holds where each of its cases does

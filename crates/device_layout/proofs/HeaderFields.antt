@@ -1,21 +1,15 @@
 -- How the field at each place of a header is tested, and what a header says that keeps them all.
-use Rattle.std.proofs.Common.{◌≡◌, ℕ, ◌+◌, ◌<◌, ◌≤◌, Bool, true, false}
-use Rattle.std.proofs.Common.{leb, List, length, get_or, drop}
-use Rattle.std.proofs.Common.{◌∙◌, ap, arith, length-take, length-drop, get_or-take, get_or-drop}
-use Rattle.std.specs.List.{list_all}
+use Rattle.std.proofs.Common.{◌≡◌, ℕ, ◌+◌, ◌<◌, ◌≤◌, Bool, true, false, leb, List, length, get_or, drop, ◌∙◌, ap, arith, length-take, length-drop, get_or-take, get_or-drop}
+use Rattle.std.proofs.lemmas.{List.Elements.All-from_get_or, List.Sums.list_all-from_AllPass}
 use Rattle.std.proofs.lemmas.Bool.{leb-true, le-leb, lt-leb, ne_eqb, and_parts}
-use Rattle.std.proofs.lemmas.List.Elements.{All-from_get_or}
-use Rattle.std.proofs.lemmas.List.Sums.{list_all-from_AllPass}
-use Rattle.trend_num.specs.Names.{is_name_byte, IsName}
-use Rattle.trend_num.specs.Ranges.{last_time, largest_value, TuningInRange}
-use Rattle.device_layout.specs.Headers.{most_slots, header_number_at, name_in, tuning_in, slots_in}
-use Rattle.device_layout.specs.Headers.{IsHeader}
+use Rattle.std.specs.List.{list_all}
+use Rattle.trend_num.specs.{Names.is_name_byte, Names.IsName, Ranges.last_time, Ranges.largest_value, Ranges.TuningInRange}
+use Rattle.device_layout.specs.{most_slots, header_number_at, name_in, tuning_in, slots_in, IsHeader}
 
 -- a list passes where each of its elements does
 all_pass : (test : ℕ → Bool) (xs : List ℕ) → ((k : ℕ) → k < length xs → test (get_or xs k 0) ≡ true)
     → list_all test xs ≡ true
-all_pass test xs each =
-    list_all-from_AllPass test xs (All-from_get_or (λ x. test x ≡ true) xs 0 each)
+all_pass test xs each = list_all-from_AllPass test xs (All-from_get_or (λ x. test x ≡ true) xs 0 each)
 
 module _ (h : List ℕ) (ok : IsHeader h) where
   -- the length of the name
@@ -39,8 +33,7 @@ module _ (h : List ℕ) (ok : IsHeader h) where
 
       spelled : (k : ℕ) → k < length (name_in h) → is_name_byte (get_or (name_in h) k 0) ≡ true
       spelled k there =
-          ap is_name_byte (get_or-take (get_or h 5 0) (drop 6 h) k 0 (omega (arith, long))
-          ∙ get_or-drop 6 h k 0)
+          ap is_name_byte (get_or-take (get_or h 5 0) (drop 6 h) k 0 (omega (arith, long)) ∙ get_or-drop 6 h k 0)
           ∙ name_byte (6 + k) (omega arith) (omega (arith, long))
 
   -- the numbers are a tuning

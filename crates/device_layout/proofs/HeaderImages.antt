@@ -1,25 +1,14 @@
 -- The header of a tag, after a gate, keeps the layout, and reads as what it was made of.
-use Rattle.std.proofs.Common.{◌≡◌, ℕ, zero, suc, ◌+◌, ◌-◌, ◌^◌, ◌<◌, ◌≤◌, Bool, true, false, cond}
-use Rattle.std.proofs.Common.{◌&&◌, eqb, leb, List, [], ◌∷◌, ◌++◌, length, get_or, take, drop, replicate}
-use Rattle.std.proofs.Common.{refl, sym, ◌∙◌}
-use Rattle.std.proofs.Common.{ap, arith, append_assoc, length-append, drop-drop, take_at, drop_at}
-use Rattle.std.proofs.Common.{get_or-drop}
-use Rattle.std.specs.Int.{w64, from_be_bytes, from_bool}
+use Rattle.std.proofs.Common.{◌≡◌, ℕ, ◌+◌, ◌-◌, ◌^◌, ◌<◌, ◌≤◌, Bool, true, false, cond, ◌&&◌, eqb, leb, List, [], ◌∷◌, ◌++◌, length, get_or, take, drop, replicate, refl, sym, ◌∙◌, ap, arith}
+use Rattle.std.proofs.Common.{append_assoc, length-append, drop-drop, take_at, drop_at, get_or-drop}
+use Rattle.std.proofs.lemmas.{List.get_or_append_left, List.get_or-append_right, List.get_or-replicate, List.length-replicate, List.Elements.All-get_or, List.Sums.AllPass-from_list_all}
+use Rattle.std.proofs.lemmas.{Nat.from_be_bytes-to_be_bytes_8, Nat.from_be_bytes-to_be_bytes_4}
 use Rattle.std.proofs.lemmas.Bool.{eq-eqb, eqb-true, eqb-false, le-leb, leb-true, leb-false, and_from}
-use Rattle.std.proofs.lemmas.List.{get_or_append_left, get_or-append_right, get_or-replicate}
-use Rattle.std.proofs.lemmas.List.{length-replicate}
-use Rattle.std.proofs.lemmas.List.Elements.{All-get_or}
-use Rattle.std.proofs.lemmas.List.Sums.{AllPass-from_list_all}
-use Rattle.std.proofs.lemmas.Nat.{from_be_bytes-to_be_bytes_8, from_be_bytes-to_be_bytes_4}
-use Rattle.trend_num.specs.declared.tag_def.TagDef.{TagDef}
-use Rattle.trend_num.specs.Names.{is_name_byte, IsName}
-use Rattle.trend_num.specs.Ranges.{last_time, largest_value, TuningInRange}
+use Rattle.std.specs.Int.{w64, from_be_bytes, from_bool}
+use Rattle.trend_num.specs.{declared.tag_def.TagDef.TagDef, Names.is_name_byte, Names.IsName, Ranges.last_time, Ranges.largest_value, Ranges.TuningInRange}
 use Rattle.archive_file.specs.Fields.{number_bytes}
 use Rattle.archive_file.proofs.Joins.{joined, joined_5}
-use Rattle.device_layout.specs.Firsts.{HoldsFrom}
-use Rattle.device_layout.specs.Headers.{letters, most_slots, header_number_at, name_in, tuning_in, slots_in}
-use Rattle.device_layout.specs.Headers.{is_step_in}
-use Rattle.device_layout.specs.Headers.{def_in, is_field_ok, IsHeader, tuning_image, header_image}
+use Rattle.device_layout.specs.{HoldsFrom, letters, most_slots, header_number_at, name_in, tuning_in, slots_in, is_step_in, def_in, is_field_ok, IsHeader, tuning_image, header_image}
 
 -- what comes after the name and its zeros
 abbrev numbers_image : TagDef → ℕ → List ℕ
@@ -47,8 +36,7 @@ header_built def slots a b c d e f first name tuning lane step zeros = grind (ar
 
 -- a name, its length before it and zeros after it, is added piece by piece
 pub name_built : (name a b c d zeros : List ℕ) → b ≡ a ++ (length name ∷ []) → c ≡ b ++ name → d ≡ c ++ zeros
-    → zeros ≡ replicate (64 - length name) 0
-    → d ≡ a ++ (length name ∷ (name ++ replicate (64 - length name) 0))
+    → zeros ≡ replicate (64 - length name) 0 → d ≡ a ++ (length name ∷ (name ++ replicate (64 - length name) 0))
 name_built name a b c d zeros counted named padded is =
     joined a b d (length name ∷ []) (name ++ zeros) counted (joined b c d name zeros named padded)
     ∙ ap (λ l. a ++ (length name ∷ (name ++ l))) is
@@ -79,12 +67,7 @@ module _ (gate : ℕ) (def : TagDef) (slots : ℕ) (name : IsName def.name) wher
   behind_name =
       ap (drop 64) (sym (append_assoc def.name (padding_of def) (numbers_image def slots)))
       ∙ drop_at (def.name ++ padding_of def) (numbers_image def slots) 64
-      (omega (
-        arith,
-        name.fits,
-        length-append def.name (padding_of def),
-        length-replicate {A = ℕ} (64 - length def.name) 0,
-      ))
+      (grind (arith, length-append, length-replicate))
 
   -- each at its place
   number_there : (k n : ℕ) → n < 2 ^ 64 → take 8 (drop k (numbers_image def slots)) ≡ number_bytes 8 n
@@ -174,12 +157,7 @@ module _ (gate : ℕ) (def : TagDef) (slots : ℕ) (name : IsName def.name) wher
   -- the letters
   letter_ok : (i : ℕ) → 1 ≤ i → i ≤ 4
       → eqb (get_or (header_with gate def slots) i 0) (get_or letters (i - 1) 0) ≡ true
-  letter_ok zero low high = absurd (omega (arith, low))
-  letter_ok (suc zero) low high = refl
-  letter_ok (suc (suc zero)) low high = refl
-  letter_ok (suc (suc (suc zero))) low high = refl
-  letter_ok (suc (suc (suc (suc zero)))) low high = refl
-  letter_ok (suc (suc (suc (suc (suc i))))) low high = absurd (omega (arith, high))
+  letter_ok i low high = grind arith
 
   -- the length of the name
   length_ok : (leb 1 (length def.name) && leb (length def.name) 64) ≡ true
@@ -197,8 +175,7 @@ module _ (gate : ℕ) (def : TagDef) (slots : ℕ) (name : IsName def.name) wher
 
   -- the flag
   step_ok : (i : ℕ) → i ≡ 114 → leb (get_or (header_with gate def slots) i 0) 1 ≡ true
-  step_ok i is = ap (λ k. leb (get_or (header_with gate def slots) k 0) 1) is
-      ∙ ap (λ b. leb b 1) step_there ∙ flag_small def.step
+  step_ok i is = grind (arith, step_there, flag_small)
 
   -- each field keeps the layout
   fields_ok : TuningInRange def.tuning → 1 ≤ slots → slots ≤ 65536
@@ -225,14 +202,7 @@ module _ (gate : ℕ) (def : TagDef) (slots : ℕ) (name : IsName def.name) wher
       (λ not_86.
       either_ok (eqb i 94) _ _
       (number_ok 24 last_time i u.comp_min (ap (λ d. d.tuning.comp_min) said) tuned.comp_min)
-      (λ not_94.
-      either_ok (eqb i 102) _ _
-      (number_ok 32 last_time i u.comp_max (ap (λ d. d.tuning.comp_max) said) tuned.comp_max)
-      (λ not_102.
-      either_ok (eqb i 110) _ _ (λ here. slots_ok some few) (λ not_110.
-      either_ok (eqb i 114) _ _ (λ here. step_ok i (eqb-true i 114 here)) (λ not_114.
-      either_ok (leb 115 i) _ _ (λ tail. eq-eqb (get_or h i 0) 0 (tail_zero i (leb-true 115 i tail) high))
-      (λ within. refl))))))))))))
+      (λ not_94. grind (arith, either_ok, number_ok, slots_ok, step_ok, eqb-true, eq-eqb, tail_zero, leb-true)))))))))
 
   -- all of it is a header
   pub header_made : TuningInRange def.tuning → 1 ≤ slots → slots ≤ 65536 → IsHeader (header_with gate def slots)

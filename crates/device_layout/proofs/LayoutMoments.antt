@@ -1,30 +1,16 @@
 -- What a crash leaves while a layout is made: a new device, or the whole layout.
-use Rattle.std.proofs.Common.{◌≡◌, inl, inr, ℕ, ◌+◌, ◌-◌, ◌*◌, ◌<◌, ◌≤◌, List, [], ◌∷◌, ◌++◌, length}
-use Rattle.std.proofs.Common.{get_or, take, drop, replicate, refl, sym}
-use Rattle.std.proofs.Common.{◌∙◌, ap}
-use Rattle.std.proofs.Common.{arith, length-append, length-take, length-drop, take-take, take_at}
-use Rattle.std.proofs.Common.{get_or-take, get_or-drop}
-use Rattle.std.proofs.lemmas.Bool.{cases_eq}
-use Rattle.std.proofs.lemmas.List.{get_or-append_right, get_or-replicate, length-replicate}
-use Rattle.trend_num.specs.declared.tag_def.TagDef.{TagDef}
-use Rattle.trend_num.specs.Names.{IsName}
-use Rattle.trend_num.specs.Ranges.{TuningInRange}
+use Rattle.std.proofs.Common.{◌≡◌, inl, inr, ℕ, ◌+◌, ◌-◌, ◌*◌, ◌<◌, ◌≤◌, List, [], ◌∷◌, ◌++◌, length, get_or, take, drop, replicate, refl, sym, ◌∙◌, ap, arith, length-append, length-take, length-drop}
+use Rattle.std.proofs.Common.{take-take, take_at, get_or-take, get_or-drop}
+use Rattle.std.proofs.lemmas.{Bool.cases_eq, List.get_or-append_right, List.get_or-replicate, List.length-replicate}
+use Rattle.trend_num.specs.{declared.tag_def.TagDef.TagDef, Names.IsName, Ranges.TuningInRange}
 use Rattle.trend_model.specs.State.{nothing_taken}
-use Rattle.disk_model.specs.Traces.{Trace, seen, written}
-use Rattle.disk_model.specs.Images.{Now, FromOld, IsSettled}
-use Rattle.disk_model.specs.Moments.{During}
-use Rattle.disk_model.specs.Calls.{Reaches, Sees}
-use Rattle.disk_model.specs.Gates.{open_byte, IsShut, IsGuarded}
-use Rattle.disk_model.proofs.Images.{present}
-use Rattle.disk_model.proofs.Moments.{during_now, weaker, in_turn}
+use Rattle.disk_model.specs.{Traces.Trace, Traces.seen, Traces.written, Images.Now, Images.FromOld, Images.IsSettled, Moments.During, Calls.Reaches, Calls.Sees, Gates.open_byte, Gates.IsShut}
+use Rattle.disk_model.specs.{Gates.IsGuarded, Gates.IsNew}
+use Rattle.disk_model.proofs.{Images.present, Moments.during_now, Moments.weaker, Moments.in_turn}
 use Rattle.archive_file.specs.TextHeads.{IsLeftOrNew}
 use Rattle.event_queue.specs.Slots.{lane_end}
-use Rattle.device_layout.specs.Headers.{header_image}
-use Rattle.disk_model.specs.Gates.{IsNew}
-use Rattle.device_layout.specs.Recovery.{Recovers}
-use Rattle.device_layout.specs.Layouts.{IsMade}
-use Rattle.device_layout.proofs.HeaderImages.{length-header_image}
-use Rattle.device_layout.proofs.NewLayout.{made_recovers}
+use Rattle.device_layout.specs.{header_image, Recovers, IsMade}
+use Rattle.device_layout.proofs.{HeaderImages.length-header_image, NewLayout.made_recovers}
 
 -- ---- the gate is closed
 
@@ -33,12 +19,8 @@ pub new_now : (o : Trace) → IsNew (seen o) → IsSettled o → Now o IsNew
 new_now o new settled = grind arith
 
 -- until its gate is closed, a new device stays one
-pub new_closed : (o o1 : Trace) → IsNew (seen o) → IsSettled o → During o o1 (IsLeftOrNew o)
-    → During o o1 IsNew
-new_closed o o1 new settled closing = weaker o o1 (IsLeftOrNew o) IsNew either closing
-  where
-    either : (c : List ℕ) → IsLeftOrNew o c → IsNew c
-    either c h = grind (arith, new_now)
+pub new_closed : (o o1 : Trace) → IsNew (seen o) → IsSettled o → During o o1 (IsLeftOrNew o) → During o o1 IsNew
+new_closed o o1 new settled closing = grind (arith, weaker, new_now)
 
 -- ---- the layout is written after it
 
@@ -95,11 +77,9 @@ module _ (def : TagDef) (slots : ℕ) (bytes : List ℕ) (name : IsName def.name
         → During o o2 (λ c. Recovers def c (nothing_taken def.tuning))
     layout_recovers o2 guarded =
         in_turn o o1 o2 (λ c. Recovers def c (nothing_taken def.tuning)) (new_recovers def o o1 closed)
-        (weaker o1 o2 (FromOld o1 (IsGuarded 1 bytes 0)) (λ c. Recovers def c (nothing_taken def.tuning))
-        either guarded)
+        (grind (arith, weaker, either))
       where
-        either : (c : List ℕ) → FromOld o1 (IsGuarded 1 bytes 0) c
-            → Recovers def c (nothing_taken def.tuning)
+        either : (c : List ℕ) → FromOld o1 (IsGuarded 1 bytes 0) c → Recovers def c (nothing_taken def.tuning)
         either c from = elim (cases_eq (get_or c 0 0) open_byte) [
           | inl opened ↦ made_recovers def slots c (guarded_made from.0 c from.2 opened) tuned name some few
           | inr shut ↦ inl (inr shut, refl)
@@ -107,8 +87,7 @@ module _ (def : TagDef) (slots : ℕ) (bytes : List ℕ) (name : IsName def.name
 
     -- which a read gives in the end
     pub layout_made : (o2 : Trace) → During o1 o2 (FromOld o1 (IsGuarded 1 bytes 0))
-        → Sees o2 (written (written (seen o1) 1 bytes) 0 (open_byte ∷ []))
-        → IsMade def slots (seen o2)
+        → Sees o2 (written (written (seen o1) 1 bytes) 0 (open_byte ∷ [])) → IsMade def slots (seen o2)
     layout_made t guarded sees =
         let left = during_now o1 t (FromOld o1 (IsGuarded 1 bytes 0)) guarded in
         let from = left.each (seen t) (present t) in

@@ -1,24 +1,12 @@
 -- What a layout says that was just made: its header is that of the tag, its lane is empty, nothing was taken.
-use Rattle.std.proofs.Common.{◌≡◌, ◌≢◌, inr, ℕ, ◌<◌, ◌≤◌, Bool, List, [], ◌∷◌, length, get_or}
-use Rattle.std.proofs.Common.{map, None, refl, sym, ◌∙◌, ap, subst, arith}
-use Rattle.trend_num.specs.declared.tuning.Tuning.{Tuning}
-use Rattle.trend_num.specs.declared.tag_def.TagDef.{TagDef}
-use Rattle.trend_num.specs.Names.{IsName}
-use Rattle.trend_num.specs.Ranges.{TuningInRange}
-use Rattle.trend_model.specs.History.{Raw}
-use Rattle.trend_model.specs.Parts.{ArePartsOk}
-use Rattle.trend_model.specs.State.{nothing_taken}
+use Rattle.std.proofs.Common.{◌≡◌, ◌≢◌, inr, ℕ, ◌<◌, ◌≤◌, Bool, List, [], length, get_or, map, None, sym, ◌∙◌, ap, subst, arith}
+use Rattle.trend_num.specs.{declared.tuning.Tuning.Tuning, declared.tag_def.TagDef.TagDef, Names.IsName, Ranges.TuningInRange}
+use Rattle.trend_model.specs.{History.Raw, Parts.ArePartsOk, State.nothing_taken}
 use Rattle.trend_model.proofs.HistoryLaw.{nothing_ruled}
 use Rattle.disk_model.specs.Gates.{open_byte}
-use Rattle.event_queue.specs.Slots.{gate_of}
-use Rattle.event_queue.specs.Lanes.{lane_points, IsLane}
-use Rattle.event_queue.specs.Places.{HasRoom}
+use Rattle.event_queue.specs.{Slots.gate_of, Lanes.lane_points, Lanes.IsLane, Places.HasRoom}
 use Rattle.event_queue.proofs.Filled.{lane_points_used}
-use Rattle.device_layout.specs.Headers.{slots_in, def_in, IsHeader}
-use Rattle.device_layout.specs.Recovery.{header_of, log_place, counting, no_summary, start_of}
-use Rattle.device_layout.specs.Recovery.{values_beyond}
-use Rattle.device_layout.specs.Recovery.{IsOfTag, IsStored, IsReplayed, Recovers}
-use Rattle.device_layout.specs.Layouts.{IsMade}
+use Rattle.device_layout.specs.{slots_in, def_in, IsHeader, header_of, log_place, counting, no_summary, start_of, values_beyond, IsOfTag, IsStored, IsReplayed, Recovers, IsMade}
 use Rattle.device_layout.proofs.HeaderImages.{header_with, slots_image, def_image, header_made}
 
 -- no records and no summary are parts of a tag
@@ -28,8 +16,7 @@ no_parts u step = grind (arith, nothing_ruled)
 -- the first bytes are the header after the gate
 pub made_first : (def : TagDef) (slots : ℕ) (c : List ℕ) → IsMade def slots c
     → header_of c ≡ header_with open_byte def slots
-made_first def slots [] made = absurd (omega (arith, made.long))
-made_first def slots (x ∷ c) made = grind (arith, header_with)
+made_first def slots c made = grind (arith, header_with)
 
 module _ (def : TagDef) (slots : ℕ) (c : List ℕ) (made : IsMade def slots c) where
   -- no lane slot is open
@@ -48,8 +35,7 @@ module _ (def : TagDef) (slots : ℕ) (c : List ℕ) (made : IsMade def slots c)
   pub made_lane : (taken : ℕ) → IsLane slots c taken slots
   made_lane taken = record { sound = λ k there opened. absurd (made_shut k there opened) }
 
-  module _ (tuned : TuningInRange def.tuning) (name : IsName def.name) (some : 1 ≤ slots)
-      (few : slots ≤ 65536) where
+  module _ (tuned : TuningInRange def.tuning) (name : IsName def.name) (some : 1 ≤ slots) (few : slots ≤ 65536) where
     -- no summary counts
     pub made_counting : counting c ≡ None
     made_counting = grind arith
@@ -65,8 +51,7 @@ module _ (def : TagDef) (slots : ℕ) (c : List ℕ) (made : IsMade def slots c)
 
     -- and how many lane slots there are
     pub made_slots : slots_in (header_of c) ≡ slots
-    made_slots = ap slots_in (made_first def slots c made)
-        ∙ slots_image open_byte def slots name (omega arith)
+    made_slots = ap slots_in (made_first def slots c made) ∙ slots_image open_byte def slots name (omega arith)
 
     -- the records would begin after the lane
     pub made_long : log_place c ≤ length c
@@ -74,22 +59,11 @@ module _ (def : TagDef) (slots : ℕ) (c : List ℕ) (made : IsMade def slots c)
 
     -- the device is the tag's
     pub made_tag : IsOfTag def c
-    made_tag = record {
-      opened = made.opened;
-      header = made_header;
-      same_name = ap (λ d. d.name) made_def;
-      same_step = ap (λ d. d.step) made_def;
-    }
+    made_tag = grind (arith, made_header, made_def)
 
     -- no record and no summary are there
     pub made_stored : IsStored def c [] no_summary
-    made_stored = record {
-      tag = made_tag;
-      long = made_long;
-      summary = rw made_counting refl;
-      records = record { counted = refl; records = record { in_range = tt; image = refl } };
-      parts = no_parts _ def.step;
-    }
+    made_stored = grind (arith, made_tag, made_long, made_counting, no_parts)
 
     -- nor a value
     made_none : values_beyond c 0 ≡ []

@@ -1,41 +1,21 @@
 -- A device has at most one damage: a later rule is reported only if all before it hold, and each rule has one first
 -- place.
-use Rattle.std.proofs.Common.{◌≡◌, inl, inr, ℕ, zero, suc, ◌+◌, ◌-◌, ◌*◌, ◌<◌, ◌≤◌, min, Bool, true, false, List, [], length}
-use Rattle.std.proofs.Common.{get_or, take, drop, map, Option, None, Some, refl, sym, ◌∙◌, ap, ap₂, subst, arith, length-take}
-use Rattle.std.proofs.Common.{add-zero, add-suc}
-use Rattle.std.proofs.lemmas.Bool.{cases_order}
-use Rattle.std.proofs.lemmas.List.{get_or-take, take-take, length-take-le, drop-drop}
-use Rattle.trend_num.specs.Limits.{most_records}
-use Rattle.trend_num.specs.declared.archive.Rec.{Rec}
-use Rattle.trend_num.specs.declared.archive.Summary.{Summary}
-use Rattle.trend_num.specs.declared.tag_def.TagDef.{TagDef}
-use Rattle.trend_num.specs.Ranges.{InRange}
-use Rattle.trend_model.specs.History.{Raw}
-use Rattle.trend_model.specs.Parts.{ArePartsOk}
-use Rattle.trend_model.specs.State.{replay}
+use Rattle.std.proofs.Common.{◌≡◌, inl, inr, ℕ, zero, suc, ◌+◌, ◌-◌, ◌*◌, ◌<◌, ◌≤◌, min, Bool, true, false, List, [], length, get_or, take, drop, map, Option, Some, refl, sym, ◌∙◌, ap, ap₂, subst}
+use Rattle.std.proofs.Common.{arith, length-take, add-zero, add-suc}
+use Rattle.std.proofs.lemmas.{Bool.cases_order, List.get_or-take, List.take-take, List.length-take-le, List.drop-drop}
+use Rattle.trend_num.specs.{Limits.most_records, declared.archive.Rec.Rec, declared.archive.Summary.Summary, declared.tag_def.TagDef.TagDef, Ranges.InRange}
+use Rattle.trend_model.specs.{History.Raw, State.replay}
 use Rattle.disk_model.specs.Gates.{IsBegun}
-use Rattle.archive_file.specs.Fields.{point_at}
-use Rattle.archive_file.specs.Places.{HasRecords, BreaksAt, IsRecordBroken, IsDamage}
-use Rattle.event_queue.specs.Slots.{place_of, slot_at, batch_at}
+use Rattle.archive_file.specs.{Fields.point_at, Places.HasRecords, Places.BreaksAt, Places.IsRecordBroken, Places.IsDamage}
+use Rattle.event_queue.specs.{Slots.place_of, Slots.slot_at, Slots.batch_at, Lanes.points_before, Lanes.lane_points, Lanes.IsLane, Damages.BreaksSlotAt as SlotBreaksAt, Damages.IsPointBroken}
+use Rattle.event_queue.specs.{Damages.IsLaneDamage}
 use Rattle.event_queue.proofs.Batches.{length-points_in}
-use Rattle.event_queue.specs.Lanes.{points_before, lane_points, IsLane}
-use Rattle.event_queue.specs.Damages.{BreaksSlotAt as SlotBreaksAt, IsPointBroken, IsLaneDamage}
-use Rattle.device_layout.specs.declared.slot.Slot.{Slot}
-use Rattle.device_layout.specs.declared.slot.Slot.TheVariants.{First}
-use Rattle.device_layout.specs.Firsts.{HoldsFrom, FailsFirst}
-use Rattle.device_layout.specs.Headers.{is_field_ok, slots_in, tuning_in, IsHeader}
-use Rattle.device_layout.specs.SlotFields.{IsSlotBroken}
-use Rattle.device_layout.specs.Recovery.{header_of, log_place, counting, slot_bytes, summary_place, HasSummary, start_of}
-use Rattle.device_layout.specs.Recovery.{recovered_tuning, IsStored}
-use Rattle.device_layout.specs.Damages.{EndsBefore, StandsThere, IsTagDamage, IsHeaderDamage, IsLayoutDamage}
-use Rattle.device_layout.specs.Damages.{IsSummaryDamage, IsLogDamage, ArePartsDamaged, IsQueueDamage, IsValuePlace}
-use Rattle.device_layout.specs.Damages.{IsValueDamage}
-use Rattle.device_layout.specs.Damages.IsTagDamage.{EndsShort, BadHeader, BadLayout, BadSummary, BadLog, BadParts}
-use Rattle.device_layout.specs.Damages.IsTagDamage.{BadQueue, BadValue}
-use Rattle.device_layout.proofs.SlotExact.{spelled_not_broken}
-use Rattle.device_layout.proofs.OneState.{summary_is_one, records_are_one}
-use Rattle.device_layout.proofs.Undamaged.{log_undamaged, lane_undamaged, slot_holds, point_there, fits_at, grows, value_among}
-use Rattle.device_layout.proofs.Undamaged.{before_and_at}
+use Rattle.device_layout.specs.{declared.slot.Slot.Slot, HoldsFrom, FailsFirst, is_field_ok, slots_in, IsHeader, IsSlotBroken, header_of, log_place, counting, slot_bytes, summary_place, HasSummary}
+use Rattle.device_layout.specs.{start_of, IsStored, EndsBefore, StandsThere, IsTagDamage, IsHeaderDamage, IsLayoutDamage, IsSummaryDamage, IsLogDamage, ArePartsDamaged, IsQueueDamage, IsValuePlace}
+use Rattle.device_layout.specs.{IsValueDamage}
+use Rattle.device_layout.specs.Damages.IsTagDamage.{EndsShort, BadHeader, BadLayout, BadSummary, BadLog, BadParts, BadQueue, BadValue}
+use Rattle.device_layout.proofs.{SlotExact.spelled_not_broken, OneState.summary_is_one, OneState.records_are_one}
+use Rattle.device_layout.proofs.Undamaged.{log_undamaged, lane_undamaged, slot_holds, point_there, fits_at, grows, value_among, before_and_at}
 
 -- ---- the first place of each rule
 
@@ -80,8 +60,7 @@ one_record c at count a b byte other long (inl x) (inr (xs, j, y)) = absurd (ome
 one_record c at count a b byte other long (inr (rs, k, x)) (inl y) = absurd (omega (arith, y.short, x.within))
 one_record c at count a b byte other long (inr (rs, k, x)) (inr (xs, j, y)) = elim (cases_order (length rs) (length xs)) [
   | inl same ↦
-      let there = subst (λ n. BreaksAt (take 17 (drop (at + 17 * n) c)) k) same x.breaks in
-      omega (arith, x.place, y.place, same, one_break (take 17 (drop (at + 17 * length xs) c)) k j there y.breaks)
+      grind (arith, one_break)
   | inr (inl less) ↦ absurd (earlier c at count a b byte other rs xs k j long x y less)
   | inr (inr more) ↦ absurd (earlier c at count b a other byte xs rs j k long y x more)
 ]
@@ -149,16 +128,7 @@ value_before def c a b byte other rs s n m j i k l x y less =
 one_value : (slots : ℕ) (c : List ℕ) (taken n a b j i k l : ℕ) → IsValuePlace slots c taken n a j i
     → IsValuePlace slots c taken n b k l → a ≡ b
 one_value slots c taken n a b j i k l x y = elim (cases_order j k) [
-  | inl same ↦ omega (
-    arith,
-    x.place,
-    y.place,
-    x.number,
-    y.number,
-    same,
-    ap (place_of slots) same,
-    ap (λ m. length (points_before slots c taken m)) same,
-  )
+  | inl same ↦ grind arith
   | inr (inl less) ↦ absurd (value_apart slots c taken n a b j i k l x y less)
   | inr (inr more) ↦ absurd (value_apart slots c taken n b a k l j i y x more)
 ]
@@ -231,14 +201,7 @@ module _ (def : TagDef) (c : List ℕ) where
 
   -- if rule k + 1 is reported, rule k and all before it hold
   before : (k a : ℕ) (byte : Option ℕ) → At (suc k) a byte → Held k
-  before zero a byte d = d.long
-  before (suc zero) a byte d = d.tag.header
-  before (suc (suc zero)) a byte (i, o, d) = (d.tag.header, d.long)
-  before (suc (suc (suc zero))) a byte (s, d) = (d.tag.header, d.long, (s, d.summary))
-  before (suc (suc (suc (suc zero)))) a byte (rs, s, i, d) = grind arith
-  before (suc (suc (suc (suc (suc zero))))) a byte (rs, s, d) = (rs, s, d.stored)
-  before (suc (suc (suc (suc (suc (suc zero)))))) a byte (rs, s, n, j, i, d) = (rs, s, d.stored, d.lane)
-  before (suc (suc (suc (suc (suc (suc (suc k))))))) a byte d = absurd d
+  before k a byte h3 = grind arith
 
   same_sum : (s x : Summary) → HasSummary c (counting c) s → HasSummary c (counting c) x → s ≡ x
   same_sum s x has other = summary_is_one c (counting c) s x has other
@@ -252,17 +215,14 @@ module _ (def : TagDef) (c : List ℕ) where
   refuted zero a byte d h = omega (arith, d.1.short, h)
   refuted (suc zero) a byte d h = never (is_field_ok (header_of c) a) d.broken.fails (h.fields a d.broken.low d.broken.within)
   refuted (suc (suc zero)) a byte d h = omega (arith, d.ends.short, h.1)
-  refuted (suc (suc (suc zero))) a byte (i, o, d) h =
-      let has = subst (λ x. HasSummary c x h.2.0) d.counts h.2.1 in
-      spelled_not_broken h.2.0 (slot_bytes c i) o has.0 has.1 d.broken
+  refuted (suc (suc (suc zero))) a byte (i, o, d) h = grind (arith, spelled_not_broken)
   refuted (suc (suc (suc (suc zero)))) a byte (s, d) (header, long, (x, xs, summary, records)) =
       log_undamaged c (log_place c) x.records a byte xs long records
       (subst (λ y. IsDamage c (log_place c) y.records a byte) (same_sum s x d.summary summary) d.broken)
   refuted (suc (suc (suc (suc (suc zero))))) a byte (rs, s, i, d) (xs, x, h) =
       let same = same_sum s x (subst (λ y. HasSummary c y s) (sym d.counts) d.summary) h.summary in
       let recs = same_recs s x rs xs same d.records h.records in
-      d.broken (subst (λ y. ArePartsOk (recovered_tuning (tuning_in (header_of c)) y.tuning) def.step rs y) (sym same)
-      (subst (λ l. ArePartsOk (recovered_tuning (tuning_in (header_of c)) x.tuning) def.step l x) (sym recs) h.parts))
+      d.broken (grind arith)
   refuted (suc (suc (suc (suc (suc (suc zero)))))) a byte (rs, s, d) (xs, x, h, lane) =
       lane_undamaged (slots_in (header_of c)) c x.taken a byte lane
       (subst (λ y. IsLaneDamage (slots_in (header_of c)) c y.taken a byte) (same_sum s x d.stored.summary h.summary) d.broken)
@@ -273,11 +233,7 @@ module _ (def : TagDef) (c : List ℕ) where
   one_there a b byte other x y same = (same, x.byte_there ∙ ap (λ i. Some (get_or c i 0)) same ∙ sym y.byte_there)
 
   one_count : (i j : Slot) → counting c ≡ Some i → counting c ≡ Some j → i ≡ j
-  one_count i j x y = ap (slot_of First) (sym x ∙ y)
-    where
-      slot_of : Slot → Option Slot → Slot
-      slot_of d None = d
-      slot_of d (Some k) = k
+  one_count i j x y = grind arith
 
   -- each rule reports one place
   one_at : (k a b : ℕ) (byte other : Option ℕ) → At k a byte → At k b other → (a ≡ b) × (byte ≡ other)

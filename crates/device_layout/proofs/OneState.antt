@@ -1,15 +1,11 @@
 -- An image recovers one state at most.
 use Rattle.std.proofs.Common.{◌≡◌, inl, inr, List, ℕ, Option, None, Some, sym, ◌∙◌, arith}
-use Rattle.trend_num.specs.declared.archive.Rec.{Rec}
-use Rattle.trend_num.specs.declared.archive.Summary.{Summary}
-use Rattle.trend_num.specs.declared.tag_def.TagDef.{TagDef}
+use Rattle.trend_num.specs.{declared.archive.Rec.Rec, declared.archive.Summary.Summary, declared.tag_def.TagDef.TagDef}
 use Rattle.trend_model.specs.State.{State}
+use Rattle.disk_model.specs.Gates.{IsNew}
 use Rattle.archive_file.specs.Places.{HasRecords}
 use Rattle.archive_file.proofs.Spellings.{one_list, one_summary}
-use Rattle.device_layout.specs.declared.slot.Slot.{Slot}
-use Rattle.device_layout.specs.Recovery.{HasSummary, IsStored}
-use Rattle.disk_model.specs.Gates.{IsNew}
-use Rattle.device_layout.specs.Recovery.{IsRecovered, Recovers}
+use Rattle.device_layout.specs.{declared.slot.Slot.Slot, HasSummary, IsStored, IsRecovered, Recovers}
 
 -- an image with what is stored is not new
 not_new : (def : TagDef) (c : List ℕ) (rs : List Rec) (s : Summary) → IsStored def c rs s → IsNew c → ⊥

@@ -1,35 +1,17 @@
 -- What was read of a device is on it: the header, the slot that counts, its summary, and where they are broken.
-use Rattle.std.proofs.Common.{◌≡◌, ℕ, ◌+◌, ◌<◌, ◌≤◌, Bool, List, [], length, take, drop}
-use Rattle.std.proofs.Common.{get_or, Option, Some, refl, sym, ◌∙◌, ap, subst, arith, nat_le, nat_eq}
+use Rattle.std.proofs.Common.{◌≡◌, ℕ, ◌+◌, ◌<◌, ◌≤◌, Bool, List, length, take, drop, get_or, Option, Some, refl, sym, ◌∙◌, ap, subst, arith, nat_le, nat_eq}
 use Rattle.std.proofs.lemmas.List.{take-take, get_or-take, get_or-drop}
 use Rattle.std.specs.Int.{w64, from_be_bytes}
-use Rattle.trend_num.specs.declared.archive.Summary.{Summary}
-use Rattle.trend_num.specs.declared.archive.Rec.{Rec}
-use Rattle.trend_num.specs.declared.tuning.Tuning.{Tuning}
-use Rattle.trend_num.specs.declared.tag_def.TagDef.{TagDef}
+use Rattle.trend_num.specs.{declared.archive.Summary.Summary, declared.archive.Rec.Rec, declared.tuning.Tuning.Tuning, declared.tag_def.TagDef.TagDef}
 use Rattle.trend_model.specs.Parts.{ArePartsOk}
-use Rattle.disk_model.specs.Gates.{open_byte, IsOpen}
-use Rattle.archive_file.specs.Places.{HasRecords, IsDamage}
-use Rattle.archive_file.specs.Summaries.{summary_image, IsSummary}
+use Rattle.disk_model.specs.{Gates.open_byte, Gates.IsOpen, Traces.Trace, Calls.Shows}
+use Rattle.archive_file.specs.{Places.HasRecords, Places.IsDamage, Summaries.summary_image, Summaries.IsSummary, declared.failure.ScanNo.ScanNo}
 use Rattle.event_queue.specs.Slots.{lane_end}
-use Rattle.device_layout.specs.declared.header.Header.{Header}
-use Rattle.device_layout.specs.declared.layout_reader.Stored.{Stored}
-use Rattle.device_layout.specs.declared.slot.Slot.{Slot}
+use Rattle.device_layout.specs.{declared.header.Header.Header, declared.layout_reader.Stored.Stored, declared.slot.Slot.Slot, def_in, slots_in, IsHeader, IsHeaderBroken, IsSlotBroken, header_of}
+use Rattle.device_layout.specs.{summary_place, slot_bytes, taken_in, chosen, counting, recovered_tuning, IsOfTag, IsTagDamage, IsOther, HasHeader, HasLayout, CountsSummary, IsFoundOn, IsCause}
+use Rattle.device_layout.specs.{refusal_of, Damages.IsTagDamage.BadSummary, Damages.IsTagDamage.BadLog, Damages.IsTagDamage.BadParts, declared.failure.OpenNo.OpenNo}
 use Rattle.device_layout.specs.declared.slot.Slot.TheVariants.{First, Second}
-use Rattle.device_layout.specs.Headers.{def_in, slots_in, IsHeader, IsHeaderBroken}
-use Rattle.device_layout.specs.SlotFields.{IsSlotBroken}
-use Rattle.device_layout.specs.Recovery.{header_of, summary_place, slot_bytes}
-use Rattle.device_layout.specs.Recovery.{taken_in, chosen}
-use Rattle.device_layout.specs.Recovery.{counting, HasSummary, recovered_tuning, IsOfTag}
-use Rattle.device_layout.specs.Damages.{IsTagDamage}
-use Rattle.device_layout.specs.Damages.IsTagDamage.{BadSummary, BadLog, BadParts}
-use Rattle.device_layout.specs.Readings.{IsOther, HasHeader, HasLayout, CountsSummary, IsFoundOn}
-use Rattle.device_layout.specs.Readings.{IsCause, refusal_of}
-use Rattle.device_layout.specs.declared.failure.OpenNo.{OpenNo}
-use Rattle.archive_file.specs.declared.failure.ScanNo.{ScanNo}
 use Rattle.archive_file.specs.declared.failure.ScanNo.TheVariants as scan
-use Rattle.disk_model.specs.Traces.{Trace}
-use Rattle.disk_model.specs.Calls.{Shows}
 
 -- ---- causes
 
@@ -61,9 +43,8 @@ here_128 : (bytes : List ℕ) (at : ℕ) (c : List ℕ) → length bytes ≡ 128
 here_128 bytes at c size here = ap (λ n. take n (drop at c)) (sym size) ∙ sym here
 
 -- the byte there that has number k among those read
-pub byte_here : (bytes : List ℕ) (at : ℕ) (c : List ℕ) (k : ℕ) → k < length bytes → bytes ≡ take (length bytes)
-    (drop at c)
-    → get_or c (at + k) 0 ≡ get_or bytes k 0
+pub byte_here : (bytes : List ℕ) (at : ℕ) (c : List ℕ) (k : ℕ) → k < length bytes
+    → bytes ≡ take (length bytes) (drop at c) → get_or c (at + k) 0 ≡ get_or bytes k 0
 byte_here bytes at c k within here = grind (arith, get_or-take, get_or-drop)
 
 -- ---- the header
@@ -108,8 +89,7 @@ front_end : (slots : ℕ) → 400 ≤ lane_end slots
 front_end slots = omega arith
 
 pub summary_broken : (def : TagDef) (slots : ℕ) (made : Tuning) (i : Slot) (bytes c : List ℕ) (at : ℕ)
-    → length bytes ≡ 128
-    → bytes ≡ take (length bytes) (drop (summary_place i) c) → at < 128 → IsSlotBroken bytes at
+    → length bytes ≡ 128 → bytes ≡ take (length bytes) (drop (summary_place i) c) → at < 128 → IsSlotBroken bytes at
     → HasLayout def slots made c → counting c ≡ Some i
     → IsTagDamage def c (summary_place i + at) (Some (get_or bytes at 0))
 summary_broken def slots made i bytes c at size here within broken has counts =
@@ -127,12 +107,7 @@ summary_broken def slots made i bytes c at size here within broken has counts =
 pub records_broken : (def : TagDef) (slots : ℕ) (i : Slot) (s : Summary) (u : Tuning) (c : List ℕ) (a : ℕ)
     (byte : Option ℕ)
     → IsDamage c (lane_end slots) s.records a byte → CountsSummary def slots i s u c → IsTagDamage def c a byte
-records_broken def slots i s u c a byte damage has = BadLog s (record {
-  tag = has.tag;
-  long = has.long;
-  summary = subst (λ x. HasSummary c x s) (sym has.counts) has.summary;
-  broken = subst (λ n. IsDamage c (lane_end n) s.records a byte) has.slots_are damage;
-})
+records_broken def slots i s u c a byte damage has = BadLog s (grind arith)
 
 pub parts_broken : (def : TagDef) (slots : ℕ) (i : Slot) (s : Summary) (u : Tuning) (step : Bool)
     (rs : List Rec) (first c : List ℕ)
@@ -155,10 +130,6 @@ parts_broken def slots i s u step rs first c same_step records broken size here 
 })
 
 -- ---- all that is stored
-
--- no records are at any place
-no_records : (c : List ℕ) (at : ℕ) → HasRecords c at 0 []
-no_records c at = record { counted = refl; records = record { in_range = tt; image = refl } }
 
 -- a summary that was read counts
 pub counts_summary : (def : TagDef) (slots : ℕ) (made : Tuning) (i : Slot) (s : Summary) (u : Tuning) (c : List ℕ)

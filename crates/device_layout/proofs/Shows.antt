@@ -1,7 +1,6 @@
 -- What a read returns of a device.
-use Rattle.std.proofs.Common.{◌≡◌, ℕ, List, Result, Ok, Err, IfOk, IfErr, sym, subst}
-use Rattle.disk_model.specs.Traces.{Trace, seen}
-use Rattle.disk_model.specs.Calls.{Shows}
+use Rattle.std.proofs.Common.{arith, ◌≡◌, ℕ, List, Result, IfOk, IfErr, sym, subst}
+use Rattle.disk_model.specs.{Traces.Trace, Traces.seen, Calls.Shows}
 
 -- a fact follows from one other
 pub shows : (o : Trace) (P Q : List ℕ → Type 0) → ((c : List ℕ) → P c → Q c) → Shows o P → Shows o Q
@@ -22,15 +21,12 @@ shows_after o p P same s = subst (λ x. Shows x P) (sym same) s
 
 -- a fact of what was answered follows from one other, and from two
 pub if_ok : {T E : Type 0} (r : Result T E) (P Q : T → Type 0) → ((x : T) → P x → Q x) → IfOk r P → IfOk r Q
-if_ok (Ok x) P Q follows p = follows x p
-if_ok (Err e) P Q follows p = tt
+if_ok r P Q follows p = grind arith
 
 pub if_ok₂ : {T E : Type 0} (r : Result T E) (P Q R : T → Type 0) → ((x : T) → P x → Q x → R x) → IfOk r P
     → IfOk r Q → IfOk r R
-if_ok₂ (Ok x) P Q R follows p q = follows x p q
-if_ok₂ (Err e) P Q R follows p q = tt
+if_ok₂ r P Q R follows p q = grind arith
 
 -- the same of a refusal
 pub if_err : {T E : Type 0} (r : Result T E) (P Q : E → Type 0) → ((e : E) → P e → Q e) → IfErr r P → IfErr r Q
-if_err (Ok x) P Q follows p = tt
-if_err (Err e) P Q follows p = follows e p
+if_err r P Q follows p = grind arith

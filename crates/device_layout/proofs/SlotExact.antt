@@ -1,32 +1,18 @@
 -- The bytes of a summary break the layout of a slot at no field.
-use Rattle.std.proofs.Common.{◌≡◌, inl, inr, ℕ, ◌+◌, ◌≤◌, Bool, true, not, ◌||◌, leb, eqb, List, ◌∷◌, ◌++◌}
-use Rattle.std.proofs.Common.{length, get_or, take, drop, Option, None, Some, is_some, IfSome, refl, sym, ap}
-use Rattle.std.proofs.Common.{◌∙◌, arith}
-use Rattle.std.specs.Int.{w64, from_be_bytes}
-use Rattle.std.specs.List.{list_all}
-use Rattle.std.proofs.lemmas.Bool.{and_from, or_left, or_right, not_from_false, le-leb, both_ways}
+use Rattle.std.proofs.Common.{◌≡◌, ℕ, ◌+◌, ◌≤◌, Bool, true, not, ◌||◌, leb, eqb, List, ◌∷◌, ◌++◌, length, get_or, take, drop, Option, None, Some, is_some, IfSome, refl, sym, ap, ◌∙◌, arith}
 use Rattle.std.proofs.lemmas.List.{drop-drop, drop_at}
-use Rattle.trend_num.specs.declared.point.Point.{Point}
-use Rattle.trend_num.specs.declared.archive.Summary.{Summary}
-use Rattle.trend_num.specs.declared.tuning.Tuning.{Tuning}
-use Rattle.trend_num.specs.Ranges.{InRange, TuningInRange, last_time, largest_value}
-use Rattle.archive_file.specs.Fields.{number_bytes, place_bytes, point_at}
-use Rattle.archive_file.specs.Summaries.{tuning_bytes, summary_image, IsSummary}
+use Rattle.std.proofs.lemmas.Bool.{and_from, or_left, or_right, not_from_false, le-leb, both_ways}
+use Rattle.std.specs.{Int.w64, Int.from_be_bytes, List.list_all}
+use Rattle.trend_num.specs.{declared.point.Point.Point, declared.archive.Summary.Summary, declared.tuning.Tuning.Tuning, Ranges.InRange, Ranges.TuningInRange, Ranges.last_time, Ranges.largest_value}
+use Rattle.archive_file.specs.{Fields.number_bytes, Fields.place_bytes, Fields.point_at, Summaries.tuning_bytes, Summaries.summary_image, Summaries.IsSummary}
 use Rattle.archive_file.proofs.Points.{point_at-bytes}
-use Rattle.device_layout.specs.Firsts.{HoldsFrom}
-use Rattle.device_layout.specs.SlotFields.{has_flag, are_flags_ok, are_zeros, is_in_range, short_number}
-use Rattle.device_layout.specs.SlotFields.{is_form_ok, is_point_ok, is_number_ok, IsSlotBroken, IsSlotWhole}
-use Rattle.device_layout.proofs.Firsts.{by_case}
-use Rattle.device_layout.proofs.SlotNumbers.{length-place}
-use Rattle.device_layout.proofs.SlotTests.{inside_is}
-use Rattle.device_layout.proofs.SlotFlags.{beside_passes, AreBits, bits_of_flags}
-use Rattle.device_layout.proofs.SlotPieces.{five_and_more}
+use Rattle.device_layout.specs.{HoldsFrom, has_flag, are_flags_ok, are_zeros, is_in_range, short_number, is_form_ok, is_point_ok, is_number_ok, IsSlotBroken, IsSlotWhole}
+use Rattle.device_layout.proofs.{Firsts.by_case, SlotNumbers.length-place, SlotTests.inside_is, SlotFlags.beside_passes, SlotFlags.AreBits, SlotFlags.bits_of_flags, SlotPieces.five_and_more}
 
 -- what is after a piece
 behind_piece : (b piece rest : List ℕ) (at n : ℕ) → length piece ≡ n → drop at b ≡ piece ++ rest
     → drop (at + n) b ≡ rest
-behind_piece b piece rest at n long is =
-    sym (drop-drop n at b) ∙ ap (drop n) is ∙ drop_at piece rest n long
+behind_piece b piece rest at n long is = sym (drop-drop n at b) ∙ ap (drop n) is ∙ drop_at piece rest n long
 
 -- a place of a point, or of zeros
 place_passes : (o : Option Point) (there : Bool) (b rest : List ℕ) (at : ℕ) → there ≡ is_some o
@@ -34,9 +20,8 @@ place_passes : (o : Option Point) (there : Bool) (b rest : List ℕ) (at : ℕ) 
 place_passes o there b rest at flag is = grind (arith, or_right, or_left)
 
 -- the point there, which is in range
-point_passes : (o : Option Point) (there : Bool) (b rest : List ℕ) (at : ℕ) → IfSome o InRange
-    → there ≡ is_some o → drop at b ≡ place_bytes o ++ rest
-    → (not there || is_in_range (point_at (drop at b))) ≡ true
+point_passes : (o : Option Point) (there : Bool) (b rest : List ℕ) (at : ℕ) → IfSome o InRange → there ≡ is_some o
+    → drop at b ≡ place_bytes o ++ rest → (not there || is_in_range (point_at (drop at b))) ≡ true
 point_passes None there b rest at inside flag is = or_left (not there) _ (not_from_false there flag)
 point_passes (Some p) there b rest at inside flag is =
     let read : point_at (drop at b) ≡ p = ap point_at is ∙ point_at-bytes p rest inside in
@@ -117,8 +102,7 @@ parts_of s b is =
     let r32 = place_bytes s.pending ++ r48 in
     let s16 : drop 16 b ≡ place_bytes s.held ++ r32 = grind (arith, five_and_more) in
     let s32 : drop 32 b ≡ r32 = behind_piece b (place_bytes s.held) r32 16 16 (length-place s.held) s16 in
-    let s48 : drop 48 b ≡ r48 =
-    grind (arith, behind_piece, length-place) in
+    let s48 : drop 48 b ≡ r48 = grind (arith, behind_piece, length-place) in
     let s64 : drop 64 b ≡ r64 = behind_piece b (place_bytes s.hinge) r64 48 16 (length-place s.hinge) s48 in
     let s80 : drop 80 b ≡ r80 = behind_piece b (place_bytes s.upper) r80 64 16 (length-place s.upper) s64 in
     grind (arith, behind_piece, length-place)
@@ -142,19 +126,12 @@ module _ (s : Summary) (b : List ℕ) (summary : IsSummary s) (is : b ≡ summar
       let lower : has_flag b 8 ≡ is_some s.lower = says.doors_bit ∙ summary.doors in
       by_case i 12 _ _ (λ e. flags_pass)
       (by_case i 13 _ _ (λ e. zeros)
-      (by_case i 16 _ _ (λ e. ap (λ k. has_flag b 1 || are_zeros b k 16) e
-      ∙ place_passes s.held (has_flag b 1) b parts.rest_32 16 says.held_bit parts.at_16)
-      (by_case i 32 _ _ (λ e. ap (λ k. has_flag b 2 || are_zeros b k 16) e
-      ∙ place_passes s.pending (has_flag b 2) b parts.rest_48 32 says.pending_bit parts.at_32)
-      (by_case i 48 _ _ (λ e. ap (λ k. has_flag b 4 || are_zeros b k 16) e
-      ∙ place_passes s.hinge (has_flag b 4) b parts.rest_64 48 says.hinge_bit parts.at_48)
-      (by_case i 64 _ _ (λ e. ap (λ k. has_flag b 8 || are_zeros b k 16) e
-      ∙ place_passes s.upper (has_flag b 8) b parts.rest_80 64 says.doors_bit parts.at_64)
-      (by_case i 80 _ _ (λ e. ap (λ k. has_flag b 8 || are_zeros b k 16) e
-      ∙ place_passes s.lower (has_flag b 8) b (tuning_bytes s.tuning) 80 lower parts.at_80)
-      (by_case i 96 _ _ (λ e. ap (λ k. has_flag b 16 || are_zeros b k 32) e
-      ∙ tuning_passes s.tuning (has_flag b 16) b says.tuning_bit parts.at_96)
-      refl)))))))
+      (by_case i 16 _ _ (λ e. grind (arith, place_passes))
+      (by_case i 32 _ _ (λ e. grind (arith, place_passes))
+      (by_case i 48 _ _ (λ e. grind (arith, place_passes))
+      (by_case i 64 _ _ (λ e. grind (arith, place_passes))
+      (by_case i 80 _ _ (λ e. grind (arith, place_passes))
+      (by_case i 96 _ _ (λ e. grind (arith, tuning_passes)) refl)))))))
 
   -- each point that is there is in range
   points_pass : HoldsFrom (is_point_ok b) 0 128
@@ -162,17 +139,8 @@ module _ (s : Summary) (b : List ℕ) (summary : IsSummary s) (is : b ≡ summar
       let says = flags_say in
       let parts = parts_of s b is in
       let lower : has_flag b 8 ≡ is_some s.lower = says.doors_bit ∙ summary.doors in
-      by_case i 16 _ _ (λ e. ap (λ k. not (has_flag b 1) || is_in_range (point_at (drop k b))) e
-      ∙ point_passes s.held (has_flag b 1) b parts.rest_32 16 summary.held says.held_bit parts.at_16)
-      (by_case i 32 _ _ (λ e. ap (λ k. not (has_flag b 2) || is_in_range (point_at (drop k b))) e
-      ∙ point_passes s.pending (has_flag b 2) b parts.rest_48 32 summary.pending says.pending_bit parts.at_32)
-      (by_case i 48 _ _ (λ e. ap (λ k. not (has_flag b 4) || is_in_range (point_at (drop k b))) e
-      ∙ point_passes s.hinge (has_flag b 4) b parts.rest_64 48 summary.hinge says.hinge_bit parts.at_48)
-      (by_case i 64 _ _ (λ e. ap (λ k. not (has_flag b 8) || is_in_range (point_at (drop k b))) e
-      ∙ point_passes s.upper (has_flag b 8) b parts.rest_80 64 summary.upper says.doors_bit parts.at_64)
-      (by_case i 80 _ _ (λ e. ap (λ k. not (has_flag b 8) || is_in_range (point_at (drop k b))) e
-      ∙ point_passes s.lower (has_flag b 8) b (tuning_bytes s.tuning) 80 summary.lower lower parts.at_80)
-      refl))))
+      by_case i 16 _ _ (λ e. grind (arith, point_passes))
+      (by_case i 32 _ _ (λ e. grind (arith, point_passes)) (grind (arith, by_case, point_passes)))
 
   -- each number of a tuning that is there is in range
   tuning_in_range : HoldsFrom (is_number_ok b) 0 128
@@ -184,8 +152,7 @@ module _ (s : Summary) (b : List ℕ) (summary : IsSummary s) (is : b ≡ summar
       (by_case i 103 _ _ (λ e. ap (λ k. none || leb (short_number b k 6) last_time) e ∙ numbers.exc_max)
       (by_case i 109 _ _ (λ e. ap (λ k. none || leb (short_number b k 7) largest_value) e ∙ numbers.comp_dev)
       (by_case i 116 _ _ (λ e. ap (λ k. none || leb (short_number b k 6) last_time) e ∙ numbers.comp_min)
-      (by_case i 122 _ _ (λ e. ap (λ k. none || leb (short_number b k 6) last_time) e ∙ numbers.comp_max)
-      refl))))
+      (by_case i 122 _ _ (λ e. ap (λ k. none || leb (short_number b k 6) last_time) e ∙ numbers.comp_max) refl))))
 
   -- the bytes of a summary break the layout nowhere
   pub spelled_whole : IsSlotWhole b
@@ -193,12 +160,7 @@ module _ (s : Summary) (b : List ℕ) (summary : IsSummary s) (is : b ≡ summar
 
 -- a slot that breaks the layout nowhere does not break it
 pub not_broken : (b : List ℕ) (at : ℕ) → IsSlotWhole b → IsSlotBroken b at → ⊥
-not_broken b at whole (inl form) =
-    both_ways (is_form_ok b at) form.fails (whole.forms at form.low form.within)
-not_broken b at whole (inr (forms, inl point)) =
-    both_ways (is_point_ok b at) point.fails (whole.points at point.low point.within)
-not_broken b at whole (inr (forms, inr (points, number))) =
-    both_ways (is_number_ok b at) number.fails (whole.numbers at number.low number.within)
+not_broken b at whole h3 = grind (arith, both_ways)
 
 -- so no slot that spells a summary is broken
 pub spelled_not_broken : (s : Summary) (b : List ℕ) (at : ℕ) → IsSummary s → b ≡ summary_image s

@@ -1,17 +1,10 @@
 -- A summary's slot: how long it is, its two numbers, and what has one.
-use Rattle.std.proofs.Common.{◌≡◌, ℕ, Bool, true, List, ◌++◌, length, take, drop, Option, None, Some, is_some}
-use Rattle.std.proofs.Common.{IfSome, arith, length-append}
-use Rattle.std.specs.Int.{w32, w64, from_be_bytes}
+use Rattle.std.proofs.Common.{◌≡◌, ℕ, Bool, true, List, ◌++◌, length, take, drop, Option, Some, is_some, IfSome, arith, length-append}
 use Rattle.std.proofs.lemmas.Nat.{from_be_bytes-to_be_bytes_8, from_be_bytes-to_be_bytes_4}
-use Rattle.trend_num.specs.declared.point.Point.{Point}
-use Rattle.trend_num.specs.declared.archive.Rec.{Rec}
-use Rattle.trend_num.specs.declared.archive.Summary.{Summary}
-use Rattle.trend_num.specs.declared.tuning.Tuning.{Tuning}
-use Rattle.trend_num.specs.Ranges.{TuningInRange}
-use Rattle.trend_model.specs.Lists.{IfThere}
-use Rattle.trend_model.specs.Parts.{PendingFits, IsBegunOrBlank, ArePartsOk}
-use Rattle.archive_file.specs.Fields.{place_bytes}
-use Rattle.archive_file.specs.Summaries.{tuning_bytes, summary_image, IsSummary}
+use Rattle.std.specs.Int.{w32, w64, from_be_bytes}
+use Rattle.trend_num.specs.{declared.point.Point.Point, declared.archive.Rec.Rec, declared.archive.Summary.Summary, declared.tuning.Tuning.Tuning, Ranges.TuningInRange}
+use Rattle.trend_model.specs.{Lists.IfThere, Parts.PendingFits, Parts.IsBegunOrBlank, Parts.ArePartsOk}
+use Rattle.archive_file.specs.{Fields.place_bytes, Summaries.tuning_bytes, Summaries.summary_image, Summaries.IsSummary}
 
 -- a place has 16 bytes
 pub length-place : (p : Option Point) → length (place_bytes p) ≡ 16
@@ -35,14 +28,12 @@ pub taken_spelled : (s : Summary) → IsSummary s → from_be_bytes w64 (take 8 
 taken_spelled s whole = from_be_bytes-to_be_bytes_8 s.taken whole.taken
 
 -- how many records
-pub records_spelled : (s : Summary) → IsSummary s → from_be_bytes w32 (take 4 (drop 8 (summary_image s)))
-    ≡ s.records
+pub records_spelled : (s : Summary) → IsSummary s → from_be_bytes w32 (take 4 (drop 8 (summary_image s))) ≡ s.records
 records_spelled s whole = from_be_bytes-to_be_bytes_4 s.records whole.records
 
 -- a fact of what may be there, in the other word
 if_some : {A : Type 0} (P : A → Type 0) (o : Option A) → IfThere P o → IfSome o P
-if_some P None there = tt
-if_some P (Some x) there = there
+if_some P o there = grind arith
 
 -- which of a summary's points occur together
 record StandTogether (held hinge upper lower : Option Point) : Type 0 where

@@ -1,13 +1,8 @@
 -- The bytes of a slot, cut into its fields.
-use Rattle.std.proofs.Common.{◌≡◌, ℕ, zero, suc, ◌+◌, ◌^◌, ◌<◌, ◌≤◌, true, eqb, List, [], ◌∷◌, ◌++◌}
-use Rattle.std.proofs.Common.{length, take, drop, replicate, refl, sym, ap, ◌∙◌, arith, take-append-drop}
-use Rattle.std.proofs.Common.{length-take, length-drop}
-use Rattle.std.specs.Int.{w32, w64, from_be_bytes}
-use Rattle.std.specs.List.{list_all}
-use Rattle.std.proofs.lemmas.Nat.{be_bytes_4, be_bytes_8}
-use Rattle.std.proofs.lemmas.Bool.{eqb-true, and_parts}
-use Rattle.std.proofs.lemmas.List.{drop-drop, drop-take, take-take, take_all, get_or-take, get_or-drop}
-use Rattle.std.proofs.lemmas.List.{get_or_past, append_assoc}
+use Rattle.std.proofs.Common.{◌≡◌, ℕ, ◌+◌, ◌^◌, ◌<◌, ◌≤◌, true, eqb, List, [], ◌∷◌, ◌++◌, length, take, drop, replicate, refl, sym, ap, ◌∙◌, arith, take-append-drop, length-take, length-drop}
+use Rattle.std.proofs.lemmas.{Nat.be_bytes_4, Nat.be_bytes_8, Bool.eqb-true, Bool.and_parts}
+use Rattle.std.proofs.lemmas.List.{drop-drop, drop-take, take-take, take_all, get_or-take, get_or-drop, get_or_past, append_assoc}
+use Rattle.std.specs.{Int.w32, Int.w64, Int.from_be_bytes, List.list_all}
 use Rattle.archive_file.specs.Fields.{number_bytes, point_bytes, point_at}
 use Rattle.archive_file.proofs.Points.{IsBytes, point_bytes-at}
 
@@ -17,16 +12,13 @@ pub cut : (b : List ℕ) (at n : ℕ) (piece rest : List ℕ) → take n (drop a
 cut b at n piece rest is behind = grind (arith, take-append-drop n (drop at b), drop-drop n at b)
 
 -- five points and what is after them
-pub five_and_more : (a b c d e t : List ℕ) → (a ++ (b ++ (c ++ (d ++ e)))) ++ t
-    ≡ a ++ (b ++ (c ++ (d ++ (e ++ t))))
+pub five_and_more : (a b c d e t : List ℕ) → (a ++ (b ++ (c ++ (d ++ e)))) ++ t ≡ a ++ (b ++ (c ++ (d ++ (e ++ t))))
 five_and_more a b c d e t = simp append_assoc
 
 -- bytes that are all zeros
 all_zeros : (l : List ℕ) → list_all (λ x. eqb x 0) l ≡ true → l ≡ replicate (length l) 0
 all_zeros [] all = refl
-all_zeros (x ∷ l) all =
-    let parts = and_parts (eqb x 0) (list_all (λ x. eqb x 0) l) all in
-    grind (arith, eqb-true x 0 parts.0, all_zeros l parts.1)
+all_zeros (x ∷ l) all = grind (arith, and_parts, eqb-true, all_zeros l)
 
 -- so many
 pub zeros_are : (l : List ℕ) (n : ℕ) → length l ≡ n → list_all (λ x. eqb x 0) l ≡ true → l ≡ replicate n 0
@@ -34,8 +26,7 @@ zeros_are l n long all = all_zeros l all ∙ ap (λ k. replicate k 0) long
 
 -- bytes after a zero
 bytes_behind_zero : (l : List ℕ) → IsBytes l → IsBytes (0 ∷ l)
-bytes_behind_zero l bytes zero = omega arith
-bytes_behind_zero l bytes (suc i) = bytes i
+bytes_behind_zero l bytes h2 = grind arith
 
 -- a point is in the first 16 bytes
 point_of_piece : (l : List ℕ) → point_at (take 16 l) ≡ point_at l
@@ -64,16 +55,12 @@ module _ (b : List ℕ) (long : length b ≡ 128) (bytes : IsBytes b) where
   last_piece at n end = take_all n (drop at b) (omega (arith, length-drop at b))
 
   -- a number of 8 bytes
-  pub eight : (at : ℕ) → at + 8 ≤ 128 → take 8 (drop at b)
-      ≡ number_bytes 8 (from_be_bytes w64 (take 8 (drop at b)))
-  eight at within =
-      sym (be_bytes_8 (take 8 (drop at b)) _ (length-piece at 8 within) (bytes_of_piece at 8) refl)
+  pub eight : (at : ℕ) → at + 8 ≤ 128 → take 8 (drop at b) ≡ number_bytes 8 (from_be_bytes w64 (take 8 (drop at b)))
+  eight at within = sym (be_bytes_8 (take 8 (drop at b)) _ (length-piece at 8 within) (bytes_of_piece at 8) refl)
 
   -- of 4 bytes
-  pub four : (at : ℕ) → at + 4 ≤ 128 → take 4 (drop at b)
-      ≡ number_bytes 4 (from_be_bytes w32 (take 4 (drop at b)))
-  four at within =
-      sym (be_bytes_4 (take 4 (drop at b)) _ (length-piece at 4 within) (bytes_of_piece at 4) refl)
+  pub four : (at : ℕ) → at + 4 ≤ 128 → take 4 (drop at b) ≡ number_bytes 4 (from_be_bytes w32 (take 4 (drop at b)))
+  four at within = sym (be_bytes_4 (take 4 (drop at b)) _ (length-piece at 4 within) (bytes_of_piece at 4) refl)
 
   -- of 7 bytes
   pub seven : (at : ℕ) → at + 7 ≤ 128 → take 7 (drop at b)

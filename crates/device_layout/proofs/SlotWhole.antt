@@ -1,32 +1,21 @@
 -- A slot of which no field breaks the layout spells a summary.
-use Rattle.std.proofs.Common.{◌≡◌, ℕ, ◌+◌, ◌<◌, ◌≤◌, Bool, true, false, cond, not, ◌||◌, leb, List, [], ◌∷◌}
-use Rattle.std.proofs.Common.{◌++◌, length, get_or, take, drop, Option, None, Some, is_some, IfSome, refl}
-use Rattle.std.proofs.Common.{sym, ap, ◌∙◌, arith}
+use Rattle.std.proofs.Common.{◌≡◌, ℕ, ◌+◌, ◌<◌, ◌≤◌, Bool, true, false, cond, not, ◌||◌, leb, List, [], ◌∷◌, ◌++◌, length, get_or, take, drop, Option, None, Some, is_some, IfSome, refl, sym, ap, ◌∙◌}
+use Rattle.std.proofs.Common.{arith}
+use Rattle.std.proofs.lemmas.{Bool.and_parts, Bool.leb-true, List.drop_more}
 use Rattle.std.specs.Int.{w32, w64, from_be_bytes}
-use Rattle.std.proofs.lemmas.Bool.{and_parts, leb-true}
-use Rattle.std.proofs.lemmas.List.{drop_more}
-use Rattle.trend_num.specs.declared.point.Point.{Point}
-use Rattle.trend_num.specs.declared.archive.Summary.{Summary}
-use Rattle.trend_num.specs.declared.tuning.Tuning.{Tuning}
-use Rattle.trend_num.specs.Ranges.{InRange, TuningInRange, last_time, largest_value}
+use Rattle.trend_num.specs.{declared.point.Point.Point, declared.archive.Summary.Summary, declared.tuning.Tuning.Tuning, Ranges.InRange, Ranges.TuningInRange, Ranges.last_time, Ranges.largest_value}
 use Rattle.archive_file.specs.Fields.{place_bytes, point_at}
 use Rattle.archive_file.specs.Summaries.{flags, places_image, tuning_bytes, summary_image, IsSummary}
 use Rattle.archive_file.proofs.Points.{IsBytes}
-use Rattle.device_layout.specs.Firsts.{HoldsFrom}
-use Rattle.device_layout.specs.SlotFields.{has_flag, are_flags_ok, are_zeros, is_in_range, is_form_ok}
-use Rattle.device_layout.specs.SlotFields.{short_number, IsSlotWhole}
-use Rattle.device_layout.proofs.SlotTests.{is_inside}
-use Rattle.device_layout.proofs.SlotFlags.{beside, flags_in_is, flags_are}
-use Rattle.device_layout.proofs.SlotPieces.{cut, five_and_more, zeros_are, eight_below, four_below}
-use Rattle.device_layout.proofs.SlotPieces.{length-piece, bytes_of_piece, last_piece, eight, four, seven}
-use Rattle.device_layout.proofs.SlotPieces.{six, sixteen}
+use Rattle.device_layout.specs.{HoldsFrom, has_flag, are_flags_ok, are_zeros, is_in_range, is_form_ok, short_number, IsSlotWhole}
+use Rattle.device_layout.proofs.{SlotTests.is_inside, SlotFlags.beside, SlotFlags.flags_in_is, SlotFlags.flags_are}
+use Rattle.device_layout.proofs.SlotPieces.{cut, five_and_more, zeros_are, eight_below, four_below, length-piece, bytes_of_piece, last_piece, eight, four, seven, six, sixteen}
 
 -- ---- what may be there
 
 -- it is there where its flag is set
 there_is : {A : Type 0} (there : Bool) (x : A) → is_some (cond there (Some x) None) ≡ there
-there_is true x = refl
-there_is false x = refl
+there_is there x = grind arith
 
 -- a point that is there is in range
 point_inside : (there : Bool) (p : Point) → (not there || is_in_range p) ≡ true
@@ -76,8 +65,7 @@ module _ (b : List ℕ) (long : length b ≡ 128) (bytes : IsBytes b) where
   place_spelled : (there : Bool) (at : ℕ) → at + 16 ≤ 128 → (there || are_zeros b at 16) ≡ true
       → take 16 (drop at b) ≡ place_bytes (cond there (Some (point_at (drop at b))) None)
   place_spelled true at within ok = sixteen b long bytes at within
-  place_spelled false at within ok =
-      zeros_are (take 16 (drop at b)) 16 (length-piece b long bytes at 16 within) ok
+  place_spelled false at within ok = zeros_are (take 16 (drop at b)) 16 (length-piece b long bytes at 16 within) ok
 
   -- those of a tuning, or zeros
   tuning_spelled : (there : Bool) → (there || are_zeros b 96 32) ≡ true
@@ -98,11 +86,7 @@ module _ (b : List ℕ) (long : length b ≡ 128) (bytes : IsBytes b) where
   flags_spelled ok zeros =
       let n = get_or b 12 0 in
       let small : n ≤ 31 = leb-true n 31 (and_parts (leb n 31) _ ok).0 in
-      let same : flags (summary_there b) ≡ n =
-      flags_are (summary_there b) (has_flag b 1) (has_flag b 2) (has_flag b 4) (has_flag b 8) (has_flag b 16)
-      (there_is (has_flag b 1) (point_at (drop 16 b))) (there_is (has_flag b 2) (point_at (drop 32 b)))
-      (there_is (has_flag b 4) (point_at (drop 48 b))) (there_is (has_flag b 8) (point_at (drop 64 b)))
-      (there_is (has_flag b 16) (tuning_there b)) ∙ flags_in_is n small in
+      let same : flags (summary_there b) ≡ n = grind (arith, flags_are, there_is, flags_in_is) in
       let rest : take 3 (drop 13 b) ≡ 0 ∷ 0 ∷ 0 ∷ [] =
       zeros_are (take 3 (drop 13 b)) 3 (length-piece b long bytes 13 3 (omega arith)) zeros in
       ap (take 4) (drop_more b 12 0 (omega (arith, long))) ∙ ap (λ l. n ∷ l) rest
@@ -120,8 +104,7 @@ module _ (b : List ℕ) (long : length b ≡ 128) (bytes : IsBytes b) where
       (cut b 64 16 _ _ (place_spelled (has_flag b 8) 64 (omega arith) (form 64 (omega arith)))
       (cut b 80 16 _ _ (place_spelled (has_flag b 8) 80 (omega arith) (form 80 (omega arith)))
       (tuning_spelled (has_flag b 16) (form 96 (omega arith)))))))
-      ∙ sym (five_and_more (place_bytes s.held) (place_bytes s.pending) (place_bytes s.hinge)
-      (place_bytes s.upper) (place_bytes s.lower) (tuning_bytes s.tuning)) in
+      ∙ sym (grind (arith, five_and_more)) in
       cut b 0 8 _ _ (eight b long bytes 0 (omega arith))
       (cut b 8 4 _ _ (four b long bytes 8 (omega arith))
       (cut b 12 4 _ _ (flags_spelled (form 12 (omega arith)) (form 13 (omega arith))) places))

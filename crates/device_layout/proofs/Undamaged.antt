@@ -1,37 +1,18 @@
 -- What recovers is not damaged.
-use Rattle.std.proofs.Common.{◌≡◌, inl, inr, ℕ, zero, suc, ◌+◌, ◌-◌, ◌*◌, ◌<◌, ◌≤◌, min, Bool, true, false}
-use Rattle.std.proofs.Common.{List, [], ◌∷◌, length, get_or, take, drop, map, Option, refl, sym, ◌∙◌, ap}
-use Rattle.std.proofs.Common.{subst, arith, add-zero, length-take, length-drop, length-append}
+use Rattle.std.proofs.Common.{◌≡◌, inl, inr, ℕ, zero, suc, ◌+◌, ◌-◌, ◌*◌, ◌<◌, ◌≤◌, min, Bool, true, false, List, [], ◌∷◌, length, get_or, take, drop, map, Option, refl, sym, ◌∙◌, ap, subst, arith}
+use Rattle.std.proofs.Common.{add-zero, length-take, length-drop, length-append}
 use Rattle.std.proofs.lemmas.List.{append-nil, drop-drop}
-use Rattle.trend_num.specs.Limits.{most_records}
-use Rattle.trend_num.specs.declared.archive.Rec.{Rec}
-use Rattle.trend_num.specs.declared.archive.Summary.{Summary}
-use Rattle.trend_num.specs.declared.point.Point.{Point}
-use Rattle.trend_num.specs.declared.tag_def.TagDef.{TagDef}
-use Rattle.trend_num.specs.Ranges.{InRange}
-use Rattle.trend_model.specs.History.{Raw}
-use Rattle.trend_model.specs.Parts.{ArePartsOk}
-use Rattle.trend_model.specs.State.{State, after, replay}
+use Rattle.trend_num.specs.{Limits.most_records, declared.archive.Rec.Rec, declared.archive.Summary.Summary, declared.point.Point.Point, declared.tag_def.TagDef.TagDef, Ranges.InRange}
+use Rattle.trend_model.specs.{History.Raw, State.State, State.after, State.replay}
 use Rattle.disk_model.specs.Gates.{IsBegun}
-use Rattle.archive_file.specs.Fields.{point_bytes, point_at}
-use Rattle.archive_file.specs.Records.{rec_image, recs_image}
-use Rattle.archive_file.specs.Places.{AreInRange, HasRecords, BreaksAt, IsDamage}
-use Rattle.archive_file.proofs.Points.{point_at-bytes}
-use Rattle.archive_file.proofs.Logs.{part_of}
-use Rattle.event_queue.specs.Slots.{slot_at, batch_at, slot_points}
+use Rattle.archive_file.specs.{Fields.point_bytes, Fields.point_at, Records.rec_image, Records.recs_image, Places.AreInRange, Places.HasRecords, Places.BreaksAt, Places.IsDamage}
+use Rattle.archive_file.proofs.{Points.point_at-bytes, Logs.part_of, Beginnings.not_new}
+use Rattle.event_queue.specs.{Slots.slot_at, Slots.batch_at, Slots.slot_points, Damages.BreaksSlotAt as SlotBreaksAt, Damages.IsLaneDamage}
 use Rattle.event_queue.specs.Lanes.{slot_points_of, points_before, lane_points, IsSound, IsLane}
-use Rattle.event_queue.specs.Damages.{BreaksSlotAt as SlotBreaksAt, IsLaneDamage}
-use Rattle.event_queue.proofs.Batches.{length-points_in}
-use Rattle.event_queue.proofs.Steps.{points_open, points_more}
-use Rattle.archive_file.proofs.Beginnings.{not_new}
-use Rattle.device_layout.specs.Headers.{is_field_ok, slots_in, tuning_in}
-use Rattle.device_layout.specs.Recovery.{header_of, log_place, counting, slot_bytes, HasSummary, start_of, AllFit, recovered_tuning}
-use Rattle.device_layout.specs.Recovery.{IsOfTag, IsStored, IsReplayed, Recovers}
-use Rattle.device_layout.specs.Damages.{IsTagDamage, IsValuePlace}
-use Rattle.device_layout.specs.Damages.IsTagDamage.{EndsShort, BadHeader, BadLayout, BadSummary, BadLog, BadParts}
-use Rattle.device_layout.specs.Damages.IsTagDamage.{BadQueue, BadValue}
-use Rattle.device_layout.proofs.SlotExact.{spelled_not_broken}
-use Rattle.device_layout.proofs.OneState.{summary_is_one, records_are_one}
+use Rattle.event_queue.proofs.{Batches.length-points_in, Steps.points_open, Steps.points_more}
+use Rattle.device_layout.specs.{slots_in, header_of, log_place, counting, HasSummary, start_of, AllFit, IsOfTag, IsStored, IsReplayed, Recovers, IsTagDamage, IsValuePlace}
+use Rattle.device_layout.specs.Damages.IsTagDamage.{EndsShort, BadHeader, BadLayout, BadSummary, BadLog, BadParts, BadQueue, BadValue}
+use Rattle.device_layout.proofs.{SlotExact.spelled_not_broken, OneState.summary_is_one, OneState.records_are_one}
 
 -- ---- a device that is damaged is not new
 
@@ -171,12 +152,9 @@ module _ (def : TagDef) (c : List ℕ) (rs : List Rec) (sum : Summary) (s : Stat
 
   not_damaged : (a : ℕ) (byte : Option ℕ) → IsTagDamage def c a byte → ⊥
   not_damaged a byte (EndsShort begun ends) = omega (arith, ends.short, stored.tag.header.size, length-take 128 c)
-  not_damaged a byte (BadHeader d) =
-      both_ways (is_field_ok (header_of c) a) d.broken.fails (stored.tag.header.fields a d.broken.low d.broken.within)
+  not_damaged a byte (BadHeader d) = grind (arith, both_ways)
   not_damaged a byte (BadLayout d) = omega (arith, d.ends.short, stored.long)
-  not_damaged a byte (BadSummary i o d) =
-      let has = subst (λ x. HasSummary c x sum) d.counts stored.summary in
-      spelled_not_broken sum (slot_bytes c i) o has.0 has.1 d.broken
+  not_damaged a byte (BadSummary i o d) = grind (arith, spelled_not_broken)
   not_damaged a byte (BadLog x d) =
       let same = one_sum x d.summary in
       log_undamaged c (log_place c) sum.records a byte rs stored.long stored.records
@@ -184,8 +162,7 @@ module _ (def : TagDef) (c : List ℕ) (rs : List Rec) (sum : Summary) (s : Stat
   not_damaged a byte (BadParts xs x i d) =
       let same = one_sum x (subst (λ y. HasSummary c y x) (sym d.counts) d.summary) in
       let recs = one_recs x xs same d.records in
-      d.broken (subst (λ y. ArePartsOk (recovered_tuning (tuning_in (header_of c)) y.tuning) def.step xs y) (sym same)
-      (subst (λ l. ArePartsOk (recovered_tuning (tuning_in (header_of c)) sum.tuning) def.step l sum) (sym recs) stored.parts))
+      d.broken (grind arith)
   not_damaged a byte (BadQueue xs x d) =
       let same = one_sum x d.stored.summary in
       lane_undamaged (slots_in (header_of c)) c sum.taken a byte replayed.lane
@@ -198,8 +175,7 @@ module _ (def : TagDef) (c : List ℕ) (rs : List Rec) (sum : Summary) (s : Stat
       let room = fits_at def.step (start_of c rs sum) points n replayed.fits
       (value_among slots c sum.taken n a j i (subst (λ y. IsValuePlace slots c y.taken n a j i) same d.at)) in
       let full = subst (λ l. most_records < length (replay def.step (start_of c l sum) (map Raw (take n points))).records + 2) recs
-      (subst (λ y. most_records < length (replay def.step (start_of c xs y) (map Raw (take n (lane_points slots c y.taken)))).records + 2)
-      same d.full) in
+      (grind arith) in
       omega (arith, room, full)
 
 pub undamaged : (def : TagDef) (c : List ℕ) (s : State) (a : ℕ) (byte : Option ℕ) → Recovers def c s

@@ -5,3 +5,10 @@ pub mod Recovery
 pub mod Layouts
 pub mod Damages
 pub mod Readings
+pub use Firsts.*
+pub use Headers.*
+pub use SlotFields.*
+pub use Recovery.*
+pub use Layouts.*
+pub use Damages.*
+pub use Readings.*

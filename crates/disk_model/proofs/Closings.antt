@@ -1,14 +1,9 @@
 -- What a crash leaves while gates are closed, one after the other.
-use Rattle.std.proofs.Common.{◌≡◌, ◌≢◌, ◌⊎◌, inl, inr, ⊎_elim, ℕ, ◌+◌, ◌-◌, ◌<◌, ◌≤◌, List, [], ◌∷◌, length, get_or, drop, Result, Ok, Err, OnOk, refl, sym, ◌∙◌, ap, subst, arith, add-zero, add-one, cond, ◌==◌}
-use Rattle.std.proofs.lemmas.Bool.{cases_lt, eq-eqb, ne_eqb, cond-true, cond-false}
-use Rattle.std.proofs.lemmas.List.{get_or_past, get_or-take, get_or-drop}
-use Rattle.disk_model.specs.Traces.{Wrote, WroteInPart, Synced, Idle, Trace, seen, noted, written}
-use Rattle.disk_model.specs.Images.{IsOutside, IsTorn, MayLeave, Now, FromOld}
-use Rattle.disk_model.specs.Moments.{ComesAfter, During}
-use Rattle.disk_model.specs.Calls.{IsNoted, IsTimed, Reaches, Reads, Shows}
-use Rattle.disk_model.specs.Gates.{open_byte, open_gate, open_gates, HasGatesOf, AreShut, IsClosing}
-use Rattle.disk_model.proofs.Bytes.{torn_written}
-use Rattle.disk_model.proofs.Images.{wrote_now, synced_now}
+use Rattle.std.proofs.Common.{◌≡◌, ◌≢◌, inl, inr, ℕ, ◌+◌, ◌-◌, ◌<◌, ◌≤◌, List, [], ◌∷◌, length, get_or, Result, Ok, Err, OnOk, refl, sym, ◌∙◌, ap, subst, arith, add-zero, add-one}
+use Rattle.std.proofs.lemmas.{Bool.eq-eqb, Bool.ne_eqb, Bool.cond-true, Bool.cond-false, List.get_or_past, List.get_or-take, List.get_or-drop}
+use Rattle.disk_model.specs.{Wrote, WroteInPart, Synced, Idle, Trace, seen, noted, written, IsTorn, MayLeave, Now, FromOld, ComesAfter, During, IsNoted, IsTimed, Reaches, Reads, Shows, open_byte}
+use Rattle.disk_model.specs.{open_gate, open_gates, HasGatesOf, AreShut, IsClosing}
+use Rattle.disk_model.proofs.{Bytes.torn_written, Images.wrote_now, Images.synced_now}
 use Rattle.disk_model.proofs.Moments.{started, during_now, goes_on, in_turn, weaker}
 
 -- no gate closed
@@ -17,38 +12,15 @@ closing_self at n c = record { same_length = refl; same = λ i out. refl }
 
 -- an open gate, torn
 pub closing_torn : (gate : ℕ) (d c : List ℕ) → gate < length d → get_or d gate 0 ≡ open_byte → IsTorn gate 1 d c → IsClosing gate 1 d c
-closing_torn gate d c there opened torn = record { same_length = size; same = λ i out. ⊎_elim (inside i out) (past i) (cases_lt i (length d)) }
-  where
-    size : length c ≡ length d
-    size = omega (arith, torn.no_shorter, torn.no_longer)
-
-    beside : (i : ℕ) → IsOutside gate 1 i ⊎ (get_or d i 0 ≢ open_byte) → IsOutside gate 1 i
-    beside i (inl out) = out
-    beside i (inr other) = let apart : i ≢ gate = λ same. other (ap (λ k. get_or d k 0) same ∙ opened) in grind arith
-
-    inside : (i : ℕ) → IsOutside gate 1 i ⊎ (get_or d i 0 ≢ open_byte) → i < length d → get_or c i 0 ≡ get_or d i 0
-    inside i out below = torn.outside i below (beside i out)
-
-    past : (i : ℕ) → length d ≤ i → get_or c i 0 ≡ get_or d i 0
-    past i above = get_or_past c i 0 (omega (arith, size)) ∙ sym (get_or_past d i 0 above)
+closing_torn gate d c there opened torn = grind (arith, get_or_past)
 
 -- one gate of several closed after others
 pub closing_more : (at n gate : ℕ) (a b c : List ℕ) → at ≤ gate → gate < at + n → IsClosing at n a b → IsClosing gate 1 b c → IsClosing at n a c
-closing_more at n gate a b c low high before now = record {
-  same_length = now.same_length ∙ before.same_length;
-  same = λ i out. ⊎_elim (λ o. now.same i (inl (beside i o)) ∙ before.same i (inl o))
-      (λ shut. let same = before.same i (inr shut) in now.same i (inr (λ opened. shut (sym same ∙ opened))) ∙ same) out;
-}
-  where
-    beside : (i : ℕ) → IsOutside at n i → IsOutside gate 1 i
-    beside i (inl below) = inl (omega arith)
-    beside i (inr above) = inr (omega arith)
+closing_more at n gate a b c low high before now = grind arith
 
 -- what a read of one byte says of the bytes that a read gives
 byte_read : (t : Trace) (gate : ℕ) (b : List ℕ) → length b ≡ 1 → Reads t gate b → get_or b 0 0 ≡ get_or (seen t) gate 0
-byte_read t gate b one reads =
-    ap (λ l. get_or l 0 0) reads ∙ get_or-take (length b) (drop gate (seen t)) 0 0 (omega (arith, one)) ∙ get_or-drop gate (seen t) 0 0
-    ∙ ap (λ k. get_or (seen t) k 0) (add-zero gate)
+byte_read t gate b one reads = grind (arith, get_or-take, get_or-drop, add-zero)
 
 -- nothing was done
 pub closing_kept : (o now : Trace) (gate : ℕ) → now ≡ o → During o now (FromOld o (IsClosing gate 1))
@@ -58,9 +30,7 @@ closing_kept o now gate same =
 -- an open gate of each image
 gate_of : (o : Trace) (gate : ℕ) (b : List ℕ) → Now o (HasGatesOf (seen o) gate 1) → length b ≡ 1 → Reads o gate b → get_or b 0 0 ≡ open_byte
     → (d : List ℕ) → MayLeave o d → (gate < length d) × (get_or d gate 0 ≡ open_byte)
-gate_of t gate b gates one reads opened d may =
-    let has = gates.each d may in
-    (omega (arith, has.there), has.same gate (omega arith) (omega arith) ∙ sym (byte_read t gate b one reads) ∙ opened)
+gate_of t gate b gates one reads opened d may = grind (arith, byte_read)
 
 -- a gate that reads open was written
 pub closing_wrote : {E : Type 0} (o now next : Trace) (gate : ℕ) (b : List ℕ) (r : Result (Unit {0}) E) → Now o (HasGatesOf (seen o) gate 1)
@@ -125,15 +95,7 @@ module _ (at count k gate : ℕ) (o now next : Trace) (before : AreClosed at cou
 
   -- once it is closed too
   pub one_closed : IsClosing gate 1 (seen now) (seen next) → get_or (seen next) gate 0 ≢ open_byte → AreClosed at count (k + 1) o next
-  one_closed reads shut = record {
-    any_moment = closing_goes_on;
-    reads = closing_more at count gate (seen o) (seen now) (seen next) (omega arith) (omega arith) before.reads reads;
-    shut = λ i low high. ⊎_elim (λ below opened. before.shut i low below (sym (reads.same i (inl (inl (omega (arith, below, is_gate))))) ∙ opened))
-        (λ above opened. let is : i ≡ gate = omega arith in shut (ap (λ j. get_or (seen next) j 0) (sym is) ∙ opened)) (cases_lt i (at + k));
-    ahead = λ i low. reads.same i (inl (inr (omega (arith, low, is_gate)))) ∙ before.ahead i (omega (arith, low));
-    left = record { each = others };
-    room = reaches_after now next (at + count) during.later reads.same_length before.room;
-  }
+  one_closed reads shut = grind (arith, closing_goes_on, closing_more, others, reaches_after)
     where
       others : (c : List ℕ) → MayLeave next c → HasGatesOf (seen next) (at + (k + 1)) (count - (k + 1)) c
       others c may =
@@ -163,15 +125,11 @@ all_read at count k o now next (Err e) before synced = tt
 -- and each image has all gates closed
 shut_in : (at count k : ℕ) (now : Trace) → count ≤ k → Reaches now (at + count) → ((i : ℕ) → at ≤ i → i < at + k → get_or (seen now) i 0 ≢ open_byte)
     → (c : List ℕ) → MayLeave (noted Synced now) c → AreShut at count c
-shut_in at count k t all room shut c may = λ i low high. record {
-  there = omega (arith, ap length may.image, room);
-  closed = λ opened. shut i low (omega arith) (sym (ap (λ l. get_or l i 0) may.image) ∙ opened);
-}
+shut_in at count k t all room shut c may = grind arith
 
 pub all_shut : {E : Type 0} (at count k : ℕ) (o now next : Trace) (r : Result (Unit {0}) E) → count ≤ k → AreClosed at count k o now → IsNoted Synced Idle r now next
     → OnOk r (Now next (AreShut at count))
-all_shut at count k o now next (Ok x) all before synced =
-    record { each = λ c may. shut_in at count k now all before.room before.shut c (subst (λ y. MayLeave y c) synced may) }
+all_shut at count k o now next (Ok x) all before synced = grind (arith, shut_in)
 all_shut at count k o now next (Err e) all before synced = tt
 
 -- ---- how many calls closed them
@@ -179,19 +137,13 @@ all_shut at count k o now next (Err e) all before synced = tt
 -- a gate that reads closed took none
 pub shut_counted : (o : Trace) (first last gate : ℕ) (b : List ℕ) → length b ≡ 1 → Reads o gate b → get_or b 0 0 ≢ open_byte → last ≡ first
     → Shows o (λ c. last ≡ first + open_gate gate c)
-shut_counted t first last gate b one reads shut none =
-    let closed : get_or (seen t) gate 0 ≢ open_byte = λ opened. shut (byte_read t gate b one reads ∙ opened) in
-    let is : open_gate gate (seen t) ≡ 0 = cond-false _ 1 0 (ne_eqb (get_or (seen t) gate 0) open_byte closed) in
-    omega (arith, none, is)
+shut_counted t first last gate b one reads shut none = grind (arith, byte_read, cond-false, ne_eqb)
 
 -- one that reads open took a write
 pub open_counted : {E : Type 0} (r : Result (Unit {0}) E) (o : Trace) (first mid last gate : ℕ) (b : List ℕ) → length b ≡ 1 → Reads o gate b
     → get_or b 0 0 ≡ open_byte → mid ≡ first → IsTimed mid last r → OnOk r (Shows o (λ c. last ≡ first + open_gate gate c))
 open_counted (Err e) o first mid last gate b one reads opened none timed = tt
-open_counted (Ok x) t first mid last gate b one reads opened none timed =
-    let is : open_gate gate (seen t) ≡ 1 =
-    cond-true _ 1 0 (eq-eqb (get_or (seen t) gate 0) open_byte (sym (byte_read t gate b one reads) ∙ opened)) in
-    omega (arith, none, is, timed.counted, timed.in_time)
+open_counted (Ok x) t first mid last gate b one reads opened none timed = grind (arith, cond-true, eq-eqb, byte_read)
 
 -- before the first gate
 pub none_counted : (at first : ℕ) (o : Trace) → Shows o (λ c. first ≡ first + open_gates at 0 c)
@@ -201,17 +153,10 @@ none_counted at first t = sym (add-zero first)
 pub one_counted : (at k gate first mid last : ℕ) (o now : Trace) → gate ≡ at + k → ComesAfter o now
     → get_or (seen now) gate 0 ≡ get_or (seen o) gate 0 → Shows o (λ c. mid ≡ first + open_gates at k c)
     → Shows now (λ c. last ≡ mid + open_gate gate c) → Shows o (λ c. last ≡ first + open_gates at (k + 1) c)
-one_counted at k gate first mid last t u is later same before this =
-    let here : open_gate gate (seen u) ≡ open_gate (at + k) (seen t) =
-    ap (λ n. cond (n == open_byte) 1 0) same ∙ ap (λ g. open_gate g (seen t)) is in
-    let more : open_gates at (k + 1) (seen t) ≡ open_gates at k (seen t) + open_gate (at + k) (seen t) =
-    ap (λ n. open_gates at n (seen t)) (add-one k) in
-    omega (arith, before, this, here, more)
+one_counted at k gate first mid last t u is later same before this = grind (arith, add-one)
 
 -- and the sync
 pub all_counted : {E : Type 0} (r : Result (Unit {0}) E) (at count k first mid last : ℕ) (o : Trace) → k ≡ count → IsTimed mid last r
     → Shows o (λ c. mid ≡ first + open_gates at k c) → OnOk r (Shows o (λ c. last ≡ first + (open_gates at count c + 1)))
 all_counted (Err e) at count k first mid last o all timed before = tt
-all_counted (Ok x) at count k first mid last t all timed before =
-    let same = ap (λ n. open_gates at n (seen t)) all in
-    omega (arith, before, same, timed.counted, timed.in_time)
+all_counted (Ok x) at count k first mid last t all timed before = grind arith

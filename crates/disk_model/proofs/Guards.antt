@@ -1,66 +1,31 @@
 -- What a crash leaves in each of the four steps of a guarded write.
-use Rattle.std.proofs.Common.{◌≡◌, ◌≢◌, inl, inr, ℕ, ◌+◌, ◌<◌, ◌≤◌, List, [], ◌∷◌, length, Result, refl, sym, ◌∙◌, ap, subst, arith}
-use Rattle.disk_model.specs.Traces.{Wrote, WroteInPart, Synced, Idle, Trace, seen, noted, written}
-use Rattle.disk_model.specs.Images.{IsOutside, IsTorn, MayLeave, Now, FromOld}
-use Rattle.disk_model.specs.Moments.{During}
-use Rattle.disk_model.specs.Calls.{IsNoted, Reaches, Sees}
-use Rattle.disk_model.specs.Gates.{open_byte, IsShut, Holds, IsGuarded}
-use Rattle.disk_model.proofs.Bytes.{length-written, holds_written, holds_same}
-use Rattle.disk_model.proofs.Images.{present, wrote_now, synced_now}
-use Rattle.disk_model.proofs.Moments.{started, during_now, goes_on}
+use Rattle.std.proofs.Common.{◌≡◌, ℕ, ◌+◌, ◌<◌, ◌≤◌, List, [], ◌∷◌, length, Result, refl, ◌∙◌, ap, subst, arith}
+use Rattle.disk_model.specs.{Wrote, WroteInPart, Synced, Idle, Trace, seen, noted, written, IsOutside, IsTorn, MayLeave, Now, FromOld, During, IsNoted, Reaches, Sees, open_byte, IsShut, Holds}
+use Rattle.disk_model.specs.{IsGuarded}
+use Rattle.disk_model.proofs.{Bytes.length-written, Bytes.holds_written, Bytes.holds_same, Images.present, Images.wrote_now, Images.synced_now, Moments.started, Moments.during_now, Moments.goes_on}
 
 -- a closed gate guards nothing
 guarded_self : (at : ℕ) (bytes : List ℕ) (gate : ℕ) (c : List ℕ) → IsShut gate c → IsGuarded at bytes gate c c
-guarded_self at bytes gate c shut = record {
-  whole = λ opened. absurd (shut.closed opened);
-  outside = λ i there out other. refl;
-  no_shorter = omega arith;
-  no_longer = omega arith;
-}
+guarded_self at bytes gate c shut = grind arith
 
 -- a write that a crash cuts short while its gate is closed
 guarded_torn : (at : ℕ) (bytes : List ℕ) (gate : ℕ) (d c : List ℕ) → IsOutside at (length bytes) gate → IsShut gate d → IsTorn at (length bytes) d c
     → IsGuarded at bytes gate d c
-guarded_torn at bytes gate d c apart shut torn = record {
-  whole = λ opened. absurd (shut.closed (sym (torn.outside gate shut.there apart) ∙ opened));
-  outside = λ i there out other. torn.outside i there out;
-  no_shorter = torn.no_shorter;
-  no_longer = torn.no_longer;
-}
+guarded_torn at bytes gate d c apart shut torn = grind arith
 
 -- the gate, torn, of bytes that are whole
 guarded_opening : (at : ℕ) (bytes : List ℕ) (gate : ℕ) (d0 d c : List ℕ) → IsOutside at (length bytes) gate → gate < length d0
     → at + length bytes ≤ length d → Holds at bytes d → IsGuarded at bytes gate d0 d → IsTorn gate 1 d c → IsGuarded at bytes gate d0 c
-guarded_opening at bytes gate d0 d c apart there long holds before torn = record {
-  whole = λ opened. holds_same at bytes c d (omega (arith, torn.no_shorter)) long (λ i low high. torn.outside i (omega arith) (beside apart i low high)) holds;
-  outside = λ i inside out other. torn.outside i (omega (arith, before.no_shorter)) (apart_from i other) ∙ before.outside i inside out other;
-  no_shorter = omega (arith, before.no_shorter, torn.no_shorter);
-  no_longer = omega (arith, before.no_shorter, before.no_longer, torn.no_longer);
-}
-  where
-    apart_from : (i : ℕ) → i ≢ gate → IsOutside gate 1 i
-    apart_from i other = grind arith
-
-    beside : IsOutside at (length bytes) gate → (i : ℕ) → at ≤ i → i < at + length bytes → IsOutside gate 1 i
-    beside (inl below) i low high = inr (omega arith)
-    beside (inr above) i low high = inl (omega arith)
-
--- where each image has the gate, a read gives it
-gate_there : (o : Trace) (gate : ℕ) → Now o (IsShut gate) → Reaches o (gate + 1)
-gate_there t gate shut = omega (arith, (shut.each (seen t) (present t)).there)
+guarded_opening at bytes gate d0 d c apart there long holds before torn = grind (arith, holds_same)
 
 -- after the first write and a sync the bytes there are whole
 whole_there : (o : Trace) (at : ℕ) (bytes d : List ℕ) → Reaches o at → MayLeave (noted Synced (noted (Wrote at bytes) o)) d
     → (at + length bytes ≤ length d) × Holds at bytes d
-whole_there t at bytes d room may =
-    let s = seen t in
-    let is : d ≡ written s at bytes = may.image in
-    (omega (arith, ap length is, length-written s at bytes room), subst (λ l. Holds at bytes l) (sym is) (holds_written s at bytes room))
+whole_there t at bytes d room may = grind (arith, length-written, holds_written)
 
 -- the gate is there as well
 pub gate_reached : (o : Trace) (at : ℕ) (bytes : List ℕ) (gate : ℕ) → Reaches o at → Now o (IsShut gate) → Reaches (noted Synced (noted (Wrote at bytes) o)) gate
-gate_reached t at bytes gate room shut =
-    omega (arith, length-written (seen t) at bytes room, (shut.each (seen t) (present t)).there)
+gate_reached t at bytes gate room shut = grind (arith, length-written, present)
 
 -- what a read gives after all four calls
 pub all_read : (o : Trace) (at : ℕ) (bytes : List ℕ) (gate : ℕ)

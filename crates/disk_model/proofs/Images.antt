@@ -1,8 +1,7 @@
 -- What a crash may leave after one call more, or after some.
-use Rattle.std.proofs.Common.{◌≡◌, ◌⊎◌, inl, inr, ℕ, ◌<◌, List, [], ◌∷◌, ◌++◌, length, get_or, Result, Ok, Err, refl, sym, ◌∙◌, subst, arith}
-use Rattle.disk_model.specs.Traces.{DeviceCall, Wrote, WroteInPart, Resized, ResizedInPart, Synced, Idle, Trace, content, seen, noted}
-use Rattle.disk_model.specs.Images.{IsOutside, IsTorn, IsBetween, IsImage, MayLeave, IsSettled, FromOld, IsUntouched, KeepsUntouched}
-use Rattle.disk_model.specs.Calls.{IsNoted}
+use Rattle.std.proofs.Common.{◌≡◌, ◌⊎◌, inl, inr, ℕ, ◌<◌, List, [], ◌∷◌, ◌++◌, length, get_or, Result, Ok, Err, refl, sym, subst, arith}
+use Rattle.disk_model.specs.{DeviceCall, Wrote, WroteInPart, Resized, ResizedInPart, Synced, Idle, Trace, content, seen, noted, IsOutside, IsTorn, IsBetween, IsImage, MayLeave, IsSettled, FromOld}
+use Rattle.disk_model.specs.{IsUntouched, KeepsUntouched, IsNoted}
 use Rattle.disk_model.proofs.Bytes.{torn_written, torn_self, between_resized, between_self}
 
 -- what a read gives is an image
@@ -22,17 +21,12 @@ present t = record { image = honest t.first t.calls }
 -- a place that a write left alone, and the calls before it too
 torn_keeps : (es : List DeviceCall) (at n : ℕ) (d mid c : List ℕ) → KeepsUntouched es d mid → IsTorn at n mid c
     → (i : ℕ) → i < length d → IsOutside at n i → IsUntouched es i → (i < length c) × (get_or c i 0 ≡ get_or d i 0)
-torn_keeps es at n d mid c keeps torn i there out untouched =
-    let before = keeps i there untouched in
-    (omega (arith, before.0, torn.no_shorter), torn.outside i before.0 out ∙ before.1)
+torn_keeps es at n d mid c keeps torn i there out untouched = grind arith
 
 -- a place that a change of the length left alone, and the calls before it too
 cut_keeps : (es : List DeviceCall) (len : ℕ) (d mid c : List ℕ) → KeepsUntouched es d mid → IsBetween len mid c
     → (i : ℕ) → i < length d → i < len → IsUntouched es i → (i < length c) × (get_or c i 0 ≡ get_or d i 0)
-cut_keeps es len d mid c keeps between i there short untouched =
-    let before = keeps i there untouched in
-    let reached : i < length c = omega (arith, before.0, between.no_shorter) in
-    (reached, between.both i before.0 reached ∙ before.1)
+cut_keeps es len d mid c keeps between i there short untouched = grind arith
 
 -- an image by these calls after those keeps what these did not touch of one by those
 pub kept : (first : List ℕ) (since before : List DeviceCall) (c : List ℕ) → IsImage first (since ++ before) c
@@ -57,9 +51,7 @@ kept first (Idle ∷ since) before c image = kept first since before c image
 -- after a sync there is one image, so bytes that no call touched since are the same in all
 pub kept_since_sync : (first : List ℕ) (since before : List DeviceCall) (c : List ℕ) → IsImage first (since ++ Synced ∷ before) c
     → KeepsUntouched since (content first before) c
-kept_since_sync first since before c image =
-    let earlier = kept first since (Synced ∷ before) c image in
-    subst (λ d. KeepsUntouched since d c) earlier.1 earlier.2
+kept_since_sync first since before c image = grind (arith, kept)
 
 -- one more call is recorded as one of four things
 pub cases_noted : {T E : Type 0} (whole part : DeviceCall) (r : Result T E) (old new : Trace) → IsNoted whole part r old new
@@ -87,28 +79,15 @@ after_sync t c may = record { image = subst (IsImage t.first t.calls) (sym may.i
 pub wrote_now : {T E : Type 0} (r : Result T E) (old new : Trace) (at : ℕ) (bytes c : List ℕ)
     → IsNoted (Wrote at bytes) (WroteInPart at bytes) r old new → MayLeave new c → FromOld old (IsTorn at (length bytes)) c
 wrote_now r old new at bytes c is may = elim (cases_noted (Wrote at bytes) (WroteInPart at bytes) r old new is) [
-  | inl whole ↦ after_whole_write old at bytes c (subst (λ o. MayLeave o c) whole may)
-  | inr rest ↦ elim rest [
-    | inl part ↦ after_part_write old at bytes c (subst (λ o. MayLeave o c) part may)
-    | inr more ↦ elim more [
-      | inl idle ↦ (c, after_idle old c (subst (λ o. MayLeave o c) idle may), torn_self at (length bytes) c)
-      | inr same ↦ (c, subst (λ o. MayLeave o c) same may, torn_self at (length bytes) c)
-    ]
-  ]
+  | inl whole ↦ after_whole_write old at bytes c (rw whole at may)
+  | inr (inl part) ↦ after_part_write old at bytes c (rw part at may)
+  | inr (inr (inl idle)) ↦ (c, after_idle old c (rw idle at may), torn_self at (length bytes) c)
+  | inr (inr (inr same)) ↦ (c, rw same at may, torn_self at (length bytes) c)
 ]
 
 -- whatever a sync answered, an image after it was one before it
 pub synced_now : {T E : Type 0} (r : Result T E) (old new : Trace) (c : List ℕ) → IsNoted Synced Idle r old new → MayLeave new c → MayLeave old c
-synced_now r old new c is may = elim (cases_noted Synced Idle r old new is) [
-  | inl whole ↦ after_sync old c (subst (λ o. MayLeave o c) whole may)
-  | inr rest ↦ elim rest [
-    | inl part ↦ after_idle old c (subst (λ o. MayLeave o c) part may)
-    | inr more ↦ elim more [
-      | inl idle ↦ after_idle old c (subst (λ o. MayLeave o c) idle may)
-      | inr same ↦ subst (λ o. MayLeave o c) same may
-    ]
-  ]
-]
+synced_now r old new c is may = grind (arith, cases_noted, after_sync, after_idle)
 
 -- a sync that was done leaves one image
 pub settled : (old : Trace) → IsSettled (noted Synced old)

@@ -1,9 +1,6 @@
 -- How what a crash at any moment might have left changes from call to call.
 use Rattle.std.proofs.Common.{◌≡◌, ◌⊎◌, inl, inr, ⊎_elim, ℕ, ◌≤◌, List, [], ◌∷◌, ◌++◌, length, Result, refl, sym, ◌∙◌, ap, subst, arith, append_assoc, length-append}
-use Rattle.disk_model.specs.Traces.{DeviceCall, Idle, Trace, noted, moment}
-use Rattle.disk_model.specs.Images.{IsImage, MayLeave, Now}
-use Rattle.disk_model.specs.Moments.{WasImageSince, LeftSince, ComesAfter, During}
-use Rattle.disk_model.specs.Calls.{IsNoted}
+use Rattle.disk_model.specs.{DeviceCall, Idle, Trace, noted, moment, IsImage, MayLeave, Now, WasImageSince, LeftSince, ComesAfter, During, IsNoted}
 use Rattle.disk_model.proofs.Images.{cases_noted}
 
 -- an image now is one since any moment
@@ -50,10 +47,7 @@ parted_calls first (e ∷ es) before m c (inr was) =
 
 -- the same of a device that comes after another
 pub parted : (b c : Trace) (m : ℕ) (x : List ℕ) → ComesAfter b c → LeftSince c m x → LeftSince c (moment b) x ⊎ LeftSince b m x
-parted t u m x later left =
-    ⊎_elim (λ since. inl (record { image = subst (λ es. WasImageSince u.first es (length t.calls) x) (sym later.2) since }))
-    (λ earlier. inr (record { image = subst (λ first. WasImageSince first t.calls m x) later.0 earlier }))
-    (parted_calls u.first later.1 t.calls m x (subst (λ es. WasImageSince u.first es m x) later.2 left.image))
+parted t u m x later left = grind (arith, parted_calls)
 
 -- before the first call
 pub started : (o : Trace) (P : List ℕ → Type 0) → Now o P → During o o P
@@ -76,10 +70,7 @@ in_turn a b c P ab bc = record {
 
 -- one call more, after which each image has P
 one_more : (start old : Trace) (e : DeviceCall) (P : List ℕ → Type 0) → During start old P → Now (noted e old) P → During start (noted e old) P
-one_more start t e P so_far now = record {
-  later = after_one start t e so_far.later;
-  each = λ c left. ⊎_elim (λ image. now.each c (record { image = image })) (λ was. so_far.each c (record { image = was.1 })) left.image;
-}
+one_more start t e P so_far now = grind (arith, after_one)
 
 -- one call, whatever it answered
 pub goes_on : {T E : Type 0} (whole part : DeviceCall) (r : Result T E) (start old new : Trace) (P : List ℕ → Type 0) → During start old P
@@ -89,11 +80,7 @@ goes_on whole part r start old new P so_far is now =
     λ e same. subst (λ o. During start o P) (sym same) (one_more start old e P so_far (subst (λ o. Now o P) same now)) in
     elim (cases_noted whole part r old new is) [
       | inl done ↦ step whole done
-      | inr rest ↦ elim rest [
-        | inl failed ↦ step part failed
-        | inr more ↦ elim more [
-          | inl idle ↦ step Idle idle
-          | inr same ↦ subst (λ o. During start o P) (sym same) so_far
-        ]
-      ]
+      | inr (inl failed) ↦ step part failed
+      | inr (inr (inl idle)) ↦ step Idle idle
+      | inr (inr (inr same)) ↦ subst (λ o. During start o P) (sym same) so_far
     ]

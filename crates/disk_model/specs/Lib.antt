@@ -7,3 +7,12 @@ pub mod Memory
 pub mod Moments
 pub mod Stores
 pub mod Traces
+pub use Traces.*
+pub use Images.*
+pub use Moments.*
+pub use Calls.*
+pub use Gates.*
+pub use Memory.*
+pub use Logs.*
+pub use Stores.*
+pub use Disks.*

@@ -42,8 +42,7 @@ lane_used slots taken used c room lane = record {
 
 -- a shorter front of a lane
 pub lane_front : (slots taken n m : ℕ) (c : List ℕ) → m ≤ n → IsLane slots c taken n → IsLane slots c taken m
-lane_front slots taken n m c le lane = record
-    { sound = λ k below opened. lane.sound k (omega (arith, below, le)) opened }
+lane_front slots taken n m c le lane = record { sound = λ k below opened. grind (arith, lane.sound) }
 
 -- if these bytes lie at a slot's beginning, the slot holds their batch
 pub batch_held : (slots k first : ℕ) (ps : List Point) (c : List ℕ) → first < 2 ^ 64 → length ps ≤ 64 → All InRange ps
@@ -77,7 +76,7 @@ module _ (slots taken used next : ℕ) (held batch : List Point) (old new : List
   absent shut = record {
     room = grind (arith, closed);
     lane = same_lane slots taken slots old new same slots (omega arith) filled.lane;
-    opened = λ k before. same.forth k (omega (arith, before, free)) (filled.opened k before);
+    opened = λ k before. grind (arith, same.forth, filled.opened);
     beyond = λ k before. grind (arith, before, same_beyond, same);
     points = same_points slots taken slots old new same slots (omega arith) ∙ filled.points;
     number = filled.number;

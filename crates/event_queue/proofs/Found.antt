@@ -29,8 +29,7 @@ module _ (slots taken : ℕ) (c : List ℕ) where
   stale_or_used : IsLane slots c taken slots → (n : ℕ) → n ≤ slots → AreStale n ⊎ ((used : ℕ) × AreUsed n used)
   stale_or_used lane zero within = grind arith
   stale_or_used lane (suc n) within = ⊎_elim
-      (λ opened. let sound = lane.sound n (omega (arith, within)) opened in ⊎_elim
-      (λ behind. grind arith)
+      (λ opened. let sound = lane.sound n (omega (arith, within)) opened in ⊎_elim (λ behind. grind arith)
       (λ next. inr (
         suc n,
         record {

@@ -1,16 +1,14 @@
 -- A lane that a summary has overtaken.
-use Rattle.std.proofs.Common.{◌≡◌, ℕ, zero, suc, ◌<◌, ◌≤◌, List, [], ◌++◌, refl, sym, ◌∙◌, ap, subst, arith}
+use Rattle.std.proofs.Common.{◌≡◌, ℕ, zero, suc, ◌<◌, ◌≤◌, List, [], refl, sym, subst, arith}
 use Rattle.disk_model.specs.Gates.{IsOpen, IsClosing}
-use Rattle.event_queue.specs.{gate_of, batch_at, IsStale, slot_points_of, points_before, IsOvertaken}
+use Rattle.event_queue.specs.{gate_of, batch_at, IsStale, points_before, IsOvertaken}
 use Rattle.event_queue.proofs.{Steps.points_open, SameLanes.same_behind}
 
 -- it holds nothing beyond the summary
 pub overtaken_none : (slots taken : ℕ) (c : List ℕ) → IsOvertaken slots taken c → (n : ℕ) → n ≤ slots
     → points_before slots c taken n ≡ []
 overtaken_none slots taken c over zero within = refl
-overtaken_none slots taken c over (suc n) within =
-    ap (λ l. l ++ slot_points_of slots c taken n) (overtaken_none slots taken c over n (omega (arith, within)))
-    ∙ grind (arith, points_open)
+overtaken_none slots taken c over (suc n) within = grind (arith, points_open, overtaken_none slots taken c over n)
 
 -- it stays overtaken where some of its gates are closed or torn
 pub overtaken_closing : (slots taken used : ℕ) (old new : List ℕ) → used ≤ slots → IsOvertaken slots taken old

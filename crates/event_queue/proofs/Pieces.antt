@@ -1,5 +1,5 @@
 -- What is in a piece that was read is on the device.
-use Rattle.std.proofs.Common.{◌≡◌, ◌≢◌, ℕ, ◌+◌, ◌*◌, ◌<◌, ◌≤◌, List, length, get_or, take, drop, Result, Ok, Err, IsErrAnd, sym, ◌∙◌, ap, subst, arith, add-zero}
+use Rattle.std.proofs.Common.{◌≡◌, ◌≢◌, ℕ, ◌+◌, ◌*◌, ◌<◌, ◌≤◌, List, length, get_or, take, drop, Result, Ok, Err, IsErrAnd, sym, ◌∙◌, subst, arith, add-zero}
 use Rattle.disk_model.specs.Gates.{open_byte}
 use Rattle.archive_file.proofs.Logs.{part_of, byte_of}
 use Rattle.event_queue.specs.{gate_of, place_of, IsWithin, IsRead, IsOpenSlot, IsPiece, declared.reader.Scanned.Scanned}
@@ -22,10 +22,8 @@ module _ (slots : ℕ) (bytes gates : List ℕ) (from : ℕ) (piece : List ℕ)
       → 1034 * (i + 1) ≤ length piece
       → slot ≡ take 1034 (drop (1034 * i) piece) → IsOpenSlot slots bytes (from + i) slot
   slot_in i slot there opened fits is = record {
-    opened = sym (gate_in (from + i) there) ∙ opened;
-    here = is ∙ ap (λ l. take 1034 (drop (1034 * i) l)) at_piece.slots_here
-        ∙ part_of bytes (place_of slots from) (length piece) (1034 * i) 1034 (omega (arith, fits))
-        ∙ ap (λ n. take 1034 (drop n bytes)) (omega arith);
+    opened = grind (arith, gate_in);
+    here = grind (arith, part_of bytes (place_of slots from) (length piece) (1034 * i) 1034, at_piece.slots_here);
   }
 
 -- what holds of the first n slots holds of more

@@ -1,5 +1,5 @@
 -- The room that a lane needs: what it gives a call, and what calls leave of it.
-use Rattle.std.proofs.Common.{◌≡◌, inl, ℕ, ◌+◌, ◌<◌, ◌≤◌, List, subst, arith}
+use Rattle.std.proofs.Common.{◌≡◌, inl, ℕ, ◌+◌, ◌<◌, ◌≤◌, List, arith}
 use Rattle.disk_model.specs.{Traces.Trace, Traces.seen, Images.IsOutside, Images.Now, Images.FromOld, Moments.During, Calls.Reaches, Gates.IsGuarded, Gates.AreShut, Gates.IsClosing}
 use Rattle.disk_model.proofs.{Images.present, Moments.during_now}
 use Rattle.event_queue.specs.{gate_of, place_of, lane_end, HasRoom}
@@ -22,11 +22,8 @@ pub room_behind : (o new : Trace) (slots used at gate : ℕ) (bytes : List ℕ) 
     → Now o (HasRoom slots used) → at ≡ place_of slots used → gate ≡ gate_of used
     → During o new (FromOld o (IsGuarded at bytes gate)) → Now new (HasRoom slots (used + 1))
 room_behind o new slots used at gate bytes free room is_at is_gate during = record {
-  each = λ c may.
-      let from = (during_now o new (FromOld o (IsGuarded at bytes gate)) during).each c may in
-      let guarded = subst (λ a. IsGuarded a bytes gate from.0 c) is_at from.2 in
-      room_guarded slots used bytes from.0 c free (room.each from.0 from.1)
-      (rw (← is_gate) guarded);
+  each = λ c may. let from = (during_now o new (FromOld o (IsGuarded at bytes gate)) during).each c may in
+      grind (arith, room_guarded, room.each, from.1, from.2);
 }
 
 -- gates were closed, and those of the used slots are

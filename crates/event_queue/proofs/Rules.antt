@@ -1,5 +1,5 @@
 -- The rule on first numbers, as it is defined and as it is tested.
-use Rattle.std.proofs.Common.{◌≡◌, ◌↔◌, inl, inr, ℕ, ◌+◌, ◌-◌, ◌<◌, Bool, true, false, List, refl, sym, ◌∙◌, arith}
+use Rattle.std.proofs.Common.{◌≡◌, ◌↔◌, ℕ, ◌+◌, ◌-◌, ◌<◌, Bool, true, false, List, sym, ◌∙◌, arith}
 use Rattle.std.proofs.lemmas.Bool.{cases_order, true≢false}
 use Rattle.disk_model.specs.Gates.{IsOpen}
 use Rattle.event_queue.specs.{declared.reader.Scanned.Scanned, gate_of, batch_at, IsStale, IsStaleBehind, IsNextBehind, FollowsOn, IsCounted, IsLane, IsWithin, IsRead, FitsSlot}
@@ -34,9 +34,7 @@ module _ (slots taken : ℕ) (bytes : List ℕ) where
       -- the test is right if it answers yes
       pub fits_follow : (stale : Bool) → ((stale ≡ true) ↔ IsStale taken (batch_at slots bytes k))
           → FitsSlot s k (batch_at slots bytes k).first stale → FollowsOn slots bytes taken k
-      fits_follow true tested (inl told) = inl (record { stale = tested.0 refl; before = told_stale told })
-      fits_follow true tested (inr none) = grind arith
-      fits_follow false tested fits = grind (arith, last_next, next_beyond)
+      fits_follow stale tested h2 = grind (arith, told_stale, last_next, next_beyond)
 
       -- and if it answers no: a stale batch comes after one that is not
       misfit_stale : IsStale taken (batch_at slots bytes k) → (FitsSlot s k (batch_at slots bytes k).first true → ⊥)
@@ -49,5 +47,4 @@ module _ (slots taken : ℕ) (bytes : List ℕ) where
 
       pub misfit_follow : (stale : Bool) → ((stale ≡ true) ↔ IsStale taken (batch_at slots bytes k))
           → (FitsSlot s k (batch_at slots bytes k).first stale → ⊥) → FollowsOn slots bytes taken k → ⊥
-      misfit_follow true tested unfit follows = grind (arith, misfit_stale, next_beyond)
-      misfit_follow false tested unfit follows = grind (arith, true≢false, misfit_next)
+      misfit_follow stale tested unfit follows = grind (arith, misfit_stale, next_beyond, true≢false, misfit_next)

@@ -1,5 +1,5 @@
 -- One open slot: what its fields decide.
-use Rattle.std.proofs.Common.{◌≡◌, ◌⊎◌, ◌↔◌, ℕ, ◌+◌, ◌*◌, ◌<◌, ◌≤◌, Bool, true, false, cond, List, [], ◌∷◌, ◌++◌, length, take, drop, refl, arith, length-append}
+use Rattle.std.proofs.Common.{◌≡◌, ◌⊎◌, ◌↔◌, ℕ, ◌+◌, ◌*◌, ◌<◌, ◌≤◌, Bool, true, cond, List, [], ◌++◌, length, take, drop, arith, length-append}
 use Rattle.std.proofs.lemmas.{Grind.common_steps, Bool.true≢false, List.drop-drop, List.append-nil}
 use Rattle.std.specs.{Int.w16, Int.w64, Int.from_be_bytes, List.All}
 use Rattle.trend_num.specs.Ranges.{InRange}
@@ -17,8 +17,7 @@ fields_read slot behind rest first count number is counted left = grind (arith, 
 
 -- a list of no length has no elements
 none_there : {X : Type 0} (xs : List X) → length xs ≤ 0 → xs ≡ []
-none_there [] none = refl
-none_there (x ∷ xs) none = absurd (omega (arith, none))
+none_there xs none = grind (arith, common_steps)
 
 -- what holds of the whole, whatever the device, extends to one open slot more
 pub within_more : (slots taken k first count : ℕ) (rest : List ℕ) (s new : Scanned) (stale : Bool)
@@ -26,10 +25,8 @@ pub within_more : (slots taken k first count : ℕ) (rest : List ℕ) (s new : S
     → new.lane.slots ≡ s.lane.slots → new.lane.used ≡ k + 1 → new.lane.next ≡ s.lane.next + cond stale 0 count
     → new.points.items ≡ s.points.items ++ slot_points (cond stale 0 count) rest → new.stale ≡ stale
     → IsWithin slots taken (k + 1) new
-within_more slots taken k first count rest s new true within fits few inside same used next points told =
-    grind (arith, none_there, append-nil)
-within_more slots taken k first count rest s new false within fits few inside same used next points told =
-    grind (arith, common_steps, true≢false, length-append, length-points_in)
+within_more slots taken k first count rest s new stale within fits few inside same used next points told =
+    grind (arith, none_there, append-nil, common_steps, true≢false, length-append, length-points_in)
 
 module _ (slots taken : ℕ) (bytes : List ℕ) (k first count : ℕ) (slot rest : List ℕ)
     (fields : HasFields slot first count rest) (at_slot : IsOpenSlot slots bytes k slot) where

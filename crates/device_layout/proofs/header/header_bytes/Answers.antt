@@ -1,5 +1,5 @@
-use Rattle.std.proofs.Common.{[], ◌∷◌, ◌++◌, ap, ◌∙◌}
-use Rattle.device_layout.specs.Headers.{letters}
+use Rattle.std.proofs.Common.{arith, ◌++◌, ap, ◌∙◌}
+use Rattle.device_layout.specs.{letters}
 use Rattle.device_layout.proofs.HeaderImages.{header_built, flag_byte}
 use Rattle.device_layout.proofs.header.header_bytes.Goals as goal
 
@@ -13,6 +13,5 @@ returns-clause-image c =
     c.put_name.ensures.items
     c.put_tuning.ensures.items
     (c.put-2.ensures.items ∙ ap (λ l. c.put_tuning.new.out.items ++ l) c.to_be_bytes.ensures)
-    (c.put-3.ensures.items
-    ∙ ap (λ b. c.put-2.new.out.items ++ (b ∷ [])) (c.from.ensures ∙ flag_byte c.args.def.now.step))
+    (grind (arith, flag_byte))
     c.put-4.ensures.items

@@ -1,9 +1,8 @@
 use Rattle.std.proofs.Common.{sym, ◌∙◌, arith}
-use Rattle.device_layout.specs.Headers.{is_field_ok, IsHeader}
-use Rattle.device_layout.proofs.Firsts.{holds_more}
-use Rattle.device_layout.proofs.HeaderFields.{header_tuned, header_slots}
-use Rattle.device_layout.proofs.header.read_header.Goals as goal
+use Rattle.device_layout.specs.{is_field_ok, IsHeader}
+use Rattle.device_layout.proofs.{Firsts.holds_more, HeaderFields.header_tuned, HeaderFields.header_slots}
 use Rattle.device_layout.proofs.header.read_header.Goals.{After-header_in}
+use Rattle.device_layout.proofs.header.read_header.Goals as goal
 
 -- all fields were tested
 header : (c : After-header_in) → IsHeader c.args.h.now

@@ -1,5 +1,4 @@
-use Rattle.device_layout.specs.Firsts.{HoldsFrom}
-use Rattle.device_layout.specs.Headers.{is_field_ok}
+use Rattle.device_layout.specs.{HoldsFrom, is_field_ok}
 use Rattle.device_layout.proofs.header.read_header.Given as goal
 
 abbrev pub invariant-loop-at : goal.invariant-loop-at

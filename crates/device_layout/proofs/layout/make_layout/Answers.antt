@@ -1,14 +1,11 @@
-use Rattle.std.proofs.Common.{◌∙◌}
-use Rattle.disk_model.specs.Gates.{IsNew}
+use Rattle.std.proofs.Common.{arith, ◌∙◌}
 use Rattle.disk_model.proofs.Moments.{started}
 use Rattle.archive_file.proofs.Beginnings.{layout_counted}
-use Rattle.device_layout.proofs.LayoutMoments.{new_closed, new_now, new_recovers, shut_reached, layout_recovers}
-use Rattle.device_layout.proofs.LayoutMoments.{layout_made}
+use Rattle.device_layout.proofs.LayoutMoments.{new_closed, new_now, new_recovers, shut_reached, layout_recovers, layout_made}
 use Rattle.device_layout.proofs.layout.make_layout.Goals as goal
 
 pub returns-in_default-clause-any_moment : goal.returns-in_default-clause-any_moment
-returns-in_default-clause-any_moment g c =
-    new_recovers c.args.def.now _ _ (started _ IsNew (new_now _ c.requires.new c.requires.settled))
+returns-in_default-clause-any_moment g c = grind (arith, new_recovers, started, new_now)
 
 pub write_guarded-requires-clause-room : goal.write_guarded-requires-clause-room
 write_guarded-requires-clause-room g c = shut_reached _ c.in-Ok-close_layout.ensures.shut

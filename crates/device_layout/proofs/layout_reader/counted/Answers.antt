@@ -1,5 +1,4 @@
-use Rattle.device_layout.proofs.Shows.{shows₃}
-use Rattle.device_layout.proofs.Reading.{summary_broken, here_at}
+use Rattle.device_layout.proofs.{Shows.shows₃, Reading.summary_broken, Reading.here_at}
 use Rattle.device_layout.proofs.layout_reader.counted.Goals as goal
 
 pub returns-in-Err-clause-cause : goal.returns-in-Err-clause-cause

@@ -1,14 +1,9 @@
 use Rattle.std.proofs.Common.{arith}
-use Rattle.device_layout.proofs.Shows.{shows}
-use Rattle.device_layout.proofs.Reading.{has_header}
-use Rattle.device_layout.proofs.Causes.{header_cause}
+use Rattle.device_layout.proofs.{Shows.shows, Reading.has_header, Causes.header_cause}
 use Rattle.device_layout.proofs.layout_reader.header_of.Goals as goal
 
 pub returns-in-Ok-clause-header : goal.returns-in-Ok-clause-header
-returns-in-Ok-clause-header g c =
-    let said = c.in-Ok.ensures.header in
-    shows (g.D.Disk.device c.args.dev.now).trace _ _ (λ c' here. has_header _ c' _ c.in_ok-bytes.ensures.len here said.0 said.1 said.2)
-    c.in_ok-bytes.ensures.bytes
+returns-in-Ok-clause-header g c = grind (arith, shows, has_header)
 
 pub returns-in-Err-clause-cause : goal.returns-in-Err-clause-cause
 returns-in-Err-clause-cause g c def opened = rw c.damaged.ensures

@@ -1,13 +1,8 @@
+use Rattle.std.proofs.Common.{arith, ◌≡◌, ◌∙◌, Some}
 use Rattle.std.proofs.lemmas.Result.{err_from_is_err_and}
-use Rattle.std.proofs.Common.{◌≡◌, ◌∙◌, Some, refl}
-use Rattle.device_layout.specs.Recovery.{counting, slot_bytes}
-use Rattle.archive_file.specs.Places.{HasRecords}
 use Rattle.archive_file.specs.Summaries.{summary_image}
-use Rattle.event_queue.specs.Slots.{lane_end}
-use Rattle.device_layout.specs.Readings.{HasLayout, CountsSummary}
-use Rattle.device_layout.proofs.Shows.{shows, shows_before, shows_after}
-use Rattle.device_layout.proofs.Reading.{cause_before}
-use Rattle.device_layout.proofs.Causes.{counts_shown, stored_shown}
+use Rattle.device_layout.specs.{counting, slot_bytes, HasLayout, CountsSummary}
+use Rattle.device_layout.proofs.{Shows.shows, Shows.shows_before, Shows.shows_after, Reading.cause_before, Causes.counts_shown, Causes.stored_shown}
 use Rattle.device_layout.proofs.layout_reader.read_stored.Goals as goal
 
 pub returns-in_err-summary-clause-cause : goal.returns-in_err-summary-clause-cause
@@ -22,19 +17,11 @@ returns-in_err-summary-clause-cause g c def layout =
     (shows_after _ _ (HasLayout def c.args.header.now.slots c.args.header.now.def.tuning) same layout)
     (shows_after _ _ (λ c'. counting c' ≡ Some c.in-Some.slot) same counts)))
 
+pub returns-in_default-clause-found : goal.returns-in_default-clause-found
+returns-in_default-clause-found g c def layout = grind (arith, c.in_ok-slot.ensures.slot ∙ c.in_default.is)
+
 pub returns-clause-found : goal.returns-clause-found
-returns-clause-found g c def layout =
-    let slots = c.args.header.now.slots in
-    let slot = c.in-Some.slot in
-    let s = c.in_ok-summary.summary in
-    let same = c.in_ok-slot.ensures.same in
-    let counts = shows (g.D.Disk.device c.args.dev.now).trace _ (λ c'. counting c' ≡ Some slot) (λ c' is. is ∙ c.in-Some.is) c.in_ok-slot.ensures.slot in
-    let bytes = shows_before _ _ (λ c'. slot_bytes c' slot ≡ summary_image s) same c.in_ok-summary.ensures.bytes in
-    let has = counts_shown def (g.D.Disk.device c.args.dev.now).trace slots _ slot s _ layout counts c.in_ok-summary.ensures.whole bytes c.in_force-tuning.ensures in
-    stored_shown def (g.D.Disk.device c.args.dev.now).trace slots slot s c.in_force-tuning.result _ has
-    (shows_before _ _ (λ c'. HasRecords c' (lane_end slots) s.records c.in_ok-recs.recs.items)
-    (c.in_ok-summary.ensures.same ∙ same) c.in_ok-recs.ensures.records)
-    refl refl refl
+returns-clause-found g c def layout = grind (arith, shows, shows_before, counts_shown, stored_shown)
 
 pub returns-in_err-recs-clause-cause : goal.returns-in_err-recs-clause-cause
 returns-in_err-recs-clause-cause g c def layout =

@@ -1,6 +1,6 @@
 use Rattle.std.proofs.Common.{◌≡◌, true, false, rules, tests, arith}
 use Rattle.std.proofs.lemmas.Iterator.{first_from_Range}
-use Rattle.device_layout.specs.SlotFields.{is_number_ok}
+use Rattle.device_layout.specs.{is_number_ok}
 use Rattle.device_layout.proofs.Firsts.{first_found}
 use Rattle.device_layout.proofs.slot_field.broken_number.Goals as goal
 

@@ -1,16 +1,9 @@
-use Rattle.std.proofs.Common.{refl, arith, ◌∙◌}
+use Rattle.std.proofs.Common.{rules, arith, ◌∙◌}
 use Rattle.disk_model.proofs.Closings.{none_closed, closing_goes_on, one_closed, all_moments, all_read, all_shut, none_counted, one_counted, all_counted}
 use Rattle.disk_model.proofs.gate.close_gates.Goals as goal
 
 pub loop-k-init : goal.loop-k-init
-loop-k-init g c = record {
-  closed = none_closed c.args.at c.args.count (g.D.Disk.device c.args.dev.now).trace c.requires.room c.requires.gates;
-  later = omega arith;
-  clock = omega arith;
-  calls = none_counted c.args.at _ (g.D.Disk.device c.args.dev.now).trace;
-  faultless = refl;
-  handed = refl;
-}
+loop-k-init g c = search (rules, none_closed, none_counted)
 
 pub returns-in_err-close_gate-clause-any_moment : goal.returns-in_err-close_gate-clause-any_moment
 returns-in_err-close_gate-clause-any_moment g c =
@@ -22,24 +15,19 @@ loop-k-preserved g c = record {
       c.in_ok-close_gate.ensures.reads c.in_ok-close_gate.ensures.shut;
   later = omega (arith, c.loop-k.invariant.later, c.close_gate.ensures.later);
   clock = omega (arith, c.loop-k.invariant.clock, c.close_gate.ensures.clock);
-  calls = one_counted c.args.at c.loop-k.k _ _ _ _ _ _ (omega (arith, c.from.ensures)) c.loop-k.invariant.closed.any_moment.later
-      (c.loop-k.invariant.closed.ahead _ (omega (arith, c.from.ensures))) c.loop-k.invariant.calls c.in_ok-close_gate.ensures.calls;
+  calls = grind (arith, one_counted);
   faultless = c.in_ok-close_gate.ensures.cause.passed ∙ c.loop-k.invariant.faultless;
   handed = c.close_gate.ensures.handed ∙ c.loop-k.invariant.handed;
 }
 
 pub returns-clause-any_moment : goal.returns-clause-any_moment
-returns-clause-any_moment g c =
-    all_moments c.args.at c.args.count c.loop-k.k _ _ _ c.sync.result c.loop-k.invariant.closed c.sync.ensures.noted
+returns-clause-any_moment g c = grind (arith, all_moments)
 
 pub returns-clause-reads : goal.returns-clause-reads
-returns-clause-reads g c =
-    all_read c.args.at c.args.count c.loop-k.k _ _ _ c.sync.result c.loop-k.invariant.closed c.sync.ensures.noted
+returns-clause-reads g c = grind (arith, all_read)
 
 pub returns-clause-shut : goal.returns-clause-shut
-returns-clause-shut g c =
-    all_shut c.args.at c.args.count c.loop-k.k _ _ _ c.sync.result c.loop-k-test.false c.loop-k.invariant.closed c.sync.ensures.noted
+returns-clause-shut g c = grind (arith, all_shut)
 
 pub returns-clause-calls : goal.returns-clause-calls
-returns-clause-calls g c = all_counted c.sync.result c.args.at c.args.count c.loop-k.k _ _ _ (g.D.Disk.device c.args.dev.now).trace (omega (arith, c.loop-k-test.false)) c.sync.ensures.clock
-    c.loop-k.invariant.calls
+returns-clause-calls g c = grind (arith, all_counted)

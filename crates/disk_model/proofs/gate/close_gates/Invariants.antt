@@ -1,9 +1,7 @@
 use Rattle.std.proofs.Common.{◌≡◌, ◌+◌, ◌≤◌}
-use Rattle.disk_model.specs.Calls.{Shows}
-use Rattle.disk_model.specs.Gates.{open_gates}
+use Rattle.disk_model.specs.{Shows, open_gates, moment}
 use Rattle.disk_model.proofs.Closings.{AreClosed}
 use Rattle.disk_model.proofs.gate.close_gates.Given as goal
-use Rattle.disk_model.specs.Traces.{moment}
 
 abbrev pub invariant-loop-k : goal.invariant-loop-k
 invariant-loop-k g l = record {

@@ -1,18 +1,13 @@
 use Rattle.std.proofs.Common.{◌≡◌, ℕ, ◌+◌, ◌<◌, List, [], ◌∷◌, length, take, get_or, sym, ap, ◌∙◌, arith}
-use Rattle.std.proofs.lemmas.List.{take_more, take_all}
-use Rattle.disk_model.specs.declared.memory_log.Note.{Note}
-use Rattle.disk_model.specs.Traces.{content}
-use Rattle.disk_model.specs.Memory.{picked}
-use Rattle.disk_model.specs.Logs.{log_first, call_of, idles, calls_after}
+use Rattle.std.proofs.lemmas.{Grind.common_steps, List.take_more, List.take_all}
+use Rattle.disk_model.specs.{declared.memory_log.Note.Note, content, picked, log_first, call_of, idles, calls_after}
 use Rattle.disk_model.proofs.Logs.{calls_after-push, content-idles, picked-idles}
 use Rattle.disk_model.proofs.memory_log.CallLog.picked.Goals as goal
 
 -- the calls of one note more
 events_more : (ns : List Note) (i : ℕ) (n : Note) → i < length ns → n ≡ get_or ns i n
     → calls_after [] (take (i + 1) ns) ≡ call_of n.call ∷ idles n.idle (calls_after [] (take i ns))
-events_more ns i n there is =
-    ap (calls_after []) (take_more ns i n there) ∙ calls_after-push [] (take i ns) (get_or ns i n)
-    ∙ ap (λ m. call_of m.call ∷ idles m.idle (calls_after [] (take i ns))) (sym is)
+events_more ns i n there is = grind (arith, common_steps, take_more, calls_after-push)
 
 pub loop-note-preserved : goal.loop-note-preserved
 loop-note-preserved c =
@@ -31,8 +26,4 @@ loop-note-preserved c =
     }
 
 pub returns : goal.returns
-returns c =
-    let first = log_first c.args.self.now in
-    let ns = c.args.self.now.notes.items in
-    c.loop-note.invariant.image ∙ ap (λ l. picked c.args.pick first (calls_after [] l)) (take_all c.loop-note.note-index ns (omega (arith, c.loop-note-test.false, ap length c.deref-note-items.ensures.value)))
-    ∙ sym (picked-idles c.args.pick first c.args.self.now.idle (calls_after [] ns))
+returns c = grind (arith, take_all, picked-idles)

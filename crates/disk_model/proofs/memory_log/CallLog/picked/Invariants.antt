@@ -1,7 +1,5 @@
 use Rattle.std.proofs.Common.{◌≡◌, [], take}
-use Rattle.disk_model.specs.Traces.{content}
-use Rattle.disk_model.specs.Memory.{picked}
-use Rattle.disk_model.specs.Logs.{log_first, calls_after}
+use Rattle.disk_model.specs.{content, picked, log_first, calls_after}
 use Rattle.disk_model.proofs.memory_log.CallLog.picked.Given as goal
 
 abbrev pub invariant-loop-note : goal.invariant-loop-note
