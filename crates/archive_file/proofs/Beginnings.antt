@@ -2,14 +2,11 @@
 use Rattle.std.proofs.Common.{◌≡◌, inl, inr, ℕ, zero, suc, ◌+◌, ◌^◌, ◌<◌, ◌≤◌, List, [], ◌∷◌, length, get_or, Result, Ok, Err, OnOk, sym, ap, subst, arith}
 use Rattle.std.proofs.lemmas.Bool.{cases_eq}
 use Rattle.std.proofs.lemmas.Grind.{same_number_lists}
-use Rattle.disk_model.specs.Calls.{IsNoted, IsTimed, HasLength, Sees, Shows}
-use Rattle.disk_model.specs.Gates.{Holds, IsBegun, IsClosing, IsGuarded, IsNew, IsOpen, IsShut, closing_calls, layout_calls, open_byte, open_gates}
-use Rattle.disk_model.specs.Images.{MayLeave, Now, FromOld, IsSettled}
-use Rattle.disk_model.specs.Moments.{During}
-use Rattle.disk_model.specs.Traces.{Wrote, WroteInPart, Synced, Idle, Trace, noted, seen, written}
+use Rattle.disk_model.specs.{IsNoted, IsTimed, HasLength, Sees, Shows, Holds, IsBegun, IsClosing, IsGuarded, IsNew, IsOpen, IsShut, closing_calls, layout_calls, open_byte, open_gates, MayLeave, Now, FromOld, IsSettled, During, Wrote}
+use Rattle.disk_model.specs.{WroteInPart, Synced, Idle, Trace, noted, seen, written}
 use Rattle.disk_model.proofs.Images.{present, wrote_now, synced_now}
 use Rattle.disk_model.proofs.Moments.{started, during_now, weaker, in_turn, goes_on}
-use Rattle.archive_file.specs.TextHeads.{IsEmpty, IsLeftOrBegun, IsLeftOrNew, TextOpensAt, blocks_at, head_image}
+use Rattle.archive_file.specs.{IsEmpty, IsLeftOrBegun, IsLeftOrNew, TextOpensAt, blocks_at, head_image}
 use Rattle.archive_file.proofs.TextHeads.{head_is}
 
 -- ---- the gate of the layout is closed

@@ -1,10 +1,8 @@
 -- Blocks that a reader goes over: one more, and all, and the first that breaks a rule.
 use Rattle.std.proofs.Common.{◌≡◌, ℕ, ◌+◌, ◌<◌, ◌≤◌, inr, List, [], ◌∷◌, ◌++◌, drop, length, map, Option, sym, subst, arith}
 use Rattle.std.proofs.lemmas.List.{get_or-drop}
-use Rattle.disk_model.specs.Gates.{IsOpen}
-use Rattle.archive_file.specs.declared.layout_field.Field.{Field}
-use Rattle.archive_file.specs.BlockFiles.{AreAllRead, AreRead, IsFirstBroken, Step, moved}
-use Rattle.archive_file.specs.LayoutFields.{BreaksFirst}
+use Rattle.disk_model.specs.{IsOpen}
+use Rattle.archive_file.specs.{Field, AreAllRead, AreRead, IsFirstBroken, Step, moved, BreaksFirst}
 use Rattle.archive_file.proofs.Windows.{rest_first}
 
 -- the gate in front of the bytes from a place on is the one at that place

@@ -3,10 +3,8 @@ use Rattle.std.proofs.Common.{◌≡◌, ℕ, Bool, All, List, [], ◌∷◌, �
 use Rattle.std.proofs.Math.Seq.{take-add}
 use Rattle.std.proofs.lemmas.List.{append-nil, drop-drop}
 use Rattle.std.proofs.lemmas.List.Elements.{All-append, All-nil}
-use Rattle.archive_file.specs.declared.failure.ScanNo.{ScanNo}
+use Rattle.archive_file.specs.{ScanNo, Field, Spells, Keeps, BreaksFirst}
 use Rattle.archive_file.specs.declared.failure.ScanNo.TheVariants.{Damaged}
-use Rattle.archive_file.specs.declared.layout_field.Field.{Field}
-use Rattle.archive_file.specs.LayoutFields.{Spells, Keeps, BreaksFirst}
 
 -- a field at a place, and whether it is kept
 abbrev pub field_of : ℕ → ℕ → Bool → Field

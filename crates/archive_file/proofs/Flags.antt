@@ -1,7 +1,7 @@
 -- The bits of the flags of a summary.
 use Rattle.std.proofs.Common.{◌≡◌, ℕ, ◌+◌, ◌*◌, ◌/◌, ◌%◌, ◌≤◌, Bool, cond, eqb, is_some, arith}
-use Rattle.trend_num.specs.declared.archive.Summary.{Summary}
-use Rattle.archive_file.specs.Summaries.{flag, flags}
+use Rattle.trend_num.specs.{Summary}
+use Rattle.archive_file.specs.{flag, flags}
 
 -- a bit as a number
 abbrev bit : Bool → ℕ

@@ -2,9 +2,8 @@
 use Rattle.std.proofs.Common.{◌≡◌, ℕ, ◌+◌, ◌<◌, ◌≤◌, List, length, get_or, take, drop, refl, ◌∙◌, arith, length-take, length-drop}
 use Rattle.std.proofs.lemmas.Nat.{be_bytes_4, be_bytes_8}
 use Rattle.std.proofs.lemmas.List.{get_or-take, get_or-drop, get_or_past, drop_more}
-use Rattle.archive_file.specs.Fields.{number_bytes}
+use Rattle.archive_file.specs.{number_bytes, Spells, long_at, short_at}
 use Rattle.archive_file.proofs.Points.{IsBytes}
-use Rattle.archive_file.specs.LayoutFields.{Spells, long_at, short_at}
 
 -- the byte i of n bytes at a place
 pub byte_of : (c : List ℕ) (at n i : ℕ) → i < n → get_or (take n (drop at c)) i 0 ≡ get_or c (at + i) 0

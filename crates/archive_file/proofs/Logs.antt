@@ -1,22 +1,13 @@
 -- Records read and written one after the other.
-use Rattle.std.proofs.Common.{◌≡◌, ⊎_elim, inl, inr, ℕ, ◌+◌, ◌*◌, ◌-◌, ◌<◌, ◌≤◌, List, [], ◌∷◌, ◌++◌, length}
-use Rattle.std.proofs.Common.{get_or, take, drop, Option, Some, unsigned_abs, refl, sym, ap, ◌∙◌, subst}
-use Rattle.std.proofs.Common.{arith, zero-add, length-append}
-use Rattle.disk_model.specs.Traces.{Trace, seen}
-use Rattle.disk_model.specs.Calls.{Reaches, Reads}
+use Rattle.std.proofs.Common.{◌≡◌, ⊎_elim, inl, inr, ℕ, ◌+◌, ◌*◌, ◌-◌, ◌<◌, ◌≤◌, List, [], ◌∷◌, ◌++◌, length, get_or, take, drop, Option, Some, unsigned_abs, refl, sym, ap, ◌∙◌, subst, arith, zero-add, length-append}
+use Rattle.disk_model.specs.{Trace, seen, Reaches, Reads}
 use Rattle.std.proofs.Math.Seq.{take-add}
 use Rattle.std.proofs.lemmas.Bool.{cases_lt}
 use Rattle.std.proofs.lemmas.Grind.{flat_map-append}
-use Rattle.std.proofs.lemmas.List.{append-nil, get_or-take, get_or-drop, take-take, take_all, drop-take}
-use Rattle.std.proofs.lemmas.List.{drop-drop}
-use Rattle.trend_num.specs.declared.archive.Kind.{Kind}
-use Rattle.trend_num.specs.declared.archive.Rec.{Rec}
-use Rattle.trend_num.specs.Ranges.{InRange, last_time, largest_value}
-use Rattle.archive_file.specs.declared.failure.ScanNo.{ScanNo}
+use Rattle.std.proofs.lemmas.List.{append-nil, get_or-take, get_or-drop, take-take, take_all, drop-take, drop-drop}
+use Rattle.trend_num.specs.{Kind, Rec, InRange, last_time, largest_value}
+use Rattle.archive_file.specs.{ScanNo, point_at, kind_byte, rec_image, recs_image, Adds, AreInRange, AreRecords, BreaksAt, HasRecords, IsRecordBroken, IsDamage}
 use Rattle.archive_file.specs.declared.failure.ScanNo.TheVariants.{Damaged}
-use Rattle.archive_file.specs.Fields.{point_at}
-use Rattle.archive_file.specs.Records.{kind_byte, rec_image, recs_image}
-use Rattle.archive_file.specs.Places.{Adds, AreInRange, AreRecords, BreaksAt, HasRecords, IsRecordBroken, IsDamage}
 use Rattle.archive_file.proofs.Points.{IsBytes, rec_spelled}
 use Rattle.archive_file.proofs.Joins.{joined}
 

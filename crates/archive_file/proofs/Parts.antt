@@ -1,16 +1,10 @@
 -- A summary is read of its bytes, part by part.
-use Rattle.std.proofs.Common.{◌≡◌, ℕ, ◌/◌, ◌%◌, ◌≤◌, Bool, true, false, cond, eqb, List, [], ◌∷◌, ◌++◌}
-use Rattle.std.proofs.Common.{length, get_or, take, drop, Option, None, Some, is_some, IfSome, ap, ◌∙◌}
-use Rattle.std.proofs.Common.{arith, append_assoc}
+use Rattle.std.proofs.Common.{◌≡◌, ℕ, ◌/◌, ◌%◌, ◌≤◌, Bool, true, false, cond, eqb, List, [], ◌∷◌, ◌++◌, length, get_or, take, drop, Option, None, Some, is_some, IfSome, ap, ◌∙◌, arith, append_assoc}
 use Rattle.std.proofs.lemmas.List.{drop_at}
 use Rattle.std.specs.Int.{w32, w64, from_be_bytes, to_be_bytes}
 use Rattle.std.proofs.lemmas.Nat.{from_be_bytes-to_be_bytes_8, from_be_bytes-to_be_bytes_4}
-use Rattle.trend_num.specs.declared.point.Point.{Point}
-use Rattle.trend_num.specs.declared.archive.Summary.{Summary}
-use Rattle.trend_num.specs.declared.tuning.Tuning.{Tuning}
-use Rattle.trend_num.specs.Ranges.{InRange, TuningInRange, last_time, largest_value}
-use Rattle.archive_file.specs.Fields.{number_bytes, place_bytes, point_at}
-use Rattle.archive_file.specs.Summaries.{flags, places_image, tuning_bytes, summary_image, IsSummary}
+use Rattle.trend_num.specs.{Point, Summary, Tuning, InRange, TuningInRange, last_time, largest_value}
+use Rattle.archive_file.specs.{number_bytes, place_bytes, point_at, flags, places_image, tuning_bytes, summary_image, IsSummary}
 use Rattle.archive_file.proofs.Points.{place_at-bytes}
 use Rattle.archive_file.proofs.Flags.{held_bit, pending_bit, hinge_bit, doors_bit, tuning_bit}
 

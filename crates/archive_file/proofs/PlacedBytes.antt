@@ -3,8 +3,7 @@ use Rattle.std.proofs.Common.{◌≡◌, ℕ, ◌+◌, ◌<◌, ◌≤◌, List,
 use Rattle.std.proofs.Math.Seq.{take-add}
 use Rattle.std.proofs.lemmas.Grind.{same_number_lists}
 use Rattle.std.proofs.lemmas.List.{get_or-take, get_or-drop, drop-drop, take-take, take_at}
-use Rattle.disk_model.specs.Gates.{Holds, IsGuarded, IsOpen, IsShut}
-use Rattle.disk_model.specs.Traces.{written}
+use Rattle.disk_model.specs.{Holds, IsGuarded, IsOpen, IsShut, written}
 use Rattle.disk_model.proofs.Bytes.{holds_written}
 
 -- ---- parts of bytes

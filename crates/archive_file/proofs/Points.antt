@@ -1,18 +1,12 @@
 -- A point is read of its bytes, and its bytes are those that it was read of.
-use Rattle.std.proofs.Common.{◌≡◌, ⊎_elim, ℕ, ◌+◌, ◌^◌, ◌<◌, cond, List, [], ◌∷◌, ◌++◌, length, get_or}
-use Rattle.std.proofs.Common.{take, drop, Option, None, Some, is_some, IfSome, refl, sym, ap, ◌∙◌, subst}
-use Rattle.std.proofs.Common.{arith, length-take, length-drop, take-append-drop}
+use Rattle.std.proofs.Common.{◌≡◌, ⊎_elim, ℕ, ◌+◌, ◌^◌, ◌<◌, cond, List, [], ◌∷◌, ◌++◌, length, get_or, take, drop, Option, None, Some, is_some, IfSome, refl, sym, ap, ◌∙◌, subst, arith, length-take, length-drop, take-append-drop}
 use Rattle.std.specs.Int.{w64, from_be_bytes}
 use Rattle.std.proofs.lemmas.Nat.{be_bytes_8, from_be_bytes-to_be_bytes_8}
 use Rattle.std.proofs.lemmas.Int.{ints, to_z-of_z, of_z-to_z}
 use Rattle.std.proofs.lemmas.List.{get_or-take, get_or-drop, get_or_past, take_all, append-nil, drop_more}
 use Rattle.std.proofs.lemmas.Bool.{cases_lt}
-use Rattle.trend_num.specs.declared.point.Point.{Point}
-use Rattle.trend_num.specs.declared.archive.Rec.{Rec}
-use Rattle.trend_num.specs.declared.archive.Kind.{Kind}
-use Rattle.trend_num.specs.Ranges.{InRange}
-use Rattle.archive_file.specs.Fields.{number_bytes, point_bytes, place_bytes, point_at}
-use Rattle.archive_file.specs.Records.{kind_byte, rec_image}
+use Rattle.trend_num.specs.{Point, Rec, Kind, InRange}
+use Rattle.archive_file.specs.{number_bytes, point_bytes, place_bytes, point_at, kind_byte, rec_image}
 use mir.Val.{SFits, of_z, to_z}
 
 -- each of these is a byte

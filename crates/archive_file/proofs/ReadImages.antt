@@ -1,10 +1,6 @@
 -- What a read of a device gives, what follows for its images, and a device that is synced before it is read.
 use Rattle.std.proofs.Common.{◌≡◌, ◌⊎◌, inl, ℕ, ◌+◌, List, Result, sym, subst, arith}
-use Rattle.disk_model.specs.Calls.{IsNoted, Reaches, Shows}
-use Rattle.disk_model.specs.Gates.{IsShut}
-use Rattle.disk_model.specs.Images.{IsSettled, MayLeave, Now}
-use Rattle.disk_model.specs.Moments.{During}
-use Rattle.disk_model.specs.Traces.{Synced, Idle, Trace, noted}
+use Rattle.disk_model.specs.{IsNoted, Reaches, Shows, IsShut, IsSettled, MayLeave, Now, During, Synced, Idle, Trace, noted}
 use Rattle.disk_model.proofs.Images.{present, synced_now}
 use Rattle.disk_model.proofs.Moments.{goes_on, started}
 

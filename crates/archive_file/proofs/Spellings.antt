@@ -1,13 +1,7 @@
 -- Two records or summaries in range that have the same bytes are the same.
-use Rattle.std.proofs.Common.{◌≡◌, List, [], ◌∷◌, length, get_or, take, drop, Option, None, Some, is_some}
-use Rattle.std.proofs.Common.{IfSome, refl, sym, ap, ◌∙◌, arith}
-use Rattle.trend_num.specs.declared.archive.Rec.{Rec}
-use Rattle.trend_num.specs.declared.archive.Summary.{Summary}
-use Rattle.trend_num.specs.declared.tuning.Tuning.{Tuning}
-use Rattle.trend_num.specs.Ranges.{InRange, TuningInRange}
-use Rattle.archive_file.specs.Records.{rec_image, recs_image}
-use Rattle.archive_file.specs.Places.{AreInRange}
-use Rattle.archive_file.specs.Summaries.{tuning_bytes, summary_image, IsSummary}
+use Rattle.std.proofs.Common.{◌≡◌, List, [], ◌∷◌, length, get_or, take, drop, Option, None, Some, is_some, IfSome, refl, sym, ap, ◌∙◌, arith}
+use Rattle.trend_num.specs.{Rec, Summary, Tuning, InRange, TuningInRange}
+use Rattle.archive_file.specs.{rec_image, recs_image, AreInRange, tuning_bytes, summary_image, IsSummary}
 use Rattle.archive_file.proofs.Points.{rec_read}
 use Rattle.archive_file.proofs.Parts.{AreRead, parts_read, tuning_read}
 

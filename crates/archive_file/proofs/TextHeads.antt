@@ -2,10 +2,8 @@
 use Rattle.std.proofs.Common.{◌≡◌, ◌≢◌, ℕ, ◌+◌, ◌^◌, ◌<◌, ◌≤◌, true, All, List, [], ◌∷◌, ◌++◌, length, get_or, take, drop, nat_eq, refl, sym, ◌∙◌, ap, subst, arith, lit<, length-append, length-take, length-drop, eq-eqb}
 use Rattle.std.specs.Int.{w32, from_be_bytes}
 use Rattle.std.proofs.lemmas.Nat.{from_be_bytes-to_be_bytes_4}
-use Rattle.disk_model.specs.Gates.{Holds, IsOpen, open_byte}
-use Rattle.archive_file.specs.Fields.{number_bytes}
-use Rattle.archive_file.specs.LayoutFields.{Keeps, short_at}
-use Rattle.archive_file.specs.TextHeads.{HasHead, IsEmpty, IsOfText, blocks_at, head_fields, head_image, letter_field, text_in}
+use Rattle.disk_model.specs.{Holds, IsOpen, open_byte}
+use Rattle.archive_file.specs.{number_bytes, Keeps, short_at, HasHead, IsEmpty, IsOfText, blocks_at, head_fields, head_image, letter_field, text_in}
 use Rattle.archive_file.proofs.FieldLaws.{all_six, field_of}
 use Rattle.archive_file.proofs.PlacedBytes.{SameFront, holds_byte, holds_left, holds_right, holds_there, part_same}
 

@@ -6,13 +6,9 @@ use Rattle.std.proofs.lemmas.List.{drop-drop, drop-take, get_or-drop, get_or-tak
 use Rattle.std.proofs.lemmas.List.Elements.{All-map}
 use Rattle.std.proofs.lemmas.Int.{of_z-to_z}
 use Rattle.std.specs.Int.{w32, w64, cast_signed, from_be_bytes}
-use Rattle.archive_file.specs.Fields.{number_bytes, value_bytes}
+use Rattle.archive_file.specs.{number_bytes, value_bytes, Field, moved, Breaks, BreaksFirst, Keeps, Spells, long_at, short_at, AreAsked, IsAsked}
 use Rattle.archive_file.proofs.FieldLaws.{spells_both}
-use Rattle.disk_model.specs.Gates.{IsBegun, IsNew}
-use Rattle.archive_file.specs.declared.layout_field.Field.{Field}
-use Rattle.archive_file.specs.BlockFiles.{moved}
-use Rattle.archive_file.specs.LayoutFields.{Breaks, BreaksFirst, Keeps, Spells, long_at, short_at}
-use Rattle.archive_file.specs.Windows.{AreAsked, IsAsked}
+use Rattle.disk_model.specs.{IsBegun, IsNew}
 
 -- refused bytes break among them, or at their end
 pub breaks_low : (c : List ℕ) (fields : List Field) (a : ℕ) (byte : Option ℕ) → BreaksFirst c fields a byte → a ≤ length c

@@ -1,6 +1,6 @@
 -- Blocks of a device, one after the other, as a reader finds them.
 use Rattle.std.specs.Prelude.{◌≡◌, ◌⊎◌, ℕ, ◌+◌, true, List, [], ◌∷◌, drop, map, Option}
-use Rattle.disk_model.specs.Gates.{IsOpen, IsShut}
+use Rattle.disk_model.specs.{IsOpen, IsShut}
 use Rattle.archive_file.specs.declared.layout_field.Field.{Field}
 use Rattle.archive_file.specs.LayoutFields.{BreaksFirst, EndsIn}
 

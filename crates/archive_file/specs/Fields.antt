@@ -1,7 +1,7 @@
 -- The bytes of numbers, values and points, the most significant first.
 use Rattle.std.specs.Prelude.{ℕ, ℤ, List, ◌++◌, replicate, take, drop, Option, None, Some}
 use Rattle.std.specs.Int.{w64, bytes_high_first, from_be_bytes, cast_unsigned, cast_signed}
-use Rattle.trend_num.specs.declared.point.Point.{Point}
+use Rattle.trend_num.specs.{Point}
 
 -- a number in k bytes
 abbrev pub number_bytes : ℕ → ℕ → List ℕ

@@ -1,9 +1,6 @@
 -- Records at a place of a device, and where they first break the layout.
-use Rattle.std.specs.Prelude.{◌≡◌, ◌≢◌, ◌⊎◌, ℕ, ◌+◌, ◌*◌, ◌<◌, ◌≤◌, List, [], ◌∷◌, ◌++◌, length, take, drop}
-use Rattle.std.specs.Prelude.{slice_index, Option, None, Some, unsigned_abs}
-use Rattle.trend_num.specs.declared.archive.Kind.{Kind}
-use Rattle.trend_num.specs.declared.archive.Rec.{Rec}
-use Rattle.trend_num.specs.Ranges.{InRange, last_time, largest_value}
+use Rattle.std.specs.Prelude.{◌≡◌, ◌≢◌, ◌⊎◌, ℕ, ◌+◌, ◌*◌, ◌<◌, ◌≤◌, List, [], ◌∷◌, ◌++◌, length, take, drop, slice_index, Option, None, Some, unsigned_abs}
+use Rattle.trend_num.specs.{Kind, Rec, InRange, last_time, largest_value}
 use Rattle.archive_file.specs.Fields.{point_at}
 use Rattle.archive_file.specs.Records.{kind_byte, recs_image}
 

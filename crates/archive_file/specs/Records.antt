@@ -1,8 +1,7 @@
 -- The bytes of records.
 use Rattle.std.specs.Prelude.{ℕ, List, ◌∷◌, flat_map}
-use Rattle.trend_num.specs.declared.archive.Kind.{Kind}
+use Rattle.trend_num.specs.{Kind, Rec}
 use Rattle.trend_num.specs.declared.archive.Kind.TheVariants.{Kept, Late}
-use Rattle.trend_num.specs.declared.archive.Rec.{Rec}
 use Rattle.archive_file.specs.Fields.{point_bytes}
 
 -- the letter K or L

@@ -1,9 +1,6 @@
 -- The bytes of a summary.
-use Rattle.std.specs.Prelude.{◌≡◌, ℕ, ◌+◌, ◌^◌, ◌<◌, Bool, true, if◌then◌else◌, List, [], ◌∷◌, ◌++◌, replicate, Option}
-use Rattle.std.specs.Prelude.{None, Some, is_some, IfSome}
-use Rattle.trend_num.specs.declared.archive.Summary.{Summary}
-use Rattle.trend_num.specs.declared.tuning.Tuning.{Tuning}
-use Rattle.trend_num.specs.Ranges.{InRange, TuningInRange}
+use Rattle.std.specs.Prelude.{◌≡◌, ℕ, ◌+◌, ◌^◌, ◌<◌, Bool, true, if◌then◌else◌, List, [], ◌∷◌, ◌++◌, replicate, Option, None, Some, is_some, IfSome}
+use Rattle.trend_num.specs.{Summary, Tuning, InRange, TuningInRange}
 use Rattle.archive_file.specs.Fields.{number_bytes, place_bytes}
 
 -- a tuning in 32 bytes, or zeros if it is absent

@@ -1,9 +1,6 @@
 -- A layout that begins with four letters and a text: its head, and where its blocks begin.
 use Rattle.std.specs.Prelude.{◌≡◌, ◌⊎◌, ℕ, ◌+◌, true, List, [], ◌∷◌, ◌++◌, All, length, take, drop, slice_index, nat_eq}
-use Rattle.disk_model.specs.Calls.{Shows}
-use Rattle.disk_model.specs.Gates.{IsBegun, IsNew, IsShut, layout_calls}
-use Rattle.disk_model.specs.Images.{MayLeave}
-use Rattle.disk_model.specs.Traces.{Trace, moment}
+use Rattle.disk_model.specs.{Shows, IsBegun, IsNew, IsShut, layout_calls, MayLeave, Trace, moment}
 use Rattle.archive_file.specs.Fields.{number_bytes}
 use Rattle.archive_file.specs.declared.layout_field.Field.{Field}
 use Rattle.archive_file.specs.LayoutFields.{Keeps, short_at}

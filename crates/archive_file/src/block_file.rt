@@ -1,7 +1,6 @@
 // Reading the blocks of a device, one after the other.
 ghost use Rattle.std.specs.Prelude.{◌≡◌, ℕ, ◌+◌, ◌<◌, ◌≤◌, Option, IfNone, IfOk, IfSome, IsErrOf, OnOk, drop, length};
-ghost use Rattle.disk_model.specs.Calls.{CountsFault, HasLength, Shows};
-ghost use Rattle.disk_model.specs.Gates.{IsOpen};
+ghost use Rattle.disk_model.specs.{CountsFault, HasLength, Shows, IsOpen};
 ghost use Rattle.archive_file.specs.declared.failure.ScanNo.TheVariants.{Damaged, DeviceFault};
 ghost use Rattle.archive_file.specs.LayoutFields.{BreaksFirst};
 ghost use Rattle.archive_file.specs.BlockFiles.{AreAllRead, IsFirstBroken};

@@ -1,7 +1,6 @@
 // The head of a layout with a text.
 ghost use Rattle.std.specs.Prelude.{◌≡◌, ℕ, ◌+◌, ◌^◌, ◌<◌, ◌≤◌, ◌↔◌, All, Option, IfNone, IfOk, IfSome, IsErrOf, IsTrue, OnOk, drop, length, take};
-ghost use Rattle.disk_model.specs.Calls.{CountsFault, HasLength, Sees, Shows};
-ghost use Rattle.disk_model.specs.Gates.{IsBegun, IsNew};
+ghost use Rattle.disk_model.specs.{CountsFault, HasLength, Sees, Shows, IsBegun, IsNew};
 ghost use Rattle.archive_file.specs.declared.failure.ScanNo.TheVariants.{Damaged, DeviceFault};
 ghost use Rattle.archive_file.specs.LayoutFields.{BreaksFirst, Keeps, short_at};
 ghost use Rattle.archive_file.specs.TextHeads.{IsOfText, head_fields, letter_field, text_in};

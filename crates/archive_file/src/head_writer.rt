@@ -1,12 +1,8 @@
 // Begins a layout on a device: closes its gate, and writes a head with a text behind it.
 ghost use Rattle.std.specs.Prelude.{◌≡◌, ◌+◌, ◌≤◌, IfOk, IsErrOf, OnOk, length};
-ghost use Rattle.disk_model.specs.Calls.{CountsFault, HasCause, Shows};
-ghost use Rattle.disk_model.specs.Gates.{IsShut, closing_calls, layout_calls};
-ghost use Rattle.disk_model.specs.Images.{IsSettled, Now};
-ghost use Rattle.disk_model.specs.Moments.{During};
+ghost use Rattle.disk_model.specs.{CountsFault, HasCause, Shows, IsShut, closing_calls, layout_calls, IsSettled, Now, During, moment};
 ghost use Rattle.archive_file.specs.declared.failure.PutNo.TheVariants.{DeviceFault, WantOfMemory as NoMemory};
 ghost use Rattle.archive_file.specs.TextHeads.{IsEmpty, IsLeftOrBegun, IsLeftOrNew, blocks_at, head_image};
-ghost use Rattle.disk_model.specs.Traces.{moment};
 
 use crate::failure::PutNo;
 use disk_model::{Disk, Failed, close_gates, write_guarded};

@@ -1,13 +1,10 @@
 // Records on a device.
-ghost use Rattle.std.specs.Prelude.{◌≡◌, ◌+◌, ◌*◌, ◌^◌, ◌<◌, ◌≤◌, ℕ, Option, min, length, take, drop, slice_index, Some, IfOk};
-ghost use Rattle.std.specs.Prelude.{OnOk, IsErrOf, vec_len, vec_capacity};
-ghost use Rattle.disk_model.specs.Traces.{Wrote, WroteInPart, seen, moment};
-ghost use Rattle.disk_model.specs.Calls.{CountsFault, IsNoted, Reaches, Reads};
+ghost use Rattle.std.specs.Prelude.{◌≡◌, ◌+◌, ◌*◌, ◌^◌, ◌<◌, ◌≤◌, ℕ, Option, min, length, take, drop, slice_index, Some, IfOk, OnOk, IsErrOf, vec_len, vec_capacity};
+ghost use Rattle.disk_model.specs.{Wrote, WroteInPart, seen, moment, CountsFault, IsNoted, Reaches, Reads};
 ghost use Rattle.archive_file.specs.declared.failure.ScanNo.TheVariants.{DeviceFault, Damaged};
 ghost use Rattle.archive_file.specs.declared.failure.PutNo.TheVariants.{DeviceFault as PutFault, WantOfMemory};
 ghost use Rattle.archive_file.specs.Records.{rec_image, recs_image};
-ghost use Rattle.trend_num.specs.declared.archive.Rec.{Rec};
-ghost use Rattle.trend_num.specs.Ranges.{InRange};
+ghost use Rattle.trend_num.specs.{Rec, InRange};
 ghost use Rattle.archive_file.specs.Places.{Adds, HasRecords, BreaksAt, IsDamage, IsRecordBroken};
 
 use crate::field::take_point;

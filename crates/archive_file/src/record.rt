@@ -1,8 +1,6 @@
 // The bytes of records.
 ghost use Rattle.std.specs.Prelude.{◌≡◌, ◌≢◌, ◌↔◌, length, Some, IfSome, IfNone};
-ghost use Rattle.trend_num.specs.declared.archive.Rec.{Rec};
-ghost use Rattle.trend_num.specs.declared.archive.Kind.{Kind};
-ghost use Rattle.trend_num.specs.Ranges.{InRange};
+ghost use Rattle.trend_num.specs.{Rec, Kind, InRange};
 ghost use Rattle.archive_file.specs.Records.{kind_byte, rec_image};
 
 use crate::field::{put, put_point, take_point};

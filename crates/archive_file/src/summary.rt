@@ -2,9 +2,7 @@
 ghost use Rattle.std.specs.Prelude.{◌≡◌, ◌↔◌, ◌+◌, ◌≤◌, ◌<◌, ◌++◌, length, drop, None, Option, Some, IfSome, is_some, IsTrue, if◌then◌else◌};
 ghost use Rattle.archive_file.specs.Fields.{point_at};
 ghost use Rattle.arrayvec.specs.ArrayVec.{array_vec_len};
-ghost use Rattle.trend_num.specs.declared.archive.Summary.{Summary};
-ghost use Rattle.trend_num.specs.declared.tuning.Tuning.{Tuning};
-ghost use Rattle.trend_num.specs.Ranges.{InRange, TuningInRange};
+ghost use Rattle.trend_num.specs.{Summary, Tuning, InRange, TuningInRange};
 ghost use Rattle.archive_file.specs.Summaries.{flag, flags, places_image, tuning_bytes, summary_image, IsSummary};
 
 use crate::field::{

@@ -1,7 +1,6 @@
 // What is read of a device from a place on.
 ghost use Rattle.std.specs.Prelude.{◌≡◌, ℕ, ◌+◌, ◌-◌, ◌^◌, ◌<◌, ◌≤◌, ◌++◌, [], All, Option, IsErrOf, OnOk, drop, length, min, slice_index, take};
-ghost use Rattle.disk_model.specs.Calls.{CountsFault, HasCause, HasLength, Reaches, Shows};
-ghost use Rattle.disk_model.specs.Traces.{seen};
+ghost use Rattle.disk_model.specs.{CountsFault, HasCause, HasLength, Reaches, Shows, seen};
 ghost use Rattle.archive_file.specs.declared.failure.ScanNo.TheVariants.{Damaged, DeviceFault, WantOfMemory};
 ghost use Rattle.archive_file.specs.Fields.{number_bytes};
 ghost use Rattle.archive_file.specs.LayoutFields.{BreaksFirst, Keeps, Spells, long_at, short_at};

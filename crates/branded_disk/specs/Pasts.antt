@@ -1,6 +1,6 @@
 -- What the devices of a store were when a command began.
 use Rattle.std.specs.Prelude.{◌≡◌, ℕ, List, Option, None, Some, IfSome}
-use Rattle.disk_model.specs.Traces.{Device, Trace}
+use Rattle.disk_model.specs.{Device, Trace}
 
 -- what the device of each name was, if that is told
 abbrev pub Past : Type 0

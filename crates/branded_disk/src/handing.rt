@@ -1,7 +1,6 @@
 // Taking devices from a store under a brand, and giving them back.
 ghost use Rattle.std.specs.Prelude.{◌≡◌, ◌≢◌, ℕ, List, Some, IfOk, IfSome, IsSome, OnOk, OnErr, IsTrue};
-ghost use Rattle.disk_model.specs.Calls.{HasCause, sum_of_counts};
-ghost use Rattle.disk_model.specs.Traces.{FitsName};
+ghost use Rattle.disk_model.specs.{HasCause, sum_of_counts, FitsName};
 ghost use Rattle.branded_disk.specs.Pasts.{IsUnused, branded};
 
 use crate::begun::Begun;

@@ -2,7 +2,7 @@
 use Rattle.std.proofs.Common.{◌≡◌, ℕ, ◌+◌, List, [], ◌++◌, length, take, drop, refl, ap, ◌∙◌, length-append}
 use Rattle.std.proofs.Math.Seq.{take-add}
 use Rattle.std.specs.Prelude.{⊤}
-use Rattle.byte_io.specs.Files.{FileTold, Untold, Missing, Holds, HasAt}
+use Rattle.byte_io.specs.{FileTold, Untold, Missing, Holds, HasAt}
 
 -- these bytes were read of a file, from its front on; of one that is missing, none
 abbrev pub IsRead : FileTold → List ℕ → Type 0

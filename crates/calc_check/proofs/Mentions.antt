@@ -9,7 +9,7 @@ use Rattle.std.proofs.lemmas.Option.{slice_get-map, slice_get-get_or}
 use Rattle.std.proofs.lemmas.List.Folds.{find-append}
 use Rattle.std.proofs.Math.Seq.{drop-cons}
 use Rattle.calc_parser.specs.Tree.{tree_of}
-use Rattle.calc_check.specs.declared.definition.CalcDef.{CalcDef}
+use Rattle.calc_check.specs.{CalcDef}
 use Rattle.calc_check.specs.Group.{Mention, calculation, names_of, mentioned, is_known, first_unknown, told, first_fault}
 
 -- a definition of a name is one calculation of that name

@@ -5,12 +5,11 @@ use Rattle.std.specs.Option.{option_map}
 use Rattle.std.proofs.lemmas.List.{append-nil, length-map, take_more}
 use Rattle.std.proofs.lemmas.Option.{slice_get-map, slice_get-get_or, slice_get_within, get_or_from_slice_get}
 use Rattle.std.proofs.Math.Seq.{take-append_seam}
-use Rattle.trend_num.specs.declared.point.Point.{Point}
+use Rattle.trend_num.specs.{Point, CalcValue}
 use Rattle.calc_parser.specs.Tree.{tree_of}
-use Rattle.calc_check.specs.declared.definition.CalcDef.{CalcDef}
-use Rattle.trend_num.specs.declared.value.CalcValue.{CalcValue}
+use Rattle.calc_check.specs.{CalcDef}
 use Rattle.calc_check.specs.Group.{Calculation, Group, calculation, group_of}
-use Rattle.sheet_law.specs.Value.{scope, value, values}
+use Rattle.sheet_law.specs.{scope, value, values}
 
 -- a list with elements added, each made of those before it and of one of xs
 abbrev pub grown : {A B : Type 0} → (List B → A → B) → List B → List A → List B

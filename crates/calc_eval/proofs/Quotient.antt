@@ -5,7 +5,7 @@ use mir.Val.{SFits, to_z, of_z}
 use Rattle.std.specs.Prelude.{neg_ℤ}
 use Rattle.std.specs.Int.{int_div_euclid}
 use Rattle.std.proofs.lemmas.Int.{ints, to_z-of_z}
-use Rattle.sheet_law.specs.Number.{floor_div, floor_rem, IsFloorDivision}
+use Rattle.sheet_law.specs.{floor_div, floor_rem, IsFloorDivision}
 
 -- what a quotient by a number above 0 leaves
 left : (z : ℤ) (n : ℕ) → 0 < n

@@ -6,19 +6,15 @@ use Rattle.std.specs.Str.{bytes_eq}
 use Rattle.std.proofs.lemmas.Bool.{leb-true}
 use Rattle.std.proofs.lemmas.List.Elements.{All-append}
 use Rattle.std.proofs.lemmas.Option.{slice_get_within, get_or_from_slice_get}
-use Rattle.trend_num.specs.declared.point.Point.{Point}
-use Rattle.trend_model.specs.Windows.{window_value, lesser, greater}
-use Rattle.calc_parser.specs.declared.tree.Op.{Op}
+use Rattle.trend_num.specs.{Point, CalcValue}
+use Rattle.trend_model.specs.{window_value, lesser, greater}
+use Rattle.calc_parser.specs.{Op, Cmp, largest_number}
 use Rattle.calc_parser.specs.declared.tree.Op.TheVariants.{Add, Sub, Mul, Div, Rem, Min, Max}
-use Rattle.calc_parser.specs.declared.tree.Cmp.{Cmp}
-use Rattle.calc_parser.specs.Tokens.{largest_number}
 use Rattle.calc_parser.specs.Tree.{Tree, num, window, calc, neg, abs, two, compare, choose}
 use Rattle.trend_num.specs.declared.value.Bad.TheVariants.{NoData, DivZero, Range}
-use Rattle.trend_num.specs.declared.value.CalcValue.{CalcValue}
 use Rattle.trend_num.specs.declared.value.CalcValue.TheVariants.{Num, Bad}
-use Rattle.sheet_law.specs.Number.{bounded, IsInRange, measured_value, after_operation, floor_div, floor_rem, operated, holds, compared}
+use Rattle.sheet_law.specs.{bounded, IsInRange, measured_value, after_operation, floor_div, floor_rem, operated, holds, compared, Scope, value, at_name, scope, values}
 use Rattle.calc_check.specs.Group.{Group, Calculation, names_of}
-use Rattle.sheet_law.specs.Value.{Scope, value, at_name, scope, values}
 
 -- either of two values that are in the range
 either : (b : Bool) (v w : CalcValue) → IsInRange v → IsInRange w → IsInRange (cond b v w)

@@ -1,6 +1,6 @@
 // Operations on values.
 ghost use Rattle.std.specs.Prelude.{◌≡◌, ◌≢◌, pos};
-ghost use Rattle.sheet_law.specs.Number.{bounded, measured_value, floor_div, floor_rem, divided, operated, holds, compared};
+ghost use Rattle.sheet_law.specs.{bounded, measured_value, floor_div, floor_rem, divided, operated, holds, compared};
 
 use calc_parser::{Cmp, Op};
 use trend_num::{Bad, CalcValue};

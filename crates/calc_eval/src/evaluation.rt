@@ -1,9 +1,9 @@
 // The value of a calculation.
 ghost use Rattle.std.specs.Prelude.{◌≡◌, ◌+◌, ◌<◌, ◌≤◌, length, slice_get, take, Some};
-ghost use Rattle.trend_num.specs.Ranges.{last_time};
+ghost use Rattle.trend_num.specs.{last_time};
 ghost use Rattle.calc_parser.specs.Tree.{tree_of, window, calc};
 ghost use Rattle.calc_check.specs.Group.{group_of};
-ghost use Rattle.sheet_law.specs.Value.{points_in, scope, value, values};
+ghost use Rattle.sheet_law.specs.{points_in, scope, value, values};
 
 use crate::arithmetic::{bounded, compared, measured_value, operated};
 use calc_check::{CalcDef, Checked, calc_place, input_place};

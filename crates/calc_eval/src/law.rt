@@ -1,13 +1,10 @@
 // What holds of every division, and of all values. The bodies are empty: each law is a contract.
 ghost use Rattle.std.specs.Prelude.{◌≡◌, ◌≢◌, ℕ, ℤ, pos, List, All};
-ghost use Rattle.sheet_law.specs.Number.{floor_div, floor_rem, IsFloorDivision, IsInRange};
-ghost use Rattle.trend_num.specs.declared.measure.Measure.{Measure};
-ghost use Rattle.trend_num.specs.declared.point.Point.{Point};
-ghost use Rattle.calc_parser.specs.Canonical.{text_of};
-ghost use Rattle.calc_parser.specs.Formulas.{IsFormula, IsTree};
+ghost use Rattle.sheet_law.specs.{floor_div, floor_rem, IsFloorDivision, IsInRange, Scope, measure_of, value, values};
+ghost use Rattle.trend_num.specs.{Measure, Point};
+ghost use Rattle.calc_parser.specs.{text_of, IsFormula, IsTree};
 ghost use Rattle.calc_parser.specs.Tree.{Tree};
 ghost use Rattle.calc_check.specs.Group.{Group};
-ghost use Rattle.sheet_law.specs.Value.{Scope, measure_of, value, values};
 
 /// The divisor times the quotient, plus the remainder, is the dividend. The remainder is 0 or has the divisor's sign,
 /// and is nearer to 0 than the divisor.

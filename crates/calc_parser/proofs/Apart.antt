@@ -1,8 +1,7 @@
 -- The tokens of a derivation lie apart: spelled one after another, no two of them run together.
 use Rattle.std.proofs.Common.{◌≡◌, Bool, true, false, ◌&&◌, ◌||◌, List, [], ◌∷◌, ◌++◌, refl, ap, ◌∙◌}
-use Rattle.calc_parser.specs.declared.token.Token.{Token}
+use Rattle.calc_parser.specs.{Token, Level, Reading, plain, compared, one_term, more_terms, one_factor, more_factors, negated, numeral, grouped, measured, calculated, absolute, picked, chosen, words}
 use Rattle.calc_parser.specs.declared.token.Token.TheVariants.{Number, Measuring, Calculation, Absolute, Picking, Choice, Close, Comma, Summing, Multiplying, Comparing}
-use Rattle.calc_parser.specs.Grammar.{Level, Reading, plain, compared, one_term, more_terms, one_factor, more_factors, negated, numeral, grouped, measured, calculated, absolute, picked, chosen, words}
 
 -- letters or digits
 abbrev pub is_wordy : Token → Bool

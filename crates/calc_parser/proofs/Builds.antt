@@ -1,14 +1,9 @@
 -- A text has at most one tree: a machine, which reads the tokens of any derivation, ends with its tree.
 use Rattle.std.proofs.Common.{◌≡◌, ℕ, List, [], ◌∷◌, ◌++◌, Option, None, Some, refl, sym, ap, ◌∙◌, append_assoc}
 use Rattle.std.proofs.lemmas.List.{append-nil}
-use Rattle.calc_parser.specs.declared.tree.Cmp.{Cmp}
-use Rattle.calc_parser.specs.declared.token.Sum.{Sum}
-use Rattle.calc_parser.specs.declared.token.Product.{Product}
-use Rattle.calc_parser.specs.declared.token.Pick.{Pick}
-use Rattle.calc_parser.specs.declared.token.Token.{Token}
+use Rattle.calc_parser.specs.{Cmp, Sum, Product, Pick, Token, IsTree, Level, formula, sums, terms, factor, Reading, plain, compared, one_term, more_terms, one_factor, more_factors, negated, numeral, grouped, measured, calculated, absolute}
+use Rattle.calc_parser.specs.{picked, chosen, words, tree, sum_op, product_op, pick_op}
 use Rattle.calc_parser.specs.declared.token.Token.TheVariants.{Number, Quoted, Measuring, Calculation, Absolute, Picking, Choice, Open, Close, Comma, Summing, Multiplying, Comparing}
-use Rattle.calc_parser.specs.Formulas.{IsTree}
-use Rattle.calc_parser.specs.Grammar.{Level, formula, sums, terms, factor, Reading, plain, compared, one_term, more_terms, one_factor, more_factors, negated, numeral, grouped, measured, calculated, absolute, picked, chosen, words, tree, sum_op, product_op, pick_op}
 use Rattle.calc_parser.specs.Tree.{Tree, num, window, calc, neg, abs, two, compare, choose}
 
 -- what waits for the tree that is read: a sign before it; what is before it in its formula; the bracket that it is in

@@ -1,13 +1,12 @@
 -- The derivation of a tree that has the tokens of its canonical text: brackets occur only where they are needed.
 use Rattle.std.proofs.Common.{◌≡◌, [], ◌∷◌, ◌++◌, refl, ap, ◌∙◌}
-use Rattle.calc_parser.specs.declared.tree.Op.{Op}
+use Rattle.calc_parser.specs.{Op, fit, joined, canonical, Level, formula, sums, terms, factor, Reading, plain, compared, one_term, more_terms, one_factor, more_factors, negated, numeral, grouped, measured, calculated, absolute, picked}
+use Rattle.calc_parser.specs.{chosen, words, tree}
 use Rattle.calc_parser.specs.declared.tree.Op.TheVariants.{Add, Sub, Mul, Div, Rem, Min, Max}
 use Rattle.calc_parser.specs.declared.token.Sum.TheVariants.{Plus, Minus}
 use Rattle.calc_parser.specs.declared.token.Product.TheVariants.{Times, Over, Modulo}
 use Rattle.calc_parser.specs.declared.token.Pick.TheVariants.{Least, Greatest}
 use Rattle.calc_parser.specs.declared.token.Token.TheVariants.{Absolute, Picking, Choice, Open, Close, Comma, Summing, Multiplying, Comparing}
-use Rattle.calc_parser.specs.Canonical.{fit, joined, canonical}
-use Rattle.calc_parser.specs.Grammar.{Level, formula, sums, terms, factor, Reading, plain, compared, one_term, more_terms, one_factor, more_factors, negated, numeral, grouped, measured, calculated, absolute, picked, chosen, words, tree}
 use Rattle.calc_parser.specs.Tree.{Tree, num, window, calc, neg, abs, two, compare, choose}
 
 -- the level of an operation, and of a tree's outermost part

@@ -1,14 +1,10 @@
 -- What may occur can be completed: tokens that lead somewhere begin some formula.
 use Rattle.std.proofs.Common.{◌≡◌, ℕ, ◌+◌, true, false, pos, List, [], ◌∷◌, ◌++◌, None, Some, refl, sym, ap, ◌∙◌, subst, append_assoc}
 use Rattle.std.proofs.lemmas.List.{append-nil}
-use Rattle.calc_parser.specs.declared.token.Sum.{Sum}
+use Rattle.calc_parser.specs.{Sum, Product, Token, Begins, formula, sums, factor, Reading, plain, compared, one_term, more_terms, one_factor, more_factors, negated, numeral, grouped, measured, calculated, absolute, picked, chosen, words}
+use Rattle.calc_parser.specs.{Stack, Next, operand, more, bracket, name, comma, close, whole, step}
 use Rattle.calc_parser.specs.declared.token.Sum.TheVariants.{Plus, Minus}
-use Rattle.calc_parser.specs.declared.token.Product.{Product}
-use Rattle.calc_parser.specs.declared.token.Token.{Token}
 use Rattle.calc_parser.specs.declared.token.Token.TheVariants.{Number, Quoted, Measuring, Calculation, Absolute, Picking, Choice, Open, Close, Comma, Summing, Multiplying, Comparing}
-use Rattle.calc_parser.specs.Formulas.{Begins}
-use Rattle.calc_parser.specs.Grammar.{formula, sums, factor, Reading, plain, compared, one_term, more_terms, one_factor, more_factors, negated, numeral, grouped, measured, calculated, absolute, picked, chosen, words}
-use Rattle.calc_parser.specs.Scan.{Stack, Next, operand, more, bracket, name, comma, close, whole, step}
 use Rattle.calc_parser.proofs.Walks.{Walked, prepend, onward, walk}
 
 -- these tokens are what may come, and where a formula may continue, a formula with what was read of it

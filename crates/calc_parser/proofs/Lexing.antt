@@ -4,8 +4,7 @@ use Rattle.std.proofs.lemmas.List.{drop-drop}
 use Rattle.std.proofs.Math.Seq.{drop-cons, take-length}
 use Rattle.std.proofs.lemmas.Bool.Decides.{nat_tests}
 use Rattle.std.specs.List.{list_all, prefix_len}
-use Rattle.calc_parser.specs.declared.token.Token.{Token}
-use Rattle.calc_parser.specs.Tokens.{Lexeme, token_at, lexemes, tokens_of, places_of}
+use Rattle.calc_parser.specs.{Token, Lexeme, token_at, lexemes, tokens_of, places_of}
 
 -- what is before the first byte that fails a test passes it
 pub run_passes : {X : Type 0} (p : X → Bool) (xs : List X) (n : ℕ) → n ≤ prefix_len p xs

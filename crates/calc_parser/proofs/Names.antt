@@ -7,9 +7,9 @@ use Rattle.std.proofs.lemmas.List.Folds.{list_all_at}
 use Rattle.std.proofs.lemmas.Str.{encode_ascii}
 use Rattle.std.specs.Bool.{Decides}
 use Rattle.std.specs.List.{list_all}
-use Rattle.trend_num.specs.Names.{IsName, is_name_byte}
+use Rattle.trend_num.specs.{IsName, is_name_byte}
 use Rattle.trend_num.proofs.NameText.{both_left, both_right, byte_small}
-use Rattle.calc_parser.specs.Tokens.{is_name}
+use Rattle.calc_parser.specs.{is_name}
 use lib.Utf8.{encode}
 
 -- each byte of a name is one

@@ -2,13 +2,8 @@
 use Rattle.std.proofs.Common.{◌≡◌, ℕ, ◌-◌, ◌≤◌, List, [], ◌∷◌, ◌++◌, length, drop, get_or, Err, sym, ap, ◌∙◌, subst, arith, length-append}
 use Rattle.std.proofs.lemmas.List.{append-nil}
 use Rattle.std.proofs.Math.Seq.{drop-append_seam}
-use Rattle.calc_parser.specs.declared.parser.Stop.{Stop}
+use Rattle.calc_parser.specs.{Stop, Token, most_bytes, IsFormula, IsSyntax, IsDeep, HasFormulaCause, Gives, kind_of, formula, words, whole, scan, fine, SpellsTokens, Stops, refusal_of, tokens_of, places_of}
 use Rattle.calc_parser.specs.declared.parser.Stop.TheVariants as stop
-use Rattle.calc_parser.specs.declared.token.Token.{Token}
-use Rattle.calc_parser.specs.Formulas.{most_bytes, IsFormula, IsSyntax, IsDeep, HasFormulaCause, Gives, kind_of}
-use Rattle.calc_parser.specs.Grammar.{formula, words}
-use Rattle.calc_parser.specs.Scan.{whole, scan, fine, SpellsTokens, Stops, refusal_of}
-use Rattle.calc_parser.specs.Tokens.{tokens_of, places_of}
 use Rattle.calc_parser.specs.Tree.{Tree}
 use Rattle.calc_parser.proofs.Builds.{same_tree}
 use Rattle.calc_parser.proofs.Verdicts.{IsAt, IsStuck, PlungesAt, Explains, explains, shallow, cannot_follow, opens_too_deep, deep_in_none, front_begins, deep_begins, all_shallow}

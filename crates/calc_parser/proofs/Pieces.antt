@@ -1,12 +1,14 @@
 -- What the token that bytes begin with can be, and how many of them its spelling takes.
-use Rattle.std.proofs.Common.{◌≡◌, ℕ, zero, suc, ◌+◌, ◌-◌, ◌*◌, ◌/◌, ◌%◌, ◌^◌, ◌<◌, ◌≤◌, min, Bool, true, false, ◌&&◌, cond, List, [], ◌∷◌, ◌++◌, length, take, drop, map, get_or, nat_eq, nat_le, Option, None, Some, refl, sym, ap, ◌∙◌, subst, arith, length-append, length-take, length-drop, lit<, codes}
+use Rattle.std.proofs.Common.{◌≡◌, ℕ, zero, suc, ◌+◌, ◌-◌, ◌*◌, ◌/◌, ◌%◌, ◌^◌, ◌<◌, ◌≤◌, min, Bool, true, false, ◌&&◌, cond, List, [], ◌∷◌, ◌++◌, length, take, drop, map, get_or, nat_eq, nat_le, Option, None, Some, refl, sym, ap, ◌∙◌}
+use Rattle.std.proofs.Common.{subst, arith, length-append, length-take, length-drop, lit<, codes}
 use Rattle.std.proofs.lemmas.Bool.Decides.{nat_tests}
 use Rattle.std.proofs.lemmas.Fmt.{decimal_by_steps, length-decimal-le}
 use Rattle.std.proofs.lemmas.List.Quantifiers.{position-Some}
 use Rattle.std.proofs.Math.Nat.{pow-suc}
-use Rattle.trend_num.specs.declared.measure.Measure.{Measure}
+use Rattle.trend_num.specs.{Measure, digits_value}
 use Rattle.trend_num.specs.declared.measure.Measure.TheVariants.{Area, Avg, Total, Low, High, Count, First, Last}
-use Rattle.calc_parser.specs.declared.refusal.SyntaxKind.{SyntaxKind}
+use Rattle.calc_parser.specs.{SyntaxKind, Token, spelling, spelled, measure_word, Piece, is_letter, is_name, largest_number, ill, measured_or, numeral_of, measure_word_of, other_word, word_of, quoted_of, less_of, greater_of, sign_of}
+use Rattle.calc_parser.specs.{or_ill, token_at, lexemes}
 use Rattle.calc_parser.specs.declared.refusal.SyntaxKind.TheVariants as kind
 use Rattle.calc_parser.specs.declared.token.Token.TheVariants.{Quoted, Calculation, Absolute, Picking, Choice, Open, Close, Comma, Summing, Multiplying, Comparing}
 use Rattle.calc_parser.specs.declared.tree.Cmp.TheVariants.{Eq}
@@ -20,10 +22,6 @@ use Rattle.std.specs.Char.{is_ascii_digit}
 use Rattle.std.specs.Fmt.{decimal}
 use Rattle.std.specs.List.{fold, list_all, prefix_len, position}
 use Rattle.std.specs.Str.{bytes_eq}
-use Rattle.trend_num.specs.Numerals.{digits_value}
-use Rattle.calc_parser.specs.declared.token.Token.{Token}
-use Rattle.calc_parser.specs.Canonical.{spelling, spelled, measure_word}
-use Rattle.calc_parser.specs.Tokens.{Piece, is_letter, is_name, largest_number, ill, measured_or, numeral_of, measure_word_of, other_word, word_of, quoted_of, less_of, greater_of, sign_of, or_ill, token_at, lexemes}
 use Rattle.calc_parser.proofs.Lexing.{run_passes}
 use Rattle.trend_num.proofs.NameText.{both_left, both_right}
 use Rattle.calc_parser.proofs.Written.{IsWritten, AllWritten}

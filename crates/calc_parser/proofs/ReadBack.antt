@@ -1,25 +1,21 @@
 -- Tokens that lie apart, spelled one after another, are read again.
-use Rattle.std.proofs.Common.{◌≡◌, ℕ, zero, suc, ◌+◌, ◌-◌, ◌^◌, ◌<◌, ◌≤◌, Bool, true, false, ◌&&◌, ◌||◌, cond, pos, List, [], ◌∷◌, ◌++◌, length, drop, map, get_or, nat_eq, nat_le, nat_lt, not, None, Some, refl, sym, ap, ◌∙◌, subst, arith, append_assoc, length-append, lit<, codes}
+use Rattle.std.proofs.Common.{◌≡◌, ℕ, zero, suc, ◌+◌, ◌-◌, ◌^◌, ◌<◌, ◌≤◌, Bool, true, false, ◌&&◌, ◌||◌, cond, pos, List, [], ◌∷◌, ◌++◌, length, drop, map, get_or, nat_eq, nat_le, nat_lt, not, None, Some, refl, sym, ap, ◌∙◌, subst, arith}
+use Rattle.std.proofs.Common.{append_assoc, length-append, lit<, codes}
 use Rattle.std.proofs.lemmas.Bool.{false≢true}
 use Rattle.std.proofs.lemmas.Bool.Decides.{nat_tests}
 use Rattle.std.proofs.Math.Seq.{take-append_seam, drop-append_seam}
 use Rattle.std.specs.Char.{is_ascii_digit}
 use Rattle.std.specs.Fmt.{decimal}
 use Rattle.std.specs.List.{list_all, prefix_len, position, position_or_len}
-use Rattle.trend_num.specs.declared.measure.Measure.{Measure}
+use Rattle.trend_num.specs.{Measure, is_name_byte, digits_value}
 use Rattle.trend_num.specs.declared.measure.Measure.TheVariants.{Area, Avg, Total, Low, High, Count, First, Last}
-use Rattle.trend_num.specs.Names.{is_name_byte}
-use Rattle.trend_num.specs.Numerals.{digits_value}
-use Rattle.calc_parser.specs.declared.tree.Cmp.{Cmp}
+use Rattle.calc_parser.specs.{Cmp, Token, spelling, spelled, ill, is_letter, is_name, largest_number, numeral_of, word_at, or_ill, name_of, quoted_of, token_at, lexemes, tokens_of}
 use Rattle.calc_parser.specs.declared.tree.Cmp.TheVariants.{Le, Ge, Ne, Lt, Gt, Eq}
 use Rattle.calc_parser.specs.declared.token.Sum.TheVariants.{Plus, Minus}
 use Rattle.calc_parser.specs.declared.token.Product.TheVariants.{Times, Over, Modulo}
 use Rattle.calc_parser.specs.declared.token.Pick.TheVariants.{Least, Greatest}
-use Rattle.calc_parser.specs.declared.token.Token.{Token}
 use Rattle.calc_parser.specs.declared.token.Token.TheVariants.{Number, Quoted, Measuring, Calculation, Absolute, Picking, Choice, Open, Close, Comma, Summing, Multiplying, Comparing, Ill, End}
 use Rattle.calc_parser.specs.declared.refusal.SyntaxKind.TheVariants as kind
-use Rattle.calc_parser.specs.Canonical.{spelling, spelled}
-use Rattle.calc_parser.specs.Tokens.{ill, is_letter, is_name, largest_number, numeral_of, word_at, or_ill, name_of, quoted_of, token_at, lexemes, tokens_of}
 use Rattle.calc_parser.proofs.Apart.{is_wordy, is_comparing, clash, next_of, Apart}
 use Rattle.calc_parser.proofs.Lexing.{token_first}
 use Rattle.trend_num.proofs.NameText.{both_left, both_right}

@@ -1,10 +1,7 @@
 -- The canonical text of a formula's tree is a formula again, with the same tree.
 use Rattle.std.proofs.Common.{◌≡◌, ℕ, ◌≤◌, List, length, All, refl, sym, ap, ◌∙◌, subst, arith}
 use Rattle.calc_parser.specs.declared.token.Token.TheVariants.{End}
-use Rattle.calc_parser.specs.Canonical.{canonical, spelled, text_of}
-use Rattle.calc_parser.specs.Formulas.{deepest, most_bytes, IsFormula}
-use Rattle.calc_parser.specs.Grammar.{formula, Reading, words, tree, opens}
-use Rattle.calc_parser.specs.Tokens.{tokens_of}
+use Rattle.calc_parser.specs.{canonical, spelled, text_of, deepest, most_bytes, IsFormula, formula, Reading, words, tree, opens, tokens_of}
 use Rattle.calc_parser.specs.Tree.{Tree}
 use Rattle.calc_parser.proofs.Apart.{Apart, lies_apart}
 use Rattle.calc_parser.proofs.Directs.{whole_direct, whole_words, whole_tree}

@@ -7,10 +7,9 @@ use Rattle.std.specs.List.{AllByRecursion}
 use Rattle.calc_parser.specs.declared.token.Sum.TheVariants.{Plus, Minus}
 use Rattle.calc_parser.specs.declared.token.Product.TheVariants.{Times, Over, Modulo}
 use Rattle.calc_parser.specs.declared.token.Pick.TheVariants.{Least, Greatest}
-use Rattle.calc_parser.specs.declared.token.Token.{Token}
+use Rattle.calc_parser.specs.{Token, spelling, spelled, measure_word, cmp_sign, Level, formula, sums, terms, factor, Reading, plain, compared, one_term, more_terms, one_factor, more_factors, negated, numeral, grouped, measured, calculated}
+use Rattle.calc_parser.specs.{absolute, picked, chosen, words, tree, opens}
 use Rattle.calc_parser.specs.declared.token.Token.TheVariants.{Quoted, Open, Close, Comma, Summing, Multiplying, Comparing}
-use Rattle.calc_parser.specs.Canonical.{spelling, spelled, measure_word, cmp_sign}
-use Rattle.calc_parser.specs.Grammar.{Level, formula, sums, terms, factor, Reading, plain, compared, one_term, more_terms, one_factor, more_factors, negated, numeral, grouped, measured, calculated, absolute, picked, chosen, words, tree, opens}
 use Rattle.calc_parser.specs.Tree.{Tree}
 use Rattle.calc_parser.proofs.Directs.{own, lift, direct}
 

@@ -1,17 +1,12 @@
 -- What a reader of tokens keeps, and how its parts join.
 use Rattle.std.proofs.Common.{◌≡◌, ℕ, Bool, true, false, ℤ, List, [], ◌∷◌, ◌++◌, length, drop, refl, sym, ap, ◌∙◌, append_assoc}
 use Rattle.std.specs.Bool.{◌==◌}
-use Rattle.trend_num.specs.declared.measure.Measure.{Measure}
-use Rattle.calc_parser.specs.declared.tree.Cmp.{Cmp}
-use Rattle.calc_parser.specs.declared.token.Sum.{Sum}
+use Rattle.trend_num.specs.{Measure}
+use Rattle.calc_parser.specs.{Cmp, Sum, Product, Pick, Token, Level, formula, sums, terms, factor, plain, compared, one_term, more_terms, one_factor, more_factors, negated, numeral, grouped, measured, calculated, absolute, picked, chosen}
+use Rattle.calc_parser.specs.{words, sum_op, product_op, pick_op, head, Stack, operand, more, scan, refused, SpellsTokens, SpellsFirst, SpellsNext, SpellsAfter, EndsTerms, EndsSums}
 use Rattle.calc_parser.specs.declared.token.Sum.TheVariants.{Minus}
-use Rattle.calc_parser.specs.declared.token.Product.{Product}
-use Rattle.calc_parser.specs.declared.token.Pick.{Pick}
-use Rattle.calc_parser.specs.declared.token.Token.{Token}
 use Rattle.calc_parser.specs.declared.token.Token.TheVariants.{Number, Quoted, Measuring, Calculation, Absolute, Picking, Choice, Open, Close, Comma, Summing, Multiplying, Comparing, End}
-use Rattle.calc_parser.specs.Grammar.{Level, formula, sums, terms, factor, plain, compared, one_term, more_terms, one_factor, more_factors, negated, numeral, grouped, measured, calculated, absolute, picked, chosen, words, sum_op, product_op, pick_op}
 use Rattle.calc_parser.specs.Tree.{Tree, num, window, calc, neg, abs, two, compare, choose}
-use Rattle.calc_parser.specs.Scan.{head, Stack, operand, more, scan, refused, SpellsTokens, SpellsFirst, SpellsNext, SpellsAfter, EndsTerms, EndsSums}
 
 -- the tokens before the rest spell a sum or a term, and may occur where an operand is expected
 pub record IsReadSoFar (level : Level) (n : ℕ) (tokens rest : List Token) (t : Tree) : Type 0 where

@@ -4,10 +4,7 @@ use Rattle.std.proofs.lemmas.Bool.Decides.{nat_tests}
 use Rattle.std.proofs.lemmas.List.{append-nil}
 use Rattle.std.proofs.lemmas.List.Elements.{All-cons, All-nil}
 use Rattle.std.proofs.Math.Seq.{get_or-append_seam, take-append_seam}
-use Rattle.calc_parser.specs.declared.token.Token.{Token}
-use Rattle.calc_parser.specs.Formulas.{deepest, Begins, IsShallow, CannotFollow}
-use Rattle.calc_parser.specs.Grammar.{formula, Reading, words, opens}
-use Rattle.calc_parser.specs.Scan.{Stack, Next, more, whole, step, may_end, Verdict, fine, refused, deep, judged, scan}
+use Rattle.calc_parser.specs.{Token, deepest, Begins, IsShallow, CannotFollow, formula, Reading, words, opens, Stack, Next, more, whole, step, may_end, Verdict, fine, refused, deep, judged, scan}
 use Rattle.calc_parser.proofs.Walks.{Walked, prepend, onward, walk, further, walk-append, IsAsLong, walk-length, passes}
 use Rattle.calc_parser.proofs.Fills.{begins}
 

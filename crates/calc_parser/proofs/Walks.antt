@@ -1,9 +1,8 @@
 -- Where the tokens of a derivation lead, and which levels they open on the way.
 use Rattle.std.proofs.Common.{◌≡◌, ℕ, ◌+◌, Bool, true, false, List, [], ◌∷◌, ◌++◌, length, Option, None, Some, refl, sym, ap, ◌∙◌, append_assoc, arith}
-use Rattle.calc_parser.specs.declared.token.Token.{Token}
+use Rattle.calc_parser.specs.{Token, Level, formula, sums, terms, factor, Reading, plain, compared, one_term, more_terms, one_factor, more_factors, negated, numeral, grouped, measured, calculated, absolute, picked, chosen, words, opens}
+use Rattle.calc_parser.specs.{Stack, Next, operand, more, comma, close, whole, step}
 use Rattle.calc_parser.specs.declared.token.Token.TheVariants.{Close, Comma, Summing, Multiplying, Comparing}
-use Rattle.calc_parser.specs.Grammar.{Level, formula, sums, terms, factor, Reading, plain, compared, one_term, more_terms, one_factor, more_factors, negated, numeral, grouped, measured, calculated, absolute, picked, chosen, words, opens}
-use Rattle.calc_parser.specs.Scan.{Stack, Next, operand, more, comma, close, whole, step}
 
 -- the levels that tokens open, and what may still come after them
 abbrev pub Walked : Type 0

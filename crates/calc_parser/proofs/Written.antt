@@ -1,13 +1,10 @@
 -- Which tokens and trees can be written: those that a text has.
 use Rattle.std.proofs.Common.{◌≡◌, ℕ, ◌≤◌, Bool, true, false, cond, nat_lt, ◌+◌, pos, List, [], ◌∷◌, ◌++◌}
 use Rattle.trend_num.specs.declared.measure.Measure.TheVariants.{Area}
-use Rattle.calc_parser.specs.declared.tree.Op.{Op}
+use Rattle.calc_parser.specs.{Op, Token, binds, is_call, op_binds, op_token, fit, joined, canonical, Level, Reading, plain, compared, one_term, more_terms, one_factor, more_factors, negated, numeral, grouped, measured, calculated, absolute}
+use Rattle.calc_parser.specs.{picked, chosen, words, tree, is_name, largest_number}
 use Rattle.calc_parser.specs.declared.tree.Op.TheVariants.{Add, Sub, Mul, Div, Rem, Min, Max}
-use Rattle.calc_parser.specs.declared.token.Token.{Token}
 use Rattle.calc_parser.specs.declared.token.Token.TheVariants.{Number, Quoted, Measuring, Close, Comma, Ill, End}
-use Rattle.calc_parser.specs.Canonical.{binds, is_call, op_binds, op_token, fit, joined, canonical}
-use Rattle.calc_parser.specs.Grammar.{Level, Reading, plain, compared, one_term, more_terms, one_factor, more_factors, negated, numeral, grouped, measured, calculated, absolute, picked, chosen, words, tree}
-use Rattle.calc_parser.specs.Tokens.{is_name, largest_number}
 use Rattle.calc_parser.specs.Tree.{Tree, num, window, calc, neg, abs, two, compare, choose}
 
 -- numbers, names and measures are those of a text; `Others` says whether it may be no token

@@ -1,6 +1,6 @@
 -- The grammar of formulas: each derivation, the tokens that it derives, and its tree.
 use Rattle.std.specs.Prelude.{ℕ, ◌+◌, ℤ, List, [], ◌∷◌, ◌++◌}
-use Rattle.trend_num.specs.declared.measure.Measure.{Measure}
+use Rattle.trend_num.specs.{Measure}
 use Rattle.calc_parser.specs.declared.tree.Cmp.{Cmp}
 use Rattle.calc_parser.specs.declared.tree.Op.{Op}
 use Rattle.calc_parser.specs.declared.tree.Op.TheVariants as op

@@ -3,10 +3,8 @@ use Rattle.std.specs.Prelude.{ℕ, zero, suc, ◌+◌, ◌-◌, ◌^◌, ◌&&�
 use Rattle.std.specs.Char.{is_ascii_digit}
 use Rattle.std.specs.List.{list_all, prefix_len}
 use Rattle.std.specs.Str.{bytes_eq}
-use Rattle.trend_num.specs.declared.measure.Measure.{Measure}
+use Rattle.trend_num.specs.{Measure, is_name_byte, digits_value}
 use Rattle.trend_num.specs.declared.measure.Measure.TheVariants.{Avg, Total, Low, High, Count, First, Last}
-use Rattle.trend_num.specs.Names.{is_name_byte}
-use Rattle.trend_num.specs.Numerals.{digits_value}
 use Rattle.calc_parser.specs.declared.refusal.SyntaxKind.{SyntaxKind}
 use Rattle.calc_parser.specs.declared.refusal.SyntaxKind.TheVariants as kind
 use Rattle.calc_parser.specs.declared.tree.Cmp.TheVariants.{Le, Ge, Ne, Lt, Gt, Eq}

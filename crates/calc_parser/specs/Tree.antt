@@ -1,6 +1,6 @@
 -- The tree of a formula, wherever its parts lie in memory.
 use Rattle.std.specs.Prelude.{ℕ, ℤ, List}
-use Rattle.trend_num.specs.declared.measure.Measure.{Measure}
+use Rattle.trend_num.specs.{Measure}
 use Rattle.calc_parser.specs.declared.tree.Op.{Op}
 use Rattle.calc_parser.specs.declared.tree.Cmp.{Cmp}
 use Rattle.calc_parser.specs.declared.tree.Expr.{Expr}

@@ -3,7 +3,7 @@
 ghost use Rattle.std.specs.Prelude.{◌≡◌, ◌<◌, ◌≤◌, ◌+◌, true, min, length, drop, position, nat_eq, IfOk, IfSome};
 ghost use Rattle.std.specs.Char.{is_ascii_digit};
 ghost use Rattle.std.specs.List.{list_all, prefix_len};
-ghost use Rattle.trend_num.specs.Numerals.{digits_value};
+ghost use Rattle.trend_num.specs.{digits_value};
 ghost use Rattle.calc_parser.specs.Tokens.{numeral_of, is_letter, measure_word_of, other_word, word_of, word_at, name_of, quoted_of, less_of, greater_of, sign_of, token_at, tokens_of, places_of};
 
 use crate::token::{Lexed, Pick, Product, Sum, Token};

@@ -1,7 +1,7 @@
 // From a tree to its canonical text.
 
 ghost use Rattle.std.specs.Prelude.{◌≡◌, ℕ, List, ◌++◌, codes, string_bytes, IfOk, OnOk};
-ghost use Rattle.trend_num.specs.Names.{IsName};
+ghost use Rattle.trend_num.specs.{IsName};
 ghost use Rattle.calc_parser.specs.Canonical.{binds, op_binds, is_call, op_token, fit, canonical, measure_word, cmp_sign, spelling, spelled, text_of};
 ghost use Rattle.calc_parser.specs.Formulas.{IsFormula};
 ghost use Rattle.calc_parser.specs.Tree.{tree_of};

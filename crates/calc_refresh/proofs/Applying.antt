@@ -6,17 +6,10 @@ use Rattle.std.proofs.Math.Nat.{mul-le-mul_left, mul-le-mul_right}
 use Rattle.std.proofs.lemmas.Bool.{cases_lt, le-ltb, lt-ltb}
 use Rattle.std.proofs.lemmas.List.Elements.{All-append, All-cons, All-head, All-nil, All-tail}
 use Rattle.std.proofs.lemmas.List.Sums.{length-filter}
-use Rattle.trend_num.specs.declared.archive.Rec.{Rec}
-use Rattle.trend_num.specs.Ranges.{InRange, last_time}
-use Rattle.sheet_law.specs.declared.grid.Grid.{Grid}
-use Rattle.sheet_law.specs.Windows.{complete_windows}
-use Rattle.sheet_law.specs.Touched.{longer}
-use Rattle.sheet_law.specs.Scratch.{due_below, is_due}
-use Rattle.calc_refresh.specs.declared.refusal.SheetNo.{SheetNo}
+use Rattle.trend_num.specs.{Rec, InRange, last_time}
+use Rattle.sheet_law.specs.{Grid, complete_windows, longer, due_below, is_due}
+use Rattle.calc_refresh.specs.{SheetNo, total_length, due_windows, limit_fault, most_cells, most_copies, IsCopy}
 use Rattle.calc_refresh.specs.declared.refusal.SheetNo.TheVariants.{CellLimit, CopyLimit}
-use Rattle.calc_refresh.specs.Lists.{total_length}
-use Rattle.calc_refresh.specs.Refreshed.{due_windows, limit_fault, most_cells, most_copies}
-use Rattle.calc_refresh.specs.Sheet.{IsCopy}
 use Rattle.calc_refresh.proofs.Passing.{passing_few}
 use Rattle.calc_refresh.proofs.Refreshing.{complete_ends}
 

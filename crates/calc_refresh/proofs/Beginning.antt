@@ -2,18 +2,16 @@
 use Rattle.std.proofs.Common.{◌≡◌, ℕ, zero, suc, ◌-◌, ◌/◌, ◌<◌, inl, inr, List, [], ◌∷◌, Option, None, Some, length, get_or, replicate, All, refl, subst, sym, ap, ◌∙◌, arith}
 use Rattle.std.specs.Prelude.{◌↔◌, IsSome, option_and_then, slice_get, Vec, vec_len}
 use Rattle.std.specs.declared.alloc.Global.{Global}
-use Rattle.calc_refresh.specs.declared.refusal.SheetNo.{SheetNo}
+use Rattle.calc_refresh.specs.{SheetNo, IsRefreshToldOf, shape_fault}
 use Rattle.calc_refresh.specs.declared.refusal.SheetNo.TheVariants.{Shape, CellLimit, CopyLimit, WantOfMemory}
 use Rattle.std.proofs.lemmas.Bool.{cases_eq, cases_lt, eq-eqb, ne_eqb}
 use Rattle.std.proofs.Math.Nat.{zero-div}
 use Rattle.std.proofs.lemmas.List.Elements.{All-cons, All-head, All-nil}
-use Rattle.trend_num.specs.declared.value.CalcValue.{CalcValue}
+use Rattle.trend_num.specs.{CalcValue}
 use Rattle.trend_num.specs.declared.value.Bad.TheVariants.{NoData}
 use Rattle.trend_num.specs.declared.value.CalcValue.TheVariants.{Bad}
 use Rattle.std.proofs.lemmas.Option.{slice_get-get_or, slice_get_past}
-use Rattle.sheet_law.specs.declared.grid.Grid.{Grid}
-use Rattle.sheet_law.specs.Windows.{complete_windows}
-use Rattle.calc_refresh.specs.Refreshed.{IsRefreshToldOf, shape_fault}
+use Rattle.sheet_law.specs.{Grid, complete_windows}
 
 -- where no row is reported each has its length
 pub shapes_hold : (windows : ℕ) (rows : List (List CalcValue)) → shape_fault windows rows ≡ None

@@ -5,12 +5,10 @@ use Rattle.std.specs.declared.alloc.Global.{Global}
 use Rattle.std.proofs.Math.Seq.{map-set_same}
 use Rattle.std.proofs.lemmas.List.{get_or-map, length_push, length-map, map-set, map_push, take_all, take_more, take_more_set}
 use Rattle.std.proofs.lemmas.Option.{slice_get_within, get_or_from_slice_get}
-use Rattle.trend_num.specs.declared.point.Point.{Point}
+use Rattle.trend_num.specs.{Point, CalcValue}
 use Rattle.calc_check.specs.Group.{Calculation, Group}
-use Rattle.sheet_law.specs.Value.{scope, value, values}
-use Rattle.trend_num.specs.declared.value.CalcValue.{CalcValue}
-use Rattle.sheet_law.specs.Scratch.{column}
-use Rattle.calc_refresh.specs.Lists.{lists_of}
+use Rattle.sheet_law.specs.{scope, value, values, column}
+use Rattle.calc_refresh.specs.{lists_of}
 
 -- what is at a place that was written, and at another one
 pub get-set_same : {A : Type 0} → (xs : List A) (i : ℕ) (x : A) → i < length xs → slice_get (set xs i x) i ≡ Some x

@@ -5,11 +5,10 @@ use Rattle.std.specs.declared.alloc.Global.{Global}
 use Rattle.std.proofs.lemmas.Bool.{cases_eq}
 use Rattle.std.proofs.Math.Seq.{map-set_same}
 use Rattle.std.proofs.lemmas.List.{get_or-map, get_or-set_other, get_or-set_same, length-append, length-map, length-take-le, map-set, map_more, take_more}
-use Rattle.trend_num.specs.declared.archive.Rec.{Rec}
-use Rattle.trend_model.specs.Contents.{ContentState, listed}
-use Rattle.sheet_law.specs.Windows.{kept_end}
-use Rattle.sheet_law.specs.Touched.{any_touched, is_touched, longer}
-use Rattle.calc_refresh.specs.Lists.{lists_of, total_length}
+use Rattle.trend_num.specs.{Rec}
+use Rattle.trend_model.specs.{ContentState, listed}
+use Rattle.sheet_law.specs.{kept_end, any_touched, is_touched, longer}
+use Rattle.calc_refresh.specs.{lists_of, total_length}
 
 -- the list at a place
 pub lists_at : {A : Type 0} → (vs : List (Vec A Global)) (i : ℕ) (d : Vec A Global) → i < length vs

@@ -3,13 +3,11 @@ use Rattle.std.proofs.Common.{◌≡◌, ℕ, ◌+◌, ◌<◌, ◌≤◌, List,
 use Rattle.std.specs.Prelude.{min, Vec}
 use Rattle.std.specs.declared.alloc.Global.{Global}
 use Rattle.std.proofs.lemmas.List.{get_or-map, length-map, length-take-le, take_more}
-use Rattle.trend_num.specs.declared.archive.Rec.{Rec}
-use Rattle.trend_model.specs.Contents.{listed, placed}
+use Rattle.trend_num.specs.{Rec}
+use Rattle.trend_model.specs.{listed, placed}
 use Rattle.trend_model.proofs.Placing.{length-placed}
-use Rattle.sheet_law.specs.declared.grid.Grid.{Grid}
-use Rattle.sheet_law.specs.Windows.{kept_end, least, windows_before}
-use Rattle.sheet_law.specs.Touched.{longer}
-use Rattle.calc_refresh.specs.Lists.{lists_of}
+use Rattle.sheet_law.specs.{Grid, kept_end, least, windows_before, longer}
+use Rattle.calc_refresh.specs.{lists_of}
 use Rattle.calc_refresh.proofs.Inputs.{lists_at, longer_at}
 
 -- the least number with one more

@@ -4,7 +4,7 @@ use Rattle.std.specs.Prelude.{◌&&◌, ◌||◌, max, min}
 use Rattle.std.proofs.lemmas.Bool.{cases_lt, lt-ltb, le-ltb}
 use Rattle.std.proofs.lemmas.Bool.Decides.{nat_tests}
 use Rattle.std.proofs.lemmas.List.{take-set-le, take_more}
-use Rattle.calc_refresh.specs.Marks.{furthest, is_marked}
+use Rattle.calc_refresh.specs.{furthest, is_marked}
 
 -- how far marks reach with one more of them
 pub furthest-push : (ms : List ℕ) (n : ℕ) → furthest (ms ++ n ∷ []) ≡ max (furthest ms) n

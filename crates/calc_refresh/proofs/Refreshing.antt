@@ -7,23 +7,13 @@ use Rattle.std.proofs.lemmas.Bool.{and_parts, cases_Bool, false≢true, lt-ltb}
 use Rattle.std.proofs.lemmas.Bool.Decides.{nat_tests}
 use Rattle.std.proofs.lemmas.List.{length-map}
 use Rattle.std.proofs.lemmas.List.Elements.{All-head, All-tail}
-use Rattle.trend_num.specs.declared.archive.Rec.{Rec}
-use Rattle.trend_num.specs.declared.value.CalcValue.{CalcValue}
-use Rattle.trend_num.specs.Ranges.{InRange, last_time}
-use Rattle.trend_model.specs.Content.{is_late_record}
-use Rattle.trend_model.specs.Contents.{ContentState, listed, points_of}
+use Rattle.trend_num.specs.{Rec, CalcValue, InRange, last_time}
+use Rattle.trend_model.specs.{is_late_record, ContentState, listed, points_of}
 use Rattle.calc_check.specs.Group.{Group}
-use Rattle.sheet_law.specs.Value.{points_in, values}
-use Rattle.sheet_law.specs.declared.grid.Grid.{Grid}
-use Rattle.sheet_law.specs.Windows.{complete_windows, is_complete, reaches, window_from, window_to}
-use Rattle.sheet_law.specs.Touched.{any_touched, longer}
-use Rattle.sheet_law.specs.Scratch.{IsScratch, column, is_due, points_by, values_at}
+use Rattle.sheet_law.specs.{points_in, values, Grid, complete_windows, is_complete, reaches, window_from, window_to, any_touched, longer, IsScratch, column, is_due, points_by, values_at}
 use Rattle.sheet_law.proofs.Complete.{complete_are}
 use Rattle.sheet_law.proofs.Formulas.{values_stay}
-use Rattle.calc_refresh.specs.Lists.{lists_of}
-use Rattle.calc_refresh.specs.Marks.{is_marked}
-use Rattle.calc_refresh.specs.Refreshed.{IsSheetAfter, due_windows}
-use Rattle.calc_refresh.specs.Sheet.{IsCopy}
+use Rattle.calc_refresh.specs.{lists_of, is_marked, IsSheetAfter, due_windows, IsCopy}
 use Rattle.calc_refresh.proofs.Marking.{unmarked}
 use Rattle.calc_refresh.proofs.Passing.{passing_agree, passing_are, passing_has}
 

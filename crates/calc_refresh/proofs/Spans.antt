@@ -5,14 +5,10 @@ use Rattle.std.proofs.Math.Nat.{div-lt_iff_lt-mul, le-div_iff_mul-le}
 use Rattle.std.proofs.lemmas.Bool.{cases_lt, lt-ltb, le-ltb}
 use Rattle.std.proofs.lemmas.Bool.Decides.{nat_tests}
 use Rattle.std.proofs.lemmas.List.Elements.{All-head, All-tail}
-use Rattle.trend_num.specs.declared.archive.Rec.{Rec}
-use Rattle.trend_num.specs.declared.point.Point.{Point}
-use Rattle.trend_model.specs.Contents.{IsCeil, IsFloor, IsRising, points_of}
-use Rattle.trend_model.specs.Lists.{IsAmong}
+use Rattle.trend_num.specs.{Rec, Point}
+use Rattle.trend_model.specs.{IsCeil, IsFloor, IsRising, points_of, IsAmong}
 use Rattle.trend_model.proofs.Placing.{time, rising_head, rising_tail}
-use Rattle.sheet_law.specs.declared.grid.Grid.{Grid}
-use Rattle.sheet_law.specs.Windows.{window_from, window_to}
-use Rattle.sheet_law.specs.Touched.{first_or, last_or, stretch_from, stretch_to, times_of}
+use Rattle.sheet_law.specs.{Grid, window_from, window_to, first_or, last_or, stretch_from, stretch_to, times_of}
 use Rattle.sheet_law.proofs.Stretch.{starts_from}
 
 -- ---- the windows that meet a stretch

@@ -3,13 +3,11 @@ use Rattle.std.proofs.Common.{◌≡◌, ℕ, ◌+◌, ◌<◌, ◌≤◌, Bool,
 use Rattle.std.specs.Prelude.{◌&&◌, ◌||◌, not, max}
 use Rattle.std.proofs.lemmas.Bool.Decides.{nat_tests}
 use Rattle.std.proofs.lemmas.List.Elements.{All-head, All-nil, All-tail}
-use Rattle.trend_num.specs.declared.archive.Rec.{Rec}
+use Rattle.trend_num.specs.{Rec}
 use Rattle.trend_num.specs.declared.archive.Kind.TheVariants.{Kept, Late}
-use Rattle.trend_model.specs.Content.{is_late_record}
-use Rattle.trend_model.specs.Contents.{listed, placed}
+use Rattle.trend_model.specs.{is_late_record, listed, placed}
 use Rattle.trend_model.proofs.Placing.{all_placed, time}
-use Rattle.sheet_law.specs.Windows.{kept_end}
-use Rattle.sheet_law.specs.Touched.{is_newest, is_touched, meets, touches}
+use Rattle.sheet_law.specs.{kept_end, is_newest, is_touched, meets, touches}
 
 -- the end of Kept records with one more record
 pub kept_end-push : (rs : List Rec) (r : Rec)

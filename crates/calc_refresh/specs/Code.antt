@@ -3,12 +3,11 @@ use Rattle.std.specs.Prelude.{ℕ, List, refl}
 use Rattle.std.specs.Coded.{Coded, code_by, coded×, coded_list, coded_ℕ}
 use Rattle.trend_num.specs.contracts.archive.Rec as rec
 use Rattle.trend_num.specs.contracts.value.CalcValue as value
-use Rattle.trend_num.specs.declared.archive.Rec.{Rec}
-use Rattle.trend_num.specs.declared.value.CalcValue.{CalcValue}
-use Rattle.calc_check.specs.Code.{group_code}
+use Rattle.trend_num.specs.{Rec, CalcValue}
+use Rattle.calc_check.specs.{group_code}
 use Rattle.calc_check.specs.Group.{Group}
 use Rattle.sheet_law.specs.contracts.grid.Grid as grid
-use Rattle.sheet_law.specs.declared.grid.Grid.{Grid}
+use Rattle.sheet_law.specs.{Grid}
 use Rattle.calc_refresh.specs.Sheet.{SheetState}
 
 abbrev copies_code : Coded (List (List Rec))

@@ -3,14 +3,10 @@ use Rattle.std.specs.Prelude.{◌≡◌, ℕ, ◌+◌, ◌-◌, ◌*◌, ◌^◌
 use Rattle.std.specs.List.{range_with_len}
 use Rattle.std.specs.Option.{option_map}
 use Rattle.std.specs.declared.alloc.Global.{Global}
-use Rattle.trend_num.specs.declared.archive.Rec.{Rec}
-use Rattle.trend_num.specs.declared.value.CalcValue.{CalcValue}
-use Rattle.trend_model.specs.Contents.{ContentState}
+use Rattle.trend_num.specs.{Rec, CalcValue}
+use Rattle.trend_model.specs.{ContentState}
 use Rattle.calc_check.specs.Group.{Group}
-use Rattle.sheet_law.specs.declared.grid.Grid.{Grid}
-use Rattle.sheet_law.specs.Windows.{complete_windows, window_from, window_to}
-use Rattle.sheet_law.specs.Touched.{any_touched, longer}
-use Rattle.sheet_law.specs.Scratch.{IsScratch, column, due_below, is_due, values_at}
+use Rattle.sheet_law.specs.{Grid, complete_windows, window_from, window_to, any_touched, longer, IsScratch, column, due_below, is_due, values_at}
 use Rattle.calc_refresh.specs.declared.refusal.SheetNo.{SheetNo}
 use Rattle.calc_refresh.specs.declared.refusal.SheetNo.TheVariants.{Shape, CellLimit, CopyLimit, WantOfMemory}
 use Rattle.calc_refresh.specs.Lists.{total_length}

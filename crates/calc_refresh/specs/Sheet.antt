@@ -1,12 +1,9 @@
 -- What a clause sees of a sheet, and what a sheet keeps.
 use Rattle.std.specs.Prelude.{◌≡◌, ℕ, ◌^◌, ◌<◌, ◌≤◌, List, length, map, All}
-use Rattle.trend_num.specs.declared.archive.Rec.{Rec}
-use Rattle.trend_num.specs.declared.value.CalcValue.{CalcValue}
-use Rattle.trend_num.specs.Ranges.{InRange, last_time}
-use Rattle.trend_model.specs.Contents.{ContentState, listed}
+use Rattle.trend_num.specs.{Rec, CalcValue, InRange, last_time}
+use Rattle.trend_model.specs.{ContentState, listed}
 use Rattle.calc_check.specs.Group.{Group}
-use Rattle.sheet_law.specs.declared.grid.Grid.{Grid}
-use Rattle.sheet_law.specs.Windows.{complete_windows, kept_end}
+use Rattle.sheet_law.specs.{Grid, complete_windows, kept_end}
 
 -- a group's calculations, its grid, the records of its inputs that were taken into account, its rows, how many values
 -- were evaluated since the sheet was made, and the windows that the last refresh evaluated, rising

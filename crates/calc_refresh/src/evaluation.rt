@@ -1,10 +1,7 @@
 // Rows: making them longer, and evaluating windows.
-ghost use Rattle.std.specs.Prelude.{◌≡◌, ◌≢◌, ℕ, ◌+◌, ◌*◌, ◌<◌, ◌≤◌, length, map, All, Contains, Some};
-ghost use Rattle.std.specs.Prelude.{vec_len, vec_capacity};
-ghost use Rattle.trend_num.specs.Ranges.{last_time};
-ghost use Rattle.sheet_law.specs.Value.{points_in, values};
-ghost use Rattle.sheet_law.specs.Windows.{window_from, window_to};
-ghost use Rattle.sheet_law.specs.Scratch.{column};
+ghost use Rattle.std.specs.Prelude.{◌≡◌, ◌≢◌, ℕ, ◌+◌, ◌*◌, ◌<◌, ◌≤◌, length, map, All, Contains, Some, vec_len, vec_capacity};
+ghost use Rattle.trend_num.specs.{last_time};
+ghost use Rattle.sheet_law.specs.{points_in, values, window_from, window_to, column};
 ghost use Rattle.calc_refresh.specs.Lists.{lists_of};
 ghost use Rattle.calc_refresh.specs.Sheet.{IsGrid};
 

@@ -1,9 +1,7 @@
 // How large a sheet would be with more records, and whether that is too large.
 ghost use Rattle.std.specs.Prelude.{◌≡◌, ◌+◌, ◌*◌, ◌<◌, ◌≤◌, ◌++◌, List, length, map, All, MatchResult, Some, None};
-ghost use Rattle.trend_num.specs.declared.archive.Rec.{Rec};
-ghost use Rattle.trend_num.specs.Ranges.{InRange};
-ghost use Rattle.sheet_law.specs.Windows.{complete_windows, kept_end};
-ghost use Rattle.sheet_law.specs.Touched.{longer};
+ghost use Rattle.trend_num.specs.{Rec, InRange};
+ghost use Rattle.sheet_law.specs.{complete_windows, kept_end, longer};
 ghost use Rattle.calc_refresh.specs.Lists.{lists_of, total_length};
 ghost use Rattle.calc_refresh.specs.Refreshed.{limit_fault};
 ghost use Rattle.calc_refresh.specs.Sheet.{IsCopy, IsGrid};

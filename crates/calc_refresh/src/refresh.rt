@@ -1,8 +1,6 @@
 // A sheet with more records, once there is memory for all of them.
-ghost use Rattle.std.specs.Prelude.{◌≡◌, ◌+◌, ◌*◌, ◌^◌, ◌<◌, ◌≤◌, length, All};
-ghost use Rattle.std.specs.Prelude.{replicate, OnErr, OnOk, vec_capacity};
-ghost use Rattle.sheet_law.specs.Windows.{complete_windows};
-ghost use Rattle.sheet_law.specs.Touched.{longer};
+ghost use Rattle.std.specs.Prelude.{◌≡◌, ◌+◌, ◌*◌, ◌^◌, ◌<◌, ◌≤◌, length, All, replicate, OnErr, OnOk, vec_capacity};
+ghost use Rattle.sheet_law.specs.{complete_windows, longer};
 ghost use Rattle.calc_refresh.specs.Lists.{lists_of};
 ghost use Rattle.calc_refresh.specs.Sheet.{IsCopy, IsSheet};
 ghost use Rattle.calc_refresh.specs.Refreshed.{HasRoomForRecords, IsSheetAfter};

@@ -1,10 +1,8 @@
 // Memory for more records and windows. All of it is taken before anything changes.
-ghost use Rattle.std.specs.Prelude.{◌≡◌, ℕ, ◌+◌, ◌^◌, ◌<◌, ◌≤◌, length, map, All, IfOk, OnOk};
-ghost use Rattle.std.specs.Prelude.{slice_index_or, vec_len, vec_capacity};
-ghost use Rattle.std.specs.Prelude.{Vec};
+ghost use Rattle.std.specs.Prelude.{◌≡◌, ℕ, ◌+◌, ◌^◌, ◌<◌, ◌≤◌, length, map, All, IfOk, OnOk, slice_index_or, vec_len, vec_capacity, Vec};
 ghost use Rattle.std.specs.declared.alloc.Global.{Global};
-ghost use Rattle.trend_num.specs.declared.archive.Rec.{Rec};
-ghost use Rattle.trend_model.specs.Contents.{ContentState, listed};
+ghost use Rattle.trend_num.specs.{Rec};
+ghost use Rattle.trend_model.specs.{ContentState, listed};
 ghost use Rattle.calc_refresh.specs.Lists.{lists_of};
 ghost use Rattle.calc_refresh.specs.Refreshed.{HasRoomForRecords};
 ghost use Rattle.calc_refresh.specs.Sheet.{IsCopy};

@@ -1,8 +1,7 @@
 // A sheet from copies and rows that were saved.
-ghost use Rattle.std.specs.Prelude.{◌≡◌, ◌^◌, ◌<◌, ◌≤◌, length, map, All, Err, Some, None};
-ghost use Rattle.std.specs.Prelude.{IfErr, IfOk, vec_len};
-ghost use Rattle.trend_model.specs.Contents.{listed};
-ghost use Rattle.sheet_law.specs.Windows.{complete_windows, kept_end};
+ghost use Rattle.std.specs.Prelude.{◌≡◌, ◌^◌, ◌<◌, ◌≤◌, length, map, All, Err, Some, None, IfErr, IfOk, vec_len};
+ghost use Rattle.trend_model.specs.{listed};
+ghost use Rattle.sheet_law.specs.{complete_windows, kept_end};
 ghost use Rattle.calc_refresh.specs.declared.refusal.SheetNo.{SheetNo};
 ghost use Rattle.calc_refresh.specs.Lists.{lists_of};
 ghost use Rattle.calc_refresh.specs.Refreshed.{IsRefreshToldOf, fresh, shape_fault};

@@ -1,8 +1,6 @@
 // A group's sheet.
-ghost use Rattle.std.specs.Prelude.{◌≡◌, ◌↔◌, ◌+◌, ◌*◌, ◌<◌, ◌≤◌, [], List, length, replicate, All, Err, Some, IsSome};
-ghost use Rattle.std.specs.Prelude.{IfErr, IfOk, OnErr, OnOk, option_and_then, slice_get, slice_index_or};
-ghost use Rattle.sheet_law.specs.Windows.{complete_windows};
-ghost use Rattle.sheet_law.specs.Scratch.{IsScratch};
+ghost use Rattle.std.specs.Prelude.{◌≡◌, ◌↔◌, ◌+◌, ◌*◌, ◌<◌, ◌≤◌, [], List, length, replicate, All, Err, Some, IsSome, IfErr, IfOk, OnErr, OnOk, option_and_then, slice_get, slice_index_or};
+ghost use Rattle.sheet_law.specs.{complete_windows, IsScratch};
 ghost use Rattle.calc_refresh.specs.declared.refusal.SheetNo.{SheetNo};
 ghost use Rattle.calc_refresh.specs.Lists.{lists_of};
 ghost use Rattle.calc_refresh.specs.Refreshed.{IsRefreshed, IsRefreshToldOf, evaluated, fault_after, fresh};

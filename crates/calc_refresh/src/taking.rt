@@ -1,13 +1,9 @@
 // Records of an input as they come. The content before a record gives what it touches; then the record is put in.
-ghost use Rattle.std.specs.Prelude.{◌≡◌, ℕ, ◌+◌, ◌^◌, ◌<◌, ◌≤◌, [], ◌∷◌, ◌++◌, ◌&&◌, ◌||◌, List, length, map, All};
-ghost use Rattle.std.specs.Prelude.{nat_le, nat_lt, slice_index_or, vec_len, vec_capacity};
-ghost use Rattle.std.specs.Prelude.{Vec};
+ghost use Rattle.std.specs.Prelude.{◌≡◌, ℕ, ◌+◌, ◌^◌, ◌<◌, ◌≤◌, [], ◌∷◌, ◌++◌, ◌&&◌, ◌||◌, List, length, map, All, nat_le, nat_lt, slice_index_or, vec_len, vec_capacity, Vec};
 ghost use Rattle.std.specs.declared.alloc.Global.{Global};
-ghost use Rattle.trend_num.specs.declared.archive.Rec.{Rec};
-ghost use Rattle.trend_num.specs.Ranges.{InRange, last_time};
-ghost use Rattle.trend_model.specs.Contents.{ContentState, IsRising, listed};
-ghost use Rattle.sheet_law.specs.Windows.{kept_end, window_from, window_to};
-ghost use Rattle.sheet_law.specs.Touched.{any_touched, is_touched, longer, touches};
+ghost use Rattle.trend_num.specs.{Rec, InRange, last_time};
+ghost use Rattle.trend_model.specs.{ContentState, IsRising, listed};
+ghost use Rattle.sheet_law.specs.{kept_end, window_from, window_to, any_touched, is_touched, longer, touches};
 ghost use Rattle.calc_refresh.specs.Lists.{lists_of};
 ghost use Rattle.calc_refresh.specs.Marks.{is_marked};
 ghost use Rattle.calc_refresh.specs.Sheet.{IsCopy, IsGrid};

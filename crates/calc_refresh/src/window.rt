@@ -1,9 +1,8 @@
 // Windows of a grid by times: how many end before a time, and which meet a stretch.
 ghost use Rattle.std.specs.Prelude.{◌≡◌, ℕ, ◌+◌, ◌≤◌, ◌&&◌, All, nat_le, nat_lt};
-ghost use Rattle.trend_num.specs.Ranges.{last_time};
-ghost use Rattle.trend_model.specs.Contents.{IsRising};
-ghost use Rattle.sheet_law.specs.Windows.{window_from, window_to, windows_before};
-ghost use Rattle.sheet_law.specs.Touched.{stretch_from, stretch_to};
+ghost use Rattle.trend_num.specs.{last_time};
+ghost use Rattle.trend_model.specs.{IsRising};
+ghost use Rattle.sheet_law.specs.{window_from, window_to, windows_before, stretch_from, stretch_to};
 ghost use Rattle.calc_refresh.specs.Sheet.{IsGrid};
 
 use late_insert::Content;

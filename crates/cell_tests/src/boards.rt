@@ -1,7 +1,7 @@
 // What no clause of a board shows: that it can be made, and that posters and lookers can be in different threads.
 ghost use Rattle.std.specs.Prelude.{◌≡◌, IfOk, length};
 ghost use Rattle.std.specs.Thread.{IsSync};
-ghost use Rattle.snapshot_table.specs.Boards.{LooksAt, PostsTo};
+ghost use Rattle.snapshot_table.specs.{LooksAt, PostsTo};
 
 use snapshot_table::{Board, Looker, Point, Poster, Snap, WantOfMemory, new_board};
 use std::alloc::Global;

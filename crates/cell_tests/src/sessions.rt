@@ -1,6 +1,6 @@
 // What a session makes up after its workers have ended: the rows and questions that a tape lacks, and commits.
 ghost use Rattle.std.specs.Prelude.{◌≡◌, length};
-ghost use Rattle.collector_pool.specs.Work.{IsWorkOf};
+ghost use Rattle.collector_pool.specs.{IsWorkOf};
 
 use crate::cells::{filled, same, tag};
 use crate::workers::{letters, rows_of};

@@ -1,7 +1,7 @@
 // Sessions of workers over one tag in memory. Their passes hold the workers at their steps.
 ghost use Rattle.std.specs.Prelude.{◌≡◌, All, IfSome, length};
 ghost use Rattle.std.specs.Arc.{arc_value};
-ghost use Rattle.snapshot_table.specs.Boards.{LooksAt};
+ghost use Rattle.snapshot_table.specs.{LooksAt};
 
 use crate::cells::{calls_of_opening, tag};
 use collector_pool::{CellNo, Ending, GroupTurns, Refresh, TurnNo, Work, WorkerNote, run_session};

@@ -4,22 +4,15 @@ use Rattle.std.specs.Prelude.{slice_range, IfErr, MatchResult, None, Some, Resul
 use Rattle.std.specs.Option.{option_map}
 use Rattle.std.proofs.lemmas.Bool.Decides.{nat_tests}
 use Rattle.std.proofs.lemmas.Option.{none-some}
-use Rattle.trend_num.specs.Limits.{most_records}
-use Rattle.value_rows.specs.declared.asked.Query.{Query}
+use Rattle.trend_num.specs.{most_records}
+use Rattle.value_rows.specs.{Query, RawRow}
 use Rattle.value_rows.specs.declared.asked.Query.TheVariants as ask
-use Rattle.value_rows.specs.declared.raw.RawRow.{RawRow}
-use Rattle.tag_cell.specs.declared.entry.CommitNo.{CommitNo}
+use Rattle.tag_cell.specs.{CommitNo, taken, ToldCell as CellTold, take_refusal}
 use Rattle.tag_cell.specs.declared.entry.CommitNo.TheVariants as commit
 use Rattle.tag_cell.specs.declared.entry.TakeNo.TheVariants.{Broken, RoomFull, Full}
-use Rattle.tag_cell.specs.Tapes.{taken}
-use Rattle.tag_cell.specs.Told.{ToldCell as CellTold, take_refusal}
-use Rattle.collector_pool.specs.declared.group_turns.TurnNo.{TurnNo}
+use Rattle.collector_pool.specs.{TurnNo, CellNo, Ending, AsksGroup, EndsAtCommit, EndsAtQuery, EndsCollector, EndsReader, IsRefusedCommit, MayRefuseRow, RefusesRow, halts, refusal_of_take, ending_of_commit, ending_of_turn}
 use Rattle.collector_pool.specs.declared.group_turns.TurnNo.TheVariants as turn
-use Rattle.collector_pool.specs.declared.note.CellNo.{CellNo}
-use Rattle.collector_pool.specs.declared.note.Ending.{Ending}
 use Rattle.collector_pool.specs.declared.note.Ending.TheVariants.{Ended, Halted, Tag, Group, WantOfMemory}
-use Rattle.collector_pool.specs.Notes.{AsksGroup, EndsAtCommit, EndsAtQuery, EndsCollector, EndsReader, IsRefusedCommit, MayRefuseRow, RefusesRow, halts}
-use Rattle.collector_pool.specs.Refusals.{refusal_of_take, ending_of_commit, ending_of_turn}
 use Rattle.collector_pool.proofs.Places.{any_at, any_of_range, found_at}
 
 -- a row that was not taken was refused by its tag

@@ -4,11 +4,9 @@ use Rattle.std.specs.Prelude.{All}
 use Rattle.std.proofs.lemmas.Grind.{common_steps}
 use Rattle.std.proofs.lemmas.List.Elements.{All-nil, All-push}
 use Rattle.atomic_table.specs.Seated.{TableId}
-use Rattle.snapshot_table.specs.Boards.{Looking, LooksAt}
-use Rattle.collector_pool.specs.declared.session_worker.Role.{Role}
-use Rattle.collector_pool.specs.declared.session_worker.SessionWorker.{SessionWorker}
+use Rattle.snapshot_table.specs.{Looking, LooksAt}
+use Rattle.collector_pool.specs.{Role, SessionWorker, AreSeated, IsReady, IsRoleOf, IsSeatedAs, worker_of}
 use Rattle.collector_pool.specs.declared.work.Work.{Work}
-use Rattle.collector_pool.specs.SeatedWorkers.{AreSeated, IsReady, IsRoleOf, IsSeatedAs, worker_of}
 
 -- no seat is needed yet
 pub none_seated : {O : Type 0} (stops : O → ℕ) (w : Work) (lookers : List Looking) → AreSeated stops w lookers []

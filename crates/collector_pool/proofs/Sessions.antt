@@ -4,20 +4,13 @@ use Rattle.std.proofs.lemmas.List.Elements.{All-drop, All-get_or}
 use Rattle.std.specs.Prelude.{All, Vec}
 use Rattle.std.specs.declared.alloc.Global.{Global}
 use Rattle.atomic_table.specs.Seated.{TableId}
-use Rattle.value_rows.specs.declared.asked.Query.{Query}
-use Rattle.value_rows.specs.declared.raw.RawRow.{RawRow}
-use Rattle.snapshot_table.specs.Boards.{Looking, LooksAt}
+use Rattle.value_rows.specs.{Query, RawRow}
+use Rattle.snapshot_table.specs.{Looking, LooksAt}
 use Rattle.plant_status.proofs.Elements.{element, mapped_at, mapped_length}
-use Rattle.collector_pool.specs.declared.group_turns.TurnNo.{TurnNo}
-use Rattle.collector_pool.specs.declared.note.WorkerNote.{WorkerNote}
-use Rattle.collector_pool.specs.declared.session_worker.Role.{Role}
+use Rattle.collector_pool.specs.{TurnNo, WorkerNote, Role, SessionWorker, Refresh, AreNotesOf, IsCollectorNote, IsNoteAt, IsReaderNote, IsRefresherNote, halts, AreDone, AreSeated, IsNoteAs, IsRoleOf, worker_of, IsQueryOf, IsRowOf, IsWorkOf}
+use Rattle.collector_pool.specs.{worker_count}
 use Rattle.collector_pool.specs.declared.session_worker.Role.TheVariants.{Collector, Reader, Refresher}
-use Rattle.collector_pool.specs.declared.session_worker.SessionWorker.{SessionWorker}
-use Rattle.collector_pool.specs.declared.work.Refresh.{Refresh}
 use Rattle.collector_pool.specs.declared.work.Work.{Work}
-use Rattle.collector_pool.specs.Notes.{AreNotesOf, IsCollectorNote, IsNoteAt, IsReaderNote, IsRefresherNote, halts}
-use Rattle.collector_pool.specs.SeatedWorkers.{AreDone, AreSeated, IsNoteAs, IsRoleOf, worker_of}
-use Rattle.collector_pool.specs.Work.{IsQueryOf, IsRowOf, IsWorkOf, worker_count}
 use Rattle.collector_pool.proofs.Places.{same_item}
 
 module _ (refuses : ℕ → TurnNo → Type 0) (w : Work) where

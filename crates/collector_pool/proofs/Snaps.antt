@@ -3,10 +3,10 @@ use Rattle.std.proofs.Common.{◌≡◌, ◌≢◌, ◌⊎◌, inl, inr, ℕ, ze
 use Rattle.std.specs.Prelude.{IfSome, slice_get, slice_set}
 use Rattle.std.proofs.lemmas.List.{length_push, map_more, map_push}
 use Rattle.std.proofs.lemmas.Option.{slice_get-get_or, slice_get_within}
-use Rattle.trend_num.specs.declared.archive.Snap.{Snap}
-use Rattle.value_rows.specs.declared.asked.Query.{Query}
+use Rattle.trend_num.specs.{Snap}
+use Rattle.value_rows.specs.{Query}
 use Rattle.value_rows.specs.declared.asked.Query.TheVariants as ask
-use Rattle.collector_pool.specs.Notes.{AreSnapsOf, AreSnapsSeen, DoSnapsRise, IsSeenNext, asks_snap}
+use Rattle.collector_pool.specs.{AreSnapsOf, AreSnapsSeen, DoSnapsRise, IsSeenNext, asks_snap}
 
 -- what is in a list that has one more item was there before, or is that item
 found_in_more : {A : Type 0} (xs : List A) (x y : A) (i : ℕ) → slice_get (xs ++ x ∷ []) i ≡ Some y

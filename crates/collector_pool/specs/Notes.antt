@@ -1,13 +1,11 @@
 -- What the note of a worker contains: how many steps it made, what a reader saw, and how the worker ended.
 use Rattle.std.specs.Prelude.{◌≡◌, ◌⊎◌, ℕ, ◌+◌, ◌<◌, ◌≤◌, Bool, true, false, List, [], Any, IfSome, IsSomeAnd, Option, None, Some, Vec, is_some, length, map, slice_get, slice_index_or, slice_set, drop, fold, take, ⊤}
 use Rattle.std.specs.declared.alloc.Global.{Global}
-use Rattle.trend_num.specs.Limits.{most_records}
-use Rattle.trend_num.specs.declared.archive.Snap.{Snap}
-use Rattle.plant_status.specs.Pass.{sum_of_fault_counts}
-use Rattle.value_rows.specs.declared.asked.Query.{Query}
+use Rattle.trend_num.specs.{most_records, Snap}
+use Rattle.plant_status.specs.{sum_of_fault_counts}
+use Rattle.value_rows.specs.{Query, RawRow}
 use Rattle.value_rows.specs.declared.asked.Query.TheVariants as ask
-use Rattle.value_rows.specs.declared.raw.RawRow.{RawRow}
-use Rattle.tag_cell.specs.declared.entry.CommitNo.{CommitNo}
+use Rattle.tag_cell.specs.{CommitNo}
 use Rattle.collector_pool.specs.declared.group_turns.TurnNo.{TurnNo}
 use Rattle.collector_pool.specs.declared.group_turns.TurnNo.TheVariants as turn
 use Rattle.collector_pool.specs.declared.note.CellNo.{CellNo}

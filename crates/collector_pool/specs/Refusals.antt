@@ -1,8 +1,7 @@
 -- How a worker ends after a refused call.
 use Rattle.std.specs.Prelude.{ℕ}
-use Rattle.tag_cell.specs.declared.entry.CommitNo.{CommitNo}
+use Rattle.tag_cell.specs.{CommitNo, TakeNo}
 use Rattle.tag_cell.specs.declared.entry.CommitNo.TheVariants as commit
-use Rattle.tag_cell.specs.declared.entry.TakeNo.{TakeNo}
 use Rattle.tag_cell.specs.declared.entry.TakeNo.TheVariants as take
 use Rattle.collector_pool.specs.declared.group_turns.TurnNo.{TurnNo}
 use Rattle.collector_pool.specs.declared.group_turns.TurnNo.TheVariants as turn

@@ -2,9 +2,8 @@
 use Rattle.std.specs.Prelude.{◌≡◌, ℕ, ◌+◌, ◌<◌, List, [], ◌∷◌, ◌++◌, All, Vec, drop, length, slice_index_or}
 use Rattle.std.specs.declared.alloc.Global.{Global}
 use Rattle.atomic_table.specs.Seated.{TableId}
-use Rattle.value_rows.specs.declared.asked.Query.{Query}
-use Rattle.value_rows.specs.declared.raw.RawRow.{RawRow}
-use Rattle.snapshot_table.specs.Boards.{Looking, LooksAt}
+use Rattle.value_rows.specs.{Query, RawRow}
+use Rattle.snapshot_table.specs.{Looking, LooksAt}
 use Rattle.collector_pool.specs.declared.group_turns.TurnNo.{TurnNo}
 use Rattle.collector_pool.specs.declared.note.WorkerNote.{WorkerNote}
 use Rattle.collector_pool.specs.declared.session_worker.Role.{Role}

@@ -1,10 +1,8 @@
 -- What the workers of a session have to do, and for which plants it is work.
 use Rattle.std.specs.Prelude.{ℕ, ◌+◌, ◌^◌, ◌<◌, ◌≤◌, All, length}
-use Rattle.trend_num.specs.Queries.{IsTagQuery}
-use Rattle.trend_num.specs.Ranges.{InRange}
-use Rattle.value_rows.specs.declared.asked.Query.{Query}
+use Rattle.trend_num.specs.{IsTagQuery, InRange}
+use Rattle.value_rows.specs.{Query, RawRow}
 use Rattle.value_rows.specs.declared.asked.Query.TheVariants.{Tag, Snap, Row}
-use Rattle.value_rows.specs.declared.raw.RawRow.{RawRow}
 use Rattle.collector_pool.specs.declared.work.Work.{Work}
 
 -- how many workers there are: one for each collector, each reader and each refresher

@@ -1,9 +1,9 @@
 // A collector: it takes its rows in order, and commits them.
 ghost use Rattle.std.specs.Prelude.{◌≡◌, ◌==◌, ◌||◌, ◌%◌, ◌+◌, ◌<◌, All, IfErr, IsErrOf, OnErr, OnOk, Some, MatchResult, None, length, true};
 ghost use Rattle.std.specs.Option.{option_map};
-ghost use Rattle.trend_num.specs.Ranges.{InRange};
+ghost use Rattle.trend_num.specs.{InRange};
 ghost use Rattle.tag_cell.specs.declared.entry.CommitNo.TheVariants.{Broken, DeviceFault};
-ghost use Rattle.tag_cell.specs.Told.{IsTakenBy, take_refusal, takes_waiting};
+ghost use Rattle.tag_cell.specs.{IsTakenBy, take_refusal, takes_waiting};
 ghost use Rattle.collector_pool.specs.Notes.{EndsAtCommit, EndsCollector, IsCollectorNote, IsRefusedCommit, RefusesRow, halts};
 ghost use Rattle.collector_pool.specs.Refusals.{refusal_of_take};
 ghost use Rattle.collector_pool.specs.Work.{IsRowOf};

@@ -1,6 +1,6 @@
 // A reader: it answers its queries in order.
 ghost use Rattle.std.specs.Prelude.{◌≡◌, ◌+◌, ◌<◌, ◌≤◌, [], All, IfErr, IfOk, length};
-ghost use Rattle.snapshot_table.specs.Boards.{LooksAt};
+ghost use Rattle.snapshot_table.specs.{LooksAt};
 ghost use Rattle.collector_pool.specs.Notes.{AreSnapsOf, DoSnapsRise, EndsAtQuery, EndsReader, IsReaderNote, IsSeenNext, halts};
 ghost use Rattle.collector_pool.specs.Work.{IsQueryOf};
 

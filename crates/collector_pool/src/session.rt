@@ -1,6 +1,6 @@
 // A session: all workers, running at the same time.
 ghost use Rattle.std.specs.Prelude.{◌≡◌, ℕ, ◌+◌, ◌^◌, ◌<◌, ◌≤◌, List, [], All, IfOk, OnErr, length, slice_index_or, vec_capacity, vec_len};
-ghost use Rattle.snapshot_table.specs.Boards.{Looking, LooksAt};
+ghost use Rattle.snapshot_table.specs.{Looking, LooksAt};
 ghost use Rattle.collector_pool.specs.Notes.{AreNotesOf, halts, stops_with};
 ghost use Rattle.collector_pool.specs.SeatedWorkers.{AreDone, AreSeated, IsDone, IsNoteAs, IsReady, IsRoleOf, IsSeatedAs};
 ghost use Rattle.collector_pool.specs.Work.{IsWorkOf, worker_count};

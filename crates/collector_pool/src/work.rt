@@ -1,8 +1,8 @@
 // What the workers of a session have to do.
 ghost use Rattle.std.specs.Prelude.{◌≡◌, ◌↔◌, ◌<◌, ◌≤◌, ◌^◌, All, IsTrue, Vec, drop, length, slice_index_or};
 ghost use Rattle.std.specs.declared.alloc.Global.{Global};
-ghost use Rattle.trend_num.specs.Queries.{IsTagQuery};
-ghost use Rattle.value_rows.specs.declared.raw.RawRow.{RawRow};
+ghost use Rattle.trend_num.specs.{IsTagQuery};
+ghost use Rattle.value_rows.specs.{RawRow};
 ghost use Rattle.collector_pool.specs.Work.{worker_count, IsQueryOf, IsRowOf, IsWorkOf};
 
 use trend_num::{MAX_T, TagQuery, in_range};

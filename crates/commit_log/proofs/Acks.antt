@@ -3,11 +3,7 @@ use Rattle.std.proofs.Common.{◌≡◌, inl, inr, ℕ, ◌+◌, ◌-◌, List, 
 use Rattle.std.proofs.lemmas.Bool.{cases_lt}
 use Rattle.std.proofs.lemmas.List.{append-nil, take_all}
 use Rattle.std.proofs.Math.Seq.{drop-append_seam, take-append_seam}
-use Rattle.commit_log.specs.declared.row.LogRow.{LogRow}
-use Rattle.commit_log.specs.declared.history.LogTurn.{LogTurn}
-use Rattle.commit_log.specs.Blocks.{most_in_block}
-use Rattle.commit_log.specs.Tapes.{puts}
-use Rattle.commit_log.specs.Told.{Waits}
+use Rattle.commit_log.specs.{LogRow, LogTurn, most_in_block, puts, Waits}
 use Rattle.commit_log.proofs.Tapes.{puts_parts}
 
 -- the first of two lists, where it is as long as it can be

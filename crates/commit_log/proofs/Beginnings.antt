@@ -1,15 +1,9 @@
 -- What a crash leaves while a plant's log is begun on a device.
 use Rattle.std.proofs.Common.{◌≡◌, inl, ℕ, ◌*◌, List, [], ◌∷◌, ◌++◌, length, refl, arith, length-append}
-use Rattle.disk_model.specs.Traces.{Trace}
-use Rattle.disk_model.specs.Images.{IsSettled}
-use Rattle.disk_model.specs.Moments.{During}
-use Rattle.disk_model.specs.Calls.{Shows}
-use Rattle.disk_model.specs.Gates.{IsNew}
+use Rattle.disk_model.specs.{Trace, IsSettled, During, Shows, IsNew}
 use Rattle.disk_model.proofs.Moments.{started, weaker}
-use Rattle.commit_log.specs.declared.row.LogRow.{LogRow}
-use Rattle.commit_log.specs.Blocks.{log_block_image, log_block_size, row_image, rows_image}
+use Rattle.commit_log.specs.{LogRow, log_block_image, log_block_size, row_image, rows_image, LogsNothing}
 use Rattle.archive_file.proofs.ReadImages.{shown_now}
-use Rattle.commit_log.specs.Images.{LogsNothing}
 
 -- ---- a device is begun
 

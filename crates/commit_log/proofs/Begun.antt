@@ -1,13 +1,9 @@
 -- What a crash left until the opening of a log ended.
 use Rattle.std.proofs.Common.{◌≡◌, Option, None, Some, List, ℕ, refl, sym, subst}
 use Rattle.std.specs.Prelude.{IfSome}
-use Rattle.disk_model.specs.Calls.{Shows}
-use Rattle.disk_model.specs.Moments.{ComesAfter, During}
-use Rattle.disk_model.specs.Traces.{Device, HandOut, Trace, moment}
+use Rattle.disk_model.specs.{Shows, ComesAfter, During, Device, HandOut, Trace, moment}
 use Rattle.disk_model.proofs.Moments.{after_both, after_self}
-use Rattle.commit_log.specs.declared.row.LogRow.{LogRow}
-use Rattle.commit_log.specs.Images.{StandsForRows}
-use Rattle.commit_log.specs.Openings.{IsLeftOrStands, IsLogOpenedWell, LogBeganWell}
+use Rattle.commit_log.specs.{LogRow, StandsForRows, IsLeftOrStands, IsLogOpenedWell, LogBeganWell}
 
 module _ (plant : List ℕ) (tags : ℕ) (opening : List LogRow) (opened_at : ℕ) (old new : Device)
     (kept : new.handed ≡ old.handed) where

@@ -1,12 +1,9 @@
 -- A block after others: what an image has while it is added.
 use Rattle.std.proofs.Common.{◌≡◌, ◌≢◌, ◌⊎◌, inl, inr, ℕ, ◌+◌, ◌<◌, ◌≤◌, List, [], ◌∷◌, ◌++◌, length, get_or, sym, ap, ◌∙◌, subst, arith, length-append}
 use Rattle.std.proofs.lemmas.Bool.{cases_eq}
-use Rattle.disk_model.specs.Gates.{IsGuarded, IsOpen, IsShut, open_byte}
-use Rattle.commit_log.specs.declared.row.LogRow.{LogRow}
-use Rattle.commit_log.specs.Blocks.{AreBlockRows, HasBlock, HasBlocks, log_block_image, log_block_size, log_end_of, rows_of}
-use Rattle.archive_file.specs.TextHeads.{IsOfText, blocks_at}
-use Rattle.commit_log.specs.Images.{letters}
-use Rattle.commit_log.specs.Openings.{Stores}
+use Rattle.disk_model.specs.{IsGuarded, IsOpen, IsShut, open_byte}
+use Rattle.commit_log.specs.{LogRow, AreBlockRows, HasBlock, HasBlocks, log_block_image, log_block_size, log_end_of, rows_of, letters, Stores}
+use Rattle.archive_file.specs.{IsOfText, blocks_at}
 use Rattle.archive_file.proofs.TextHeads.{head_same}
 use Rattle.archive_file.proofs.PlacedBytes.{SameFront, guarded_front, holds_left, next_shut, part_same}
 use Rattle.commit_log.proofs.Beginnings.{length-block_image}

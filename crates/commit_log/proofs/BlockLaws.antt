@@ -2,15 +2,11 @@
 use Rattle.std.proofs.Common.{◌≡◌, ℕ, zero, suc, ◌+◌, ◌*◌, ◌≤◌, ◌&&◌, true, All, List, ◌∷◌, [], ◌++◌, Option, append_assoc, length, drop, map, refl, sym, ap, ◌∙◌, subst, arith, nat_eq, nat_le, nat_lt, unsigned_abs}
 use Rattle.std.proofs.lemmas.List.{map-append}
 use Rattle.std.specs.Int.{w64, cast_signed}
-use Rattle.trend_num.specs.Ranges.{last_time, largest_value}
-use Rattle.archive_file.specs.Fields.{number_bytes}
-use Rattle.archive_file.specs.BlockFiles.{moved}
-use Rattle.archive_file.specs.LayoutFields.{BreaksFirst, Keeps, Spells, long_at, short_at}
+use Rattle.trend_num.specs.{last_time, largest_value}
+use Rattle.archive_file.specs.{number_bytes, moved, BreaksFirst, Keeps, Spells, long_at, short_at}
 use Rattle.archive_file.proofs.FieldLaws.{breaks_behind, breaks_within, field_of}
 use Rattle.archive_file.proofs.Windows.{rest_long, rest_short, then_spelled}
-use Rattle.commit_log.specs.declared.row.LogRow.{LogRow}
-use Rattle.commit_log.specs.Blocks.{block_fields, body_fields, front_fields, most_in_block, rows_fields, rows_image}
-use Rattle.commit_log.specs.Openings.{AddsBlock, AddsRows}
+use Rattle.commit_log.specs.{LogRow, block_fields, body_fields, front_fields, most_in_block, rows_fields, rows_image, AddsBlock, AddsRows}
 
 -- ---- its fields
 

@@ -3,24 +3,13 @@ use Rattle.std.proofs.Common.{◌≡◌, ⊎_elim, ℕ, ◌+◌, ◌-◌, ◌<�
 use Rattle.std.proofs.lemmas.Bool.Decides.{nat_tests}
 use Rattle.std.proofs.lemmas.List.{append-nil, take-append-le}
 use Rattle.std.proofs.Math.Seq.{take-add, take-append_seam}
-use Rattle.disk_model.specs.Calls.{Rose, Sees}
-use Rattle.disk_model.specs.Gates.{IsGuarded, IsOpen, IsShut, open_byte}
-use Rattle.disk_model.specs.Images.{FromOld, IsSettled, MayLeave, Now}
-use Rattle.disk_model.specs.Moments.{ComesAfter, During, LeftSince}
-use Rattle.disk_model.specs.Traces.{Trace, seen, written}
+use Rattle.disk_model.specs.{Rose, Sees, IsGuarded, IsOpen, IsShut, open_byte, FromOld, IsSettled, MayLeave, Now, ComesAfter, During, LeftSince, Trace, seen, written}
 use Rattle.disk_model.proofs.Bytes.{length-written}
 use Rattle.disk_model.proofs.Images.{present}
 use Rattle.disk_model.proofs.Moments.{during_now, only_since, parted}
-use Rattle.commit_log.specs.declared.row.LogRow.{LogRow}
-use Rattle.commit_log.specs.declared.history.LogTurn.{LogTurn}
+use Rattle.commit_log.specs.{LogRow, LogTurn, AreBlockRows, log_block_image, log_block_size, most_in_block, ByBlocks, StandsForRows, Stores, LogWalk, acked_at, after_turn, puts, log_begin, log_walked, IsBlockOf, LogTurnsFit, IsLogLegal}
+use Rattle.commit_log.specs.{IsLogSafe, StandsForPart, HasRoomForPuts, IsKept, IsReady, Waits}
 use Rattle.commit_log.specs.declared.history.LogTurn.TheVariants.{Commit}
-use Rattle.commit_log.specs.Blocks.{AreBlockRows, log_block_image, log_block_size, most_in_block}
-use Rattle.commit_log.specs.Images.{ByBlocks, StandsForRows}
-use Rattle.commit_log.specs.Openings.{Stores}
-use Rattle.commit_log.specs.Tapes.{LogWalk, acked_at, after_turn, puts, log_begin, log_walked}
-use Rattle.commit_log.specs.Writes.{IsBlockOf}
-use Rattle.commit_log.specs.Histories.{LogTurnsFit, IsLogLegal, IsLogSafe, StandsForPart}
-use Rattle.commit_log.specs.Told.{HasRoomForPuts, IsKept, IsReady, Waits}
 use Rattle.archive_file.proofs.PlacedBytes.{written_byte}
 use Rattle.commit_log.proofs.BlockAdded.{block_either, block_opened}
 use Rattle.commit_log.proofs.Tapes.{acked_at-commit, acked_at-most, fit-push, fit_rows, middle_rows, puts-append, puts_parts, walked-push, walked-rows}

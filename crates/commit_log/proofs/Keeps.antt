@@ -1,12 +1,7 @@
 -- What a log's type keeps while its tape is given more places.
 use Rattle.std.proofs.Common.{◌≡◌, ℕ, ◌+◌, ◌≤◌, Bool, List, ◌++◌, length, take, drop, sym, ap, subst, arith, length-append}
-use Rattle.disk_model.specs.Moments.{LeftSince}
-use Rattle.disk_model.specs.Traces.{Trace, moment}
-use Rattle.commit_log.specs.declared.row.LogRow.{LogRow}
-use Rattle.commit_log.specs.declared.history.LogTurn.{LogTurn}
-use Rattle.commit_log.specs.Tapes.{puts}
-use Rattle.commit_log.specs.Histories.{IsLogLegal, IsLogSafe}
-use Rattle.commit_log.specs.Told.{HasRoomForPuts, IsKept, Waits}
+use Rattle.disk_model.specs.{LeftSince, Trace, moment}
+use Rattle.commit_log.specs.{LogRow, LogTurn, puts, IsLogLegal, IsLogSafe, HasRoomForPuts, IsKept, Waits}
 use Rattle.commit_log.proofs.Tapes.{puts_parts}
 
 -- no more rows are acknowledged than there are, and those after a place wait

@@ -1,18 +1,10 @@
 -- A log while it is opened.
 use Rattle.std.proofs.Common.{◌≡◌, inl, inr, ℕ, ◌+◌, ◌≤◌, true, List, [], length, drop, Option, None, Some, refl, sym, ap, subst, arith, lit<, length-take}
-use Rattle.disk_model.specs.Calls.{Reaches, Shows}
-use Rattle.disk_model.specs.Gates.{IsBegun, IsNew}
-use Rattle.disk_model.specs.Moments.{During}
-use Rattle.disk_model.specs.Traces.{Synced, Trace, noted, seen}
+use Rattle.disk_model.specs.{Reaches, Shows, IsBegun, IsNew, During, Synced, Trace, noted, seen}
 use Rattle.disk_model.proofs.Moments.{in_turn, weaker}
-use Rattle.commit_log.specs.declared.block_reader.Stored.{Stored}
-use Rattle.commit_log.specs.declared.row.LogRow.{LogRow}
-use Rattle.commit_log.specs.Blocks.{IsBlockDamage}
-use Rattle.archive_file.specs.LayoutFields.{BreaksFirst, short_at}
-use Rattle.archive_file.specs.TextHeads.{IsOfText, blocks_at, head_fields}
+use Rattle.commit_log.specs.{Stored, LogRow, IsBlockDamage, BadBlock, BadHead, ByBlocks, ByNothing, IsLogDamage, LogsNothing, StandsForRows, letters, IsFound, IsLogLeftOrSame, IsLeftOrStands, IsTooMany, Stores}
+use Rattle.archive_file.specs.{BreaksFirst, short_at, IsOfText, blocks_at, head_fields}
 use Rattle.archive_file.proofs.FieldLaws.{field_of}
-use Rattle.commit_log.specs.Images.{BadBlock, BadHead, ByBlocks, ByNothing, IsLogDamage, LogsNothing, StandsForRows, letters}
-use Rattle.commit_log.specs.Openings.{IsFound, IsLogLeftOrSame, IsLeftOrStands, IsTooMany, Stores}
 use Rattle.commit_log.proofs.Commits.{stores_stand}
 
 -- ---- a log that is there

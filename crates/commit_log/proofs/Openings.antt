@@ -1,22 +1,12 @@
 -- What opening a log returns, and what its type keeps at first.
 use Rattle.std.proofs.Common.{◌≡◌, ℕ, ◌+◌, ◌<◌, ◌≤◌, false, All, List, [], length, Option, Result, Ok, Err, IfErr, IfOk, IsErrOf, OnErr, OnOk, refl, sym, ◌∙◌, subst, arith}
 use Rattle.std.proofs.lemmas.List.{append-nil}
-use Rattle.disk_model.specs.Calls.{Shows}
-use Rattle.disk_model.specs.Moments.{LeftSince}
-use Rattle.disk_model.specs.Traces.{Synced, Trace, noted, moment}
+use Rattle.disk_model.specs.{Shows, LeftSince, Synced, Trace, noted, moment}
 use Rattle.disk_model.proofs.Moments.{only_since}
-use Rattle.archive_file.specs.declared.failure.ScanNo.{ScanNo}
+use Rattle.archive_file.specs.{ScanNo}
 use Rattle.archive_file.specs.declared.failure.ScanNo.TheVariants as scan
-use Rattle.commit_log.specs.declared.history.LogTurn.{LogTurn}
-use Rattle.commit_log.specs.declared.opening.Parts.{Parts}
-use Rattle.commit_log.specs.declared.refusal.LogNo.{LogNo}
+use Rattle.commit_log.specs.{LogTurn, Parts, LogNo, LogRow, IsLogRow, IsLogDamage, IsOfOther, StandsForRows, IsLogCause, IsTooMany, most_rows, refusal_of, IsLogLegal, IsLogSafe, HasRoomForPuts, IsKept, IsReady, Waits}
 use Rattle.commit_log.specs.declared.refusal.LogNo.TheVariants.{DeviceFault, Damaged, OtherPlant, TooMany, WantOfMemory}
-use Rattle.commit_log.specs.declared.row.LogRow.{LogRow}
-use Rattle.commit_log.specs.Blocks.{IsLogRow}
-use Rattle.commit_log.specs.Images.{IsLogDamage, IsOfOther, StandsForRows}
-use Rattle.commit_log.specs.Openings.{IsLogCause, IsTooMany, most_rows, refusal_of}
-use Rattle.commit_log.specs.Histories.{IsLogLegal, IsLogSafe}
-use Rattle.commit_log.specs.Told.{HasRoomForPuts, IsKept, IsReady, Waits}
 use Rattle.commit_log.proofs.Commits.{ready_stands}
 use Rattle.archive_file.proofs.ReadImages.{shown_before}
 

@@ -3,8 +3,7 @@ use Rattle.std.proofs.Common.{◌≡◌, ℕ, ◌≤◌, List, ◌++◌, length,
 use Rattle.std.proofs.lemmas.List.{map-append, take-append-drop, take-take}
 use Rattle.std.proofs.lemmas.List.Elements.{filter-append}
 use Rattle.std.proofs.Math.Seq.{take-append_seam}
-use Rattle.commit_log.specs.declared.row.LogRow.{LogRow}
-use Rattle.commit_log.specs.Images.{log_points_of}
+use Rattle.commit_log.specs.{LogRow, log_points_of}
 
 -- the points in two lists
 points-append : (tag : ℕ) (xs ys : List LogRow) → log_points_of tag (xs ++ ys) ≡ log_points_of tag xs ++ log_points_of tag ys

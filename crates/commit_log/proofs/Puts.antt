@@ -1,15 +1,9 @@
 -- What a log's type keeps, after a put.
 use Rattle.std.proofs.Common.{◌≡◌, ℕ, ◌+◌, ◌≤◌, Bool, List, [], ◌∷◌, ◌++◌, length, take, sym, ap, ◌∙◌, subst, arith, length-append}
 use Rattle.std.proofs.lemmas.List.{take-append-le}
-use Rattle.disk_model.specs.Traces.{Trace}
-use Rattle.commit_log.specs.declared.row.LogRow.{LogRow}
-use Rattle.commit_log.specs.declared.history.LogTurn.{LogTurn}
+use Rattle.disk_model.specs.{Trace}
+use Rattle.commit_log.specs.{LogRow, LogTurn, IsLogRow, StandsForRows, LogWalk, acked_at, puts, log_begin, IsLogLegal, IsLogSafe, StandsForPart, HasRoomForPuts, IsKept, IsReady, Waits}
 use Rattle.commit_log.specs.declared.history.LogTurn.TheVariants.{Put}
-use Rattle.commit_log.specs.Blocks.{IsLogRow}
-use Rattle.commit_log.specs.Images.{StandsForRows}
-use Rattle.commit_log.specs.Tapes.{LogWalk, acked_at, puts, log_begin}
-use Rattle.commit_log.specs.Histories.{IsLogLegal, IsLogSafe, StandsForPart}
-use Rattle.commit_log.specs.Told.{HasRoomForPuts, IsKept, IsReady, Waits}
 use Rattle.commit_log.proofs.Tapes.{acked_at-put, fit-push, puts-append, walked-push}
 
 module _ (tags : ℕ) (opening : List LogRow) (moment : ℕ) (tape : List LogTurn) (row : LogRow) where

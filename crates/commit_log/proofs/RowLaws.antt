@@ -2,13 +2,9 @@
 use Rattle.std.proofs.Common.{◌≡◌, ℕ, suc, ◌+◌, ◌-◌, ◌*◌, ◌^◌, ◌<◌, true, List, [], ◌∷◌, ◌++◌, All, length-append, append_assoc, Option, refl, sym, ap, ◌∙◌, subst, arith, lit<, ltb-true, leb-true}
 use Rattle.std.proofs.lemmas.List.Elements.{All-push}
 use Rattle.archive_file.proofs.Joins.{images_push}
-use Rattle.archive_file.specs.declared.layout_field.Field.{Field}
-use Rattle.commit_log.specs.declared.row.LogRow.{LogRow}
-use Rattle.archive_file.specs.LayoutFields.{BreaksFirst, Keeps, Spells, long_at, short_at}
-use Rattle.archive_file.specs.Fields.{number_bytes, value_bytes}
+use Rattle.archive_file.specs.{Field, BreaksFirst, Keeps, Spells, long_at, short_at, number_bytes, value_bytes}
+use Rattle.commit_log.specs.{LogRow, IsLogRow, row_at, row_fields, row_image, rows_fields, rows_image, AddsRows}
 use Rattle.std.specs.Int.{w64, cast_signed}
-use Rattle.commit_log.specs.Blocks.{IsLogRow, row_at, row_fields, row_image, rows_fields, rows_image}
-use Rattle.commit_log.specs.Openings.{AddsRows}
 use Rattle.archive_file.proofs.FieldLaws.{KeptUpTo, breaks_after, breaks_within, kept_more, spells_both}
 use Rattle.archive_file.proofs.Windows.{then_spelled, value_spelled}
 

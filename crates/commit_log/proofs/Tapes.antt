@@ -3,12 +3,8 @@ use Rattle.std.proofs.Common.{◌≡◌, ℕ, ◌+◌, ◌-◌, ◌≤◌, Bool,
 use Rattle.std.proofs.lemmas.List.{take-append-drop, take_all}
 use Rattle.std.proofs.lemmas.List.Elements.{All-cons, All-drop, All-nil, All-take}
 use Rattle.std.proofs.Math.Seq.{drop-append_seam, take-append_seam}
-use Rattle.commit_log.specs.declared.row.LogRow.{LogRow}
-use Rattle.commit_log.specs.declared.history.LogTurn.{LogTurn}
+use Rattle.commit_log.specs.{LogRow, LogTurn, IsLogRow, LogWalk, acked_at, after_turn, puts, log_walked, LogTurnsFit, LogTurnFits}
 use Rattle.commit_log.specs.declared.history.LogTurn.TheVariants.{Put, Commit}
-use Rattle.commit_log.specs.Blocks.{IsLogRow}
-use Rattle.commit_log.specs.Tapes.{LogWalk, acked_at, after_turn, puts, log_walked}
-use Rattle.commit_log.specs.Histories.{LogTurnsFit, LogTurnFits}
 
 -- ---- walks
 

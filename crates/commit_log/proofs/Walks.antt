@@ -2,16 +2,11 @@
 use Rattle.std.proofs.Common.{◌≡◌, inl, inr, ℕ, ◌+◌, ◌≤◌, All, List, [], ◌∷◌, ◌++◌, drop, length, Option, Some, IfSome, refl, sym, ap, ◌∙◌, subst, arith, append_assoc, length-append, length-drop}
 use Rattle.std.proofs.lemmas.List.{append-nil}
 use Rattle.std.proofs.lemmas.List.Elements.{All-append, All-nil}
-use Rattle.disk_model.specs.Gates.{IsOpen, IsShut}
-use Rattle.archive_file.specs.declared.layout_field.Field.{Field}
-use Rattle.archive_file.specs.BlockFiles.{AreAllRead, AreRead, IsFirstBroken, Step}
-use Rattle.archive_file.specs.LayoutFields.{BreaksFirst, Spells}
+use Rattle.disk_model.specs.{IsOpen, IsShut}
+use Rattle.archive_file.specs.{Field, AreAllRead, AreRead, IsFirstBroken, Step, BreaksFirst, Spells}
 use Rattle.archive_file.proofs.BlockFiles.{read_keeps}
 use Rattle.archive_file.proofs.Windows.{rest_spells}
-use Rattle.commit_log.specs.declared.block_reader.LogReader.{LogReader}
-use Rattle.commit_log.specs.declared.row.LogRow.{LogRow}
-use Rattle.commit_log.specs.Blocks.{HasBlock, HasBlocks, IsBlockDamage, IsLogRow, block_fields, log_block_image, log_block_size, log_end_of, rows_of}
-use Rattle.commit_log.specs.Openings.{AddsBlock, ListsRows}
+use Rattle.commit_log.specs.{LogReader, LogRow, HasBlock, HasBlocks, IsBlockDamage, IsLogRow, block_fields, log_block_image, log_block_size, log_end_of, rows_of, AddsBlock, ListsRows}
 use Rattle.commit_log.proofs.BlockLaws.{block_here}
 
 -- where blocks and one more end

@@ -3,10 +3,7 @@ use Rattle.std.proofs.Common.{◌≡◌, inl, inr, ℕ, ◌+◌, ◌<◌, ◌≤
 use Rattle.std.proofs.lemmas.Bool.{cases_lt}
 use Rattle.std.proofs.lemmas.Grind.{flat_map-append}
 use Rattle.std.proofs.lemmas.List.{take_all, take_more}
-use Rattle.commit_log.specs.declared.history.LogTurn.{LogTurn}
-use Rattle.commit_log.specs.Blocks.{row_image, rows_image}
-use Rattle.commit_log.specs.Tapes.{puts}
-use Rattle.commit_log.specs.Writes.{WritesRows}
+use Rattle.commit_log.specs.{LogTurn, row_image, rows_image, puts, WritesRows}
 use Rattle.commit_log.proofs.Tapes.{puts-append}
 
 -- where rows are still to come there is a turn

@@ -1,12 +1,10 @@
 -- Blocks: the rows that commits left, one block after the other, each after its gate.
 use Rattle.std.specs.Prelude.{ℕ, zero, suc, ◌+◌, ◌*◌, ◌<◌, ◌≤◌, ◌&&◌, true, List, [], ◌∷◌, ◌++◌, All, length, flat_map, Option, nat_eq, nat_le, nat_lt, unsigned_abs}
 use Rattle.std.specs.Int.{w64, cast_signed}
-use Rattle.trend_num.specs.Ranges.{InRange, last_time, largest_value}
-use Rattle.disk_model.specs.Gates.{IsOpen, IsShut, Holds}
-use Rattle.archive_file.specs.Fields.{number_bytes, point_bytes}
+use Rattle.trend_num.specs.{InRange, last_time, largest_value}
+use Rattle.disk_model.specs.{IsOpen, IsShut, Holds}
+use Rattle.archive_file.specs.{number_bytes, point_bytes, Field, BreaksFirst, long_at, short_at}
 use Rattle.commit_log.specs.declared.row.LogRow.{LogRow}
-use Rattle.archive_file.specs.declared.layout_field.Field.{Field}
-use Rattle.archive_file.specs.LayoutFields.{BreaksFirst, long_at, short_at}
 
 -- ---- its bytes
 

@@ -1,10 +1,9 @@
 -- What an image of a plant's log stands for, where it is damaged, and where it is that of another plant.
 use Rattle.std.specs.Prelude.{◌≡◌, ◌≢◌, ◌⊎◌, ℕ, ◌<◌, List, [], codes, length, min, take, slice_index, filter, map, nat_eq, Option}
-use Rattle.trend_num.specs.declared.point.Point.{Point}
-use Rattle.disk_model.specs.Gates.{IsBegun, IsNew}
+use Rattle.trend_num.specs.{Point}
+use Rattle.disk_model.specs.{IsBegun, IsNew}
 use Rattle.commit_log.specs.declared.row.LogRow.{LogRow}
-use Rattle.archive_file.specs.LayoutFields.{BreaksFirst}
-use Rattle.archive_file.specs.TextHeads.{HasHead, IsEmpty, IsOfText, blocks_at, head_fields, text_in}
+use Rattle.archive_file.specs.{BreaksFirst, HasHead, IsEmpty, IsOfText, blocks_at, head_fields, text_in}
 use Rattle.commit_log.specs.Blocks.{AreBlocks, IsBlockDamage, rows_of}
 
 -- the letters after the gate of the layout

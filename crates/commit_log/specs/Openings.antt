@@ -1,18 +1,12 @@
 -- What is read from a log's device, what it is opened as, and why it is not opened.
 use Rattle.std.specs.Prelude.{◌≡◌, ◌≢◌, ◌⊎◌, ℕ, ◌+◌, ◌*◌, ◌<◌, List, ◌++◌, All, length, Option, None, Some, IfSome, Err}
-use Rattle.archive_file.specs.declared.failure.ScanNo.{ScanNo}
+use Rattle.archive_file.specs.{ScanNo, Spells, IsOfText, blocks_at}
 use Rattle.archive_file.specs.declared.failure.ScanNo.TheVariants as scan
-use Rattle.disk_model.specs.Calls.{CountsFault, Shows}
-use Rattle.disk_model.specs.Gates.{IsNew}
-use Rattle.disk_model.specs.Images.{MayLeave}
-use Rattle.disk_model.specs.Moments.{ComesAfter, During}
-use Rattle.disk_model.specs.Traces.{HandOut, Synced, Trace, moment, noted, seen}
+use Rattle.disk_model.specs.{CountsFault, Shows, IsNew, MayLeave, ComesAfter, During, HandOut, Synced, Trace, moment, noted, seen}
 use Rattle.commit_log.specs.declared.block_reader.Stored.{Stored}
 use Rattle.commit_log.specs.declared.refusal.LogNo.{LogNo}
 use Rattle.commit_log.specs.declared.refusal.LogNo.TheVariants.{DeviceFault, Damaged, OtherPlant, TooMany, WantOfMemory}
 use Rattle.commit_log.specs.declared.row.LogRow.{LogRow}
-use Rattle.archive_file.specs.LayoutFields.{Spells}
-use Rattle.archive_file.specs.TextHeads.{IsOfText, blocks_at}
 use Rattle.commit_log.specs.Blocks.{AreBlockRows, AreBlocks, IsLogRow, log_block_image, log_block_size, log_end_of, rows_image, rows_of}
 use Rattle.commit_log.specs.Images.{IsLogDamage, IsOfOther, StandsForRows, letters}
 

@@ -1,10 +1,6 @@
 -- The model of a log, what its type keeps, and what its calls change.
 use Rattle.std.specs.Prelude.{◌≡◌, ◌⊎◌, ℕ, ◌+◌, ◌-◌, ◌≤◌, Bool, true, false, List, [], ◌∷◌, ◌++◌, length, min, take, drop, Option, None, Some, nat_eq, nat_le, if◌then◌else◌}
-use Rattle.disk_model.specs.Calls.{Rose, Sees}
-use Rattle.disk_model.specs.Gates.{open_byte}
-use Rattle.disk_model.specs.Images.{IsSettled}
-use Rattle.disk_model.specs.Moments.{LeftSince}
-use Rattle.disk_model.specs.Traces.{Trace, seen, written, moment, Device}
+use Rattle.disk_model.specs.{Rose, Sees, open_byte, IsSettled, LeftSince, Trace, seen, written, moment, Device}
 use Rattle.commit_log.specs.declared.history.LogAcked.{LogAcked}
 use Rattle.commit_log.specs.declared.history.LogHistory.{LogHistory}
 use Rattle.commit_log.specs.declared.history.LogTurn.{LogTurn}

@@ -1,10 +1,8 @@
 // Reading the blocks of a device, one after the other.
 ghost use Rattle.std.specs.Prelude.{◌≡◌, ℕ, ◌+◌, ◌≤◌, ◌++◌, ◌&&◌, All, Option, IfOk, IsErrOf, OnOk, nat_le};
-ghost use Rattle.disk_model.specs.Calls.{CountsFault, Reaches, Shows};
+ghost use Rattle.disk_model.specs.{CountsFault, Reaches, Shows};
 ghost use Rattle.archive_file.specs.declared.failure.ScanNo.TheVariants.{Damaged, DeviceFault};
-ghost use Rattle.archive_file.specs.Fields.{number_bytes};
-ghost use Rattle.archive_file.specs.LayoutFields.{BreaksFirst, Keeps, Spells, short_at};
-ghost use Rattle.archive_file.specs.Windows.{IsWindow};
+ghost use Rattle.archive_file.specs.{number_bytes, BreaksFirst, Keeps, Spells, short_at, IsWindow};
 ghost use Rattle.commit_log.specs.Blocks.{IsBlockDamage, IsLogRow, front_fields, most_in_block};
 ghost use Rattle.commit_log.specs.Openings.{ListsRows};
 
@@ -35,7 +33,7 @@ pub struct LogReader {
 
 impl BlockReader for LogReader {
     ghost use Rattle.std.specs.Prelude.{◌≡◌, ◌+◌, ◌*◌, All, min, length};
-    ghost use Rattle.archive_file.specs.LayoutFields.{short_at};
+    ghost use Rattle.archive_file.specs.{short_at};
     ghost use Rattle.commit_log.specs.Blocks.{IsLogRow, block_fields, most_in_block};
     ghost use Rattle.commit_log.specs.Openings.{AddsBlock};
 

@@ -1,6 +1,6 @@
 // Acknowledging rows.
 ghost use Rattle.std.specs.Prelude.{◌≡◌, ◌↔◌, ◌+◌, ◌<◌, ◌≤◌, Ok, IfOk, IsErrOf, OnOk, false, true, vec_capacity, vec_len};
-ghost use Rattle.disk_model.specs.Calls.{CountsFault, Rose};
+ghost use Rattle.disk_model.specs.{CountsFault, Rose};
 ghost use Rattle.commit_log.specs.declared.refusal.LogCommitNo.TheVariants.{Broken, DeviceFault, WantOfMemory as NoMemory};
 ghost use Rattle.commit_log.specs.Told.{AreRowsAcknowledged, IsLogFaulted, rows_waiting};
 

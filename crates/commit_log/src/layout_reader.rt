@@ -1,6 +1,6 @@
 // Reading a log's device.
 ghost use Rattle.std.specs.Prelude.{◌≡◌, ℕ, Option, IfOk, IsErrOf};
-ghost use Rattle.disk_model.specs.Calls.{CountsFault, Shows};
+ghost use Rattle.disk_model.specs.{CountsFault, Shows};
 ghost use Rattle.commit_log.specs.declared.refusal.LogNo.TheVariants.{Damaged, DeviceFault, OtherPlant, TooMany};
 ghost use Rattle.commit_log.specs.Images.{IsLogDamage, IsOfOther};
 ghost use Rattle.commit_log.specs.Openings.{HasRowsOf, IsFound};

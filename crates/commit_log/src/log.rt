@@ -1,7 +1,6 @@
 // A log: the raw values of a plant, with all that is under its lock.
 ghost use Rattle.std.specs.Prelude.{◌≡◌, false, true};
-ghost use Rattle.disk_model.specs.Calls.{Rose};
-ghost use Rattle.disk_model.specs.Traces.{FitsName, moment};
+ghost use Rattle.disk_model.specs.{Rose, FitsName, moment};
 ghost use Rattle.commit_log.specs.Devices.{log_name};
 ghost use Rattle.commit_log.specs.Openings.{LogBeganWell};
 ghost use Rattle.commit_log.specs.Told.{HasHistory, IsHandedOut};
@@ -37,8 +36,7 @@ pub struct Log<D: Disk> {
 
 impl<D: Disk> Model for Log<D> {
     ghost use Rattle.std.specs.Prelude.{vec_capacity};
-    ghost use Rattle.disk_model.specs.Moments.{LeftSince};
-    ghost use Rattle.disk_model.specs.Traces.{FitsName, moment};
+    ghost use Rattle.disk_model.specs.{LeftSince, FitsName, moment};
     ghost use Rattle.commit_log.specs.Devices.{log_name};
     ghost use Rattle.commit_log.specs.Histories.{IsLogLegal, IsLogSafe};
     ghost use Rattle.commit_log.specs.Openings.{LogBeganWell};

@@ -1,16 +1,12 @@
 // Opening a log.
 ghost use Rattle.std.specs.Prelude.{◌≡◌, ◌≢◌, ℕ, ◌+◌, ◌<◌, ◌≤◌, [], All, Option, IfErr, IfOk, IfSome, IsErrOf, OnErr, OnOk, false, length, vec_capacity};
-ghost use Rattle.disk_model.specs.Calls.{CountsFault, Shows};
-ghost use Rattle.disk_model.specs.Gates.{IsNew, layout_calls};
-ghost use Rattle.disk_model.specs.Images.{IsSettled};
-ghost use Rattle.disk_model.specs.Moments.{During};
-ghost use Rattle.disk_model.specs.Traces.{FitsName, moment};
+ghost use Rattle.disk_model.specs.{CountsFault, Shows, IsNew, layout_calls, IsSettled, During, FitsName, moment};
 ghost use Rattle.commit_log.specs.Devices.{log_name};
 ghost use Rattle.commit_log.specs.declared.refusal.LogNo.TheVariants.{Damaged, DeviceFault, OtherPlant, TooMany};
 ghost use Rattle.commit_log.specs.Blocks.{IsLogRow};
 ghost use Rattle.commit_log.specs.Images.{LogsNothing, StandsForRows};
 ghost use Rattle.commit_log.specs.Openings.{CountsLogRefusal, GainsLogSync, GainsSyncOnly, IsLogCause, IsLogLeftOrSame, IsLeftOrStands, LogBeganWell, most_rows};
-ghost use Rattle.archive_file.specs.TextHeads.{TextOpensAt};
+ghost use Rattle.archive_file.specs.{TextOpensAt};
 ghost use Rattle.commit_log.specs.Told.{IsReady};
 
 use crate::block_reader::Stored;

@@ -1,7 +1,7 @@
 // Appending a row.
 ghost use Rattle.std.specs.Prelude.{◌≡◌, [], ◌∷◌, ◌++◌, None, Some, IfOk, IsErrOf, OnErr, OnOk, MatchResult};
-ghost use Rattle.trend_num.specs.Ranges.{InRange};
-ghost use Rattle.disk_model.specs.Calls.{Rose};
+ghost use Rattle.trend_num.specs.{InRange};
+ghost use Rattle.disk_model.specs.{Rose};
 ghost use Rattle.commit_log.specs.declared.history.LogTurn.TheVariants.{Put};
 ghost use Rattle.commit_log.specs.declared.refusal.PutRowNo.TheVariants.{Broken};
 ghost use Rattle.commit_log.specs.Told.{put_refusal, row_count};

@@ -1,9 +1,8 @@
 // Reading the rows of a block.
 ghost use Rattle.std.specs.Prelude.{◌≡◌, ℕ, ◌+◌, ◌*◌, ◌≤◌, All, Option, IfOk, IsErrOf, OnOk, length, nat_le, unsigned_abs};
-ghost use Rattle.trend_num.specs.Ranges.{largest_value};
+ghost use Rattle.trend_num.specs.{largest_value};
 ghost use Rattle.archive_file.specs.declared.failure.ScanNo.TheVariants.{Damaged, DeviceFault, WantOfMemory};
-ghost use Rattle.archive_file.specs.LayoutFields.{BreaksFirst, Keeps, Spells};
-ghost use Rattle.archive_file.specs.Windows.{IsWindow};
+ghost use Rattle.archive_file.specs.{BreaksFirst, Keeps, Spells, IsWindow};
 ghost use Rattle.commit_log.specs.Blocks.{IsLogRow, row_at, row_fields, row_image, rows_fields};
 ghost use Rattle.commit_log.specs.Openings.{AddsRows};
 

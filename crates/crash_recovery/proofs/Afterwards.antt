@@ -1,17 +1,14 @@
 -- What becomes of a device that is opened: its layout, its free lane slots, and whether a sync is all that it gains.
-use Rattle.std.proofs.Common.{◌≡◌, inl, inr, ℕ, ◌+◌, ◌-◌, ◌<◌, ◌≤◌, false, true, cond, List, length}
-use Rattle.std.proofs.Common.{sym, ◌∙◌, ap, subst, arith}
+use Rattle.std.proofs.Common.{◌≡◌, inl, inr, ℕ, ◌+◌, ◌-◌, ◌<◌, ◌≤◌, false, true, cond, List, length, sym, ◌∙◌, ap, subst, arith}
 use Rattle.std.proofs.lemmas.Bool.{cases_Bool}
-use Rattle.trend_num.specs.declared.tag_def.TagDef.{TagDef}
+use Rattle.trend_num.specs.{TagDef}
 use Rattle.trend_model.specs.{State.State, State.after, History.Tune}
-use Rattle.disk_model.specs.{Traces.Trace, Traces.Synced, Traces.seen, Traces.noted, Gates.IsNew}
-use Rattle.disk_model.specs.{Gates.IsBegun, Gates.layout_calls, Calls.Shows}
+use Rattle.disk_model.specs.{Traces.Trace, Traces.Synced, Traces.seen, Traces.noted, Gates.IsNew, Gates.IsBegun, Gates.layout_calls, Calls.Shows}
 use Rattle.event_queue.specs.{Slots.batch_at, Lanes.IsStale}
 use Rattle.archive_file.proofs.Beginnings.{not_new}
-use Rattle.device_layout.specs.Recovery.{counting}
+use Rattle.device_layout.specs.{counting}
 use Rattle.device_layout.proofs.OneState.{one_state}
-use Rattle.crash_recovery.specs.{Seat, IsSeat, free_in, taken_of, IsReadAs, HasFree, HasFreeAtFirst}
-use Rattle.crash_recovery.specs.{LeavesFree, MakesLayout, GainsSync, OpensAt, checkpoint_calls}
+use Rattle.crash_recovery.specs.{Seat, IsSeat, free_in, taken_of, IsReadAs, HasFree, HasFreeAtFirst, LeavesFree, MakesLayout, GainsSync, OpensAt, checkpoint_calls}
 use Rattle.crash_recovery.proofs.Openings.{shown_before}
 
 -- a device that has the place of a journal is not new

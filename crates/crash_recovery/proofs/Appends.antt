@@ -1,25 +1,18 @@
 -- A batch is put into a lane in use.
-use Rattle.disk_model.specs.{Calls.Shows, Calls.Sees, Traces.Trace, Traces.seen, Traces.written}
-use Rattle.disk_model.specs.{Images.IsOutside, Images.FromOld, Images.IsSettled, Moments.During}
-use Rattle.disk_model.specs.{Gates.open_byte, Gates.IsOpen, Gates.IsGuarded}
-use Rattle.std.proofs.Common.{◌≡◌, ◌≢◌, ◌⊎◌, inl, inr, ⊎_elim, ℕ, ◌+◌, ◌^◌, ◌<◌, ◌≤◌, false, List, [], ◌∷◌}
-use Rattle.std.proofs.Common.{◌++◌, length, get_or, map, refl, ◌∙◌, ap, arith, ◌-◌, true}
+use Rattle.disk_model.specs.{Calls.Shows, Calls.Sees, Traces.Trace, Traces.seen, Traces.written, Images.IsOutside, Images.FromOld, Images.IsSettled, Moments.During, Gates.open_byte, Gates.IsOpen, Gates.IsGuarded}
+use Rattle.std.proofs.Common.{◌≡◌, ◌≢◌, ◌⊎◌, inl, inr, ⊎_elim, ℕ, ◌+◌, ◌^◌, ◌<◌, ◌≤◌, false, List, [], ◌∷◌, ◌++◌, length, get_or, map, refl, ◌∙◌, ap, arith, ◌-◌, true}
 use Rattle.std.proofs.{lemmas.Bool.cases_eq, lemmas.List.map-append}
 use Rattle.std.specs.List.{All}
 use Rattle.trend_num.specs.{declared.point.Point.Point, declared.tag_def.TagDef.TagDef, Ranges.InRange}
 use Rattle.trend_model.specs.{History.Raw, State.State, State.replay}
-use Rattle.event_queue.specs.{Slots.gate_of, Slots.place_of, Slots.lane_end, Slots.batch_bytes}
-use Rattle.event_queue.specs.{Lanes.lane_points, Places.IsFilled}
+use Rattle.event_queue.specs.{Slots.gate_of, Slots.place_of, Slots.lane_end, Slots.batch_bytes, Lanes.lane_points, Places.IsFilled}
 use Rattle.event_queue.proofs.{Batches.length-batch_bytes, Filled.absent, Filled.whole}
-use Rattle.crash_recovery.specs.{Seat, AllRecover, RecoversEither, SeatedOn, free_in, IsLaid, LaidOn}
-use Rattle.crash_recovery.specs.{restarted}
-use Rattle.device_layout.specs.Recovery.{AllFit, IsReplayed, Recovers}
+use Rattle.crash_recovery.specs.{Seat, AllRecover, RecoversEither, SeatedOn, free_in, IsLaid, LaidOn, restarted}
+use Rattle.device_layout.specs.{AllFit, IsReplayed, Recovers}
 use Rattle.crash_recovery.proofs.Replays.{replay_append, fit_append}
 use Rattle.crash_recovery.proofs.Stored.{KeepsStored, lane_replayed, replays, recovers_kept, recovers_same}
-use Rattle.crash_recovery.proofs.DeviceReads.{now_shown, shown_now, shown_both, during_from, shown_from}
-use Rattle.crash_recovery.proofs.DeviceReads.{opened_after}
-use Rattle.crash_recovery.proofs.Places.{OnlyLane, only_lane, moved, laid_moved, seated_on, settled_on}
-use Rattle.crash_recovery.proofs.Places.{laid_shown, laid_again, reaches_on}
+use Rattle.crash_recovery.proofs.DeviceReads.{now_shown, shown_now, shown_both, during_from, shown_from, opened_after}
+use Rattle.crash_recovery.proofs.Places.{OnlyLane, only_lane, moved, laid_moved, seated_on, settled_on, laid_shown, laid_again, reaches_on}
 
 -- a lane in use, of a place that is not overtaken
 pub filled_of : (p : Seat) (c : List ℕ) → IsLaid p c → p.stale ≡ false

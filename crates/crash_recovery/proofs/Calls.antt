@@ -1,15 +1,11 @@
 -- How many calls close a lane's gates, and how many make a checkpoint.
-use Rattle.std.proofs.Common.{◌≡◌, ◌≢◌, ◌==◌, inl, inr, ℕ, zero, suc, ◌+◌, ◌-◌, ◌<◌, ◌≤◌, true, false, cond}
-use Rattle.std.proofs.Common.{List, [], ◌∷◌, length, get_or, refl, ◌∙◌, ap, subst, arith, add-zero}
+use Rattle.std.proofs.Common.{◌≡◌, ◌≢◌, ◌==◌, inl, inr, ℕ, zero, suc, ◌+◌, ◌-◌, ◌<◌, ◌≤◌, true, false, cond, List, [], ◌∷◌, length, get_or, refl, ◌∙◌, ap, subst, arith, add-zero}
 use Rattle.std.proofs.lemmas.Bool.{cases_Bool, cases_eq, eq-eqb, ne_eqb, cond-true, cond-false}
-use Rattle.disk_model.specs.{Traces.Trace, Traces.seen, Traces.written, Calls.Sees, Calls.Shows}
-use Rattle.disk_model.specs.{Images.IsOutside, Moments.ComesAfter, Gates.open_byte, Gates.open_gate}
-use Rattle.disk_model.specs.{Gates.open_gates, Gates.IsClosing, Gates.IsOpen}
+use Rattle.disk_model.specs.{Traces.Trace, Traces.seen, Traces.written, Calls.Sees, Calls.Shows, Images.IsOutside, Moments.ComesAfter, Gates.open_byte, Gates.open_gate, Gates.open_gates, Gates.IsClosing, Gates.IsOpen}
 use Rattle.disk_model.proofs.{Bytes.torn_written, Moments.after_both}
-use Rattle.event_queue.specs.Slots.{gate_of}
-use Rattle.device_layout.specs.Recovery.{summary_gate, summary_place}
-use Rattle.crash_recovery.specs.{Seat, IsSeat, SeatedOn, log_end, KeepsPlaces, LaidOn, checkpoint_calls}
-use Rattle.crash_recovery.specs.{lane_calls, log_calls, record_calls, restarted, spare_slot, stale_calls}
+use Rattle.event_queue.specs.{gate_of}
+use Rattle.device_layout.specs.{summary_gate, summary_place}
+use Rattle.crash_recovery.specs.{Seat, IsSeat, SeatedOn, log_end, KeepsPlaces, LaidOn, checkpoint_calls, lane_calls, log_calls, record_calls, restarted, spare_slot, stale_calls}
 use Rattle.crash_recovery.proofs.Places.{gate_within, reaches_on, seat_shown, slot_within}
 
 -- ---- open gates

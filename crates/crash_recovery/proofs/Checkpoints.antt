@@ -1,40 +1,23 @@
 -- The summary of a core is written after its records.
-use Rattle.disk_model.specs.Calls.{Shows, Sees}
-use Rattle.disk_model.specs.{Traces.Trace, Traces.seen, Traces.written, Images.FromOld, Images.IsSettled}
-use Rattle.disk_model.specs.{Moments.During, Gates.open_byte, Gates.IsOpen, Gates.Holds, Gates.IsGuarded}
-use Rattle.std.proofs.Common.{◌≡◌, ◌≢◌, inl, inr, ⊎_elim, ℕ, ◌+◌, ◌*◌, ◌^◌, ◌<◌, ◌≤◌, Bool, false, List, []}
-use Rattle.std.proofs.Common.{◌∷◌, ◌++◌, length, get_or, take, drop, Some, refl, sym, ◌∙◌, ap, subst, arith}
-use Rattle.std.proofs.Common.{length-take, length-drop, length-append}
-use Rattle.std.proofs.{Math.Seq.take-add, lemmas.Bool.cases_eq, lemmas.Bool.cases_lt}
-use Rattle.std.proofs.{lemmas.Grind.flat_map-append, lemmas.List.drop_at, lemmas.List.drop-drop}
+use Rattle.disk_model.specs.{Shows, Sees, Traces.Trace, Traces.seen, Traces.written, Images.FromOld, Images.IsSettled, Moments.During, Gates.open_byte, Gates.IsOpen, Gates.Holds, Gates.IsGuarded}
+use Rattle.std.proofs.Common.{◌≡◌, ◌≢◌, inl, inr, ⊎_elim, ℕ, ◌+◌, ◌*◌, ◌^◌, ◌<◌, ◌≤◌, Bool, false, List, [], ◌∷◌, ◌++◌, length, get_or, take, drop, Some, refl, sym, ◌∙◌, ap, subst, arith, length-take, length-drop, length-append}
+use Rattle.std.proofs.{Math.Seq.take-add, lemmas.Bool.cases_eq, lemmas.Bool.cases_lt, lemmas.Grind.flat_map-append, lemmas.List.drop_at, lemmas.List.drop-drop}
 use Rattle.std.specs.{Prelude.nat_lt, List.All, Int.w32, Int.w64, Int.from_be_bytes}
 use borrow.Author.Tests.{ltb-false}
-use Rattle.trend_num.specs.{declared.archive.Rec.Rec, declared.tuning.Tuning.Tuning, Ranges.TuningInRange}
-use Rattle.trend_num.specs.{declared.archive.Summary.Summary, declared.tag_def.TagDef.TagDef, Ranges.InRange}
+use Rattle.trend_num.specs.{declared.archive.Rec.Rec, declared.tuning.Tuning.Tuning, Ranges.TuningInRange, declared.archive.Summary.Summary, declared.tag_def.TagDef.TagDef, Ranges.InRange}
 use Rattle.trend_model.specs.{Lists.Each, Parts.ArePartsOk, State.State}
-use Rattle.archive_file.specs.Records.{rec_image, recs_image}
-use Rattle.archive_file.specs.{Places.AreInRange, Summaries.summary_image, Summaries.IsSummary}
-use Rattle.event_queue.specs.{Slots.gate_of, Slots.lane_end, Slots.batch_at, Lanes.IsStale, Lanes.lane_points}
-use Rattle.event_queue.specs.{Lanes.IsCounted, Places.HasRoom, Places.IsOvertaken}
+use Rattle.archive_file.specs.{rec_image, recs_image, Places.AreInRange, Summaries.summary_image, Summaries.IsSummary}
+use Rattle.event_queue.specs.{Slots.gate_of, Slots.lane_end, Slots.batch_at, Lanes.IsStale, Lanes.lane_points, Lanes.IsCounted, Places.HasRoom, Places.IsOvertaken}
 use Rattle.event_queue.proofs.{Overtaken.overtaken_none, SameLanes.same_batch}
-use Rattle.crash_recovery.specs.{Seat, AllRecover, GoesOnFrom, RecoversEither, IsInUse, log_end, IsLaid}
-use Rattle.crash_recovery.specs.{IsOverrun, spare_slot, LaidOn, OverrunOn, IsReady, ReadyOn}
-use Rattle.device_layout.specs.declared.slot.Slot.{Slot}
-use Rattle.device_layout.specs.Headers.{tuning_in, slots_in, IsHeader}
-use Rattle.device_layout.specs.Recovery.{header_of, log_place, summary_place, summary_gate, slot_bytes}
-use Rattle.device_layout.specs.Recovery.{taken_in, records_in, counting, recovered_tuning, start_of, IsOfTag}
-use Rattle.device_layout.specs.Recovery.{IsStored, values_beyond, IsReplayed, Recovers}
-use Rattle.crash_recovery.proofs.DeviceReads.{now_shown, shown_now, shown_so, shown_both, during_from}
-use Rattle.crash_recovery.proofs.DeviceReads.{shown_from, opened_after}
-use Rattle.crash_recovery.proofs.Places.{OnlySpare, apart_lane, slot_within, gate_within, others_kept}
-use Rattle.crash_recovery.proofs.Places.{front_kept, first_kept, log_kept, only_spare, settled_on, laid_shown}
-use Rattle.crash_recovery.proofs.Places.{laid_again, reaches_on}
+use Rattle.crash_recovery.specs.{Seat, AllRecover, GoesOnFrom, RecoversEither, IsInUse, log_end, IsLaid, IsOverrun, spare_slot, LaidOn, OverrunOn, IsReady, ReadyOn}
+use Rattle.device_layout.specs.{Slot, tuning_in, slots_in, IsHeader, header_of, log_place, summary_place, summary_gate, slot_bytes, taken_in, records_in, counting, recovered_tuning, start_of, IsOfTag, IsStored, values_beyond, IsReplayed}
+use Rattle.device_layout.specs.{Recovers}
+use Rattle.crash_recovery.proofs.DeviceReads.{now_shown, shown_now, shown_so, shown_both, during_from, shown_from, opened_after}
+use Rattle.crash_recovery.proofs.Places.{OnlySpare, apart_lane, slot_within, gate_within, others_kept, front_kept, first_kept, log_kept, only_spare, settled_on, laid_shown, laid_again, reaches_on}
 use Rattle.crash_recovery.proofs.Recovered.{filled_ends, recovered_at, goes_beyond, goes_on_records}
-use Rattle.crash_recovery.proofs.{Pieces.same_piece, Counting.counting_new, Restarts.in_use_fresh}
-use Rattle.crash_recovery.proofs.{Appends.filled_of, Logged.same_slots, Logged.lane_kept, Logged.room_kept}
+use Rattle.crash_recovery.proofs.{Pieces.same_piece, Counting.counting_new, Restarts.in_use_fresh, Appends.filled_of, Logged.same_slots, Logged.lane_kept, Logged.room_kept}
 use Rattle.crash_recovery.proofs.Stored.{records_known, not_new, recovers_same}
-use Rattle.device_layout.proofs.SlotNumbers.{length-summary_image, taken_spelled, records_spelled}
-use Rattle.device_layout.proofs.SlotNumbers.{summary_of_parts}
+use Rattle.device_layout.proofs.SlotNumbers.{length-summary_image, taken_spelled, records_spelled, summary_of_parts}
 
 -- records have 17 bytes each
 length-recs_image : (rs : List Rec) → length (recs_image rs) ≡ 17 * length rs

@@ -1,24 +1,15 @@
 -- What was read of a device is what it recovers, and where its lane is broken.
-use Rattle.std.proofs.Common.{◌≡◌, inl, inr, ℕ, ◌+◌, ◌*◌, ◌<◌, ◌≤◌, Bool, false, List, [], ◌∷◌, length, take}
-use Rattle.std.proofs.Common.{drop, map, Option, Some, refl, sym, ◌∙◌, ap, ap₂, subst, arith, length-append}
-use Rattle.std.proofs.Common.{length-take, length-drop}
+use Rattle.std.proofs.Common.{◌≡◌, inl, inr, ℕ, ◌+◌, ◌*◌, ◌<◌, ◌≤◌, Bool, false, List, [], ◌∷◌, length, take, drop, map, Option, Some, refl, sym, ◌∙◌, ap, ap₂, subst, arith, length-append, length-take, length-drop}
 use Rattle.std.proofs.lemmas.Bool.{cases_Bool}
-use Rattle.trend_num.specs.{Limits.most_records, declared.archive.Rec.Rec, declared.archive.Summary.Summary}
-use Rattle.trend_num.specs.{declared.tag_def.TagDef.TagDef}
+use Rattle.trend_num.specs.{Limits.most_records, declared.archive.Rec.Rec, declared.archive.Summary.Summary, declared.tag_def.TagDef.TagDef}
 use Rattle.trend_model.specs.{History.Event, History.Raw, State.State, State.replay}
 use Rattle.disk_model.specs.{Traces.Trace, Traces.seen, Gates.IsOpen, Calls.Shows}
 use Rattle.archive_file.specs.{Records.recs_image, Records.rec_image, Places.HasRecords}
-use Rattle.event_queue.specs.{declared.reader.Scanned.Scanned, Slots.lane_end, Slots.gate_of, Slots.batch_at}
-use Rattle.event_queue.specs.{Lanes.IsLane, Lanes.IsStale, Lanes.lane_points, Damages.IsLaneDamage}
-use Rattle.event_queue.specs.{Places.IsFilled, Scans.IsWithin, Scans.IsRead}
+use Rattle.event_queue.specs.{declared.reader.Scanned.Scanned, Slots.lane_end, Slots.gate_of, Slots.batch_at, Lanes.IsLane, Lanes.IsStale, Lanes.lane_points, Damages.IsLaneDamage, Places.IsFilled, Scans.IsWithin, Scans.IsRead}
 use Rattle.event_queue.proofs.Found.{scanned_overtaken, scanned_filled}
-use Rattle.device_layout.specs.declared.failure.OpenNo.TheVariants.{DeviceFault, Damaged, OtherTag, Full}
-use Rattle.device_layout.specs.declared.failure.OpenNo.TheVariants.{WantOfMemory}
-use Rattle.device_layout.specs.Recovery.{header_of, start_of, HasSummary, AllFit, IsRecovered}
-use Rattle.device_layout.specs.{declared.failure.OpenNo.OpenNo, declared.layout_reader.Stored.Stored}
-use Rattle.device_layout.specs.{Headers.slots_in, Damages.IsValuePlace, Damages.StandsThere}
-use Rattle.device_layout.specs.{Damages.IsTagDamage, Damages.IsTagDamage.BadQueue}
-use Rattle.device_layout.specs.{Damages.IsTagDamage.BadValue, Readings.IsReadFrom, Readings.IsCause}
+use Rattle.device_layout.specs.declared.failure.OpenNo.TheVariants.{DeviceFault, Damaged, OtherTag, Full, WantOfMemory}
+use Rattle.device_layout.specs.{header_of, start_of, HasSummary, AllFit, IsRecovered, declared.failure.OpenNo.OpenNo, declared.layout_reader.Stored.Stored, Headers.slots_in, Damages.IsValuePlace, Damages.StandsThere, Damages.IsTagDamage}
+use Rattle.device_layout.specs.{Damages.IsTagDamage.BadQueue, Damages.IsTagDamage.BadValue, Readings.IsReadFrom, Readings.IsCause}
 use Rattle.crash_recovery.specs.{Seat, IsInUse, IsSeat, HoldsValue, IsOverfull}
 use Rattle.crash_recovery.proofs.{Stored.taken_stored, Stored.records_stored, Calls.some_open}
 

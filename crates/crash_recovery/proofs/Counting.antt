@@ -1,11 +1,10 @@
 -- Which summary counts, before and after a change of the slot that does not.
-use Rattle.std.proofs.Common.{◌≡◌, ◌≢◌, ◌⊎◌, inl, inr, ⊎_elim, ℕ, ◌<◌, Bool, true, false, List, get_or, take}
-use Rattle.std.proofs.Common.{Option, None, Some, ◌∙◌, ap, arith}
+use Rattle.std.proofs.Common.{◌≡◌, ◌≢◌, ◌⊎◌, inl, inr, ⊎_elim, ℕ, ◌<◌, Bool, true, false, List, get_or, take, Option, None, Some, ◌∙◌, ap, arith}
 use Rattle.std.proofs.lemmas.Bool.{ne_eqb, eq-eqb, le-leb, lt-leb}
 use Rattle.std.specs.{Prelude.nat_le, Prelude.nat_eq, Int.w64, Int.from_be_bytes}
-use Rattle.disk_model.specs.Gates.{open_byte, IsOpen}
+use Rattle.disk_model.specs.{open_byte, IsOpen}
 use Rattle.device_layout.specs.declared.slot.Slot.{Slot, TheVariants.First, TheVariants.Second}
-use Rattle.device_layout.specs.Recovery.{summary_gate, slot_bytes, is_open, taken_in, chosen, counting}
+use Rattle.device_layout.specs.{summary_gate, slot_bytes, is_open, taken_in, chosen, counting}
 use Rattle.crash_recovery.specs.{taken_of, spare_slot}
 
 -- none counts where both gates are closed

@@ -1,7 +1,5 @@
 -- What a read returns of a settled device, before some calls and after them.
-use Rattle.disk_model.specs.{Calls.Shows, Calls.Reaches, Calls.Sees, Traces.Trace, Traces.seen}
-use Rattle.disk_model.specs.{Traces.written, Images.Now, Images.FromOld, Images.IsSettled, Moments.During}
-use Rattle.disk_model.specs.{Gates.open_byte, Gates.IsOpen}
+use Rattle.disk_model.specs.{Calls.Shows, Calls.Reaches, Calls.Sees, Traces.Trace, Traces.seen, Traces.written, Images.Now, Images.FromOld, Images.IsSettled, Moments.During, Gates.open_byte, Gates.IsOpen}
 use Rattle.std.proofs.Common.{ℕ, List, [], ◌∷◌, sym, subst, arith}
 use Rattle.disk_model.proofs.{Bytes.length-written, Images.present, Moments.weaker, Moments.during_now}
 use Rattle.crash_recovery.proofs.Pieces.{byte_written}

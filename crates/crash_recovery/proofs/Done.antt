@@ -1,9 +1,9 @@
 -- A core whose events are all acknowledged is what is recovered.
 use Rattle.std.proofs.Common.{◌≡◌, Bool, length, sym, ◌∙◌, ap, subst, arith}
 use Rattle.std.proofs.lemmas.List.{nil_from_length}
-use Rattle.trend_num.specs.declared.tag_def.TagDef.{TagDef}
+use Rattle.trend_num.specs.{TagDef}
 use Rattle.trend_model.specs.State.{State, replay}
-use Rattle.disk_model.specs.Traces.{Trace, seen}
+use Rattle.disk_model.specs.{Trace, seen}
 use Rattle.disk_model.proofs.Images.{present}
 use Rattle.crash_recovery.specs.{Seat, AllRecover, GoesOnFrom, SeatedOn}
 use Rattle.crash_recovery.proofs.Places.{laid_on, laid_shown, overrun_on}

@@ -1,14 +1,11 @@
 -- The places of the values of a lane.
-use Rattle.std.proofs.Common.{◌≡◌, ℕ, ◌+◌, ◌-◌, ◌*◌, ◌<◌, ◌≤◌, min, List, length, take, drop, get_or, Some}
-use Rattle.std.proofs.Common.{sym, ◌∙◌, ap, subst, arith, length-append}
+use Rattle.std.proofs.Common.{◌≡◌, ℕ, ◌+◌, ◌-◌, ◌*◌, ◌<◌, ◌≤◌, min, List, length, take, drop, get_or, Some, sym, ◌∙◌, ap, subst, arith, length-append}
 use Rattle.std.specs.Int.{w16, from_be_bytes}
 use Rattle.disk_model.specs.{Traces.Trace, Traces.seen, Calls.Reads, Calls.Shows}
 use Rattle.archive_file.proofs.Logs.{part_of}
-use Rattle.event_queue.specs.Slots.{place_of, slot_at, batch_at, count_in}
-use Rattle.event_queue.specs.Lanes.{points_beyond, points_before}
-use Rattle.event_queue.proofs.{Batches.length-points_in, Steps.points_open, Steps.points_more}
-use Rattle.event_queue.proofs.{Steps.beyond_all, Filled.lane_points_used}
-use Rattle.device_layout.specs.Damages.{IsValuePlace, StandsThere}
+use Rattle.event_queue.specs.{place_of, slot_at, batch_at, count_in, points_beyond, points_before}
+use Rattle.event_queue.proofs.{Batches.length-points_in, Steps.points_open, Steps.points_more, Steps.beyond_all, Filled.lane_points_used}
+use Rattle.device_layout.specs.{IsValuePlace, StandsThere}
 use Rattle.crash_recovery.specs.{HoldsValue}
 use Rattle.device_layout.proofs.Reading.{byte_here}
 

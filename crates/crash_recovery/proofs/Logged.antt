@@ -1,28 +1,20 @@
 -- Records are written after the log, and the gate of the slot that does not count is closed.
-use Rattle.disk_model.specs.{Calls.Shows, Calls.IsNoted, Calls.Sees, Traces.Wrote, Traces.WroteInPart}
-use Rattle.disk_model.specs.{Traces.Trace, Traces.seen, Traces.written, Images.IsOutside, Images.IsTorn}
-use Rattle.disk_model.specs.{Images.Now, Images.FromOld, Images.IsSettled, Moments.During, Gates.IsShut}
-use Rattle.disk_model.specs.{Gates.HasGatesOf, Gates.AreShut, Gates.IsClosing, Gates.Holds}
-use Rattle.std.proofs.Common.{◌≡◌, ◌≢◌, inl, inr, ⊎_elim, ℕ, ◌+◌, ◌-◌, ◌<◌, ◌≤◌, min, List, length, get_or}
-use Rattle.std.proofs.Common.{take, drop, Result, sym, ◌∙◌, ap, subst, arith, length-drop}
+use Rattle.disk_model.specs.{Calls.Shows, Calls.IsNoted, Calls.Sees, Traces.Wrote, Traces.WroteInPart, Traces.Trace, Traces.seen, Traces.written, Images.IsOutside, Images.IsTorn, Images.Now, Images.FromOld, Images.IsSettled, Moments.During}
+use Rattle.disk_model.specs.{Gates.IsShut, Gates.HasGatesOf, Gates.AreShut, Gates.IsClosing, Gates.Holds}
+use Rattle.std.proofs.Common.{◌≡◌, ◌≢◌, inl, inr, ⊎_elim, ℕ, ◌+◌, ◌-◌, ◌<◌, ◌≤◌, min, List, length, get_or, take, drop, Result, sym, ◌∙◌, ap, subst, arith, length-drop}
 use Rattle.std.proofs.lemmas.List.{take_all, drop_min}
 use Rattle.trend_num.specs.{declared.archive.Rec.Rec, declared.tag_def.TagDef.TagDef}
 use Rattle.trend_model.specs.State.{State}
-use Rattle.disk_model.proofs.{Bytes.torn_self, Bytes.length-written, Bytes.holds_written, Images.present}
-use Rattle.disk_model.proofs.{Images.wrote_now, Moments.started, Moments.during_now, Moments.weaker}
-use Rattle.disk_model.proofs.{Moments.in_turn, Moments.goes_on, Closings.closing_self}
-use Rattle.archive_file.specs.Records.{recs_image}
-use Rattle.event_queue.specs.Places.{HasRoom}
+use Rattle.disk_model.proofs.{Bytes.torn_self, Bytes.length-written, Bytes.holds_written, Images.present, Images.wrote_now, Moments.started, Moments.during_now, Moments.weaker, Moments.in_turn, Moments.goes_on, Closings.closing_self}
+use Rattle.archive_file.specs.{recs_image}
+use Rattle.event_queue.specs.{HasRoom}
 use Rattle.event_queue.proofs.SameLanes.{HasSameSlots, same_bytes, same_lane, same_points, same_beyond}
-use Rattle.crash_recovery.specs.{Seat, AllRecover, IsInUse, log_end, IsLaid, spare_slot, LaidOn, IsLogged}
-use Rattle.crash_recovery.specs.{ReadyOn}
-use Rattle.device_layout.specs.declared.slot.Slot.{Slot}
-use Rattle.device_layout.specs.Recovery.{summary_place, summary_gate, slot_bytes, Recovers}
+use Rattle.crash_recovery.specs.{Seat, AllRecover, IsInUse, log_end, IsLaid, spare_slot, LaidOn, IsLogged, ReadyOn}
+use Rattle.device_layout.specs.{Slot, summary_place, summary_gate, slot_bytes, Recovers}
 use Rattle.crash_recovery.proofs.Pieces.{same_piece}
 use Rattle.crash_recovery.proofs.Stored.{KeepsStored, KeepsLane, recovers_same}
 use Rattle.crash_recovery.proofs.DeviceReads.{now_shown, shown_now, shown_both, during_from, shown_from}
-use Rattle.crash_recovery.proofs.Places.{OnlySpare, slot_within, gate_within, behind_kept, only_spare}
-use Rattle.crash_recovery.proofs.Places.{laid_moved, settled_on, laid_shown, laid_again}
+use Rattle.crash_recovery.proofs.Places.{OnlySpare, slot_within, gate_within, behind_kept, only_spare, laid_moved, settled_on, laid_shown, laid_again}
 
 -- the records that are not counted, as they are cut off
 pub new_records : (m from : ℕ) (recs : List Rec) → from ≡ min m (length recs) → take (length recs - from)

@@ -3,9 +3,8 @@ use Rattle.std.proofs.Common.{ℕ, ◌≤◌, false, List, length, None, refl, s
 use Rattle.trend_num.specs.{declared.tag_def.TagDef.TagDef, Names.IsName, Ranges.TuningInRange}
 use Rattle.disk_model.specs.{Traces.Trace, Traces.seen, Images.IsSettled}
 use Rattle.crash_recovery.specs.{Seat, IsSeat, SeatedOn}
-use Rattle.device_layout.specs.Layouts.{IsMade}
-use Rattle.device_layout.proofs.NewLayout.{made_room, made_points, made_lane, made_counting, made_header}
-use Rattle.device_layout.proofs.NewLayout.{made_slots}
+use Rattle.device_layout.specs.{IsMade}
+use Rattle.device_layout.proofs.NewLayout.{made_room, made_points, made_lane, made_counting, made_header, made_slots}
 
 -- the first lane slot of so many, before the first event
 abbrev pub first_seat : ℕ → Seat

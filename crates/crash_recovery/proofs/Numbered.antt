@@ -1,7 +1,7 @@
 -- Where each lane slot is free, the lane holds nothing that the summary does not count.
 use Rattle.std.proofs.Common.{ℕ, ◌≤◌, Option, arith}
 use Rattle.event_queue.specs.{declared.reader.Scanned.Scanned, Scans.IsWithin}
-use Rattle.device_layout.specs.declared.slot.Slot.{Slot}
+use Rattle.device_layout.specs.{Slot}
 use Rattle.crash_recovery.specs.{IsNumbered}
 
 -- so it is of a lane that was read

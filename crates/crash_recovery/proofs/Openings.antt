@@ -1,19 +1,14 @@
 -- What each image recovers while a tag's device is opened.
-use Rattle.std.proofs.Common.{◌≡◌, ◌⊎◌, inl, inr, ⊎_elim, ℕ, ◌+◌, ◌^◌, ◌<◌, ◌≤◌, Bool, true, false, List, []}
-use Rattle.std.proofs.Common.{◌∷◌, ◌≢◌, IfErr, OnErr, length, Option, Some, Result, refl, sym, ◌∙◌, ap, subst}
-use Rattle.std.proofs.Common.{arith}
+use Rattle.std.proofs.Common.{◌≡◌, ◌⊎◌, inl, inr, ⊎_elim, ℕ, ◌+◌, ◌^◌, ◌<◌, ◌≤◌, Bool, true, false, List, [], ◌∷◌, ◌≢◌, IfErr, OnErr, length, Option, Some, Result, refl, sym, ◌∙◌, ap, subst, arith}
 use Rattle.trend_num.specs.{Limits.most_records}
 use Rattle.trend_num.specs.declared.{tuning.Tuning.Tuning, tag_def.TagDef.TagDef}
-use Rattle.trend_model.specs.History.{Event, Tune, Origin}
+use Rattle.trend_model.specs.{Event, Tune, Origin}
 use Rattle.trend_model.specs.State.{Stands, State, nothing_taken, after, after_under}
 use Rattle.trend_model.proofs.StateLaw.{stands_after}
-use Rattle.disk_model.specs.{Traces.Trace, Traces.Idle, Traces.seen, Traces.noted, Calls.Shows, Gates.IsNew}
-use Rattle.disk_model.specs.{Traces.Synced, Images.MayLeave, Moments.During, Calls.CountsFault, Calls.IsNoted}
+use Rattle.disk_model.specs.{Traces.Trace, Traces.Idle, Traces.seen, Traces.noted, Calls.Shows, Gates.IsNew, Traces.Synced, Images.MayLeave, Moments.During, Calls.CountsFault, Calls.IsNoted}
 use Rattle.disk_model.proofs.Images.{synced_now, settled}
 use Rattle.disk_model.proofs.Moments.{started, goes_on, weaker, in_turn, during_now}
-use Rattle.crash_recovery.specs.{Seat, AllRecover, GoesOnFrom, RecoversEither, IsSeat, IsOpenedAs}
-use Rattle.crash_recovery.specs.{IsCountable, RecoversSame, IsTagLeftOrSame, StaysSame, RecoversThen, OpensAs}
-use Rattle.crash_recovery.specs.{HasSlots, IsReadAs, ImageStands, StandsOpened}
+use Rattle.crash_recovery.specs.{Seat, AllRecover, GoesOnFrom, RecoversEither, IsSeat, IsOpenedAs, IsCountable, RecoversSame, IsTagLeftOrSame, StaysSame, RecoversThen, OpensAs, HasSlots, IsReadAs, ImageStands, StandsOpened}
 use Rattle.device_layout.specs.{Recovery.IsRecovered, Recovery.Recovers, Readings.IsCause}
 use Rattle.device_layout.specs.declared.failure.OpenNo.{TheVariants.DeviceFault, TheVariants.Full, OpenNo}
 use Rattle.device_layout.proofs.OneState.{one_state}

@@ -2,13 +2,12 @@
 use Rattle.std.proofs.Common.{◌≡◌, ℕ, Bool, List, [], Some, length, get_or, subst, sym, arith}
 use Rattle.trend_num.specs.declared.archive.{Rec.Rec, Summary.Summary}
 use Rattle.trend_num.specs.declared.{tuning.Tuning.Tuning, tag_def.TagDef.TagDef}
-use Rattle.trend_model.specs.Parts.{ArePartsOk}
+use Rattle.trend_model.specs.{ArePartsOk}
 use Rattle.disk_model.specs.{Traces.Trace, Traces.seen, Calls.Shows, Calls.Reads}
-use Rattle.archive_file.specs.Places.{HasRecords}
-use Rattle.event_queue.specs.Slots.{lane_end}
+use Rattle.archive_file.specs.{HasRecords}
+use Rattle.event_queue.specs.{lane_end}
 use Rattle.device_layout.specs.declared.{layout_reader.Stored.Stored, slot.Slot.Slot}
-use Rattle.device_layout.specs.{Recovery.no_summary, Recovery.summary_place, Damages.IsTagDamage}
-use Rattle.device_layout.specs.Readings.{CountsSummary, IsFoundOn, IsReadFrom}
+use Rattle.device_layout.specs.{Recovery.no_summary, Recovery.summary_place, Damages.IsTagDamage, CountsSummary, IsFoundOn, IsReadFrom}
 use Rattle.device_layout.proofs.{NewLayout.no_parts, Reading.parts_broken, Reading.here_at}
 
 -- before the first checkpoint they can be those of a tag

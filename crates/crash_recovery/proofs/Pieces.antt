@@ -1,8 +1,7 @@
 -- Bytes at a place that two images share.
-use Rattle.std.proofs.Common.{◌≡◌, ℕ, ◌+◌, ◌<◌, ◌≤◌, List, [], ◌∷◌, length, get_or, take, drop, sym, ◌∙◌, ap}
-use Rattle.std.proofs.Common.{arith, length-take, length-drop, add-zero}
+use Rattle.std.proofs.Common.{◌≡◌, ℕ, ◌+◌, ◌<◌, ◌≤◌, List, [], ◌∷◌, length, get_or, take, drop, sym, ◌∙◌, ap, arith, length-take, length-drop, add-zero}
 use Rattle.std.proofs.lemmas.List.{get_or-take, get_or-drop}
-use Rattle.disk_model.specs.Traces.{written}
+use Rattle.disk_model.specs.{written}
 use Rattle.disk_model.proofs.Bytes.{holds_same, holds_written}
 
 -- bytes that agree at each of n places hold the same there

@@ -1,13 +1,10 @@
 -- The place of a journal, where only the lane has changed, or only what no summary counts.
-use Rattle.disk_model.specs.Calls.{Shows, Reaches}
-use Rattle.disk_model.specs.{Traces.Trace, Images.IsOutside, Images.IsSettled, Gates.open_byte}
-use Rattle.std.proofs.Common.{◌≡◌, ◌≢◌, ◌⊎◌, inl, inr, ℕ, ◌+◌, ◌*◌, ◌<◌, ◌≤◌, Bool, true, false, List, length}
-use Rattle.std.proofs.Common.{get_or, take, drop, Option, Some, sym, ◌∙◌, arith}
+use Rattle.disk_model.specs.{Shows, Reaches, Traces.Trace, Images.IsOutside, Images.IsSettled, Gates.open_byte}
+use Rattle.std.proofs.Common.{◌≡◌, ◌≢◌, ◌⊎◌, inl, inr, ℕ, ◌+◌, ◌*◌, ◌<◌, ◌≤◌, Bool, true, false, List, length, get_or, take, drop, Option, Some, sym, ◌∙◌, arith}
 use Rattle.event_queue.specs.{Slots.lane_end, Places.HasRoom}
-use Rattle.crash_recovery.specs.{Seat, log_end, IsInUse, IsLaid, IsSeat, SeatedOn, spare_slot, LaidOn}
-use Rattle.crash_recovery.specs.{OverrunOn}
+use Rattle.crash_recovery.specs.{Seat, log_end, IsInUse, IsLaid, IsSeat, SeatedOn, spare_slot, LaidOn, OverrunOn}
 use Rattle.device_layout.specs.declared.slot.Slot.{Slot, TheVariants.First, TheVariants.Second}
-use Rattle.device_layout.specs.Recovery.{summary_place, summary_gate, slot_bytes}
+use Rattle.device_layout.specs.{summary_place, summary_gate, slot_bytes}
 use Rattle.crash_recovery.proofs.{Pieces.same_piece, Counting.same_counting, Counting.counting_left}
 use Rattle.crash_recovery.proofs.Stored.{KeepsStored, taken_kept, records_kept}
 

@@ -1,17 +1,14 @@
 -- How many events an image recovers, and which batches end before that.
-use Rattle.std.proofs.Common.{◌≡◌, inl, inr, ⊎_elim, ℕ, zero, suc, ◌+◌, ◌-◌, ◌<◌, ◌≤◌, Bool, true, List, ◌++◌}
-use Rattle.std.proofs.Common.{length, map, Some, refl, sym, ◌∙◌, ap, subst, arith, add-zero, append_assoc}
-use Rattle.std.proofs.Common.{length-append}
+use Rattle.std.proofs.Common.{◌≡◌, inl, inr, ⊎_elim, ℕ, zero, suc, ◌+◌, ◌-◌, ◌<◌, ◌≤◌, Bool, true, List, ◌++◌, length, map, Some, refl, sym, ◌∙◌, ap, subst, arith, add-zero, append_assoc, length-append}
 use Rattle.std.proofs.lemmas.{Bool.cases_Bool, List.length-map}
 use Rattle.trend_num.specs.declared.archive.{Rec.Rec, Summary.Summary}
 use Rattle.trend_num.specs.declared.{point.Point.Point, tuning.Tuning.Tuning, tag_def.TagDef.TagDef}
 use Rattle.trend_model.specs.{History.Event, History.Raw, State.State, State.replay}
-use Rattle.event_queue.specs.Lanes.{slot_points_of, points_before, lane_points, IsNextBehind, IsSound, IsLane}
-use Rattle.event_queue.specs.{Slots.batch_at, Places.IsFilled}
+use Rattle.event_queue.specs.{slot_points_of, points_before, lane_points, IsNextBehind, IsSound, IsLane, Slots.batch_at, Places.IsFilled}
 use Rattle.event_queue.proofs.{Batches.length-points_in, Overtaken.overtaken_none}
 use Rattle.event_queue.proofs.Steps.{beyond_all, points_open, points_more}
 use Rattle.crash_recovery.specs.{Seat, GoesOnFrom, IsLaid, IsOverrun}
-use Rattle.device_layout.specs.Recovery.{start_of, IsReplayed, Recovers}
+use Rattle.device_layout.specs.{start_of, IsReplayed, Recovers}
 use Rattle.crash_recovery.proofs.Replays.{IsCounted, replay_counted, replay_more}
 use Rattle.crash_recovery.proofs.Stored.{taken_known, not_new, lane_replayed}
 

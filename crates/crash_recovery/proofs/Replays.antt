@@ -1,12 +1,11 @@
 -- What replaying events does to a state: it counts them, and its records grow.
-use Rattle.std.proofs.Common.{◌≡◌, ℕ, ◌+◌, Bool, List, [], ◌∷◌, ◌++◌, length, Some, refl, sym, ◌∙◌, ap, arith}
-use Rattle.std.proofs.Common.{append_assoc}
+use Rattle.std.proofs.Common.{◌≡◌, ℕ, ◌+◌, Bool, List, [], ◌∷◌, ◌++◌, length, Some, refl, sym, ◌∙◌, ap, arith, append_assoc}
 use Rattle.std.proofs.lemmas.List.{append-nil}
 use Rattle.trend_num.specs.{declared.archive.Rec.Rec, declared.tuning.Tuning.Tuning}
-use Rattle.trend_model.specs.History.{Event}
+use Rattle.trend_model.specs.{Event}
 use Rattle.trend_model.specs.State.{State, archive_in, turned, archived, after, after_under, replay}
 use Rattle.trend_model.proofs.RulesLaw.{after_more}
-use Rattle.device_layout.specs.Recovery.{AllFit}
+use Rattle.device_layout.specs.{AllFit}
 
 -- a state after so many events more, which has a tuning
 pub record IsCounted (n : ℕ) (s r : State) : Type 0 where

@@ -1,13 +1,12 @@
 -- The gates of an overtaken lane are closed.
-use Rattle.disk_model.specs.{Calls.Shows, Traces.Trace, Traces.seen, Images.Now, Images.FromOld}
-use Rattle.disk_model.specs.{Images.IsSettled, Moments.During, Gates.HasGatesOf, Gates.IsClosing}
+use Rattle.disk_model.specs.{Calls.Shows, Traces.Trace, Traces.seen, Images.Now, Images.FromOld, Images.IsSettled, Moments.During, Gates.HasGatesOf, Gates.IsClosing}
 use Rattle.std.proofs.Common.{◌≡◌, ℕ, ◌≤◌, true, false, List, length, ap, arith}
-use Rattle.trend_num.specs.declared.tag_def.TagDef.{TagDef}
+use Rattle.trend_num.specs.{TagDef}
 use Rattle.trend_model.specs.State.{State}
 use Rattle.event_queue.specs.{Slots.gate_of, Lanes.IsLane, Places.HasRoom, Places.IsOvertaken}
 use Rattle.event_queue.proofs.{Overtaken.overtaken_none, Overtaken.overtaken_closing, Filled.lane_points_used}
 use Rattle.crash_recovery.specs.{Seat, AllRecover, IsInUse, IsLaid, IsOverrun, LaidOn, OverrunOn, restarted}
-use Rattle.device_layout.specs.Recovery.{Recovers}
+use Rattle.device_layout.specs.{Recovers}
 use Rattle.crash_recovery.proofs.Stored.{KeepsLane, recovers_same}
 use Rattle.crash_recovery.proofs.DeviceReads.{now_shown, shown_now, shown_both, during_from, shown_from}
 use Rattle.crash_recovery.proofs.Places.{OnlyLane, only_lane, laid_moved, settled_on, laid_shown, laid_again}

@@ -1,17 +1,13 @@
 -- The records and the summary that are stored, if only bytes besides them change.
-use Rattle.std.proofs.Common.{◌≡◌, inl, inr, ℕ, ◌*◌, ◌≤◌, Bool, List, length, get_or, take, drop, map, Option}
-use Rattle.std.proofs.Common.{None, Some, sym, ◌∙◌, ap, subst, arith}
+use Rattle.std.proofs.Common.{◌≡◌, inl, inr, ℕ, ◌*◌, ◌≤◌, Bool, List, length, get_or, take, drop, map, Option, None, Some, sym, ◌∙◌, ap, subst, arith}
 use Rattle.std.specs.Int.{w32, from_be_bytes}
 use Rattle.trend_num.specs.declared.{archive.Rec.Rec, archive.Summary.Summary, tag_def.TagDef.TagDef}
 use Rattle.trend_model.specs.{History.Raw, Parts.ArePartsOk, State.State, State.replay}
-use Rattle.archive_file.specs.Places.{AreRecords}
+use Rattle.archive_file.specs.{AreRecords}
 use Rattle.event_queue.specs.{Slots.lane_end, Lanes.lane_points, Lanes.IsLane}
 use Rattle.crash_recovery.specs.{Seat, taken_of, journal_records_of, IsLaid}
-use Rattle.device_layout.specs.Recovery.{header_of, log_place, slot_bytes, counting, HasSummary}
-use Rattle.device_layout.specs.Recovery.{recovered_tuning, state_of, start_of, AllFit, IsOfTag, IsStored}
-use Rattle.device_layout.specs.Recovery.{IsReplayed, Recovers}
-use Rattle.device_layout.specs.{declared.slot.Slot.Slot, Headers.tuning_in, Headers.slots_in}
-use Rattle.disk_model.specs.Gates.{IsNew}
+use Rattle.device_layout.specs.{header_of, log_place, slot_bytes, counting, HasSummary, recovered_tuning, state_of, start_of, AllFit, IsOfTag, IsStored, IsReplayed, Recovers, declared.slot.Slot.Slot, Headers.tuning_in, Headers.slots_in}
+use Rattle.disk_model.specs.{IsNew}
 use Rattle.device_layout.proofs.SlotNumbers.{taken_spelled, records_spelled}
 
 -- all bytes on which what is stored depends are as they were

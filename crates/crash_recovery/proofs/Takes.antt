@@ -1,11 +1,10 @@
 -- Values that are taken one after the other.
-use Rattle.std.proofs.Common.{◌≡◌, ℕ, ◌+◌, ◌*◌, ◌<◌, ◌≤◌, Bool, List, [], ◌∷◌, ◌++◌, length, take, map}
-use Rattle.std.proofs.Common.{get_or, refl, sym, ◌∙◌, ap, subst, arith, true, false}
+use Rattle.std.proofs.Common.{◌≡◌, ℕ, ◌+◌, ◌*◌, ◌<◌, ◌≤◌, Bool, List, [], ◌∷◌, ◌++◌, length, take, map, get_or, refl, sym, ◌∙◌, ap, subst, arith, true, false}
 use Rattle.std.proofs.{lemmas.List.take_more, lemmas.List.map-append}
 use Rattle.trend_num.specs.{Limits.most_records, declared.point.Point.Point}
 use Rattle.trend_model.specs.{History.Event, History.Raw, State.State, State.after, State.replay}
 use Rattle.tag_core.specs.Core.{Core}
-use Rattle.device_layout.specs.Recovery.{AllFit}
+use Rattle.device_layout.specs.{AllFit}
 
 -- one event more
 pub replay_more : (step : Bool) (s : State) (es : List Event) (e : Event)

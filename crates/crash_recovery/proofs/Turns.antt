@@ -1,10 +1,10 @@
 -- What each image recovers, from call to call.
 use Rattle.std.proofs.Common.{Result, OnOk, arith}
-use Rattle.trend_num.specs.declared.tag_def.TagDef.{TagDef}
+use Rattle.trend_num.specs.{TagDef}
 use Rattle.trend_model.specs.State.{State}
 use Rattle.disk_model.specs.{Traces.Trace, Moments.During}
 use Rattle.disk_model.proofs.Moments.{weaker, in_turn, during_now, started}
-use Rattle.device_layout.specs.Recovery.{Recovers}
+use Rattle.device_layout.specs.{Recovers}
 use Rattle.crash_recovery.specs.{AllRecover, RecoversEither}
 
 -- one of two states is either

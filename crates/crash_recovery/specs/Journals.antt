@@ -1,14 +1,10 @@
 -- What a journal shows, and how it relates to its device.
-use Rattle.std.specs.Prelude.{◌≡◌, ◌⊎◌, ℕ, ◌+◌, ◌*◌, ◌-◌, ◌<◌, ◌≤◌, Bool, true, false, if◌then◌else◌, List}
-use Rattle.std.specs.Prelude.{length, Option, None, Some, Result, OnOk}
-use Rattle.trend_num.specs.declared.tag_def.TagDef.{TagDef}
+use Rattle.std.specs.Prelude.{◌≡◌, ◌⊎◌, ℕ, ◌+◌, ◌*◌, ◌-◌, ◌<◌, ◌≤◌, Bool, true, false, if◌then◌else◌, List, length, Option, None, Some, Result, OnOk}
+use Rattle.trend_num.specs.{TagDef}
 use Rattle.trend_model.specs.{History.Event, State.State, State.replay}
-use Rattle.disk_model.specs.{Traces.Trace, Traces.seen, Images.Now, Images.IsSettled, Moments.During}
-use Rattle.disk_model.specs.{Gates.IsOpen, Gates.open_gates}
-use Rattle.event_queue.specs.{Slots.gate_of, Slots.lane_end, Slots.batch_at, Lanes.IsStale, Lanes.lane_points}
-use Rattle.event_queue.specs.{Lanes.IsLane, Places.HasRoom}
-use Rattle.device_layout.specs.Recovery.{header_of, taken_in, records_in, counting, Recovers}
-use Rattle.device_layout.specs.{Headers.slots_in, Headers.IsHeader, declared.slot.Slot.Slot}
+use Rattle.disk_model.specs.{Traces.Trace, Traces.seen, Images.Now, Images.IsSettled, Moments.During, Gates.IsOpen, Gates.open_gates}
+use Rattle.event_queue.specs.{Slots.gate_of, Slots.lane_end, Slots.batch_at, Lanes.IsStale, Lanes.lane_points, Lanes.IsLane, Places.HasRoom}
+use Rattle.device_layout.specs.{header_of, taken_in, records_in, counting, Recovers, Headers.slots_in, Headers.IsHeader, declared.slot.Slot.Slot}
 use Rattle.crash_recovery.specs.declared.seat.Seat.{Seat}
 
 -- ---- what it shows

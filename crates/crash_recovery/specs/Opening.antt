@@ -1,17 +1,12 @@
 -- What opening a tag's device returns.
-use Rattle.std.specs.Prelude.{◌≡◌, ◌≢◌, ◌⊎◌, ℕ, ◌+◌, ◌^◌, ◌<◌, ◌≤◌, Bool, true, false, List, length, Some}
-use Rattle.std.specs.Prelude.{slice_index}
+use Rattle.std.specs.Prelude.{◌≡◌, ◌≢◌, ◌⊎◌, ℕ, ◌+◌, ◌^◌, ◌<◌, ◌≤◌, Bool, true, false, List, length, Some, slice_index}
 use Rattle.trend_num.specs.{Limits.most_records, declared.point.Point.Point, declared.tag_def.TagDef.TagDef}
 use Rattle.trend_model.specs.{History.Tune, State.State, State.after}
-use Rattle.disk_model.specs.{Traces.Trace, Traces.Synced, Traces.moment, Traces.seen, Traces.noted}
-use Rattle.disk_model.specs.{Images.MayLeave, Moments.During, Gates.open_byte, Gates.layout_calls}
-use Rattle.disk_model.specs.{Gates.IsOpen, Gates.IsNew, Calls.Shows}
+use Rattle.disk_model.specs.{Traces.Trace, Traces.Synced, Traces.moment, Traces.seen, Traces.noted, Images.MayLeave, Moments.During, Gates.open_byte, Gates.layout_calls, Gates.IsOpen, Gates.IsNew, Calls.Shows}
 use Rattle.device_layout.specs.declared.failure.OpenNo.TheVariants.{DeviceFault, Damaged, WantOfMemory}
-use Rattle.device_layout.specs.{declared.failure.OpenNo.OpenNo, Headers.slots_in, Recovery.header_of}
-use Rattle.device_layout.specs.{Recovery.counting, Recovery.Recovers, Layouts.IsMade, Damages.StandsThere}
-use Rattle.device_layout.specs.{Damages.IsValuePlace}
+use Rattle.device_layout.specs.{declared.failure.OpenNo.OpenNo, Headers.slots_in, Recovery.header_of, Recovery.counting, Recovery.Recovers, Layouts.IsMade, Damages.StandsThere, Damages.IsValuePlace}
 use Rattle.event_queue.specs.{Slots.gate_of, Slots.batch_at, Lanes.IsStale, Places.IsFilled}
-use Rattle.archive_file.specs.declared.failure.PutNo.{PutNo}
+use Rattle.archive_file.specs.{PutNo}
 use Rattle.crash_recovery.specs.{Journals.AllRecover, Journals.taken_of, Seats.checkpoint_calls}
 use Rattle.archive_file.specs.declared.failure.PutNo.TheVariants as put
 

@@ -1,16 +1,12 @@
 -- What the steps of a journal keep true of its place, and what they make of the device.
-use Rattle.std.specs.Prelude.{◌≡◌, ◌≢◌, ◌⊎◌, ◌==◌, ℕ, ◌+◌, ◌<◌, ◌≤◌, nat_lt, if◌then◌else◌, false, List}
-use Rattle.std.specs.Prelude.{length, drop, slice_index, Option, None, Some}
-use Rattle.trend_num.specs.declared.archive.Rec.{Rec}
-use Rattle.disk_model.specs.{Traces.Trace, Traces.seen, Images.IsSettled, Gates.open_byte, Gates.open_gate}
-use Rattle.disk_model.specs.{Gates.open_gates, Gates.IsShut, Gates.Holds, Moments.ComesAfter}
-use Rattle.archive_file.specs.Records.{recs_image}
+use Rattle.std.specs.Prelude.{◌≡◌, ◌≢◌, ◌⊎◌, ◌==◌, ℕ, ◌+◌, ◌<◌, ◌≤◌, nat_lt, if◌then◌else◌, false, List, length, drop, slice_index, Option, None, Some}
+use Rattle.trend_num.specs.{Rec}
+use Rattle.disk_model.specs.{Traces.Trace, Traces.seen, Images.IsSettled, Gates.open_byte, Gates.open_gate, Gates.open_gates, Gates.IsShut, Gates.Holds, Moments.ComesAfter}
+use Rattle.archive_file.specs.{recs_image}
 use Rattle.crash_recovery.specs.declared.seat.Seat.{Seat}
 use Rattle.crash_recovery.specs.Journals.{log_end, journal_records_of, IsLaid, IsOverrun}
-use Rattle.device_layout.specs.{declared.slot.Slot.Slot, declared.slot.Slot.TheVariants.First}
-use Rattle.device_layout.specs.{declared.slot.Slot.TheVariants.Second, Headers.slots_in, Recovery.header_of}
-use Rattle.device_layout.specs.{Recovery.summary_gate, Recovery.counting}
-use Rattle.event_queue.specs.Slots.{gate_of}
+use Rattle.device_layout.specs.{declared.slot.Slot.Slot, declared.slot.Slot.TheVariants.First, declared.slot.Slot.TheVariants.Second, Headers.slots_in, Recovery.header_of, Recovery.summary_gate, Recovery.counting}
+use Rattle.event_queue.specs.{gate_of}
 
 -- the slot into which the next summary goes: one that does not count
 abbrev pub spare_slot : Option Slot → Slot

@@ -1,9 +1,9 @@
 -- Which histories of a tag its device stands for.
 use Rattle.std.specs.Prelude.{◌≡◌, ◌≢◌, ◌⊎◌, ℕ, List, ◌∷◌}
-use Rattle.trend_num.specs.declared.tag_def.TagDef.{TagDef}
-use Rattle.trend_model.specs.History.{Event, Origin, Tune, in_force}
+use Rattle.trend_num.specs.{TagDef}
+use Rattle.trend_model.specs.{Event, Origin, Tune, in_force}
 use Rattle.trend_model.specs.State.{State, Stands}
-use Rattle.device_layout.specs.Recovery.{Recovers}
+use Rattle.device_layout.specs.{Recovers}
 
 -- an image stands for a history of a tag of this kind if what it recovers does
 pub record ImageStands (def : TagDef) (o : Origin) (h : List Event) (c : List ℕ) : Type 0 where

@@ -1,19 +1,13 @@
 // A checkpoint: the new records, then the summary, and then the lane begins anew.
-ghost use Rattle.std.specs.Prelude.{◌≡◌, ◌↔◌, ◌+◌, ◌*◌, ◌^◌, ◌<◌, ◌≤◌, true, false, IsTrue, length};
-ghost use Rattle.std.specs.Prelude.{drop, OnOk, OnErr, IfOk, IsOk, IsErrOf};
-ghost use Rattle.trend_num.specs.declared.tag_def.TagDef.{TagDef};
+ghost use Rattle.std.specs.Prelude.{◌≡◌, ◌↔◌, ◌+◌, ◌*◌, ◌^◌, ◌<◌, ◌≤◌, true, false, IsTrue, length, drop, OnOk, OnErr, IfOk, IsOk, IsErrOf};
+ghost use Rattle.trend_num.specs.{TagDef};
 ghost use Rattle.trend_model.specs.State.{State};
-ghost use Rattle.disk_model.specs.Traces.{seen, written, moment};
-ghost use Rattle.disk_model.specs.Images.{FromOld, IsTorn};
-ghost use Rattle.disk_model.specs.Moments.{ComesAfter, During};
-ghost use Rattle.disk_model.specs.Calls.{CountsFault, HasCause, Reaches, Sees, Shows};
-ghost use Rattle.archive_file.specs.Records.{recs_image};
-ghost use Rattle.archive_file.specs.declared.failure.PutNo.TheVariants.{DeviceFault as PutFault};
-ghost use Rattle.archive_file.specs.declared.failure.PutNo.TheVariants.{WantOfMemory as NoMemory};
-ghost use Rattle.event_queue.specs.Slots.{gate_of, lane_end};
-ghost use Rattle.device_layout.specs.Recovery.{summary_gate, Recovers};
-ghost use Rattle.crash_recovery.specs.Journals.{AllRecover, GoesOnFrom, RecoversEither, SeatedOn, IsNumbered};
-ghost use Rattle.crash_recovery.specs.Journals.{free_in, log_end};
+ghost use Rattle.disk_model.specs.{seen, written, moment, FromOld, IsTorn, ComesAfter, During, CountsFault, HasCause, Reaches, Sees, Shows};
+ghost use Rattle.archive_file.specs.{recs_image};
+ghost use Rattle.archive_file.specs.declared.failure.PutNo.TheVariants.{DeviceFault as PutFault, WantOfMemory as NoMemory};
+ghost use Rattle.event_queue.specs.{gate_of, lane_end};
+ghost use Rattle.device_layout.specs.{summary_gate, Recovers};
+ghost use Rattle.crash_recovery.specs.Journals.{AllRecover, GoesOnFrom, RecoversEither, SeatedOn, IsNumbered, free_in, log_end};
 ghost use Rattle.crash_recovery.specs.Seats.{checkpoint_calls, log_calls, record_calls, spare_slot, KeepsPlaces, LaidOn, OverrunOn, ReadyOn};
 
 use crate::seat::Seat;

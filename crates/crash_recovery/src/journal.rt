@@ -1,15 +1,12 @@
 // The journal of a tag's device: batches of values, and checkpoints.
 ghost use Rattle.std.specs.Prelude.{◌≡◌, ◌↔◌, ◌+◌, ◌^◌, ◌<◌, ◌≤◌, true, false, length, map, IsOk, OnOk, IsErrOf};
 ghost use Rattle.std.specs.List.{All};
-ghost use Rattle.trend_num.specs.Ranges.{InRange};
-ghost use Rattle.trend_num.specs.declared.tag_def.TagDef.{TagDef};
-ghost use Rattle.trend_model.specs.History.{Raw};
+ghost use Rattle.trend_num.specs.{InRange, TagDef};
+ghost use Rattle.trend_model.specs.{Raw};
 ghost use Rattle.trend_model.specs.State.{State, replay};
-ghost use Rattle.disk_model.specs.Calls.{CountsFault, Shows};
-ghost use Rattle.disk_model.specs.Moments.{ComesAfter};
+ghost use Rattle.disk_model.specs.{CountsFault, Shows, ComesAfter, moment};
 ghost use Rattle.archive_file.specs.declared.failure.PutNo.TheVariants.{DeviceFault as PutFault, WantOfMemory as NoMemory};
 ghost use Rattle.event_queue.specs.declared.failure.LaneNo.TheVariants.{LaneFull, DeviceFault as LaneFault};
-ghost use Rattle.disk_model.specs.Traces.{moment};
 
 use crate::seat::Seat;
 use archive_file::PutNo;
@@ -45,10 +42,9 @@ impl<D: Disk> Model for Journal<D> {
 }
 
 impl<D: Disk> Journal<D> {
-    ghost use Rattle.crash_recovery.specs.Journals.{AllRecover, GoesOnFrom, LeavesEither, IsCommitted, IsCheckpointed};
-    ghost use Rattle.crash_recovery.specs.Journals.{StaysAs, SeatedOn, IsNumbered, free_in};
+    ghost use Rattle.crash_recovery.specs.Journals.{AllRecover, GoesOnFrom, LeavesEither, IsCommitted, IsCheckpointed, StaysAs, SeatedOn, IsNumbered, free_in};
     ghost use Rattle.crash_recovery.specs.Seats.{checkpoint_calls};
-    ghost use Rattle.device_layout.specs.Recovery.{AllFit};
+    ghost use Rattle.device_layout.specs.{AllFit};
 
     // Returns the journal of a device that was opened.
     pub(crate) fn new(dev: D, seat: Seat) -> Journal<D>

@@ -1,9 +1,9 @@
 // What opening makes of a device, and which history that stands for.
 ghost use Rattle.std.specs.Prelude.{◌⊎◌, ℕ, List, ◌∷◌};
-ghost use Rattle.trend_num.specs.declared.tag_def.TagDef.{TagDef};
-ghost use Rattle.trend_model.specs.History.{Event, Origin, Tune};
+ghost use Rattle.trend_num.specs.{TagDef};
+ghost use Rattle.trend_model.specs.{Event, Origin, Tune};
 ghost use Rattle.trend_model.specs.State.{State};
-ghost use Rattle.device_layout.specs.Recovery.{Recovers};
+ghost use Rattle.device_layout.specs.{Recovers};
 ghost use Rattle.crash_recovery.specs.Opening.{IsOpenedAs, RecoversSame};
 ghost use Rattle.crash_recovery.specs.TagImages.{ImageStands, StandsOpened};
 

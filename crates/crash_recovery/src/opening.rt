@@ -1,27 +1,13 @@
 // Opening a tag's device.
-ghost use Rattle.std.specs.Prelude.{◌≡◌, ◌≢◌, ◌⊎◌, ◌+◌, ◌-◌, ◌*◌, ◌^◌, ◌<◌, ◌≤◌, Some, Err, true, false};
-ghost use Rattle.std.specs.Prelude.{length, IfOk, IfErr, OnOk, OnErr};
-ghost use Rattle.trend_num.specs.Limits.{most_records};
-ghost use Rattle.trend_num.specs.declared.tag_def.TagDef.{TagDef};
-ghost use Rattle.trend_num.specs.Ranges.{TuningInRange};
+ghost use Rattle.std.specs.Prelude.{◌≡◌, ◌≢◌, ◌⊎◌, ◌+◌, ◌-◌, ◌*◌, ◌^◌, ◌<◌, ◌≤◌, Some, Err, true, false, length, IfOk, IfErr, OnOk, OnErr};
+ghost use Rattle.trend_num.specs.{most_records, TagDef, TuningInRange};
 ghost use Rattle.trend_model.specs.State.{State, nothing_taken};
-ghost use Rattle.disk_model.specs.Traces.{Synced, noted, moment};
-ghost use Rattle.disk_model.specs.Images.{IsSettled};
-ghost use Rattle.disk_model.specs.Moments.{During};
-ghost use Rattle.disk_model.specs.Calls.{CountsFault};
-ghost use Rattle.disk_model.specs.Gates.{IsBegun, layout_calls};
+ghost use Rattle.disk_model.specs.{Synced, noted, moment, IsSettled, During, CountsFault, IsBegun, layout_calls, IsNew, Shows};
 ghost use Rattle.device_layout.specs.declared.failure.OpenNo.TheVariants.{DeviceFault, WantOfMemory, Full as TooFull};
-ghost use Rattle.disk_model.specs.Gates.{IsNew};
-ghost use Rattle.device_layout.specs.Recovery.{IsRecovered, Recovers};
+ghost use Rattle.device_layout.specs.{IsRecovered, Recovers, IsMade, IsCause, CountsRefusal};
 ghost use Rattle.crash_recovery.specs.Journals.{AllRecover, GoesOnFrom, RecoversEither, IsNumbered, IsSeat, SeatedOn, free_in};
-ghost use Rattle.disk_model.specs.Calls.{Shows};
-ghost use Rattle.crash_recovery.specs.Opening.{IsOpenedAs, OpensAs, StaysSame, RecoversThen};
-ghost use Rattle.crash_recovery.specs.Opening.{HasSlots, IsTagLeftOrSame, IsReadAs, HasFreeAtFirst, LeavesFree};
-ghost use Rattle.crash_recovery.specs.Opening.{MakesLayout, GainsSync, OpensAt};
+ghost use Rattle.crash_recovery.specs.Opening.{IsOpenedAs, OpensAs, StaysSame, RecoversThen, HasSlots, IsTagLeftOrSame, IsReadAs, HasFreeAtFirst, LeavesFree, MakesLayout, GainsSync, OpensAt, refusal_of_put};
 ghost use Rattle.crash_recovery.specs.Seats.{checkpoint_calls};
-ghost use Rattle.device_layout.specs.Layouts.{IsMade};
-ghost use Rattle.device_layout.specs.Readings.{IsCause, CountsRefusal};
-ghost use Rattle.crash_recovery.specs.Opening.{refusal_of_put};
 
 use crate::parts::read_parts;
 use crate::replay::read_core;

@@ -1,12 +1,10 @@
 // The test of what a device stores: whether its records and its summary can be those of a tag.
 ghost use Rattle.std.specs.Prelude.{◌≡◌, ℕ, [], None, IfErr, IfOk, OnOk};
-ghost use Rattle.trend_num.specs.declared.tag_def.TagDef.{TagDef};
-ghost use Rattle.trend_num.specs.Ranges.{TuningInRange};
-ghost use Rattle.trend_model.specs.Parts.{ArePartsOk};
-ghost use Rattle.disk_model.specs.Calls.{CountsFault, Reaches, Shows};
+ghost use Rattle.trend_num.specs.{TagDef, TuningInRange};
+ghost use Rattle.trend_model.specs.{ArePartsOk};
+ghost use Rattle.disk_model.specs.{CountsFault, Reaches, Shows};
 ghost use Rattle.device_layout.specs.declared.failure.OpenNo.TheVariants.{DeviceFault};
-ghost use Rattle.device_layout.specs.Recovery.{no_summary};
-ghost use Rattle.device_layout.specs.Readings.{HasLayout, IsCause, IsFoundOn, IsReadFrom};
+ghost use Rattle.device_layout.specs.{no_summary, HasLayout, IsCause, IsFoundOn, IsReadFrom};
 
 use device_layout::{Header, OpenNo, Stored, damaged, read_stored};
 use disk_model::{Disk, read_part};

@@ -1,19 +1,13 @@
 // The values of a lane, taken after what its device stores.
 ghost use Rattle.std.specs.Prelude.{◌≡◌, ◌+◌, ◌*◌, ◌^◌, ◌<◌, ◌≤◌, ℕ, length, min, take, map, Err, IfOk, IfErr, OnOk, OnErr};
 ghost use Rattle.std.specs.List.{All};
-ghost use Rattle.trend_num.specs.Limits.{most_records};
-ghost use Rattle.trend_num.specs.declared.tag_def.TagDef.{TagDef};
-ghost use Rattle.trend_num.specs.Ranges.{InRange, TuningInRange};
-ghost use Rattle.trend_model.specs.History.{Raw};
-ghost use Rattle.trend_model.specs.Parts.{ArePartsOk};
+ghost use Rattle.trend_num.specs.{most_records, TagDef, InRange, TuningInRange};
+ghost use Rattle.trend_model.specs.{Raw, ArePartsOk};
 ghost use Rattle.trend_model.specs.State.{replay};
-ghost use Rattle.disk_model.specs.Calls.{CountsFault, HasCause, Reaches};
-ghost use Rattle.event_queue.specs.Slots.{place_of, slot_at, count_in};
+ghost use Rattle.disk_model.specs.{CountsFault, HasCause, Reaches, Shows};
+ghost use Rattle.event_queue.specs.{place_of, slot_at, count_in};
 ghost use Rattle.device_layout.specs.declared.failure.OpenNo.TheVariants.{DeviceFault};
-ghost use Rattle.device_layout.specs.Recovery.{AllFit, IsRecovered};
-ghost use Rattle.device_layout.specs.Damages.{IsValuePlace};
-ghost use Rattle.disk_model.specs.Calls.{Shows};
-ghost use Rattle.device_layout.specs.Readings.{IsCause, CountsRefusal, IsReadFrom};
+ghost use Rattle.device_layout.specs.{AllFit, IsRecovered, IsValuePlace, IsCause, CountsRefusal, IsReadFrom};
 ghost use Rattle.crash_recovery.specs.Opening.{HoldsValue, IsOverfull};
 ghost use Rattle.crash_recovery.specs.Journals.{IsSeat, IsNumbered};
 

@@ -1,18 +1,14 @@
 // The place of a journal on its device.
-ghost use Rattle.std.specs.Prelude.{◌≡◌, ◌≢◌, ◌↔◌, ◌+◌, ◌^◌, ◌<◌, ◌≤◌, true, false, IsTrue, length, map};
-ghost use Rattle.std.specs.Prelude.{OnOk, OnErr};
+ghost use Rattle.std.specs.Prelude.{◌≡◌, ◌≢◌, ◌↔◌, ◌+◌, ◌^◌, ◌<◌, ◌≤◌, true, false, IsTrue, length, map, OnOk, OnErr};
 ghost use Rattle.std.specs.List.{All};
-ghost use Rattle.trend_num.specs.Ranges.{InRange};
-ghost use Rattle.trend_num.specs.declared.tag_def.TagDef.{TagDef};
-ghost use Rattle.trend_model.specs.History.{Raw};
+ghost use Rattle.trend_num.specs.{InRange, TagDef};
+ghost use Rattle.trend_model.specs.{Raw};
 ghost use Rattle.trend_model.specs.State.{State, replay};
-ghost use Rattle.disk_model.specs.Moments.{ComesAfter, During};
-ghost use Rattle.disk_model.specs.Calls.{HasCause, Shows};
-ghost use Rattle.event_queue.specs.Slots.{gate_of};
-ghost use Rattle.device_layout.specs.Recovery.{AllFit, Recovers};
+ghost use Rattle.disk_model.specs.{ComesAfter, During, HasCause, Shows, moment};
+ghost use Rattle.event_queue.specs.{gate_of};
+ghost use Rattle.device_layout.specs.{AllFit, Recovers};
 ghost use Rattle.crash_recovery.specs.Journals.{AllRecover, RecoversEither, SeatedOn, IsNumbered, free_in};
 ghost use Rattle.crash_recovery.specs.Seats.{KeepsPlaces, LaidOn, OverrunOn, restarted, stale_calls};
-ghost use Rattle.disk_model.specs.Traces.{moment};
 
 use device_layout::Slot;
 use disk_model::Disk;

@@ -4,9 +4,9 @@ use Rattle.std.specs.Int.{w64, from_be_bytes}
 use Rattle.trend_num.specs.{declared.archive.Summary.Summary, declared.tuning.Tuning.Tuning, declared.tag_def.TagDef.TagDef}
 use Rattle.disk_model.specs.{Traces.Trace, Traces.seen, Calls.Reads, Calls.HasLength, Calls.Shows, Gates.open_byte, Gates.IsBegun}
 use Rattle.archive_file.specs.{Places.HasRecords, Places.IsDamage, Summaries.summary_image, Summaries.IsSummary}
-use Rattle.event_queue.specs.Slots.{lane_end}
-use Rattle.device_layout.specs.{declared.header.Header.Header, declared.layout_reader.Stored.Stored, declared.slot.Slot.Slot, IsHeaderBroken, slot_bytes, chosen, counting, recovered_tuning}
-use Rattle.device_layout.specs.{IsTagDamage, IsOther, HasHeader, HasLayout, CountsSummary, IsFoundOn}
+use Rattle.event_queue.specs.{lane_end}
+use Rattle.device_layout.specs.{declared.header.Header.Header, declared.layout_reader.Stored.Stored, declared.slot.Slot.Slot, IsHeaderBroken, slot_bytes, chosen, counting, recovered_tuning, IsTagDamage, IsOther, HasHeader, HasLayout}
+use Rattle.device_layout.specs.{CountsSummary, IsFoundOn}
 use Rattle.device_layout.proofs.Reading.{header_broken, counting_read, here_at, records_broken, is_other, counts_summary, stored_some}
 
 -- the same bytes were read before some calls that changed nothing

@@ -1,12 +1,12 @@
 -- The header of a tag, after a gate, keeps the layout, and reads as what it was made of.
-use Rattle.std.proofs.Common.{◌≡◌, ℕ, ◌+◌, ◌-◌, ◌^◌, ◌<◌, ◌≤◌, Bool, true, false, cond, ◌&&◌, eqb, leb, List, [], ◌∷◌, ◌++◌, length, get_or, take, drop, replicate, refl, sym, ◌∙◌, ap, arith}
-use Rattle.std.proofs.Common.{append_assoc, length-append, drop-drop, take_at, drop_at, get_or-drop}
-use Rattle.std.proofs.lemmas.{List.get_or_append_left, List.get_or-append_right, List.get_or-replicate, List.length-replicate, List.Elements.All-get_or, List.Sums.AllPass-from_list_all}
-use Rattle.std.proofs.lemmas.{Nat.from_be_bytes-to_be_bytes_8, Nat.from_be_bytes-to_be_bytes_4}
+use Rattle.std.proofs.Common.{◌≡◌, ℕ, ◌+◌, ◌-◌, ◌^◌, ◌<◌, ◌≤◌, Bool, true, false, cond, ◌&&◌, eqb, leb, List, [], ◌∷◌, ◌++◌, length, get_or, take, drop, replicate, refl, sym, ◌∙◌, ap, arith, append_assoc, length-append, drop-drop, take_at}
+use Rattle.std.proofs.Common.{drop_at, get_or-drop}
+use Rattle.std.proofs.lemmas.{List.get_or_append_left, List.get_or-append_right, List.get_or-replicate, List.length-replicate, List.Elements.All-get_or, List.Sums.AllPass-from_list_all, Nat.from_be_bytes-to_be_bytes_8}
+use Rattle.std.proofs.lemmas.{Nat.from_be_bytes-to_be_bytes_4}
 use Rattle.std.proofs.lemmas.Bool.{eq-eqb, eqb-true, eqb-false, le-leb, leb-true, leb-false, and_from}
 use Rattle.std.specs.Int.{w64, from_be_bytes, from_bool}
 use Rattle.trend_num.specs.{declared.tag_def.TagDef.TagDef, Names.is_name_byte, Names.IsName, Ranges.last_time, Ranges.largest_value, Ranges.TuningInRange}
-use Rattle.archive_file.specs.Fields.{number_bytes}
+use Rattle.archive_file.specs.{number_bytes}
 use Rattle.archive_file.proofs.Joins.{joined, joined_5}
 use Rattle.device_layout.specs.{HoldsFrom, letters, most_slots, header_number_at, name_in, tuning_in, slots_in, is_step_in, def_in, is_field_ok, IsHeader, tuning_image, header_image}
 

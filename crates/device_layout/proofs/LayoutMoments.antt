@@ -1,14 +1,13 @@
 -- What a crash leaves while a layout is made: a new device, or the whole layout.
-use Rattle.std.proofs.Common.{◌≡◌, inl, inr, ℕ, ◌+◌, ◌-◌, ◌*◌, ◌<◌, ◌≤◌, List, [], ◌∷◌, ◌++◌, length, get_or, take, drop, replicate, refl, sym, ◌∙◌, ap, arith, length-append, length-take, length-drop}
-use Rattle.std.proofs.Common.{take-take, take_at, get_or-take, get_or-drop}
+use Rattle.std.proofs.Common.{◌≡◌, inl, inr, ℕ, ◌+◌, ◌-◌, ◌*◌, ◌<◌, ◌≤◌, List, [], ◌∷◌, ◌++◌, length, get_or, take, drop, replicate, refl, sym, ◌∙◌, ap, arith, length-append, length-take, length-drop, take-take, take_at, get_or-take}
+use Rattle.std.proofs.Common.{get_or-drop}
 use Rattle.std.proofs.lemmas.{Bool.cases_eq, List.get_or-append_right, List.get_or-replicate, List.length-replicate}
 use Rattle.trend_num.specs.{declared.tag_def.TagDef.TagDef, Names.IsName, Ranges.TuningInRange}
 use Rattle.trend_model.specs.State.{nothing_taken}
-use Rattle.disk_model.specs.{Traces.Trace, Traces.seen, Traces.written, Images.Now, Images.FromOld, Images.IsSettled, Moments.During, Calls.Reaches, Calls.Sees, Gates.open_byte, Gates.IsShut}
-use Rattle.disk_model.specs.{Gates.IsGuarded, Gates.IsNew}
+use Rattle.disk_model.specs.{Traces.Trace, Traces.seen, Traces.written, Images.Now, Images.FromOld, Images.IsSettled, Moments.During, Calls.Reaches, Calls.Sees, Gates.open_byte, Gates.IsShut, Gates.IsGuarded, Gates.IsNew}
 use Rattle.disk_model.proofs.{Images.present, Moments.during_now, Moments.weaker, Moments.in_turn}
-use Rattle.archive_file.specs.TextHeads.{IsLeftOrNew}
-use Rattle.event_queue.specs.Slots.{lane_end}
+use Rattle.archive_file.specs.{IsLeftOrNew}
+use Rattle.event_queue.specs.{lane_end}
 use Rattle.device_layout.specs.{header_image, Recovers, IsMade}
 use Rattle.device_layout.proofs.{HeaderImages.length-header_image, NewLayout.made_recovers}
 

@@ -3,7 +3,7 @@ use Rattle.std.proofs.Common.{◌≡◌, ◌≢◌, inr, ℕ, ◌<◌, ◌≤◌
 use Rattle.trend_num.specs.{declared.tuning.Tuning.Tuning, declared.tag_def.TagDef.TagDef, Names.IsName, Ranges.TuningInRange}
 use Rattle.trend_model.specs.{History.Raw, Parts.ArePartsOk, State.nothing_taken}
 use Rattle.trend_model.proofs.HistoryLaw.{nothing_ruled}
-use Rattle.disk_model.specs.Gates.{open_byte}
+use Rattle.disk_model.specs.{open_byte}
 use Rattle.event_queue.specs.{Slots.gate_of, Lanes.lane_points, Lanes.IsLane, Places.HasRoom}
 use Rattle.event_queue.proofs.Filled.{lane_points_used}
 use Rattle.device_layout.specs.{slots_in, def_in, IsHeader, header_of, log_place, counting, no_summary, start_of, values_beyond, IsOfTag, IsStored, IsReplayed, Recovers, IsMade}

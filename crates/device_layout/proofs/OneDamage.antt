@@ -1,18 +1,15 @@
 -- A device has at most one damage: a later rule is reported only if all before it hold, and each rule has one first
 -- place.
-use Rattle.std.proofs.Common.{◌≡◌, inl, inr, ℕ, zero, suc, ◌+◌, ◌-◌, ◌*◌, ◌<◌, ◌≤◌, min, Bool, true, false, List, [], length, get_or, take, drop, map, Option, Some, refl, sym, ◌∙◌, ap, ap₂, subst}
-use Rattle.std.proofs.Common.{arith, length-take, add-zero, add-suc}
+use Rattle.std.proofs.Common.{◌≡◌, inl, inr, ℕ, zero, suc, ◌+◌, ◌-◌, ◌*◌, ◌<◌, ◌≤◌, min, Bool, true, false, List, [], length, get_or, take, drop, map, Option, Some, refl, sym, ◌∙◌, ap, ap₂, subst, arith, length-take, add-zero, add-suc}
 use Rattle.std.proofs.lemmas.{Bool.cases_order, List.get_or-take, List.take-take, List.length-take-le, List.drop-drop}
 use Rattle.trend_num.specs.{Limits.most_records, declared.archive.Rec.Rec, declared.archive.Summary.Summary, declared.tag_def.TagDef.TagDef, Ranges.InRange}
 use Rattle.trend_model.specs.{History.Raw, State.replay}
-use Rattle.disk_model.specs.Gates.{IsBegun}
+use Rattle.disk_model.specs.{IsBegun}
 use Rattle.archive_file.specs.{Fields.point_at, Places.HasRecords, Places.BreaksAt, Places.IsRecordBroken, Places.IsDamage}
-use Rattle.event_queue.specs.{Slots.place_of, Slots.slot_at, Slots.batch_at, Lanes.points_before, Lanes.lane_points, Lanes.IsLane, Damages.BreaksSlotAt as SlotBreaksAt, Damages.IsPointBroken}
-use Rattle.event_queue.specs.{Damages.IsLaneDamage}
+use Rattle.event_queue.specs.{Slots.place_of, Slots.slot_at, Slots.batch_at, Lanes.points_before, Lanes.lane_points, Lanes.IsLane, Damages.BreaksSlotAt as SlotBreaksAt, Damages.IsPointBroken, Damages.IsLaneDamage}
 use Rattle.event_queue.proofs.Batches.{length-points_in}
-use Rattle.device_layout.specs.{declared.slot.Slot.Slot, HoldsFrom, FailsFirst, is_field_ok, slots_in, IsHeader, IsSlotBroken, header_of, log_place, counting, slot_bytes, summary_place, HasSummary}
-use Rattle.device_layout.specs.{start_of, IsStored, EndsBefore, StandsThere, IsTagDamage, IsHeaderDamage, IsLayoutDamage, IsSummaryDamage, IsLogDamage, ArePartsDamaged, IsQueueDamage, IsValuePlace}
-use Rattle.device_layout.specs.{IsValueDamage}
+use Rattle.device_layout.specs.{declared.slot.Slot.Slot, HoldsFrom, FailsFirst, is_field_ok, slots_in, IsHeader, IsSlotBroken, header_of, log_place, counting, slot_bytes, summary_place, HasSummary, start_of, IsStored, EndsBefore}
+use Rattle.device_layout.specs.{StandsThere, IsTagDamage, IsHeaderDamage, IsLayoutDamage, IsSummaryDamage, IsLogDamage, ArePartsDamaged, IsQueueDamage, IsValuePlace, IsValueDamage}
 use Rattle.device_layout.specs.Damages.IsTagDamage.{EndsShort, BadHeader, BadLayout, BadSummary, BadLog, BadParts, BadQueue, BadValue}
 use Rattle.device_layout.proofs.{SlotExact.spelled_not_broken, OneState.summary_is_one, OneState.records_are_one}
 use Rattle.device_layout.proofs.Undamaged.{log_undamaged, lane_undamaged, slot_holds, point_there, fits_at, grows, value_among, before_and_at}

@@ -2,8 +2,8 @@
 use Rattle.std.proofs.Common.{◌≡◌, inl, inr, List, ℕ, Option, None, Some, sym, ◌∙◌, arith}
 use Rattle.trend_num.specs.{declared.archive.Rec.Rec, declared.archive.Summary.Summary, declared.tag_def.TagDef.TagDef}
 use Rattle.trend_model.specs.State.{State}
-use Rattle.disk_model.specs.Gates.{IsNew}
-use Rattle.archive_file.specs.Places.{HasRecords}
+use Rattle.disk_model.specs.{IsNew}
+use Rattle.archive_file.specs.{HasRecords}
 use Rattle.archive_file.proofs.Spellings.{one_list, one_summary}
 use Rattle.device_layout.specs.{declared.slot.Slot.Slot, HasSummary, IsStored, IsRecovered, Recovers}
 

@@ -3,13 +3,13 @@ use Rattle.std.proofs.Common.{◌≡◌, ℕ, ◌+◌, ◌<◌, ◌≤◌, Bool,
 use Rattle.std.proofs.lemmas.List.{take-take, get_or-take, get_or-drop}
 use Rattle.std.specs.Int.{w64, from_be_bytes}
 use Rattle.trend_num.specs.{declared.archive.Summary.Summary, declared.archive.Rec.Rec, declared.tuning.Tuning.Tuning, declared.tag_def.TagDef.TagDef}
-use Rattle.trend_model.specs.Parts.{ArePartsOk}
+use Rattle.trend_model.specs.{ArePartsOk}
 use Rattle.disk_model.specs.{Gates.open_byte, Gates.IsOpen, Traces.Trace, Calls.Shows}
 use Rattle.archive_file.specs.{Places.HasRecords, Places.IsDamage, Summaries.summary_image, Summaries.IsSummary, declared.failure.ScanNo.ScanNo}
-use Rattle.event_queue.specs.Slots.{lane_end}
-use Rattle.device_layout.specs.{declared.header.Header.Header, declared.layout_reader.Stored.Stored, declared.slot.Slot.Slot, def_in, slots_in, IsHeader, IsHeaderBroken, IsSlotBroken, header_of}
-use Rattle.device_layout.specs.{summary_place, slot_bytes, taken_in, chosen, counting, recovered_tuning, IsOfTag, IsTagDamage, IsOther, HasHeader, HasLayout, CountsSummary, IsFoundOn, IsCause}
-use Rattle.device_layout.specs.{refusal_of, Damages.IsTagDamage.BadSummary, Damages.IsTagDamage.BadLog, Damages.IsTagDamage.BadParts, declared.failure.OpenNo.OpenNo}
+use Rattle.event_queue.specs.{lane_end}
+use Rattle.device_layout.specs.{declared.header.Header.Header, declared.layout_reader.Stored.Stored, declared.slot.Slot.Slot, def_in, slots_in, IsHeader, IsHeaderBroken, IsSlotBroken, header_of, summary_place, slot_bytes, taken_in, chosen}
+use Rattle.device_layout.specs.{counting, recovered_tuning, IsOfTag, IsTagDamage, IsOther, HasHeader, HasLayout, CountsSummary, IsFoundOn, IsCause, refusal_of, Damages.IsTagDamage.BadSummary, Damages.IsTagDamage.BadLog}
+use Rattle.device_layout.specs.{Damages.IsTagDamage.BadParts, declared.failure.OpenNo.OpenNo}
 use Rattle.device_layout.specs.declared.slot.Slot.TheVariants.{First, Second}
 use Rattle.archive_file.specs.declared.failure.ScanNo.TheVariants as scan
 

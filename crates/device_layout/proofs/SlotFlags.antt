@@ -1,8 +1,8 @@
 -- The flags of a summary as bits of a number.
 use Rattle.std.proofs.Common.{◌≡◌, ℕ, ◌+◌, ◌/◌, ◌%◌, ◌≤◌, Bool, true, false, cond, not, ◌&&◌, ◌||◌, leb, eqb, is_some, refl, arith}
 use Rattle.std.proofs.lemmas.Bool.{and_parts, eqb-true, not-true, agree_below_at}
-use Rattle.trend_num.specs.declared.archive.Summary.{Summary}
-use Rattle.archive_file.specs.Summaries.{flag, flags}
+use Rattle.trend_num.specs.{Summary}
+use Rattle.archive_file.specs.{flag, flags}
 
 -- ---- which parts occur together
 

@@ -3,7 +3,7 @@ use Rattle.std.proofs.Common.{◌≡◌, ℕ, ◌+◌, ◌^◌, ◌<◌, ◌≤�
 use Rattle.std.proofs.lemmas.{Nat.be_bytes_4, Nat.be_bytes_8, Bool.eqb-true, Bool.and_parts}
 use Rattle.std.proofs.lemmas.List.{drop-drop, drop-take, take-take, take_all, get_or-take, get_or-drop, get_or_past, append_assoc}
 use Rattle.std.specs.{Int.w32, Int.w64, Int.from_be_bytes, List.list_all}
-use Rattle.archive_file.specs.Fields.{number_bytes, point_bytes, point_at}
+use Rattle.archive_file.specs.{number_bytes, point_bytes, point_at}
 use Rattle.archive_file.proofs.Points.{IsBytes, point_bytes-at}
 
 -- what is there from a place on: a piece, and what is after it

@@ -1,11 +1,9 @@
 -- A slot of which no field breaks the layout spells a summary.
-use Rattle.std.proofs.Common.{◌≡◌, ℕ, ◌+◌, ◌<◌, ◌≤◌, Bool, true, false, cond, not, ◌||◌, leb, List, [], ◌∷◌, ◌++◌, length, get_or, take, drop, Option, None, Some, is_some, IfSome, refl, sym, ap, ◌∙◌}
-use Rattle.std.proofs.Common.{arith}
+use Rattle.std.proofs.Common.{◌≡◌, ℕ, ◌+◌, ◌<◌, ◌≤◌, Bool, true, false, cond, not, ◌||◌, leb, List, [], ◌∷◌, ◌++◌, length, get_or, take, drop, Option, None, Some, is_some, IfSome, refl, sym, ap, ◌∙◌, arith}
 use Rattle.std.proofs.lemmas.{Bool.and_parts, Bool.leb-true, List.drop_more}
 use Rattle.std.specs.Int.{w32, w64, from_be_bytes}
 use Rattle.trend_num.specs.{declared.point.Point.Point, declared.archive.Summary.Summary, declared.tuning.Tuning.Tuning, Ranges.InRange, Ranges.TuningInRange, Ranges.last_time, Ranges.largest_value}
-use Rattle.archive_file.specs.Fields.{place_bytes, point_at}
-use Rattle.archive_file.specs.Summaries.{flags, places_image, tuning_bytes, summary_image, IsSummary}
+use Rattle.archive_file.specs.{place_bytes, point_at, flags, places_image, tuning_bytes, summary_image, IsSummary}
 use Rattle.archive_file.proofs.Points.{IsBytes}
 use Rattle.device_layout.specs.{HoldsFrom, has_flag, are_flags_ok, are_zeros, is_in_range, is_form_ok, short_number, IsSlotWhole}
 use Rattle.device_layout.proofs.{SlotTests.is_inside, SlotFlags.beside, SlotFlags.flags_in_is, SlotFlags.flags_are}

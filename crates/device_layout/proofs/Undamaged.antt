@@ -1,14 +1,13 @@
 -- What recovers is not damaged.
-use Rattle.std.proofs.Common.{◌≡◌, inl, inr, ℕ, zero, suc, ◌+◌, ◌-◌, ◌*◌, ◌<◌, ◌≤◌, min, Bool, true, false, List, [], ◌∷◌, length, get_or, take, drop, map, Option, refl, sym, ◌∙◌, ap, subst, arith}
-use Rattle.std.proofs.Common.{add-zero, length-take, length-drop, length-append}
+use Rattle.std.proofs.Common.{◌≡◌, inl, inr, ℕ, zero, suc, ◌+◌, ◌-◌, ◌*◌, ◌<◌, ◌≤◌, min, Bool, true, false, List, [], ◌∷◌, length, get_or, take, drop, map, Option, refl, sym, ◌∙◌, ap, subst, arith, add-zero, length-take, length-drop}
+use Rattle.std.proofs.Common.{length-append}
 use Rattle.std.proofs.lemmas.List.{append-nil, drop-drop}
 use Rattle.trend_num.specs.{Limits.most_records, declared.archive.Rec.Rec, declared.archive.Summary.Summary, declared.point.Point.Point, declared.tag_def.TagDef.TagDef, Ranges.InRange}
 use Rattle.trend_model.specs.{History.Raw, State.State, State.after, State.replay}
-use Rattle.disk_model.specs.Gates.{IsBegun}
+use Rattle.disk_model.specs.{IsBegun}
 use Rattle.archive_file.specs.{Fields.point_bytes, Fields.point_at, Records.rec_image, Records.recs_image, Places.AreInRange, Places.HasRecords, Places.BreaksAt, Places.IsDamage}
 use Rattle.archive_file.proofs.{Points.point_at-bytes, Logs.part_of, Beginnings.not_new}
-use Rattle.event_queue.specs.{Slots.slot_at, Slots.batch_at, Slots.slot_points, Damages.BreaksSlotAt as SlotBreaksAt, Damages.IsLaneDamage}
-use Rattle.event_queue.specs.Lanes.{slot_points_of, points_before, lane_points, IsSound, IsLane}
+use Rattle.event_queue.specs.{Slots.slot_at, Slots.batch_at, Slots.slot_points, Damages.BreaksSlotAt as SlotBreaksAt, Damages.IsLaneDamage, slot_points_of, points_before, lane_points, IsSound, IsLane}
 use Rattle.event_queue.proofs.{Batches.length-points_in, Steps.points_open, Steps.points_more}
 use Rattle.device_layout.specs.{slots_in, header_of, log_place, counting, HasSummary, start_of, AllFit, IsOfTag, IsStored, IsReplayed, Recovers, IsTagDamage, IsValuePlace}
 use Rattle.device_layout.specs.Damages.IsTagDamage.{EndsShort, BadHeader, BadLayout, BadSummary, BadLog, BadParts, BadQueue, BadValue}

@@ -1,24 +1,16 @@
 -- Where a tag's device first breaks the layout. There are eight kinds of damage. Each is looked for only if there is
 -- none of those before it.
-use Rattle.std.specs.Prelude.{◌≡◌, ℕ, ◌+◌, ◌*◌, ◌<◌, ◌≤◌, List, length, take, map, slice_index}
-use Rattle.std.specs.Prelude.{Option, None, Some}
-use Rattle.trend_num.specs.Limits.{most_records}
-use Rattle.trend_num.specs.declared.archive.Rec.{Rec}
-use Rattle.trend_num.specs.declared.archive.Summary.{Summary}
-use Rattle.trend_num.specs.declared.tag_def.TagDef.{TagDef}
-use Rattle.trend_model.specs.History.{Raw}
-use Rattle.trend_model.specs.Parts.{ArePartsOk}
+use Rattle.std.specs.Prelude.{◌≡◌, ℕ, ◌+◌, ◌*◌, ◌<◌, ◌≤◌, List, length, take, map, slice_index, Option, None, Some}
+use Rattle.trend_num.specs.{most_records, Rec, Summary, TagDef}
+use Rattle.trend_model.specs.{Raw, ArePartsOk}
 use Rattle.trend_model.specs.State.{replay}
-use Rattle.disk_model.specs.Gates.{IsOpen, IsBegun}
-use Rattle.archive_file.specs.Places.{HasRecords, IsDamage}
-use Rattle.event_queue.specs.Slots.{gate_of, place_of, batch_at}
-use Rattle.event_queue.specs.Lanes.{lane_points, points_before, points_beyond, IsLane}
-use Rattle.event_queue.specs.Damages.{IsLaneDamage}
+use Rattle.disk_model.specs.{IsOpen, IsBegun}
+use Rattle.archive_file.specs.{HasRecords, IsDamage}
+use Rattle.event_queue.specs.{gate_of, place_of, batch_at, lane_points, points_before, points_beyond, IsLane, IsLaneDamage}
 use Rattle.device_layout.specs.declared.slot.Slot.{Slot}
 use Rattle.device_layout.specs.Headers.{tuning_in, slots_in, IsHeaderBroken}
 use Rattle.device_layout.specs.SlotFields.{IsSlotBroken}
-use Rattle.device_layout.specs.Recovery.{header_of, log_place, summary_place, slot_bytes, counting, HasSummary}
-use Rattle.device_layout.specs.Recovery.{recovered_tuning, start_of, AllFit, IsOfTag, IsStored}
+use Rattle.device_layout.specs.Recovery.{header_of, log_place, summary_place, slot_bytes, counting, HasSummary, recovered_tuning, start_of, AllFit, IsOfTag, IsStored}
 
 -- the device ends before n bytes
 pub record EndsBefore (n : ℕ) (c : List ℕ) (a : ℕ) (byte : Option ℕ) : Type 0 where

@@ -1,15 +1,10 @@
 -- The header of a tag's device, its first 128 bytes. It begins with the layout's gate. Then come four letters, the
 -- length of the tag's name and the name, and the five numbers of the tuning with which the tag was made. Then come the
 -- number of lane slots, and whether it is a step tag. The rest is zeros.
-use Rattle.std.specs.Prelude.{◌≡◌, ℕ, ◌+◌, ◌-◌, ◌&&◌, Bool, true, List, ◌++◌, ◌∷◌, length, take}
-use Rattle.std.specs.Prelude.{drop, replicate}
-use Rattle.std.specs.Prelude.{slice_index, codes, nat_le, nat_eq, if◌then◌else◌}
+use Rattle.std.specs.Prelude.{◌≡◌, ℕ, ◌+◌, ◌-◌, ◌&&◌, Bool, true, List, ◌++◌, ◌∷◌, length, take, drop, replicate, slice_index, codes, nat_le, nat_eq, if◌then◌else◌}
 use Rattle.std.specs.Int.{w32, w64, from_be_bytes}
-use Rattle.trend_num.specs.declared.tuning.Tuning.{Tuning}
-use Rattle.trend_num.specs.declared.tag_def.TagDef.{TagDef}
-use Rattle.trend_num.specs.Names.{is_name_byte}
-use Rattle.trend_num.specs.Ranges.{last_time, largest_value}
-use Rattle.archive_file.specs.Fields.{number_bytes}
+use Rattle.trend_num.specs.{Tuning, TagDef, is_name_byte, last_time, largest_value}
+use Rattle.archive_file.specs.{number_bytes}
 use Rattle.device_layout.specs.Firsts.{HoldsFrom, FailsFirst}
 
 -- the letters after the gate

@@ -1,8 +1,8 @@
 -- A layout that was just made: the gate is open, the header is that of a tag, and all after it is zeros.
 use Rattle.std.specs.Prelude.{◌≡◌, ℕ, ◌<◌, ◌≤◌, List, length, take, drop, slice_index}
-use Rattle.trend_num.specs.declared.tag_def.TagDef.{TagDef}
-use Rattle.disk_model.specs.Gates.{IsOpen}
-use Rattle.event_queue.specs.Slots.{lane_end}
+use Rattle.trend_num.specs.{TagDef}
+use Rattle.disk_model.specs.{IsOpen}
+use Rattle.event_queue.specs.{lane_end}
 use Rattle.device_layout.specs.Headers.{header_image}
 
 -- a device of a tag with so many lane slots, before its first batch and its first checkpoint

@@ -1,28 +1,18 @@
 -- What was read of a tag's device, and why a device is not opened.
-use Rattle.std.specs.Prelude.{◌≡◌, ◌≢◌, ℕ, ◌+◌, ◌<◌, ◌≤◌, List, length}
-use Rattle.std.specs.Prelude.{Some, Err}
-use Rattle.trend_num.specs.Limits.{most_records}
-use Rattle.trend_num.specs.declared.archive.Summary.{Summary}
-use Rattle.trend_num.specs.declared.tuning.Tuning.{Tuning}
-use Rattle.trend_num.specs.declared.tag_def.TagDef.{TagDef}
+use Rattle.std.specs.Prelude.{◌≡◌, ◌≢◌, ℕ, ◌+◌, ◌<◌, ◌≤◌, List, length, Some, Err}
+use Rattle.trend_num.specs.{most_records, Summary, Tuning, TagDef}
 use Rattle.trend_model.specs.State.{State}
-use Rattle.disk_model.specs.Traces.{Trace}
-use Rattle.disk_model.specs.Calls.{CountsFault}
-use Rattle.disk_model.specs.Gates.{IsOpen}
+use Rattle.disk_model.specs.{Trace, CountsFault, IsOpen, Shows}
 use Rattle.device_layout.specs.declared.failure.OpenNo.{OpenNo}
-use Rattle.device_layout.specs.declared.failure.OpenNo.TheVariants.{DeviceFault, Damaged, OtherTag, Full}
-use Rattle.device_layout.specs.declared.failure.OpenNo.TheVariants.{WantOfMemory}
-use Rattle.archive_file.specs.declared.failure.ScanNo.{ScanNo}
+use Rattle.device_layout.specs.declared.failure.OpenNo.TheVariants.{DeviceFault, Damaged, OtherTag, Full, WantOfMemory}
+use Rattle.archive_file.specs.{ScanNo, HasRecords}
 use Rattle.archive_file.specs.declared.failure.ScanNo.TheVariants as scan
 use Rattle.device_layout.specs.Headers.{def_in, tuning_in, slots_in, IsHeader}
 use Rattle.device_layout.specs.declared.header.Header.{Header}
 use Rattle.device_layout.specs.declared.slot.Slot.{Slot}
 use Rattle.device_layout.specs.declared.layout_reader.Stored.{Stored}
-use Rattle.device_layout.specs.Recovery.{header_of, log_place, counting, HasSummary, recovered_tuning, IsOfTag}
-use Rattle.device_layout.specs.Recovery.{IsStored, Recovers}
-use Rattle.archive_file.specs.Places.{HasRecords}
+use Rattle.device_layout.specs.Recovery.{header_of, log_place, counting, HasSummary, recovered_tuning, IsOfTag, IsStored, Recovers}
 use Rattle.device_layout.specs.Damages.{IsTagDamage}
-use Rattle.disk_model.specs.Calls.{Shows}
 
 -- a whole header of another tag, or of another kind
 pub record IsOther (def : TagDef) (c : List ℕ) (found wanted : TagDef) : Type 0 where

@@ -1,22 +1,13 @@
 -- What an image of a tag's device recovers: the records of its log, the summary that counts, and what the lane holds
 -- beyond that summary. All of it is read of bytes at places, so it applies to each image that a crash may leave.
-use Rattle.std.specs.Prelude.{◌≡◌, ◌⊎◌, ℕ, ◌+◌, ◌≤◌, Bool, true, false, List, [], ◌∷◌}
-use Rattle.std.specs.Prelude.{length, take, drop, map}
-use Rattle.std.specs.Prelude.{slice_index, nat_eq, nat_le, Option, None, Some}
+use Rattle.std.specs.Prelude.{◌≡◌, ◌⊎◌, ℕ, ◌+◌, ◌≤◌, Bool, true, false, List, [], ◌∷◌, length, take, drop, map, slice_index, nat_eq, nat_le, Option, None, Some}
 use Rattle.std.specs.Int.{w32, w64, from_be_bytes}
-use Rattle.trend_num.specs.Limits.{most_records}
-use Rattle.trend_num.specs.declared.archive.Rec.{Rec}
-use Rattle.trend_num.specs.declared.archive.Summary.{Summary}
-use Rattle.trend_num.specs.declared.tuning.Tuning.{Tuning}
-use Rattle.trend_num.specs.declared.tag_def.TagDef.{TagDef}
-use Rattle.trend_model.specs.History.{Event, Raw}
-use Rattle.trend_model.specs.Parts.{ArePartsOk}
+use Rattle.trend_num.specs.{most_records, Rec, Summary, Tuning, TagDef}
+use Rattle.trend_model.specs.{Event, Raw, ArePartsOk}
 use Rattle.trend_model.specs.State.{State, nothing_taken, after, replay}
-use Rattle.disk_model.specs.Gates.{open_byte, IsOpen, IsNew}
-use Rattle.archive_file.specs.Places.{HasRecords}
-use Rattle.archive_file.specs.Summaries.{summary_image, IsSummary}
-use Rattle.event_queue.specs.Slots.{lane_end}
-use Rattle.event_queue.specs.Lanes.{lane_points, IsLane}
+use Rattle.disk_model.specs.{open_byte, IsOpen, IsNew}
+use Rattle.archive_file.specs.{HasRecords, summary_image, IsSummary}
+use Rattle.event_queue.specs.{lane_end, lane_points, IsLane}
 use Rattle.device_layout.specs.declared.slot.Slot.{Slot}
 use Rattle.device_layout.specs.declared.slot.Slot.TheVariants.{First, Second}
 use Rattle.device_layout.specs.Headers.{name_in, tuning_in, slots_in, is_step_in, IsHeader}

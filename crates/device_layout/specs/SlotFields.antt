@@ -1,12 +1,10 @@
 -- The fields of a summary slot of 128 bytes, and which of them is the first to break the layout. A slot is tested three
 -- times: the form of each field, then the points that are there, then the numbers of the tuning if it is there.
-use Rattle.std.specs.Prelude.{◌⊎◌, ℕ, ◌-◌, ◌/◌, ◌%◌, ◌&&◌, ◌||◌, not, Bool, true, List, ◌++◌, take, drop}
-use Rattle.std.specs.Prelude.{replicate, slice_index, nat_le, nat_eq, if◌then◌else◌, unsigned_abs}
+use Rattle.std.specs.Prelude.{◌⊎◌, ℕ, ◌-◌, ◌/◌, ◌%◌, ◌&&◌, ◌||◌, not, Bool, true, List, ◌++◌, take, drop, replicate, slice_index, nat_le, nat_eq, if◌then◌else◌, unsigned_abs}
 use Rattle.std.specs.List.{list_all}
 use Rattle.std.specs.Int.{w64, from_be_bytes}
-use Rattle.trend_num.specs.declared.point.Point.{Point}
-use Rattle.trend_num.specs.Ranges.{last_time, largest_value}
-use Rattle.archive_file.specs.Fields.{point_at}
+use Rattle.trend_num.specs.{Point, last_time, largest_value}
+use Rattle.archive_file.specs.{point_at}
 use Rattle.device_layout.specs.Firsts.{HoldsFrom, FailsFirst}
 
 -- a bit of the flags: held 1, pending 2, hinge 4, doors 8, tuning 16

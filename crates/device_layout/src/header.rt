@@ -1,12 +1,8 @@
 // The header of a tag's device: its first 128 bytes.
-ghost use Rattle.std.specs.Prelude.{◌≡◌, ◌+◌, ◌-◌, ◌<◌, ◌≤◌, ◌&&◌, ◌∷◌, ◌++◌, nat_le, IfOk, IfErr};
-ghost use Rattle.std.specs.Prelude.{length, replicate, slice_index};
+ghost use Rattle.std.specs.Prelude.{◌≡◌, ◌+◌, ◌-◌, ◌<◌, ◌≤◌, ◌&&◌, ◌∷◌, ◌++◌, nat_le, IfOk, IfErr, length, replicate, slice_index};
 ghost use Rattle.arrayvec.specs.ArrayVec.{array_vec_len};
-ghost use Rattle.trend_num.specs.Names.{is_name_byte, IsName};
-ghost use Rattle.trend_num.specs.Ranges.{TuningInRange};
-ghost use Rattle.device_layout.specs.Headers.{most_slots, header_number_at, name_in, tuning_in, slots_in, def_in};
-ghost use Rattle.device_layout.specs.Headers.{is_field_ok, IsHeader, IsHeaderBroken};
-ghost use Rattle.device_layout.specs.Headers.{tuning_image, header_image};
+ghost use Rattle.trend_num.specs.{is_name_byte, IsName, TuningInRange};
+ghost use Rattle.device_layout.specs.Headers.{most_slots, header_number_at, name_in, tuning_in, slots_in, def_in, is_field_ok, IsHeader, IsHeaderBroken, tuning_image, header_image};
 
 use archive_file::{put, take_number};
 use arrayvec::ArrayVec;

@@ -1,6 +1,6 @@
 // What an image of a tag's device recovers, and that it is not damaged then.
 ghost use Rattle.std.specs.Prelude.{◌≡◌, ℕ, List, Option};
-ghost use Rattle.trend_num.specs.declared.tag_def.TagDef.{TagDef};
+ghost use Rattle.trend_num.specs.{TagDef};
 ghost use Rattle.trend_model.specs.State.{State};
 ghost use Rattle.device_layout.specs.Recovery.{Recovers};
 ghost use Rattle.device_layout.specs.Damages.{IsTagDamage};

@@ -1,16 +1,10 @@
 // The layout of a new device.
 ghost use Rattle.std.specs.Prelude.{◌≡◌, ◌+◌, ◌*◌, ◌≤◌, ◌++◌, replicate, IfOk, OnOk, IsErrOf};
-ghost use Rattle.trend_num.specs.Names.{IsName};
-ghost use Rattle.trend_num.specs.Ranges.{TuningInRange};
+ghost use Rattle.trend_num.specs.{IsName, TuningInRange};
 ghost use Rattle.trend_model.specs.State.{nothing_taken};
-ghost use Rattle.disk_model.specs.Traces.{seen, moment};
-ghost use Rattle.disk_model.specs.Images.{IsSettled};
-ghost use Rattle.disk_model.specs.Moments.{During};
-ghost use Rattle.disk_model.specs.Calls.{CountsFault, Shows};
-ghost use Rattle.disk_model.specs.Gates.{layout_calls};
+ghost use Rattle.disk_model.specs.{seen, moment, IsSettled, During, CountsFault, Shows, layout_calls, IsNew};
 ghost use Rattle.archive_file.specs.declared.failure.PutNo.TheVariants.{DeviceFault, WantOfMemory};
 ghost use Rattle.device_layout.specs.Headers.{header_image};
-ghost use Rattle.disk_model.specs.Gates.{IsNew};
 ghost use Rattle.device_layout.specs.Recovery.{Recovers};
 ghost use Rattle.device_layout.specs.Layouts.{IsMade};
 

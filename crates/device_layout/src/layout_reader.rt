@@ -1,17 +1,11 @@
 // Reads a tag's device: its header, the summary that counts, and the records.
-ghost use Rattle.std.specs.Prelude.{◌≡◌, ◌+◌, ◌*◌, ◌<◌, ◌≤◌, ℕ};
-ghost use Rattle.std.specs.Prelude.{[], None, Some, Err, IfOk, IfErr, OnOk, OnErr};
-ghost use Rattle.trend_num.specs.declared.tuning.Tuning.{Tuning};
-ghost use Rattle.trend_num.specs.declared.tag_def.TagDef.{TagDef};
-ghost use Rattle.trend_num.specs.Ranges.{TuningInRange};
-ghost use Rattle.disk_model.specs.Calls.{CountsFault, HasCause, HasLength, Reaches};
-ghost use Rattle.disk_model.specs.Gates.{IsBegun};
-ghost use Rattle.archive_file.specs.Places.{HasRecords};
-ghost use Rattle.event_queue.specs.Slots.{lane_end};
-ghost use Rattle.archive_file.specs.Summaries.{summary_image, IsSummary};
+ghost use Rattle.std.specs.Prelude.{◌≡◌, ◌+◌, ◌*◌, ◌<◌, ◌≤◌, ℕ, [], None, Some, Err, IfOk, IfErr, OnOk, OnErr};
+ghost use Rattle.trend_num.specs.{Tuning, TagDef, TuningInRange};
+ghost use Rattle.disk_model.specs.{CountsFault, HasCause, HasLength, Reaches, IsBegun, Shows};
+ghost use Rattle.archive_file.specs.{HasRecords, summary_image, IsSummary};
+ghost use Rattle.event_queue.specs.{lane_end};
 ghost use Rattle.device_layout.specs.declared.failure.OpenNo.TheVariants.{DeviceFault, Damaged, OtherTag};
 ghost use Rattle.device_layout.specs.Recovery.{chosen, counting, slot_bytes, no_summary, recovered_tuning};
-ghost use Rattle.disk_model.specs.Calls.{Shows};
 ghost use Rattle.device_layout.specs.Readings.{IsCause, HasHeader, HasLayout, CountsSummary, IsFoundOn, refusal_of};
 
 use crate::OpenNo;

@@ -1,13 +1,9 @@
 // The fields of a summary slot, and the summary that they spell.
-ghost use Rattle.std.specs.Prelude.{◌≡◌, ◌+◌, ◌<◌, ◌≤◌, ◌&&◌, ◌||◌, not, nat_le, drop, IfOk, IfErr, IfSome};
-ghost use Rattle.std.specs.Prelude.{IfNone, MatchOption};
-ghost use Rattle.trend_num.specs.Ranges.{last_time, largest_value};
-ghost use Rattle.archive_file.specs.Fields.{point_at};
-ghost use Rattle.archive_file.specs.Summaries.{summary_image, IsSummary};
+ghost use Rattle.std.specs.Prelude.{◌≡◌, ◌+◌, ◌<◌, ◌≤◌, ◌&&◌, ◌||◌, not, nat_le, drop, IfOk, IfErr, IfSome, IfNone, MatchOption};
+ghost use Rattle.trend_num.specs.{last_time, largest_value};
+ghost use Rattle.archive_file.specs.{point_at, summary_image, IsSummary};
 ghost use Rattle.device_layout.specs.Firsts.{HoldsFrom, FailsFirst};
-ghost use Rattle.device_layout.specs.SlotFields.{has_flag, are_flags_ok, are_zeros, is_in_range};
-ghost use Rattle.device_layout.specs.SlotFields.{short_number, is_form_ok, is_point_ok, is_number_ok};
-ghost use Rattle.device_layout.specs.SlotFields.{IsSlotBroken, IsSlotWhole};
+ghost use Rattle.device_layout.specs.SlotFields.{has_flag, are_flags_ok, are_zeros, is_in_range, short_number, is_form_ok, is_point_ok, is_number_ok, IsSlotBroken, IsSlotWhole};
 
 use archive_file::{SUMMARY_LEN, Summary, summary_of, take_point};
 use trend_num::{MAX_DEV, MAX_T, Point, in_range};

@@ -1,8 +1,8 @@
 -- What a crash leaves while gates are closed, one after the other.
 use Rattle.std.proofs.Common.{◌≡◌, ◌≢◌, inl, inr, ℕ, ◌+◌, ◌-◌, ◌<◌, ◌≤◌, List, [], ◌∷◌, length, get_or, Result, Ok, Err, OnOk, refl, sym, ◌∙◌, ap, subst, arith, add-zero, add-one}
 use Rattle.std.proofs.lemmas.{Bool.eq-eqb, Bool.ne_eqb, Bool.cond-true, Bool.cond-false, List.get_or_past, List.get_or-take, List.get_or-drop}
-use Rattle.disk_model.specs.{Wrote, WroteInPart, Synced, Idle, Trace, seen, noted, written, IsTorn, MayLeave, Now, FromOld, ComesAfter, During, IsNoted, IsTimed, Reaches, Reads, Shows, open_byte}
-use Rattle.disk_model.specs.{open_gate, open_gates, HasGatesOf, AreShut, IsClosing}
+use Rattle.disk_model.specs.{Wrote, WroteInPart, Synced, Idle, Trace, seen, noted, written, IsTorn, MayLeave, Now, FromOld, ComesAfter, During, IsNoted, IsTimed, Reaches, Reads, Shows, open_byte, open_gate, open_gates, HasGatesOf, AreShut}
+use Rattle.disk_model.specs.{IsClosing}
 use Rattle.disk_model.proofs.{Bytes.torn_written, Images.wrote_now, Images.synced_now}
 use Rattle.disk_model.proofs.Moments.{started, during_now, goes_on, in_turn, weaker}
 

@@ -1,7 +1,6 @@
 -- What a crash leaves in each of the four steps of a guarded write.
 use Rattle.std.proofs.Common.{◌≡◌, ℕ, ◌+◌, ◌<◌, ◌≤◌, List, [], ◌∷◌, length, Result, refl, ◌∙◌, ap, subst, arith}
-use Rattle.disk_model.specs.{Wrote, WroteInPart, Synced, Idle, Trace, seen, noted, written, IsOutside, IsTorn, MayLeave, Now, FromOld, During, IsNoted, Reaches, Sees, open_byte, IsShut, Holds}
-use Rattle.disk_model.specs.{IsGuarded}
+use Rattle.disk_model.specs.{Wrote, WroteInPart, Synced, Idle, Trace, seen, noted, written, IsOutside, IsTorn, MayLeave, Now, FromOld, During, IsNoted, Reaches, Sees, open_byte, IsShut, Holds, IsGuarded}
 use Rattle.disk_model.proofs.{Bytes.length-written, Bytes.holds_written, Bytes.holds_same, Images.present, Images.wrote_now, Images.synced_now, Moments.started, Moments.during_now, Moments.goes_on}
 
 -- a closed gate guards nothing

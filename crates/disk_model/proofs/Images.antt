@@ -1,7 +1,6 @@
 -- What a crash may leave after one call more, or after some.
 use Rattle.std.proofs.Common.{◌≡◌, ◌⊎◌, inl, inr, ℕ, ◌<◌, List, [], ◌∷◌, ◌++◌, length, get_or, Result, Ok, Err, refl, sym, subst, arith}
-use Rattle.disk_model.specs.{DeviceCall, Wrote, WroteInPart, Resized, ResizedInPart, Synced, Idle, Trace, content, seen, noted, IsOutside, IsTorn, IsBetween, IsImage, MayLeave, IsSettled, FromOld}
-use Rattle.disk_model.specs.{IsUntouched, KeepsUntouched, IsNoted}
+use Rattle.disk_model.specs.{DeviceCall, Wrote, WroteInPart, Resized, ResizedInPart, Synced, Idle, Trace, content, seen, noted, IsOutside, IsTorn, IsBetween, IsImage, MayLeave, IsSettled, FromOld, IsUntouched, KeepsUntouched, IsNoted}
 use Rattle.disk_model.proofs.Bytes.{torn_written, torn_self, between_resized, between_self}
 
 -- what a read gives is an image

@@ -1,8 +1,8 @@
 -- What the log of a device in memory says after one call more.
 use Rattle.std.proofs.Common.{◌≡◌, ℕ, zero, suc, List, [], ◌∷◌, ◌++◌, length, replicate, refl}
 use Rattle.std.proofs.lemmas.List.{length-replicate}
-use Rattle.disk_model.specs.{declared.memory_disk.Pick.Pick, declared.memory_log.Note.Note, DeviceCall, Wrote, WroteInPart, Resized, ResizedInPart, Synced, Idle, content, IsTorn, IsBetween, IsImage}
-use Rattle.disk_model.specs.{picked, picked_bytes, picked_length, call_of, idles, calls_after}
+use Rattle.disk_model.specs.{declared.memory_disk.Pick.Pick, declared.memory_log.Note.Note, DeviceCall, Wrote, WroteInPart, Resized, ResizedInPart, Synced, Idle, content, IsTorn, IsBetween, IsImage, picked, picked_bytes, picked_length}
+use Rattle.disk_model.specs.{call_of, idles, calls_after}
 use Rattle.disk_model.specs.declared.memory_disk.Pick.TheVariants.{Old, New, Fill}
 use Rattle.disk_model.proofs.Bytes.{torn_written, torn_self, torn_as, between_resized, between_self}
 

@@ -5,9 +5,8 @@ use Rattle.std.specs.List.{list_all}
 use Rattle.std.specs.Ordering.{int_cmp, is_le}
 use Rattle.std.specs.declared.cmp.Ordering.{Ordering}
 use Rattle.std.proofs.lemmas.Int.{ints}
-use Rattle.trend_num.specs.declared.point.Point.{Point}
-use Rattle.trend_num.specs.Lines.{compare_slopes, is_within}
-use Rattle.trend_model.specs.Doors.{AreAfter, climb, is_not_steeper, AreDoors, is_admitted, upper_after, lower_after}
+use Rattle.trend_num.specs.{Point, compare_slopes, is_within}
+use Rattle.trend_model.specs.{AreAfter, climb, is_not_steeper, AreDoors, is_admitted, upper_after, lower_after}
 use Rattle.trend_model.proofs.Doors.{doors_decide, doors_swing}
 use Rattle.door_slopes.specs.Hung.{Hung}
 

@@ -1,7 +1,6 @@
 -- Two doors at their hinge.
 use Rattle.std.specs.Prelude.{ℕ, ◌<◌, ◌≤◌}
-use Rattle.trend_num.specs.declared.point.Point.{Point}
-use Rattle.trend_num.specs.Ranges.{InRange, largest_value}
+use Rattle.trend_num.specs.{Point, InRange, largest_value}
 
 -- a hinge, a deviation in value units, and an upper and a lower door
 pub record Hung : Type 0 where

@@ -1,10 +1,8 @@
 // The two doors at a hinge.
 ghost use Rattle.std.specs.Prelude.{◌≡◌, ◌↔◌, IsTrue, ◌+◌, ◌<◌, ◌≤◌, List, [], ◌∷◌, pos, unsigned_abs, if◌then◌else◌};
 ghost use Rattle.std.specs.List.{list_all};
-ghost use Rattle.trend_num.specs.declared.point.Point.{Point};
-ghost use Rattle.trend_model.specs.Doors.{AreAfter, AreDoors, down, is_admitted, is_not_steeper, lower_after, upper_after};
-ghost use Rattle.trend_num.specs.Lines.{is_within};
-ghost use Rattle.trend_num.specs.Ranges.{InRange, largest_value};
+ghost use Rattle.trend_num.specs.{Point, is_within, InRange, largest_value};
+ghost use Rattle.trend_model.specs.{AreAfter, AreDoors, down, is_admitted, is_not_steeper, lower_after, upper_after};
 
 use std::marker::Model;
 use std::sync::ledger::Ledger;

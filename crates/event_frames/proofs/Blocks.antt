@@ -1,10 +1,9 @@
 -- Levels after a write, and the window after the true ones.
-use Rattle.std.proofs.Common.{◌≡◌, ℕ, zero, suc, ◌+◌, ◌*◌, ◌/◌, ◌<◌, ◌≤◌, Bool, true, false, List, [], ◌∷◌, ◌++◌, length, set, get_or}
-use Rattle.std.proofs.Common.{inl, inr, refl, sym, ap, ◌∙◌, subst, arith}
+use Rattle.std.proofs.Common.{◌≡◌, ℕ, zero, suc, ◌+◌, ◌*◌, ◌/◌, ◌<◌, ◌≤◌, Bool, true, false, List, [], ◌∷◌, ◌++◌, length, set, get_or, inl, inr, refl, sym, ap, ◌∙◌, subst, arith}
 use Rattle.std.specs.Prelude.{IsTrue, ◌↔◌}
 use Rattle.std.proofs.lemmas.Bool.{cases_lt, cases_eq}
 use Rattle.std.proofs.lemmas.List.{get_or_past, get_or_default, get_or-set_same, get_or-set_other, length-set, length_push}
-use Rattle.event_frames.specs.Levels.{AreLevels, AreSet, IsBehind, IsGapFrom, IsOver, is_set}
+use Rattle.event_frames.specs.{AreLevels, AreSet, IsBehind, IsGapFrom, IsOver, is_set}
 
 -- a gap is a flag that is there
 pub gap_within : (flags : List Bool) (k : ℕ) → is_set flags k ≡ false → k < length flags

@@ -5,13 +5,9 @@ use Rattle.std.proofs.lemmas.Bool.{cases_lt, cases_order, ne_eqb}
 use Rattle.std.proofs.lemmas.List.{length-map, map-append, length-take-le, take_more}
 use Rattle.std.proofs.lemmas.List.Folds.{fold_along}
 use Rattle.std.proofs.lemmas.List.Sums.{fold_more}
-use Rattle.trend_num.specs.declared.value.CalcValue.{CalcValue}
+use Rattle.trend_num.specs.{CalcValue}
 use Rattle.event_frames.proofs.Putting.{get_or-put_at, length-put_at, put_at-behind, put_at-map}
-use Rattle.event_frames.specs.declared.frame.Frame.{Frame}
-use Rattle.event_frames.specs.declared.frame.Change.{Change}
-use Rattle.event_frames.specs.Row.{IsChangeList, is_true, is_true_in, put_at, row_with, truths_of, truths_with}
-use Rattle.event_frames.specs.Frames.{IsFrame}
-use Rattle.event_frames.specs.Near.{IsChanged, IsChangedAt, IsNear, IsNearOne, no_change, window_of}
+use Rattle.event_frames.specs.{Frame, Change, IsChangeList, is_true, is_true_in, put_at, row_with, truths_of, truths_with, IsFrame, IsChanged, IsChangedAt, IsNear, IsNearOne, no_change, window_of}
 
 -- the truths of a row with changes are the truths of the row, with these changes
 pub truths_of-row_with : (row : List CalcValue) (cs : List Change) → truths_with (truths_of row) cs ≡ truths_of (row_with row cs)

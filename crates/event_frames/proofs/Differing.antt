@@ -3,12 +3,7 @@ use Rattle.std.proofs.Common.{◌≡◌, ℕ, ◌+◌, ◌<◌, ◌≤◌, ◌�
 use Rattle.std.specs.Prelude.{AllPairs, Contains}
 use Rattle.std.proofs.lemmas.Bool.{cases_Bool, cases_lt, cases_order}
 use Rattle.std.proofs.lemmas.List.{append_assoc, append-nil, get_or_default, map-append, length_push}
-use Rattle.event_frames.specs.declared.frame.Frame.{Frame}
-use Rattle.event_frames.specs.declared.frame.Change.{Change}
-use Rattle.event_frames.specs.declared.frame.Edit.{Edit}
-use Rattle.event_frames.specs.Frames.{IsFrame, IsListOf}
-use Rattle.event_frames.specs.Edits.{AreEdits}
-use Rattle.event_frames.specs.Near.{AddsMissing, IsChangedAt, IsEarly, IsNearOne, edit_of}
+use Rattle.event_frames.specs.{Frame, Change, Edit, IsFrame, IsListOf, AreEdits, AddsMissing, IsChangedAt, IsEarly, IsNearOne, edit_of}
 use Rattle.event_frames.proofs.Listing.{IsListBelow, list_keep, list_none, list_push}
 use Rattle.event_frames.proofs.Nearing.{IsNearFrame}
 use Rattle.event_frames.proofs.Changing.{near_or_stays, near_or_stood}

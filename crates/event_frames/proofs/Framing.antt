@@ -3,10 +3,7 @@ use Rattle.std.proofs.Common.{◌≡◌, ℕ, ◌+◌, ◌-◌, ◌<◌, ◌≤�
 use Rattle.std.specs.Prelude.{◌==◌}
 use Rattle.std.proofs.lemmas.Bool.{cases_lt, cases_order}
 use Rattle.std.proofs.lemmas.List.{get_or_past, get_or_default}
-use Rattle.event_frames.specs.declared.frame.Frame.{Frame}
-use Rattle.event_frames.specs.Row.{is_true_in}
-use Rattle.event_frames.specs.Frames.{IsFrame}
-use Rattle.event_frames.specs.Levels.{IsBehind, IsStart, is_set}
+use Rattle.event_frames.specs.{Frame, is_true_in, IsFrame, IsBehind, IsStart, is_set}
 
 -- a window in which the calculation is true is there
 pub true_within : (truths : List Bool) (k : ℕ) → is_true_in truths k ≡ true → k < length truths

@@ -6,8 +6,7 @@ use Rattle.std.proofs.lemmas.Bool.{cases_order}
 use Rattle.std.proofs.lemmas.List.{append-nil, get_or_append_left, get_or_push, length_push}
 use Rattle.std.proofs.lemmas.List.Elements.{All-push}
 use Rattle.std.proofs.lemmas.List.Quantifiers.{all_pairs_push}
-use Rattle.event_frames.specs.declared.frame.Frame.{Frame}
-use Rattle.event_frames.specs.Frames.{IsListOf}
+use Rattle.event_frames.specs.{Frame, IsListOf}
 
 -- a list of frames that all begin before a window
 pub record IsListBelow (P : Frame → Type 0) (t : ℕ) (fs : List Frame) : Type 0 where

@@ -3,12 +3,7 @@ use Rattle.std.proofs.Common.{◌≡◌, ℕ, ◌+◌, ◌-◌, ◌<◌, ◌≤�
 use Rattle.std.specs.Prelude.{IfSome}
 use Rattle.std.specs.Option.{option_to_list}
 use Rattle.std.proofs.lemmas.Bool.{cases_lt, cases_order}
-use Rattle.event_frames.specs.declared.frame.Frame.{Frame}
-use Rattle.event_frames.specs.declared.frame.Change.{Change}
-use Rattle.event_frames.specs.Frames.{IsFrame, IsListOf}
-use Rattle.event_frames.specs.Near.{IsNear, IsNearOne, window_of}
-use Rattle.event_frames.specs.Row.{is_true_in}
-use Rattle.event_frames.specs.Levels.{IsBehind}
+use Rattle.event_frames.specs.{Frame, Change, IsFrame, IsListOf, IsNear, IsNearOne, window_of, is_true_in, IsBehind}
 use Rattle.event_frames.proofs.Framing.{true_within}
 use Rattle.event_frames.proofs.Listing.{IsListBelow, list_keep, list_more, list_none}
 

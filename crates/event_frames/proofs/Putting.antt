@@ -3,7 +3,7 @@ use Rattle.std.proofs.Common.{◌≡◌, ℕ, ◌+◌, ◌<◌, ◌≤◌, inl, 
 use Rattle.std.specs.Prelude.{nat_lt}
 use Rattle.std.proofs.lemmas.Bool.{cases_lt, cases_order, cond_both, cond-true, cond-false, lt-ltb, le-ltb, ltb-true, ltb-false}
 use Rattle.std.proofs.lemmas.List.{get_or_past, get_or_append_left, get_or-set_other, length-set, length-map, length_push, map-set, map-append, set_at}
-use Rattle.event_frames.specs.Row.{put_at}
+use Rattle.event_frames.specs.{put_at}
 
 -- how long a list is with something at a place of it, or after its end
 pub length-put_at : {X : Type 0} (xs : List X) (k : ℕ) (x : X) → k ≤ length xs

@@ -1,11 +1,8 @@
 -- What is listed is determined: the frames of which something is so have one list.
 use Rattle.std.proofs.Common.{◌≡◌, ℕ, zero, suc, ◌<◌, ◌⊎◌, inl, inr, Bool, List, [], ◌∷◌, ◌++◌, length, get_or, map, refl, sym, ap, ◌∙◌, subst, arith}
 use Rattle.std.specs.Prelude.{AllPairs, Contains}
-use Rattle.event_frames.specs.declared.frame.Frame.{Frame}
-use Rattle.event_frames.specs.declared.frame.Edit.{Edit}
+use Rattle.event_frames.specs.{Frame, Edit, IsFrame, IsListOf, AreEdits}
 use Rattle.event_frames.specs.declared.frame.Edit.TheVariants.{Gone, New}
-use Rattle.event_frames.specs.Frames.{IsFrame, IsListOf}
-use Rattle.event_frames.specs.Edits.{AreEdits}
 
 -- a frame that begins after the first one of a list is among the others
 tail_at : (x : Frame) (xs : List Frame) (f : Frame) → x.from < f.from → (i : ℕ) → i < length (x ∷ xs)

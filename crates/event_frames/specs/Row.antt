@@ -1,8 +1,7 @@
 -- A row by the windows in which its calculation is true, and a row with changes.
-use Rattle.std.specs.Prelude.{ℕ, pos, ◌+◌, ◌<◌, ◌≤◌, Bool, true, false, List, [], ◌∷◌, ◌++◌, length, map, max, if◌then◌else◌}
-use Rattle.std.specs.Prelude.{fold, nat_lt, slice_index_or, slice_set}
+use Rattle.std.specs.Prelude.{ℕ, pos, ◌+◌, ◌<◌, ◌≤◌, Bool, true, false, List, [], ◌∷◌, ◌++◌, length, map, max, if◌then◌else◌, fold, nat_lt, slice_index_or, slice_set}
 use Rattle.std.specs.Ordering.{int_eq}
-use Rattle.trend_num.specs.declared.value.CalcValue.{CalcValue}
+use Rattle.trend_num.specs.{CalcValue}
 use Rattle.trend_num.specs.declared.value.CalcValue.TheVariants.{Num, Bad}
 use Rattle.event_frames.specs.declared.frame.Change.{Change}
 

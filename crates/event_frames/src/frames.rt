@@ -1,7 +1,6 @@
 // The frames of a calculation.
-ghost use Rattle.std.specs.Prelude.{◌≡◌, ◌+◌, ◌*◌, ◌<◌, ◌≤◌, List, length, IfOk, OnErr, OnOk};
-ghost use Rattle.std.specs.Prelude.{vec_len};
-ghost use Rattle.trend_num.specs.declared.value.CalcValue.{CalcValue};
+ghost use Rattle.std.specs.Prelude.{◌≡◌, ◌+◌, ◌*◌, ◌<◌, ◌≤◌, List, length, IfOk, OnErr, OnOk, vec_len};
+ghost use Rattle.trend_num.specs.{CalcValue};
 ghost use Rattle.event_frames.specs.declared.frame.Change.{Change};
 ghost use Rattle.event_frames.specs.Edits.{AreEdits};
 ghost use Rattle.event_frames.specs.Frames.{AreFrames};

@@ -1,6 +1,5 @@
 // The truths of a row, below flags of whole blocks.
-ghost use Rattle.std.specs.Prelude.{◌≡◌, ℕ, ◌+◌, ◌*◌, ◌/◌, ◌^◌, ◌<◌, ◌≤◌, [], ◌↔◌, true, false, IsTrue, IfNone, IfSome, OnOk, max};
-ghost use Rattle.std.specs.Prelude.{length, slice_set, vec_len};
+ghost use Rattle.std.specs.Prelude.{◌≡◌, ℕ, ◌+◌, ◌*◌, ◌/◌, ◌^◌, ◌<◌, ◌≤◌, [], ◌↔◌, true, false, IsTrue, IfNone, IfSome, OnOk, max, length, slice_set, vec_len};
 ghost use Rattle.event_frames.specs.Row.{is_true_in, put_at};
 ghost use Rattle.event_frames.specs.Levels.{AreSet, IsBehind, IsGapBefore, IsGapFrom, IsOver, IsStart, is_set};
 

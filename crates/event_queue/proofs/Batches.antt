@@ -3,7 +3,7 @@ use Rattle.std.proofs.Common.{◌≡◌, ℕ, zero, suc, ◌+◌, ◌*◌, ◌^�
 use Rattle.std.proofs.lemmas.{Grind.common_steps, List.take_all, List.drop-drop, List.Elements.All-head, List.Elements.All-tail, Nat.from_be_bytes-to_be_bytes_2, Nat.from_be_bytes-to_be_bytes_8}
 use Rattle.std.specs.List.{All}
 use Rattle.trend_num.specs.{declared.point.Point.Point, Ranges.InRange}
-use Rattle.archive_file.specs.Fields.{number_bytes, point_bytes, point_at}
+use Rattle.archive_file.specs.{number_bytes, point_bytes, point_at}
 use Rattle.archive_file.proofs.{Joins.images_more, Points.point_at-bytes}
 use Rattle.event_queue.specs.{batch_bytes, slot_points, batch_in}
 

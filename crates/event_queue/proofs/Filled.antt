@@ -3,7 +3,7 @@ use Rattle.std.proofs.Common.{◌≡◌, ◌≢◌, ⊎_elim, ℕ, zero, suc, �
 use Rattle.std.proofs.lemmas.{Bool.cases_lt, List.append-nil, List.take-take}
 use Rattle.std.specs.List.{All}
 use Rattle.trend_num.specs.{declared.point.Point.Point, Ranges.InRange}
-use Rattle.disk_model.specs.Gates.{open_byte, IsOpen, IsGuarded}
+use Rattle.disk_model.specs.{open_byte, IsOpen, IsGuarded}
 use Rattle.event_queue.specs.{gate_of, place_of, batch_bytes, slot_at, batch_at, slot_points_of, points_before, lane_points, IsSound, IsLane, HasRoom, IsFilled}
 use Rattle.event_queue.proofs.{Batches.length-batch_bytes, Batches.batch_in-bytes, Rooms.gate_outside, Rooms.room_guarded}
 use Rattle.event_queue.proofs.Steps.{beyond_all, lane_more, points_shut, points_open, points_more}

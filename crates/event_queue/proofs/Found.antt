@@ -1,8 +1,8 @@
 -- A lane that keeps the layout is in use, or overtaken.
 use Rattle.std.proofs.Common.{◌≡◌, ◌≢◌, ◌⊎◌, inl, inr, ⊎_elim, ℕ, zero, suc, ◌+◌, ◌-◌, ◌<◌, ◌≤◌, true, false, List, length, get_or, refl, arith}
 use Rattle.std.proofs.lemmas.Bool.{cases_eq}
-use Rattle.trend_num.specs.declared.point.Point.{Point}
-use Rattle.disk_model.specs.Gates.{open_byte, IsOpen}
+use Rattle.trend_num.specs.{Point}
+use Rattle.disk_model.specs.{open_byte, IsOpen}
 use Rattle.event_queue.specs.{declared.reader.Scanned.Scanned, gate_of, lane_end, batch_at, IsStale, lane_points, IsNextBehind, IsLane, IsFilled, IsOvertaken, IsWithin, IsRead}
 use Rattle.event_queue.proofs.Rules.{next_beyond, told_stale, last_next}
 

@@ -1,6 +1,6 @@
 -- A lane that a summary has overtaken.
 use Rattle.std.proofs.Common.{◌≡◌, ℕ, zero, suc, ◌<◌, ◌≤◌, List, [], refl, sym, subst, arith}
-use Rattle.disk_model.specs.Gates.{IsOpen, IsClosing}
+use Rattle.disk_model.specs.{IsOpen, IsClosing}
 use Rattle.event_queue.specs.{gate_of, batch_at, IsStale, points_before, IsOvertaken}
 use Rattle.event_queue.proofs.{Steps.points_open, SameLanes.same_behind}
 

@@ -1,6 +1,6 @@
 -- What is in a piece that was read is on the device.
 use Rattle.std.proofs.Common.{◌≡◌, ◌≢◌, ℕ, ◌+◌, ◌*◌, ◌<◌, ◌≤◌, List, length, get_or, take, drop, Result, Ok, Err, IsErrAnd, sym, ◌∙◌, subst, arith, add-zero}
-use Rattle.disk_model.specs.Gates.{open_byte}
+use Rattle.disk_model.specs.{open_byte}
 use Rattle.archive_file.proofs.Logs.{part_of, byte_of}
 use Rattle.event_queue.specs.{gate_of, place_of, IsWithin, IsRead, IsOpenSlot, IsPiece, declared.reader.Scanned.Scanned}
 use Rattle.event_queue.proofs.Steps.{read_shut}

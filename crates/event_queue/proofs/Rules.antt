@@ -1,7 +1,7 @@
 -- The rule on first numbers, as it is defined and as it is tested.
 use Rattle.std.proofs.Common.{◌≡◌, ◌↔◌, ℕ, ◌+◌, ◌-◌, ◌<◌, Bool, true, false, List, sym, ◌∙◌, arith}
 use Rattle.std.proofs.lemmas.Bool.{cases_order, true≢false}
-use Rattle.disk_model.specs.Gates.{IsOpen}
+use Rattle.disk_model.specs.{IsOpen}
 use Rattle.event_queue.specs.{declared.reader.Scanned.Scanned, gate_of, batch_at, IsStale, IsStaleBehind, IsNextBehind, FollowsOn, IsCounted, IsLane, IsWithin, IsRead, FitsSlot}
 
 module _ (slots taken : ℕ) (bytes : List ℕ) where

@@ -1,7 +1,7 @@
 -- What a lane holds depends only on which gates are open, and on the slots that these gates guard.
 use Rattle.std.proofs.Common.{◌≡◌, ⊎_elim, ℕ, zero, suc, ◌+◌, ◌<◌, ◌≤◌, List, length, get_or, take, drop, refl, sym, ◌∙◌, ap, subst, arith, length-take, length-drop}
 use Rattle.std.proofs.lemmas.{Bool.cases_eq, List.get_or-drop, List.ext_get_or}
-use Rattle.disk_model.specs.Gates.{open_byte, IsOpen}
+use Rattle.disk_model.specs.{open_byte, IsOpen}
 use Rattle.disk_model.proofs.Bytes.{holds_same}
 use Rattle.event_queue.specs.{gate_of, place_of, lane_end, slot_at, batch_in, batch_at, IsStale, slot_points_of, points_before, FollowsOn, IsSound, IsLane}
 use Rattle.event_queue.proofs.Steps.{points_shut, points_open}

@@ -3,12 +3,12 @@ use Rattle.std.proofs.Common.{◌≡◌, ◌≢◌, ◌↔◌, ⊎_elim, ℕ, �
 use Rattle.std.proofs.lemmas.List.{append-nil}
 use Rattle.std.proofs.lemmas.Bool.{cases_lt, eq-eqb, ne_eqb, le-leb, lt-leb, cond-true, cond-false}
 use Rattle.std.specs.Int.{w64, from_be_bytes}
-use Rattle.disk_model.specs.Gates.{open_byte, IsOpen}
-use Rattle.archive_file.specs.declared.failure.ScanNo.{ScanNo}
+use Rattle.disk_model.specs.{open_byte, IsOpen}
+use Rattle.archive_file.specs.{ScanNo}
 use Rattle.archive_file.specs.declared.failure.ScanNo.TheVariants.{Damaged}
 use Rattle.archive_file.proofs.Logs.{byte_of}
-use Rattle.event_queue.specs.{declared.reader.Scanned.Scanned, Batch, gate_of, place_of, count_in, slot_points, batch_in, batch_at, IsStale, points_beyond, slot_points_of, points_before, IsSound}
-use Rattle.event_queue.specs.{IsLane, BreaksSlotAt, IsLaneDamage, IsRead, IsOpenSlot}
+use Rattle.event_queue.specs.{declared.reader.Scanned.Scanned, Batch, gate_of, place_of, count_in, slot_points, batch_in, batch_at, IsStale, points_beyond, slot_points_of, points_before, IsSound, IsLane, BreaksSlotAt, IsLaneDamage, IsRead}
+use Rattle.event_queue.specs.{IsOpenSlot}
 use Rattle.event_queue.proofs.Rules.{all_stale}
 
 -- a stale batch holds nothing beyond the summary

@@ -2,10 +2,9 @@
 use Rattle.std.proofs.Common.{◌≡◌, ◌⊎◌, ◌↔◌, ℕ, ◌+◌, ◌*◌, ◌<◌, ◌≤◌, Bool, true, cond, List, [], ◌++◌, length, take, drop, arith, length-append}
 use Rattle.std.proofs.lemmas.{Grind.common_steps, Bool.true≢false, List.drop-drop, List.append-nil}
 use Rattle.std.specs.{Int.w16, Int.w64, Int.from_be_bytes, List.All}
-use Rattle.trend_num.specs.Ranges.{InRange}
-use Rattle.archive_file.specs.Fields.{point_at}
-use Rattle.event_queue.specs.{declared.reader.Scanned.Scanned, slot_points, slot_at, batch_at, IsStale, points_beyond, FollowsOn, IsCounted, IsCountBroken, IsFirstBroken, IsPointBroken, IsWithin}
-use Rattle.event_queue.specs.{IsRead, FitsSlot, IsOpenSlot}
+use Rattle.trend_num.specs.{InRange}
+use Rattle.archive_file.specs.{point_at}
+use Rattle.event_queue.specs.{declared.reader.Scanned.Scanned, slot_points, slot_at, batch_at, IsStale, points_beyond, FollowsOn, IsCounted, IsCountBroken, IsFirstBroken, IsPointBroken, IsWithin, IsRead, FitsSlot, IsOpenSlot}
 use Rattle.event_queue.proofs.{Batches.length-points_in, Batches.take-points_in, Rules.fits_follow, Rules.misfit_follow}
 use Rattle.event_queue.proofs.Steps.{HasFields, points_counted, beyond_stale, beyond_all, read_open}
 

@@ -1,9 +1,9 @@
 -- Where a lane first breaks the layout.
 use Rattle.std.specs.Prelude.{◌≡◌, ◌⊎◌, ℕ, ◌+◌, ◌*◌, ◌<◌, List, take, drop, slice_index, Option, Some}
 use Rattle.std.specs.List.{All}
-use Rattle.trend_num.specs.Ranges.{InRange}
-use Rattle.disk_model.specs.Gates.{IsOpen}
-use Rattle.archive_file.specs.Fields.{point_at}
+use Rattle.trend_num.specs.{InRange}
+use Rattle.disk_model.specs.{IsOpen}
+use Rattle.archive_file.specs.{point_at}
 use Rattle.event_queue.specs.Slots.{gate_of, place_of, slot_at, batch_at}
 use Rattle.event_queue.specs.Lanes.{FollowsOn, IsCounted, IsLane}
 

@@ -1,12 +1,10 @@
 -- What a lane holds for a summary that counts the first `taken` events: the points of its open lane slots that are not
 -- stale. A lane keeps the layout in two cases. Either all its open slots are stale; or the open slots are the first
 -- ones, and their raw values are numbered from `taken` on without a gap.
-use Rattle.std.specs.Prelude.{◌≡◌, ◌⊎◌, ◌==◌, ℕ, zero, suc, ◌+◌, ◌<◌, ◌≤◌, nat_le, List, [], ◌++◌, length}
-use Rattle.std.specs.Prelude.{slice_index, if◌then◌else◌}
+use Rattle.std.specs.Prelude.{◌≡◌, ◌⊎◌, ◌==◌, ℕ, zero, suc, ◌+◌, ◌<◌, ◌≤◌, nat_le, List, [], ◌++◌, length, slice_index, if◌then◌else◌}
 use Rattle.std.specs.List.{All}
-use Rattle.trend_num.specs.declared.point.Point.{Point}
-use Rattle.trend_num.specs.Ranges.{InRange}
-use Rattle.disk_model.specs.Gates.{open_byte, IsOpen}
+use Rattle.trend_num.specs.{Point, InRange}
+use Rattle.disk_model.specs.{open_byte, IsOpen}
 use Rattle.event_queue.specs.Slots.{Batch, gate_of, batch_at}
 
 -- the summary counts all raw values of the batch

@@ -1,6 +1,6 @@
 -- Bytes that were read from a device, and where they lie in its lane.
 use Rattle.std.specs.Prelude.{◌≡◌, ℕ, List, length, take, drop}
-use Rattle.disk_model.specs.Gates.{IsOpen}
+use Rattle.disk_model.specs.{IsOpen}
 use Rattle.event_queue.specs.Slots.{gate_of, place_of, slot_at}
 
 -- slot k is open, and these are its bytes

@@ -1,7 +1,7 @@
 -- A position in a lane: what it needs of a device, and what a lane in use holds.
 use Rattle.std.specs.Prelude.{◌≡◌, ◌≢◌, ℕ, ◌+◌, ◌<◌, ◌≤◌, List, length, slice_index}
-use Rattle.trend_num.specs.declared.point.Point.{Point}
-use Rattle.disk_model.specs.Gates.{open_byte, IsOpen}
+use Rattle.trend_num.specs.{Point}
+use Rattle.disk_model.specs.{open_byte, IsOpen}
 use Rattle.event_queue.specs.Slots.{gate_of, lane_end, batch_at}
 use Rattle.event_queue.specs.Lanes.{IsStale, lane_points, IsLane}
 

@@ -1,9 +1,8 @@
 -- What a scan returns for a lane.
-use Rattle.std.specs.Prelude.{◌≡◌, ◌≢◌, ◌⊎◌, ◌↔◌, ℕ, ◌+◌, ◌*◌, ◌-◌, ◌<◌, ◌≤◌, Bool, true, false, IsTrue, List}
-use Rattle.std.specs.Prelude.{[], length, slice_index}
+use Rattle.std.specs.Prelude.{◌≡◌, ◌≢◌, ◌⊎◌, ◌↔◌, ℕ, ◌+◌, ◌*◌, ◌-◌, ◌<◌, ◌≤◌, Bool, true, false, IsTrue, List, [], length, slice_index}
 use Rattle.std.specs.List.{All}
-use Rattle.trend_num.specs.Ranges.{InRange}
-use Rattle.disk_model.specs.Gates.{open_byte, IsOpen}
+use Rattle.trend_num.specs.{InRange}
+use Rattle.disk_model.specs.{open_byte, IsOpen}
 use Rattle.event_queue.specs.declared.reader.Scanned.{Scanned}
 use Rattle.event_queue.specs.Slots.{gate_of, batch_at}
 use Rattle.event_queue.specs.Lanes.{IsStale, points_before, IsLane}

@@ -3,8 +3,8 @@
 -- many there are in 2 bytes, and their points.
 use Rattle.std.specs.Prelude.{ℕ, zero, suc, ◌+◌, ◌*◌, min, List, [], ◌∷◌, ◌++◌, length, take, drop, flat_map}
 use Rattle.std.specs.Int.{w16, w64, from_be_bytes}
-use Rattle.trend_num.specs.declared.point.Point.{Point}
-use Rattle.archive_file.specs.Fields.{number_bytes, point_bytes, point_at}
+use Rattle.trend_num.specs.{Point}
+use Rattle.archive_file.specs.{number_bytes, point_bytes, point_at}
 
 -- the place of the gate of slot k
 abbrev pub gate_of : ℕ → ℕ

@@ -1,12 +1,8 @@
 // A position in a lane: appending batches there, and starting the lane anew.
 ghost use Rattle.std.specs.Prelude.{◌≡◌, ◌↔◌, ◌+◌, ◌<◌, ◌≤◌, ◌^◌, [], ◌∷◌, length, OnOk, OnErr, IsErrOf};
 ghost use Rattle.std.specs.List.{All};
-ghost use Rattle.trend_num.specs.Ranges.{InRange};
-ghost use Rattle.disk_model.specs.Traces.{seen, written, moment};
-ghost use Rattle.disk_model.specs.Images.{Now, FromOld, IsSettled};
-ghost use Rattle.disk_model.specs.Moments.{ComesAfter, During};
-ghost use Rattle.disk_model.specs.Calls.{CountsFault, HasCause, Sees, Shows};
-ghost use Rattle.disk_model.specs.Gates.{IsGuarded, HasGatesOf, IsClosing, open_byte, open_gates};
+ghost use Rattle.trend_num.specs.{InRange};
+ghost use Rattle.disk_model.specs.{seen, written, moment, Now, FromOld, IsSettled, ComesAfter, During, CountsFault, HasCause, Sees, Shows, IsGuarded, HasGatesOf, IsClosing, open_byte, open_gates};
 ghost use Rattle.event_queue.specs.declared.failure.LaneNo.TheVariants.{LaneFull, DeviceFault as Fault};
 ghost use Rattle.event_queue.specs.Slots.{gate_of, place_of, batch_bytes};
 ghost use Rattle.event_queue.specs.Places.{HasRoom};

@@ -1,9 +1,8 @@
 // Laws about the images that a crash may leave of a lane: what is recovered from each.
 ghost use Rattle.std.specs.Prelude.{◌≡◌, ◌⊎◌, ℕ, ◌+◌, ◌<◌, ◌≤◌, ◌^◌, ◌++◌, List, [], length, true, false};
 ghost use Rattle.std.specs.List.{All};
-ghost use Rattle.trend_num.specs.declared.point.Point.{Point};
-ghost use Rattle.trend_num.specs.Ranges.{InRange};
-ghost use Rattle.disk_model.specs.Gates.{IsGuarded, IsClosing};
+ghost use Rattle.trend_num.specs.{Point, InRange};
+ghost use Rattle.disk_model.specs.{IsGuarded, IsClosing};
 ghost use Rattle.event_queue.specs.Slots.{gate_of, place_of, batch_bytes, lane_end};
 ghost use Rattle.event_queue.specs.Lanes.{lane_points, IsLane};
 ghost use Rattle.event_queue.specs.Places.{IsFilled, IsOvertaken};

@@ -1,10 +1,7 @@
 // Reading what a lane holds, in large pieces.
-ghost use Rattle.std.specs.Prelude.{◌≡◌, ◌≢◌, ◌↔◌, ◌+◌, ◌*◌, ◌^◌, ◌<◌, ◌≤◌, ℕ, List, length, take, drop};
-ghost use Rattle.std.specs.Prelude.{slice_index, vec_len, Option, IsTrue, IfOk, OnOk, OnErr, IsErrOf};
-ghost use Rattle.disk_model.specs.Traces.{seen};
-ghost use Rattle.disk_model.specs.Calls.{CountsFault, HasCause, Reaches, Reads};
+ghost use Rattle.std.specs.Prelude.{◌≡◌, ◌≢◌, ◌↔◌, ◌+◌, ◌*◌, ◌^◌, ◌<◌, ◌≤◌, ℕ, List, length, take, drop, slice_index, vec_len, Option, IsTrue, IfOk, OnOk, OnErr, IsErrOf};
+ghost use Rattle.disk_model.specs.{seen, CountsFault, HasCause, Reaches, Reads, open_byte};
 ghost use Rattle.archive_file.specs.declared.failure.ScanNo.TheVariants.{DeviceFault, Damaged, WantOfMemory};
-ghost use Rattle.disk_model.specs.Gates.{open_byte};
 ghost use Rattle.event_queue.specs.Slots.{lane_end};
 ghost use Rattle.event_queue.specs.Damages.{IsLaneDamage};
 ghost use Rattle.event_queue.specs.Pieces.{IsOpenSlot, IsPiece};

@@ -2,8 +2,8 @@
 ghost use Rattle.std.specs.Prelude.{◌≡◌, ◌+◌, ◌*◌, ◌<◌, ◌≤◌, ◌++◌, length, take, drop, IfSome, IfNone, OnOk};
 ghost use Rattle.std.specs.Int.{w16, from_be_bytes};
 ghost use Rattle.std.specs.List.{All};
-ghost use Rattle.trend_num.specs.Ranges.{InRange};
-ghost use Rattle.archive_file.specs.Fields.{point_at};
+ghost use Rattle.trend_num.specs.{InRange};
+ghost use Rattle.archive_file.specs.{point_at};
 ghost use Rattle.event_queue.specs.Slots.{place_of, batch_bytes, slot_points};
 
 use archive_file::{put, put_point, take_point};

@@ -1,15 +1,13 @@
 -- A gate that follows the rules stands for one history after another.
 use Rattle.std.proofs.Common.{◌≡◌, List, ◌∷◌, ◌++◌, Option, None, sym, ap, ap₂, ◌∙◌}
 use Rattle.std.specs.Option.{option_or}
-use Rattle.trend_num.specs.declared.point.Point.{Point}
-use Rattle.trend_num.specs.declared.sending.Sending.{Sending}
-use Rattle.trend_num.specs.declared.tuning.Tuning.{Tuning}
-use Rattle.trend_model.specs.History.{Event, Origin, Raw, Tune, Tuned, in_force, sent, prior, pending}
+use Rattle.trend_num.specs.{Point, Sending, Tuning}
+use Rattle.trend_model.specs.{Event, Origin, Raw, Tune, Tuned, in_force, sent, prior, pending}
 use Rattle.trend_model.specs.State.{offered, gained, pushed_out}
 use Rattle.trend_model.proofs.Offers.{offered_follows}
 use Rattle.trend_model.proofs.Sent.{last_in_order_is, newest_is, tune_sends}
 use Rattle.exception_test.specs.declared.gate.Gate.{Gate}
-use Rattle.exception_test.specs.Gate.{GateStands}
+use Rattle.exception_test.specs.{GateStands}
 
 -- what the rules do at a gate that stands for a history is what they do at that history's two places
 offered_there : (u : Tuning) (gate : Gate) (p : Point) (o : Origin) (h : List Event) → in_force o h ≡ u → GateStands o gate h

@@ -1,8 +1,8 @@
 // The gate of a tag's exception test.
 ghost use Rattle.std.specs.Prelude.{◌≡◌, List, [], ◌∷◌, ◌++◌, None};
 ghost use Rattle.std.specs.Option.{option_or};
-ghost use Rattle.trend_num.specs.declared.tuning.Tuning.{Tuning};
-ghost use Rattle.trend_model.specs.History.{Event, Origin, Raw, Tune, Tuned, in_force, is_far, sent};
+ghost use Rattle.trend_num.specs.{Tuning};
+ghost use Rattle.trend_model.specs.{Event, Origin, Raw, Tune, Tuned, in_force, is_far, sent};
 ghost use Rattle.trend_model.specs.State.{gained, offered, offered_in_order, pushed_out};
 ghost use Rattle.exception_test.specs.Gate.{GateStands};
 

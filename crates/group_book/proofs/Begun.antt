@@ -1,14 +1,10 @@
 -- What a crash left until the opening of a book ended.
 use Rattle.std.proofs.Common.{◌≡◌, Option, None, Some, List, ℕ, sym, subst}
 use Rattle.std.specs.Prelude.{IfSome}
-use Rattle.calc_refresh.specs.declared.definition.GroupDefParts.{GroupDefParts}
-use Rattle.calc_refresh.specs.Lists.{lists_of}
-use Rattle.disk_model.specs.Calls.{Shows}
-use Rattle.disk_model.specs.Moments.{ComesAfter, During}
-use Rattle.disk_model.specs.Traces.{Device, HandOut, Trace, moment}
+use Rattle.calc_refresh.specs.{GroupDefParts, lists_of}
+use Rattle.disk_model.specs.{Shows, ComesAfter, During, Device, HandOut, Trace, moment}
 use Rattle.disk_model.proofs.Moments.{after_both, after_self}
-use Rattle.group_book.specs.declared.history.GroupOpening.{GroupOpening}
-use Rattle.group_book.specs.Openings.{BookBeganWell, BookStaysSame, IsBookOpenedWell, StandsForGroup}
+use Rattle.group_book.specs.{GroupOpening, BookBeganWell, BookStaysSame, IsBookOpenedWell, StandsForGroup}
 
 -- at the end of the opening of a device that was not used since it was handed out
 pub began_well : {D : Type 0} (device : D → Device) (text : List ℕ) (def : GroupDefParts) (o : GroupOpening) (old new : D)

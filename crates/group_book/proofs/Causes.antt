@@ -1,17 +1,16 @@
 -- Why a book is not refreshed, from what was pulled and from its sheet.
-use Rattle.std.proofs.Common.{◌≡◌, inl, inr, ℕ, zero, suc, ◌+◌, ◌<◌, ◌≤◌, Bool, true, false, List, [], ◌∷◌, ◌++◌, length, map, get_or, None, Some, Result, Ok, Err, IfErr, OnOk, nat_lt, refl, sym, ap, ◌∙◌, subst, arith, length-append, ltb-true, if◌then◌else◌}
+use Rattle.std.proofs.Common.{◌≡◌, inl, inr, ℕ, zero, suc, ◌+◌, ◌<◌, ◌≤◌, Bool, true, false, List, [], ◌∷◌, ◌++◌, length, map, get_or, None, Some, Result, Ok, Err, IfErr, OnOk, nat_lt, refl, sym, ap, ◌∙◌, subst, arith, length-append}
+use Rattle.std.proofs.Common.{ltb-true, if◌then◌else◌}
 use Rattle.std.proofs.Math.ListN.{get_or-append}
 use Rattle.std.proofs.Math.Seq.{get_or-append_seam}
 use Rattle.std.proofs.lemmas.Bool.{cases_lt}
 use Rattle.std.proofs.lemmas.List.{length-map, map-append}
-use Rattle.trend_num.specs.declared.archive.Rec.{Rec}
-use Rattle.tag_cell.specs.declared.entry.Pulled.{Pulled}
+use Rattle.trend_num.specs.{Rec}
+use Rattle.tag_cell.specs.{Pulled}
 use Rattle.calc_refresh.specs.declared.refusal.SheetNo.TheVariants as sheet
-use Rattle.calc_refresh.specs.Refreshed.{limit_fault, most_cells, most_copies}
-use Rattle.group_book.specs.declared.refusal.RefreshNo.{RefreshNo}
+use Rattle.calc_refresh.specs.{limit_fault, most_cells, most_copies}
+use Rattle.group_book.specs.{RefreshNo, IsAheadAt, IsPullCause, IsRefreshCause, IsBookToldOf, GivesNone, GoesOn, IsPublished, ToldBook, pulled_records}
 use Rattle.group_book.specs.declared.refusal.RefreshNo.TheVariants.{Ahead, CellLimit, CopyLimit, WantOfMemory}
-use Rattle.group_book.specs.Refusals.{IsAheadAt, IsPullCause, IsRefreshCause, IsBookToldOf}
-use Rattle.group_book.specs.Told.{GivesNone, GoesOn, IsPublished, ToldBook, pulled_records}
 
 -- one pull that is refused refuses all
 pub one_refused : (versions : List ℕ) (i from : ℕ) (why : RefreshNo) → i < length versions → from ≡ get_or versions i 0

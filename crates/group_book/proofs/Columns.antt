@@ -8,12 +8,12 @@ use Rattle.std.proofs.lemmas.Bool.{cases_eq, cases_lt}
 use Rattle.std.proofs.lemmas.List.{get_or-map, length-map, same_lists}
 use Rattle.std.proofs.lemmas.List.Elements.{All-cons, All-contains, All-nil, Contains-append_right}
 use Rattle.std.proofs.lemmas.Option.{get_or_from_slice_get, slice_get-get_or, slice_get-map}
-use Rattle.trend_num.specs.declared.value.CalcValue.{CalcValue}
-use Rattle.sheet_law.specs.Scratch.{column}
-use Rattle.calc_refresh.specs.Lists.{lists_of}
+use Rattle.trend_num.specs.{CalcValue}
+use Rattle.sheet_law.specs.{column}
+use Rattle.calc_refresh.specs.{lists_of}
 use Rattle.calc_refresh.proofs.Inputs.{lists_at}
-use Rattle.group_layout.specs.Rows.{cell_of}
-use Rattle.group_book.specs.Saves.{HasAllChanges}
+use Rattle.group_layout.specs.{cell_of}
+use Rattle.group_book.specs.{HasAllChanges}
 
 -- the values of two rows at one place of a column
 pub same_values : (olds news : List (Vec CalcValue Global)) (i k : ℕ) (v w : Vec CalcValue Global) → i < length olds → i < length news

@@ -1,10 +1,9 @@
 -- Versions that never fall, and copies cut to them.
 use Rattle.std.proofs.Common.{◌≡◌, ℕ, zero, suc, ◌+◌, ◌<◌, ◌≤◌, List, [], ◌∷◌, ◌++◌, length, map, get_or, take, refl, sym, ap, ◌∙◌, subst, arith, length-append}
 use Rattle.std.proofs.lemmas.List.{take-append-le, take_all}
-use Rattle.trend_num.specs.declared.archive.Rec.{Rec}
-use Rattle.sheet_law.specs.Touched.{longer}
-use Rattle.group_book.specs.Tapes.{cut}
-use Rattle.group_book.specs.Histories.{NeverFall}
+use Rattle.trend_num.specs.{Rec}
+use Rattle.sheet_law.specs.{longer}
+use Rattle.group_book.specs.{cut, NeverFall}
 
 pub never_refl : (vs : List ℕ) → NeverFall vs vs
 never_refl vs = record { inputs = refl; rises = λ i low. omega arith }

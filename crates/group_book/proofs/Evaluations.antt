@@ -4,23 +4,14 @@ use Rattle.std.specs.Prelude.{◌||◌, Some, min}
 use Rattle.std.specs.declared.alloc.Global.{Global}
 use Rattle.std.proofs.lemmas.Bool.{false≢true, or_parts}
 use Rattle.std.proofs.lemmas.Bool.Decides.{nat_tests}
-use Rattle.trend_num.specs.declared.archive.Rec.{Rec}
-use Rattle.trend_num.specs.declared.value.CalcValue.{CalcValue}
+use Rattle.trend_num.specs.{Rec, CalcValue}
 use Rattle.calc_check.specs.Group.{Group}
-use Rattle.sheet_law.specs.declared.grid.Grid.{Grid}
-use Rattle.sheet_law.specs.Scratch.{column, due_below, is_due, values_at}
-use Rattle.sheet_law.specs.Touched.{any_touched, is_touched, longer, touches}
-use Rattle.sheet_law.specs.Windows.{complete_windows, window_from, window_to}
+use Rattle.sheet_law.specs.{Grid, column, due_below, is_due, values_at, any_touched, is_touched, longer, touches, complete_windows, window_from, window_to}
 use Rattle.sheet_law.proofs.Complete.{complete_are, complete_grow}
 use Rattle.sheet_law.proofs.Formulas.{values_stay}
-use Rattle.calc_refresh.specs.Lists.{lists_of}
-use Rattle.calc_refresh.specs.Refreshed.{IsRefreshed, evaluated}
-use Rattle.calc_refresh.specs.Sheet.{SheetState}
-use Rattle.group_book.specs.declared.turn.Turn.{Turn}
+use Rattle.calc_refresh.specs.{lists_of, IsRefreshed, evaluated, SheetState}
+use Rattle.group_book.specs.{Turn, GroupOpening, BookWalk, after_turn, book_start, book_walked, cut, uncut, AreRowsEvaluated, BookTurnsFit, IsBookLegal, NeverFall, evaluated_between, evaluated_on, is_due_since}
 use Rattle.group_book.specs.declared.turn.Turn.TheVariants.{Refresh, Ask, Save}
-use Rattle.group_book.specs.declared.history.GroupOpening.{GroupOpening}
-use Rattle.group_book.specs.Tapes.{BookWalk, after_turn, book_start, book_walked, cut, uncut}
-use Rattle.group_book.specs.Histories.{AreRowsEvaluated, BookTurnsFit, IsBookLegal, NeverFall, evaluated_between, evaluated_on, is_due_since}
 use Rattle.group_book.proofs.Cuts.{cut-all, cut-longer, never_refl, never_trans, tail_rises}
 use Rattle.group_book.proofs.InputLists.{longer-uncut}
 use Rattle.group_book.proofs.LegalTurns.{at_end, opened_low}

@@ -4,16 +4,12 @@ use Rattle.std.specs.List.{filter, range_with_len}
 use Rattle.std.proofs.lemmas.Bool.{cases_Bool, cases_lt, false≢true, or_parts}
 use Rattle.std.proofs.lemmas.List.{get_or_past, length-replicate}
 use Rattle.std.proofs.lemmas.List.Elements.{All-replicate}
-use Rattle.trend_num.specs.declared.archive.Rec.{Rec}
-use Rattle.trend_num.specs.declared.value.CalcValue.{CalcValue}
-use Rattle.sheet_law.specs.Scratch.{column, is_due}
-use Rattle.sheet_law.specs.Windows.{complete_windows}
+use Rattle.trend_num.specs.{Rec, CalcValue}
+use Rattle.sheet_law.specs.{column, is_due, complete_windows}
 use Rattle.sheet_law.proofs.Complete.{complete_grow}
-use Rattle.calc_refresh.specs.Refreshed.{IsRefreshed}
-use Rattle.calc_refresh.specs.Sheet.{AreRowsWhole, SheetState}
+use Rattle.calc_refresh.specs.{IsRefreshed, AreRowsWhole, SheetState}
 use Rattle.calc_refresh.proofs.Passing.{passing_has}
-use Rattle.group_book.specs.Saves.{HasAllChanges}
-use Rattle.group_book.specs.Told.{AreFlagged, is_unsaved}
+use Rattle.group_book.specs.{HasAllChanges, AreFlagged, is_unsaved}
 use Rattle.group_book.proofs.Columns.{all_changes}
 
 -- without windows there are no flags

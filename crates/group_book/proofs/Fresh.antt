@@ -1,19 +1,10 @@
 -- A book that was just made.
 use Rattle.std.proofs.Common.{◌≡◌, ℕ, zero, suc, ◌≤◌, All, false, List, [], ◌∷◌, length, map, replicate, None, refl, sym, ap, ◌∙◌, subst}
 use Rattle.std.proofs.lemmas.List.{length-replicate}
-use Rattle.trend_num.specs.declared.archive.Rec.{Rec}
-use Rattle.calc_refresh.specs.declared.definition.GroupDefParts.{GroupDefParts}
-use Rattle.calc_refresh.specs.Lists.{lists_of}
-use Rattle.calc_refresh.specs.Refreshed.{fresh}
-use Rattle.calc_refresh.specs.Sheet.{AreRowsWhole, IsGrid, IsGroup, SheetState, grid_of}
-use Rattle.sheet_law.specs.Scratch.{IsScratch}
-use Rattle.group_book.specs.declared.history.GroupOpening.{GroupOpening}
-use Rattle.group_book.specs.Crashes.{IsBookSafe}
-use Rattle.group_book.specs.Histories.{AreRowsEvaluated, AreRowsOver, IsBookLegal}
-use Rattle.group_book.specs.Tapes.{cut}
-use Rattle.group_book.specs.Told.{IsDefined, IsKept, LeftOf, Saved}
-use Rattle.sheet_law.specs.declared.grid.Grid.{Grid}
-use Rattle.sheet_law.specs.Windows.{complete_windows}
+use Rattle.trend_num.specs.{Rec}
+use Rattle.calc_refresh.specs.{GroupDefParts, lists_of, fresh, AreRowsWhole, IsGrid, IsGroup, SheetState, grid_of}
+use Rattle.sheet_law.specs.{IsScratch, Grid, complete_windows}
+use Rattle.group_book.specs.{GroupOpening, IsBookSafe, AreRowsEvaluated, AreRowsOver, IsBookLegal, cut, IsDefined, IsKept, LeftOf, Saved}
 use Rattle.group_book.proofs.Cuts.{cut-all}
 use Rattle.group_book.proofs.Evaluations.{evaluated_first}
 

@@ -2,17 +2,12 @@
 use Rattle.std.proofs.Common.{◌≡◌, ℕ, ◌+◌, ◌<◌, ◌≤◌, List, [], ◌∷◌, ◌++◌, All, length, map, get_or, take, drop, refl, sym, ap, ap₂, subst, ◌∙◌, arith}
 use Rattle.std.proofs.lemmas.List.{get_or-map, get_or-take, length-take, length-take-le, length_push, map-append, take-append-drop, take_all, take_more}
 use Rattle.std.proofs.lemmas.List.Elements.{All-push}
-use Rattle.trend_num.specs.declared.archive.Rec.{Rec}
-use Rattle.tag_cell.specs.declared.entry.Pulled.{Pulled}
-use Rattle.calc_refresh.specs.Refreshed.{fault_after}
-use Rattle.calc_refresh.specs.Sheet.{IsCopy}
-use Rattle.sheet_law.specs.Touched.{longer}
-use Rattle.group_book.specs.declared.refusal.RefreshNo.{RefreshNo}
+use Rattle.trend_num.specs.{Rec}
+use Rattle.tag_cell.specs.{Pulled}
+use Rattle.calc_refresh.specs.{fault_after, IsCopy}
+use Rattle.sheet_law.specs.{longer}
+use Rattle.group_book.specs.{RefreshNo, ArePullsOf, IsListsRefusal, IsPullAhead, IsPullOf, IsPullRefusal, lists_at, IsBookToldOf, cut, uncut, GoesOn, ToldBook, pulled_records, versions_of}
 use Rattle.group_book.specs.declared.refusal.RefreshNo.TheVariants.{Ahead, CellLimit, CopyLimit, WantOfMemory}
-use Rattle.group_book.specs.InputLists.{ArePullsOf, IsListsRefusal, IsPullAhead, IsPullOf, IsPullRefusal, lists_at}
-use Rattle.group_book.specs.Refusals.{IsBookToldOf}
-use Rattle.group_book.specs.Tapes.{cut, uncut}
-use Rattle.group_book.specs.Told.{GoesOn, ToldBook, pulled_records, versions_of}
 use Rattle.group_book.proofs.Causes.{goes_from, goes_more}
 use Rattle.group_book.proofs.Cuts.{part_more}
 

@@ -1,29 +1,19 @@
 -- A book's history after a question, and after a refresh.
-use Rattle.std.proofs.Common.{◌≡◌, ◌↔◌, ℕ, ◌<◌, ◌≤◌, All, Bool, true, false, List, [], ◌∷◌, ◌++◌, Contains, length, map, get_or, slice_get, Vec, Option, None, Some, IfSome, IsSome, option_and_then, nat_lt, ltb-true, ltb-false, refl, sym, ap, ◌∙◌, subst, if◌then◌else◌}
+use Rattle.std.proofs.Common.{◌≡◌, ◌↔◌, ℕ, ◌<◌, ◌≤◌, All, Bool, true, false, List, [], ◌∷◌, ◌++◌, Contains, length, map, get_or, slice_get, Vec, Option, None, Some, IfSome, IsSome, option_and_then, nat_lt, ltb-true, ltb-false, refl, sym}
+use Rattle.std.proofs.Common.{ap, ◌∙◌, subst, if◌then◌else◌}
 use Rattle.std.specs.Option.{option_map}
 use Rattle.std.specs.declared.alloc.Global.{Global}
 use Rattle.std.proofs.lemmas.List.Elements.{All-cons, All-nil}
 use Rattle.std.proofs.lemmas.Option.{slice_get-map}
-use Rattle.trend_num.specs.declared.archive.Rec.{Rec}
-use Rattle.trend_num.specs.declared.value.CalcValue.{CalcValue}
-use Rattle.disk_model.specs.Traces.{Trace}
+use Rattle.trend_num.specs.{Rec, CalcValue}
+use Rattle.disk_model.specs.{Trace}
 use Rattle.calc_check.specs.Group.{Group}
-use Rattle.calc_refresh.specs.declared.definition.GroupDefParts.{GroupDefParts}
-use Rattle.calc_refresh.specs.Lists.{lists_of}
-use Rattle.calc_refresh.specs.Sheet.{grid_of}
-use Rattle.sheet_law.specs.declared.grid.Grid.{Grid}
-use Rattle.sheet_law.specs.Scratch.{IsScratch, column, values_at}
-use Rattle.sheet_law.specs.Windows.{complete_windows}
-use Rattle.sheet_law.specs.Touched.{longer}
-use Rattle.group_layout.specs.Rows.{cell_of}
+use Rattle.calc_refresh.specs.{GroupDefParts, lists_of, grid_of}
+use Rattle.sheet_law.specs.{Grid, IsScratch, column, values_at, complete_windows, longer}
+use Rattle.group_layout.specs.{cell_of}
 use Rattle.group_layout.proofs.RowsAdded.{cell_past}
-use Rattle.group_book.specs.declared.turn.Turn.{Turn}
+use Rattle.group_book.specs.{Turn, GroupOpening, cut, saved_at, book_start, versions_since, book_walked, AreRowsOver, IsBookLegal, IsRight, NeverFall, is_due_since, scratch_at, IsBookSafe, StandsForOne, IsKept, Saved}
 use Rattle.group_book.specs.declared.turn.Turn.TheVariants.{Refresh, Ask}
-use Rattle.group_book.specs.declared.history.GroupOpening.{GroupOpening}
-use Rattle.group_book.specs.Tapes.{cut, saved_at, book_start, versions_since, book_walked}
-use Rattle.group_book.specs.Histories.{AreRowsOver, IsBookLegal, IsRight, NeverFall, is_due_since, scratch_at}
-use Rattle.group_book.specs.Crashes.{IsBookSafe, StandsForOne}
-use Rattle.group_book.specs.Told.{IsKept, Saved}
 use Rattle.group_book.proofs.Columns.{same_cells}
 use Rattle.group_book.proofs.Cuts.{cut-all, cut-longer, longer_rises, never_refl}
 use Rattle.group_book.proofs.Turns.{contains_left, fit_longer, fit_push, right_back, saved-ask, saved-refresh, saved_rises, since-ask, since-refresh, since_rises, walk_rises, walked-push}

@@ -5,15 +5,12 @@ use Rattle.std.proofs.lemmas.Bool.Decides.{nat_tests}
 use Rattle.std.proofs.lemmas.List.Elements.{All-nil, All-push, All-weaker}
 use Rattle.std.proofs.lemmas.List.Quantifiers.{all_pairs_push}
 use Rattle.trend_num.specs.declared.value.Bad.TheVariants.{NoData, DivZero, Range}
-use Rattle.trend_num.specs.declared.value.CalcValue.{CalcValue}
+use Rattle.trend_num.specs.{CalcValue}
 use Rattle.trend_num.specs.declared.value.CalcValue.TheVariants.{Num, Bad}
-use Rattle.sheet_law.specs.Number.{IsInRange}
-use Rattle.sheet_law.specs.Scratch.{column}
-use Rattle.group_layout.specs.declared.block.BlockRow.{BlockRow}
-use Rattle.group_layout.specs.Blocks.{IsBefore, IsRow, comes_before}
-use Rattle.group_layout.specs.Rows.{cell_of, listed_from, value_of}
+use Rattle.sheet_law.specs.{IsInRange, column}
+use Rattle.group_layout.specs.{BlockRow, IsBefore, IsRow, comes_before, cell_of, listed_from, value_of}
 use Rattle.group_layout.proofs.SavedRows.{listed-append}
-use Rattle.group_book.specs.Saves.{HasAllChanges, IsListed, IsOther, IsSame, ListedUpTo, ListsChanges, row_of}
+use Rattle.group_book.specs.{HasAllChanges, IsListed, IsOther, IsSame, ListedUpTo, ListsChanges, row_of}
 use Rattle.group_book.proofs.Columns.{same_cells}
 
 -- ---- places in order

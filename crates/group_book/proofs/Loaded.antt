@@ -4,32 +4,17 @@ use Rattle.std.specs.declared.alloc.Global.{Global}
 use Rattle.std.proofs.lemmas.Bool.{cases_lt}
 use Rattle.std.proofs.lemmas.List.{get_or-map, length-map, map-append, take_all}
 use Rattle.std.proofs.lemmas.List.Elements.{All-cons, All-head, All-nil, All-tail, All-take}
-use Rattle.trend_num.specs.Ranges.{InRange}
-use Rattle.trend_num.specs.declared.archive.Rec.{Rec}
-use Rattle.trend_num.specs.declared.value.CalcValue.{CalcValue}
-use Rattle.calc_refresh.specs.Lists.{lists_of}
-use Rattle.calc_refresh.specs.Sheet.{IsCopy, grid_of}
-use Rattle.archive_file.specs.declared.failure.ScanNo.{ScanNo}
+use Rattle.trend_num.specs.{InRange, Rec, CalcValue}
+use Rattle.calc_refresh.specs.{lists_of, IsCopy, grid_of, GroupDefParts}
+use Rattle.archive_file.specs.{ScanNo}
 use Rattle.archive_file.specs.declared.failure.ScanNo.TheVariants as scan
-use Rattle.disk_model.specs.Calls.{Shows}
-use Rattle.disk_model.specs.Gates.{IsShut}
-use Rattle.disk_model.specs.Images.{IsSettled, Now}
-use Rattle.disk_model.specs.Moments.{LeftSince}
-use Rattle.disk_model.specs.Traces.{Trace, seen}
+use Rattle.disk_model.specs.{Shows, IsShut, IsSettled, Now, LeftSince, Trace, seen}
 use Rattle.disk_model.proofs.Images.{present}
 use Rattle.disk_model.proofs.Moments.{only_since}
-use Rattle.calc_refresh.specs.declared.definition.GroupDefParts.{GroupDefParts}
-use Rattle.sheet_law.specs.Scratch.{IsScratch}
-use Rattle.group_layout.specs.declared.layout_reader.SavedGroup.{SavedGroup}
-use Rattle.group_layout.specs.Images.{ByBlocks, IsGroupDamage, StandsFor}
-use Rattle.group_layout.specs.Readings.{IsReadOf}
-use Rattle.group_book.specs.declared.history.GroupOpening.{GroupOpening}
+use Rattle.sheet_law.specs.{IsScratch}
+use Rattle.group_layout.specs.{SavedGroup, ByBlocks, IsGroupDamage, StandsFor, IsReadOf}
+use Rattle.group_book.specs.{GroupOpening, IsBookSafe, AreRowsOver, AreValuesInRange, IsBookLegal, IsRight, IsAhead, IsBookCause, scan_refusal, cut, HoldsBlocks, IsKept, IsReady, Saved}
 use Rattle.group_book.specs.declared.refusal.LoadNo.TheVariants.{DeviceFault, Damaged, WantOfMemory}
-use Rattle.group_book.specs.Crashes.{IsBookSafe}
-use Rattle.group_book.specs.Histories.{AreRowsOver, AreValuesInRange, IsBookLegal, IsRight}
-use Rattle.group_book.specs.Openings.{IsAhead, IsBookCause, scan_refusal}
-use Rattle.group_book.specs.Tapes.{cut}
-use Rattle.group_book.specs.Told.{HoldsBlocks, IsKept, IsReady, Saved}
 use Rattle.group_book.proofs.Cuts.{cut-all, part_more}
 use Rattle.group_book.proofs.Saving.{holds_now}
 use Rattle.group_book.proofs.Ranges.{blocks_range}

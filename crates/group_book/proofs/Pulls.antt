@@ -1,23 +1,15 @@
 -- What was pulled of each input continues from its copies.
 use Rattle.std.proofs.Common.{◌≡◌, ℕ, suc, Bool, Option, List, [], ◌∷◌, ◌++◌, length, map, Vec, refl, sym, ap, ◌∙◌, subst, arith, length-append}
-use Rattle.trend_num.specs.declared.archive.Rec.{Rec}
-use Rattle.tag_cell.specs.declared.entry.Pulled.{Pulled}
-use Rattle.sheet_law.specs.Touched.{longer}
+use Rattle.trend_num.specs.{Rec}
+use Rattle.tag_cell.specs.{Pulled}
+use Rattle.sheet_law.specs.{longer, Grid, IsScratch}
 use Rattle.std.specs.declared.alloc.Global.{Global}
-use Rattle.calc_refresh.specs.Refreshed.{IsRefreshed}
+use Rattle.calc_refresh.specs.{IsRefreshed, GroupDefParts, SheetState, grid_of}
 use Rattle.calc_check.specs.Group.{Group}
-use Rattle.calc_refresh.specs.declared.definition.GroupDefParts.{GroupDefParts}
-use Rattle.calc_refresh.specs.Sheet.{SheetState, grid_of}
-use Rattle.disk_model.specs.Traces.{Trace}
-use Rattle.sheet_law.specs.declared.grid.Grid.{Grid}
-use Rattle.sheet_law.specs.Scratch.{IsScratch}
-use Rattle.group_book.specs.declared.history.GroupOpening.{GroupOpening}
-use Rattle.group_book.specs.Crashes.{IsBookSafe}
-use Rattle.group_book.specs.Histories.{IsBookLegal}
+use Rattle.disk_model.specs.{Trace}
+use Rattle.group_book.specs.{GroupOpening, IsBookSafe, IsBookLegal, Turn, GoesOn, IsDefined, IsKept, IsPublished, Saved, ToldBook, pulled_records}
 use Rattle.group_book.proofs.LegalTurns.{kept_refreshed, legal_refreshed, safe_refreshed}
-use Rattle.group_book.specs.declared.turn.Turn.{Turn}
 use Rattle.group_book.specs.declared.turn.Turn.TheVariants.{Refresh}
-use Rattle.group_book.specs.Told.{GoesOn, IsDefined, IsKept, IsPublished, Saved, ToldBook, pulled_records}
 
 -- after the first input
 tail_goes : (rs : List Rec) (copies : List (List Rec)) (p : Pulled) (ps : List Pulled) → GoesOn (rs ∷ copies) (p ∷ ps)

@@ -6,26 +6,17 @@ use Rattle.std.proofs.lemmas.Bool.{cases_lt}
 use Rattle.std.proofs.lemmas.Bool.Decides.{nat_tests}
 use Rattle.std.proofs.lemmas.List.Elements.{All-append, All-head, All-nil, All-tail}
 use Rattle.std.proofs.lemmas.Option.{slice_get_past, slice_get_within, get_or_from_slice_get}
-use Rattle.trend_num.specs.declared.archive.Rec.{Rec}
+use Rattle.trend_num.specs.{Rec, CalcValue}
 use Rattle.trend_num.specs.declared.value.Bad.TheVariants.{NoData, DivZero, Range}
-use Rattle.trend_num.specs.declared.value.CalcValue.{CalcValue}
 use Rattle.trend_num.specs.declared.value.CalcValue.TheVariants.{Num, Bad}
 use Rattle.calc_check.specs.Group.{Group}
 use Rattle.calc_eval.proofs.Range.{values_range}
-use Rattle.calc_refresh.specs.declared.definition.GroupDefParts.{GroupDefParts}
-use Rattle.calc_refresh.specs.Lists.{lists_of}
-use Rattle.sheet_law.specs.declared.grid.Grid.{Grid}
-use Rattle.sheet_law.specs.Number.{IsInRange}
-use Rattle.sheet_law.specs.Scratch.{points_by, values_at}
-use Rattle.sheet_law.specs.Windows.{complete_windows, window_from, window_to}
-use Rattle.group_layout.specs.declared.block.BlockRow.{BlockRow}
-use Rattle.archive_file.specs.TextHeads.{blocks_at}
-use Rattle.group_layout.specs.Blocks.{BlockParts, HasBlocks, block_size, is_value_ok, last_of, unsaved}
-use Rattle.group_layout.specs.Rows.{cell_of, is_at, listed_from, rows_of_blocks, value_of}
+use Rattle.calc_refresh.specs.{GroupDefParts, lists_of}
+use Rattle.sheet_law.specs.{Grid, IsInRange, points_by, values_at, complete_windows, window_from, window_to}
+use Rattle.group_layout.specs.{BlockRow, BlockParts, HasBlocks, block_size, is_value_ok, last_of, unsaved, cell_of, is_at, listed_from, rows_of_blocks, value_of}
+use Rattle.archive_file.specs.{blocks_at}
 use Rattle.group_layout.proofs.RowsAdded.{cell_past}
-use Rattle.group_book.specs.declared.history.GroupOpening.{GroupOpening}
-use Rattle.group_book.specs.Histories.{AreRowsOver, AreValuesInRange, is_due_since}
-use Rattle.group_book.specs.Told.{HoldsBlocks, Saved}
+use Rattle.group_book.specs.{GroupOpening, AreRowsOver, AreValuesInRange, is_due_since, HoldsBlocks, Saved}
 use Rattle.group_book.proofs.Columns.{same_cells}
 use Rattle.group_book.proofs.LegalTurns.{cell_due}
 

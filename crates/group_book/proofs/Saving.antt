@@ -1,39 +1,25 @@
 -- A book's history after a save, and after one whose device failed.
-use Rattle.std.proofs.Common.{◌≡◌, ◌⊎◌, ⊎_elim, inl, inr, ℕ, ◌+◌, ◌<◌, ◌≤◌, Bool, true, false, All, List, [], ◌∷◌, ◌++◌, Contains, length, get_or, Vec, Option, None, Some, IfSome, nat_le, refl, sym, ap, ◌∙◌, subst, arith, lit<, le_trans, if◌then◌else◌}
+use Rattle.std.proofs.Common.{◌≡◌, ◌⊎◌, ⊎_elim, inl, inr, ℕ, ◌+◌, ◌<◌, ◌≤◌, Bool, true, false, All, List, [], ◌∷◌, ◌++◌, Contains, length, get_or, Vec, Option, None, Some, IfSome, nat_le, refl, sym, ap, ◌∙◌, subst, arith, lit<, le_trans}
+use Rattle.std.proofs.Common.{if◌then◌else◌}
 use Rattle.std.specs.declared.alloc.Global.{Global}
 use Rattle.std.proofs.lemmas.Bool.{cases_eq}
 use Rattle.std.proofs.lemmas.Bool.Decides.{nat_tests}
-use Rattle.trend_num.specs.declared.archive.Rec.{Rec}
-use Rattle.trend_num.specs.declared.value.CalcValue.{CalcValue}
-use Rattle.disk_model.specs.Calls.{Rose, Sees}
-use Rattle.disk_model.specs.Gates.{IsGuarded, IsOpen, IsShut, open_byte}
-use Rattle.disk_model.specs.Images.{FromOld, IsSettled, MayLeave, Now}
-use Rattle.disk_model.specs.Moments.{During, LeftSince}
-use Rattle.disk_model.specs.Traces.{Device, Trace, moment, seen, written}
+use Rattle.trend_num.specs.{Rec, CalcValue}
+use Rattle.disk_model.specs.{Rose, Sees, IsGuarded, IsOpen, IsShut, open_byte, FromOld, IsSettled, MayLeave, Now, During, LeftSince, Device, Trace, moment, seen, written}
 use Rattle.disk_model.proofs.Bytes.{length-written}
 use Rattle.disk_model.proofs.Images.{present}
 use Rattle.disk_model.proofs.Moments.{during_now, only_since, parted}
-use Rattle.calc_refresh.specs.declared.definition.GroupDefParts.{GroupDefParts}
-use Rattle.calc_refresh.specs.Lists.{lists_of}
-use Rattle.calc_refresh.specs.Sheet.{IsGrid, IsGroup, SheetState, grid_of}
-use Rattle.sheet_law.specs.Scratch.{IsScratch}
-use Rattle.sheet_law.specs.Windows.{complete_windows}
-use Rattle.group_layout.specs.Blocks.{MayFollow, BlockParts, block_image, block_size, last_of, unsaved}
-use Rattle.archive_file.specs.TextHeads.{blocks_at}
-use Rattle.group_layout.specs.Images.{ByBlocks, StandsFor}
-use Rattle.group_layout.specs.Rows.{AreRowsOf}
+use Rattle.calc_refresh.specs.{GroupDefParts, lists_of, IsGrid, IsGroup, SheetState, grid_of}
+use Rattle.sheet_law.specs.{IsScratch, complete_windows}
+use Rattle.group_layout.specs.{MayFollow, BlockParts, block_image, block_size, last_of, unsaved, ByBlocks, StandsFor, AreRowsOf}
+use Rattle.archive_file.specs.{blocks_at}
 use Rattle.archive_file.proofs.PlacedBytes.{written_byte}
 use Rattle.group_layout.proofs.BlockAdded.{block_closed, block_opened}
 use Rattle.group_layout.proofs.RowsAdded.{IsAddedAt, rows_more}
 use Rattle.group_layout.proofs.Walks.{end_of-push, last_of-push}
-use Rattle.group_book.specs.declared.turn.Turn.{Turn}
+use Rattle.group_book.specs.{Turn, GroupOpening, BookWalk, after_turn, cut, saved_at, book_start, versions_since, book_walked, AreRowsEvaluated, AreRowsOver, IsBookLegal, IsRight, NeverFall, IsBookSafe, StandsForOne, IsListed, IsOther}
+use Rattle.group_book.specs.{IsSame, ListsChanges, AreFlagged, HoldsBlocks, IsDefined, IsKept, IsReady, LeftOf, Saved, faults_of, moment_of, trace_of}
 use Rattle.group_book.specs.declared.turn.Turn.TheVariants.{Refresh, Ask, Save}
-use Rattle.group_book.specs.declared.history.GroupOpening.{GroupOpening}
-use Rattle.group_book.specs.Tapes.{BookWalk, after_turn, cut, saved_at, book_start, versions_since, book_walked}
-use Rattle.group_book.specs.Histories.{AreRowsEvaluated, AreRowsOver, IsBookLegal, IsRight, NeverFall}
-use Rattle.group_book.specs.Crashes.{IsBookSafe, StandsForOne}
-use Rattle.group_book.specs.Saves.{IsListed, IsOther, IsSame, ListsChanges}
-use Rattle.group_book.specs.Told.{AreFlagged, HoldsBlocks, IsDefined, IsKept, IsReady, LeftOf, Saved, faults_of, moment_of, trace_of}
 use Rattle.group_book.proofs.Cuts.{cut-all, never_refl}
 use Rattle.group_book.proofs.Evaluations.{cut_windows}
 use Rattle.group_book.proofs.Ranges.{rows_range}

@@ -3,19 +3,13 @@ use Rattle.std.proofs.Common.{◌≡◌, ◌↔◌, ℕ, ◌<◌, Bool, true, fa
 use Rattle.std.proofs.Math.ListN.{get_or-append}
 use Rattle.std.proofs.Math.Seq.{get_or-append_seam}
 use Rattle.std.proofs.lemmas.List.Elements.{All-cons, All-nil, All-push}
-use Rattle.trend_num.specs.declared.archive.Rec.{Rec}
+use Rattle.trend_num.specs.{Rec}
 use Rattle.calc_check.specs.Group.{Group}
-use Rattle.calc_refresh.specs.Lists.{lists_of}
-use Rattle.group_layout.specs.Rows.{cell_of}
-use Rattle.sheet_law.specs.declared.grid.Grid.{Grid}
-use Rattle.sheet_law.specs.Scratch.{IsScratch}
-use Rattle.sheet_law.specs.Windows.{complete_windows}
-use Rattle.sheet_law.specs.Touched.{longer}
-use Rattle.group_book.specs.declared.turn.Turn.{Turn}
+use Rattle.calc_refresh.specs.{lists_of}
+use Rattle.group_layout.specs.{cell_of}
+use Rattle.sheet_law.specs.{Grid, IsScratch, complete_windows, longer}
+use Rattle.group_book.specs.{Turn, GroupOpening, BookWalk, after_turn, cut, saved_at, versions_since, book_walked, BookTurnsFit, BookTurnFits, IsRight, NeverFall, is_due_since, scratch_at}
 use Rattle.group_book.specs.declared.turn.Turn.TheVariants.{Refresh, Ask, Save}
-use Rattle.group_book.specs.declared.history.GroupOpening.{GroupOpening}
-use Rattle.group_book.specs.Tapes.{BookWalk, after_turn, cut, saved_at, versions_since, book_walked}
-use Rattle.group_book.specs.Histories.{BookTurnsFit, BookTurnFits, IsRight, NeverFall, is_due_since, scratch_at}
 use Rattle.group_book.proofs.Cuts.{cut-longer, never_refl, never_trans}
 
 -- ---- one more turn

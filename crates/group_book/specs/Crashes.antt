@@ -1,11 +1,9 @@
 -- What a crash leaves of a group's device.
 use Rattle.std.specs.Prelude.{ℕ, ◌≤◌, List, [], ◌∷◌, Contains, length}
-use Rattle.trend_num.specs.declared.archive.Rec.{Rec}
-use Rattle.trend_num.specs.declared.value.CalcValue.{CalcValue}
+use Rattle.trend_num.specs.{Rec, CalcValue}
 use Rattle.calc_check.specs.Group.{Group}
-use Rattle.sheet_law.specs.declared.grid.Grid.{Grid}
-use Rattle.sheet_law.specs.Scratch.{IsScratch}
-use Rattle.group_layout.specs.Images.{StandsFor}
+use Rattle.sheet_law.specs.{Grid, IsScratch}
+use Rattle.group_layout.specs.{StandsFor}
 use Rattle.group_book.specs.declared.turn.Turn.{Turn}
 use Rattle.group_book.specs.declared.history.GroupOpening.{GroupOpening}
 use Rattle.group_book.specs.Tapes.{cut, versions_since}

@@ -1,14 +1,10 @@
 -- Legal group histories: each turn on the tape is true.
 use Rattle.std.specs.Prelude.{◌≡◌, ◌↔◌, ℕ, ◌+◌, ◌-◌, ◌*◌, ◌^◌, ◌<◌, ◌≤◌, min, Bool, true, false, List, [], ◌∷◌, All, length, map, slice_index, slice_get, Option, None, Some, IfSome, IsSome, nat_lt, if◌then◌else◌}
-use Rattle.trend_num.specs.declared.archive.Rec.{Rec}
-use Rattle.trend_num.specs.declared.value.CalcValue.{CalcValue}
+use Rattle.trend_num.specs.{Rec, CalcValue}
 use Rattle.calc_check.specs.Group.{Group}
-use Rattle.sheet_law.specs.declared.grid.Grid.{Grid}
-use Rattle.sheet_law.specs.Number.{IsInRange}
-use Rattle.sheet_law.specs.Windows.{complete_windows}
-use Rattle.sheet_law.specs.Scratch.{IsScratch, column, due_below, is_due, values_at}
-use Rattle.calc_refresh.specs.Lists.{lists_of}
-use Rattle.group_layout.specs.Rows.{cell_of}
+use Rattle.sheet_law.specs.{Grid, IsInRange, complete_windows, IsScratch, column, due_below, is_due, values_at}
+use Rattle.calc_refresh.specs.{lists_of}
+use Rattle.group_layout.specs.{cell_of}
 use Rattle.group_book.specs.declared.turn.Turn.{Turn}
 use Rattle.group_book.specs.declared.turn.Turn.TheVariants.{Refresh, Ask, Save}
 use Rattle.group_book.specs.declared.history.GroupOpening.{GroupOpening}

@@ -1,10 +1,9 @@
 -- Lists of records, one for each input of a group, and what a refresh takes of them.
 use Rattle.std.specs.Prelude.{◌≡◌, ℕ, ◌+◌, ◌<◌, ◌≤◌, List, [], All, drop, length, map, slice_index, slice_index_or, Some}
-use Rattle.trend_num.specs.declared.archive.Rec.{Rec}
+use Rattle.trend_num.specs.{Rec}
 use Rattle.calc_refresh.specs.declared.refusal.SheetNo.TheVariants as sheet
-use Rattle.calc_refresh.specs.Refreshed.{fault_after}
-use Rattle.calc_refresh.specs.Sheet.{IsCopy}
-use Rattle.tag_cell.specs.declared.entry.Pulled.{Pulled}
+use Rattle.calc_refresh.specs.{fault_after, IsCopy}
+use Rattle.tag_cell.specs.{Pulled}
 use Rattle.group_book.specs.declared.refusal.RefreshNo.{RefreshNo}
 use Rattle.group_book.specs.declared.refusal.RefreshNo.TheVariants.{Ahead, CellLimit, CopyLimit, WantOfMemory}
 use Rattle.group_book.specs.Tapes.{uncut}

@@ -1,20 +1,13 @@
 -- What the opening of a group's device gives, and why a device is not opened.
 use Rattle.std.specs.Prelude.{◌≡◌, ℕ, ◌<◌, ◌≤◌, List, length, map, slice_index, slice_index_or, Option, None, Some, IfSome, Err}
-use Rattle.trend_num.specs.declared.archive.Rec.{Rec}
-use Rattle.trend_num.specs.declared.value.CalcValue.{CalcValue}
-use Rattle.archive_file.specs.declared.failure.ScanNo.{ScanNo}
+use Rattle.trend_num.specs.{Rec, CalcValue}
+use Rattle.archive_file.specs.{ScanNo}
 use Rattle.archive_file.specs.declared.failure.ScanNo.TheVariants as scan
-use Rattle.disk_model.specs.Calls.{CountsFault, Shows}
-use Rattle.disk_model.specs.Moments.{ComesAfter, During}
-use Rattle.disk_model.specs.Traces.{Device, Trace, moment}
-use Rattle.calc_refresh.specs.declared.definition.GroupDefParts.{GroupDefParts}
+use Rattle.disk_model.specs.{CountsFault, Shows, ComesAfter, During, Device, Trace, moment}
+use Rattle.calc_refresh.specs.{GroupDefParts, lists_of, shape_fault, grid_of}
 use Rattle.calc_refresh.specs.declared.refusal.SheetNo.TheVariants as sheet
-use Rattle.calc_refresh.specs.Lists.{lists_of}
-use Rattle.calc_refresh.specs.Refreshed.{shape_fault}
-use Rattle.calc_refresh.specs.Sheet.{grid_of}
-use Rattle.sheet_law.specs.Windows.{complete_windows}
-use Rattle.group_layout.specs.Images.{StandsFor, IsGroupDamage}
-use Rattle.group_layout.specs.Readings.{IsLeftOrSame}
+use Rattle.sheet_law.specs.{complete_windows}
+use Rattle.group_layout.specs.{StandsFor, IsGroupDamage, IsLeftOrSame}
 use Rattle.group_book.specs.declared.history.GroupOpening.{GroupOpening}
 use Rattle.group_book.specs.declared.refusal.LoadNo.{LoadNo}
 use Rattle.group_book.specs.declared.refusal.LoadNo.TheVariants.{DeviceFault, Damaged, Ahead, Shape, WantOfMemory}

@@ -1,16 +1,11 @@
 -- What a save writes: the rows that changed since the last one.
 use Rattle.std.specs.Prelude.{◌≡◌, ◌≢◌, ℕ, pos, ◌+◌, ◌<◌, ◌≤◌, true, false, List, ◌∷◌, ◌++◌, [], All, AllPairs, length, None, Some}
 use Rattle.trend_num.specs.declared.value.Bad.TheVariants.{NoData, DivZero, Range}
-use Rattle.trend_num.specs.declared.value.CalcValue.{CalcValue}
+use Rattle.trend_num.specs.{CalcValue}
 use Rattle.trend_num.specs.declared.value.CalcValue.TheVariants.{Num, Bad}
-use Rattle.disk_model.specs.Calls.{Sees}
-use Rattle.disk_model.specs.Gates.{open_byte}
-use Rattle.disk_model.specs.Traces.{seen, written, moment, Device}
-use Rattle.sheet_law.specs.Scratch.{column}
-use Rattle.sheet_law.specs.Windows.{complete_windows}
-use Rattle.group_layout.specs.declared.block.BlockRow.{BlockRow}
-use Rattle.group_layout.specs.Blocks.{AreRows, IsBefore, IsRow, BlockParts, block_image, block_size, comes_before}
-use Rattle.group_layout.specs.Rows.{cell_of, listed_from}
+use Rattle.disk_model.specs.{Sees, open_byte, seen, written, moment, Device}
+use Rattle.sheet_law.specs.{column, complete_windows}
+use Rattle.group_layout.specs.{BlockRow, AreRows, IsBefore, IsRow, BlockParts, block_image, block_size, comes_before, cell_of, listed_from}
 use Rattle.group_book.specs.declared.turn.Turn.TheVariants.{Save}
 use Rattle.group_book.specs.Histories.{AreValuesInRange}
 use Rattle.group_book.specs.Told.{ToldBook, versions_of}

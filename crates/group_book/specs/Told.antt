@@ -1,24 +1,13 @@
 -- What a clause sees of a book, what the book's type keeps, and what its calls change.
 use Rattle.std.specs.Prelude.{◌≡◌, ◌≢◌, ◌⊎◌, ◌==◌, ℕ, ◌+◌, ◌<◌, ◌≤◌, if◌then◌else◌, codes, Bool, true, false, List, [], ◌∷◌, ◌++◌, All, length, map, Option, None, Some, IfSome, IsSome, slice_index, slice_index_or, Vec}
 use Rattle.std.specs.declared.alloc.Global.{Global}
-use Rattle.trend_num.specs.declared.archive.Rec.{Rec}
-use Rattle.trend_num.specs.declared.value.CalcValue.{CalcValue}
-use Rattle.disk_model.specs.Calls.{Rose}
-use Rattle.disk_model.specs.Gates.{IsShut}
-use Rattle.disk_model.specs.Images.{IsSettled}
-use Rattle.disk_model.specs.Moments.{LeftSince}
-use Rattle.disk_model.specs.Traces.{Device, FitsName, Trace, moment, seen}
-use Rattle.tag_cell.specs.declared.entry.Pulled.{Pulled}
-use Rattle.calc_refresh.specs.declared.definition.GroupDefParts.{GroupDefParts}
-use Rattle.calc_refresh.specs.Lists.{lists_of}
-use Rattle.calc_refresh.specs.Refreshed.{IsRefreshed}
-use Rattle.calc_refresh.specs.Sheet.{IsGrid, IsGroup, SheetState, grid_of}
-use Rattle.sheet_law.specs.Windows.{complete_windows}
-use Rattle.sheet_law.specs.Scratch.{IsScratch, column}
-use Rattle.group_layout.specs.Blocks.{BlockParts, end_of, last_of, unsaved}
-use Rattle.archive_file.specs.TextHeads.{blocks_at}
-use Rattle.group_layout.specs.Images.{HasSaved}
-use Rattle.group_layout.specs.Rows.{cell_of}
+use Rattle.trend_num.specs.{Rec, CalcValue}
+use Rattle.disk_model.specs.{Rose, IsShut, IsSettled, LeftSince, Device, FitsName, Trace, moment, seen}
+use Rattle.tag_cell.specs.{Pulled}
+use Rattle.calc_refresh.specs.{GroupDefParts, lists_of, IsRefreshed, IsGrid, IsGroup, SheetState, grid_of}
+use Rattle.sheet_law.specs.{complete_windows, IsScratch, column}
+use Rattle.group_layout.specs.{BlockParts, end_of, last_of, unsaved, HasSaved, cell_of}
+use Rattle.archive_file.specs.{blocks_at}
 use Rattle.group_book.specs.declared.history.GroupHistory.{GroupHistory}
 use Rattle.group_book.specs.declared.history.GroupOpening.{GroupOpening}
 use Rattle.group_book.specs.declared.turn.Turn.{Turn}

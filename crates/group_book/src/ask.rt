@@ -1,6 +1,6 @@
 // A question about a group's rows.
 ghost use Rattle.std.specs.Prelude.{◌≡◌, ◌↔◌, ◌<◌, IfOk, IsSome, OnErr, length};
-ghost use Rattle.sheet_law.specs.Windows.{complete_windows};
+ghost use Rattle.sheet_law.specs.{complete_windows};
 ghost use Rattle.group_book.specs.Told.{IsAsked};
 
 use crate::book::Book;

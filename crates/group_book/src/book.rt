@@ -1,9 +1,8 @@
 // A book: a group with all that lies under its lock.
 ghost use Rattle.std.specs.Prelude.{◌≡◌, ◌<◌, List, false, length, slice_index_or, true};
-ghost use Rattle.disk_model.specs.Calls.{Rose};
-ghost use Rattle.trend_num.specs.declared.archive.Rec.{Rec};
-ghost use Rattle.calc_refresh.specs.Lists.{lists_of};
-ghost use Rattle.calc_refresh.specs.Sheet.{grid_of};
+ghost use Rattle.disk_model.specs.{Rose};
+ghost use Rattle.trend_num.specs.{Rec};
+ghost use Rattle.calc_refresh.specs.{lists_of, grid_of};
 ghost use Rattle.group_book.specs.Openings.{BookBeganWell};
 ghost use Rattle.group_book.specs.Told.{IsBookHistory, IsOnDevice, IsOwnDevice, faults_of, moment_of, trace_of, versions_of};
 
@@ -42,10 +41,8 @@ pub struct Book<D: Disk> {
 
 impl<D: Disk> Model for Book<D> {
     ghost use Rattle.std.specs.Coded.{codes};
-    ghost use Rattle.calc_check.specs.Code.{group_code};
-    ghost use Rattle.calc_refresh.specs.Code.{sheet_code};
-    ghost use Rattle.calc_refresh.specs.Lists.{lists_of};
-    ghost use Rattle.calc_refresh.specs.Sheet.{grid_of};
+    ghost use Rattle.calc_check.specs.{group_code};
+    ghost use Rattle.calc_refresh.specs.{sheet_code, lists_of, grid_of};
     ghost use Rattle.group_book.specs.Crashes.{IsBookSafe};
     ghost use Rattle.group_book.specs.Histories.{AreRowsEvaluated, IsBookLegal};
     ghost use Rattle.group_book.specs.Told.{ToldBook, AreFlagged, IsDefined, IsKept, IsWellHeld, LeftOf, faults_of, moment_of, trace_of};

@@ -1,8 +1,8 @@
 // The cells of a sheet that changed since the last save.
 ghost use Rattle.std.specs.Prelude.{◌≡◌, ◌≢◌, ◌⊎◌, ◌+◌, ◌<◌, ◌∷◌, ◌++◌, [], IfOk, IfSome, OnOk, length};
-ghost use Rattle.sheet_law.specs.Windows.{complete_windows};
-ghost use Rattle.calc_refresh.specs.Lists.{lists_of};
-ghost use Rattle.group_layout.specs.Rows.{cell_of};
+ghost use Rattle.sheet_law.specs.{complete_windows};
+ghost use Rattle.calc_refresh.specs.{lists_of};
+ghost use Rattle.group_layout.specs.{cell_of};
 ghost use Rattle.group_book.specs.Saves.{HasAllChanges, ListedUpTo, ListsChanges, row_of};
 
 use calc_refresh::{Bad, CalcValue, Sheet};

@@ -1,7 +1,6 @@
 // The refresh of a book from lists of records.
 ghost use Rattle.std.specs.Prelude.{◌≡◌, ◌<◌, ◌≤◌, [], All, IfErr, IfOk, OnErr, OnOk, length, map, slice_index_or};
-ghost use Rattle.calc_refresh.specs.Refreshed.{fault_after};
-ghost use Rattle.calc_refresh.specs.Sheet.{IsCopy, grid_of};
+ghost use Rattle.calc_refresh.specs.{fault_after, IsCopy, grid_of};
 ghost use Rattle.group_book.specs.InputLists.{ArePullsOf, IsListsRefusal, IsPullAhead, IsPullOf, IsPullRefusal, lists_at};
 ghost use Rattle.group_book.specs.Refusals.{IsBookToldOf};
 ghost use Rattle.group_book.specs.Tapes.{uncut};

@@ -1,18 +1,13 @@
 // A book over the device of its group.
 ghost use Rattle.std.specs.Prelude.{◌≡◌, ◌^◌, ◌<◌, ◌≤◌, [], All, Some, IfErr, IfOk, IfSome, IsSome, OnOk, false, length, map, replicate, take, vec_len};
-ghost use Rattle.disk_model.specs.Calls.{Shows};
-ghost use Rattle.disk_model.specs.Moments.{During};
-ghost use Rattle.disk_model.specs.Traces.{FitsName};
-ghost use Rattle.calc_refresh.specs.Lists.{lists_of};
-ghost use Rattle.calc_refresh.specs.Refreshed.{fresh};
-ghost use Rattle.calc_refresh.specs.Sheet.{AreRowsWhole, IsCopy, IsGrid, IsGroup, grid_of};
-ghost use Rattle.group_layout.specs.Readings.{GainsGroupSync, HasShape};
-ghost use Rattle.group_layout.specs.Images.{IsUnsaved};
-ghost use Rattle.archive_file.specs.TextHeads.{TextOpensAt};
+ghost use Rattle.disk_model.specs.{Shows, During, FitsName};
+ghost use Rattle.calc_refresh.specs.{lists_of, fresh, AreRowsWhole, IsCopy, IsGrid, IsGroup, grid_of};
+ghost use Rattle.group_layout.specs.{GainsGroupSync, HasShape, IsUnsaved};
+ghost use Rattle.archive_file.specs.{TextOpensAt};
 ghost use Rattle.group_book.specs.declared.refusal.LoadNo.TheVariants.{Ahead, Damaged, DeviceFault, Shape};
 ghost use Rattle.group_book.specs.Openings.{CountsBookRefusal, IsAheadOrMemory, IsBookCause, IsRefused, StandsForGroup, BookStaysSame, scan_refusal};
 ghost use Rattle.group_book.specs.Tapes.{cut};
-ghost use Rattle.sheet_law.specs.Windows.{complete_windows};
+ghost use Rattle.sheet_law.specs.{complete_windows};
 ghost use Rattle.group_book.specs.Told.{HoldsBlocks, device_name_of, faults_of, moment_of, versions_of};
 
 use crate::book::Book;

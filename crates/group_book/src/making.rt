@@ -1,8 +1,6 @@
 // A book without a device.
 ghost use Rattle.std.specs.Prelude.{◌≡◌, [], IfOk, None, false, length, replicate, vec_len};
-ghost use Rattle.calc_refresh.specs.Lists.{lists_of};
-ghost use Rattle.calc_refresh.specs.Refreshed.{fresh};
-ghost use Rattle.calc_refresh.specs.Sheet.{IsGrid, IsGroup, grid_of};
+ghost use Rattle.calc_refresh.specs.{lists_of, fresh, IsGrid, IsGroup, grid_of};
 
 use crate::book::Book;
 use crate::history::GroupOpening;

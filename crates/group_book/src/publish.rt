@@ -1,8 +1,6 @@
 // Taking records into account.
 ghost use Rattle.std.specs.Prelude.{◌≡◌, ◌+◌, All, IfErr, IfOk, OnErr, OnOk, length, map, vec_len, vec_capacity, ◌<◌};
-ghost use Rattle.calc_refresh.specs.Lists.{lists_of};
-ghost use Rattle.calc_refresh.specs.Refreshed.{evaluated, fault_after};
-ghost use Rattle.calc_refresh.specs.Sheet.{IsCopy};
+ghost use Rattle.calc_refresh.specs.{lists_of, evaluated, fault_after, IsCopy};
 ghost use Rattle.group_book.specs.Told.{GoesOn, IsPublished, pulled_records, versions_of};
 ghost use Rattle.group_book.specs.Refusals.{IsBookToldOf};
 

@@ -1,8 +1,8 @@
 // The refresh of a book from the cells of its inputs.
 ghost use Rattle.std.specs.Prelude.{◌≡◌, ℕ, ◌+◌, ◌<◌, ◌≤◌, [], List, All, IfErr, IfOk, OnErr, OnOk, length, slice_index, slice_index_or};
-ghost use Rattle.trend_num.specs.declared.archive.Rec.{Rec};
-ghost use Rattle.calc_refresh.specs.Sheet.{IsCopy};
-ghost use Rattle.tag_cell.specs.declared.entry.Pulled.{Pulled};
+ghost use Rattle.trend_num.specs.{Rec};
+ghost use Rattle.calc_refresh.specs.{IsCopy};
+ghost use Rattle.tag_cell.specs.{Pulled};
 ghost use Rattle.group_book.specs.Told.{GivesNone, IsPublished, pulled_records, versions_of};
 ghost use Rattle.group_book.specs.Refusals.{IsAheadAt, IsPullCause, IsRefreshCause};
 

@@ -1,8 +1,8 @@
 // Saving the rows of a group.
 ghost use Rattle.std.specs.Prelude.{◌≡◌, ◌↔◌, ◌+◌, IfOk, IsErrOf, IsOk, None, OnOk, Some, length, true};
-ghost use Rattle.disk_model.specs.Calls.{CountsFault};
-ghost use Rattle.calc_refresh.specs.Lists.{lists_of};
-ghost use Rattle.sheet_law.specs.Windows.{complete_windows};
+ghost use Rattle.disk_model.specs.{CountsFault};
+ghost use Rattle.calc_refresh.specs.{lists_of};
+ghost use Rattle.sheet_law.specs.{complete_windows};
 ghost use Rattle.group_book.specs.declared.refusal.SaveNo.TheVariants.{Broken, DeviceFault, WantOfMemory as NoMemory};
 ghost use Rattle.group_book.specs.Saves.{HasAllChanges, IsBookFaulted, IsSaved, ListsChanges};
 ghost use Rattle.group_book.specs.Told.{faults_of};

@@ -1,6 +1,6 @@
 // The saved rows of a book, as a save brings them up to those of the sheet.
 ghost use Rattle.std.specs.Prelude.{◌≡◌, ◌⊎◌, ℕ, ◌<◌, ◌≤◌, All, Contains, OnOk, length, slice_get, vec_capacity, vec_len};
-ghost use Rattle.calc_refresh.specs.Lists.{lists_of};
+ghost use Rattle.calc_refresh.specs.{lists_of};
 ghost use Rattle.group_book.specs.Saves.{HasAllChanges};
 
 use crate::unsaved::room_for_flags;

@@ -1,17 +1,9 @@
 -- What a crash leaves while a group's device is begun, or a block is added.
 use Rattle.std.proofs.Common.{◌≡◌, inl, inr, ℕ, ◌*◌, List, [], ◌∷◌, ◌++◌, length, refl, arith, length-append}
-use Rattle.disk_model.specs.Traces.{Trace}
-use Rattle.disk_model.specs.Images.{Now, FromOld, IsSettled}
-use Rattle.disk_model.specs.Moments.{During}
-use Rattle.disk_model.specs.Calls.{Shows}
-use Rattle.disk_model.specs.Gates.{IsGuarded, IsShut}
+use Rattle.disk_model.specs.{Trace, Now, FromOld, IsSettled, During, Shows, IsGuarded, IsShut}
 use Rattle.disk_model.proofs.Moments.{started, weaker}
-use Rattle.archive_file.specs.Fields.{number_bytes}
-use Rattle.group_layout.specs.declared.block.BlockRow.{BlockRow}
-use Rattle.group_layout.specs.Blocks.{BlockParts, block_image, block_size, row_image, rows_image, versions_image}
-use Rattle.group_layout.specs.Images.{IsUnsaved, letters}
-use Rattle.group_layout.specs.Readings.{SavesNothing}
-use Rattle.archive_file.specs.TextHeads.{IsLeftOrBegun}
+use Rattle.archive_file.specs.{number_bytes, IsLeftOrBegun}
+use Rattle.group_layout.specs.{BlockRow, BlockParts, block_image, block_size, row_image, rows_image, versions_image, IsUnsaved, letters, SavesNothing}
 use Rattle.archive_file.proofs.ReadImages.{shown_now}
 
 -- ---- a device is begun

@@ -1,18 +1,12 @@
 -- A block after others: what an image has while it is added.
 use Rattle.std.proofs.Common.{◌≡◌, ◌≢◌, ℕ, ◌+◌, ◌<◌, ◌≤◌, List, [], ◌∷◌, ◌++◌, length, get_or, sym, ap, ◌∙◌, subst, arith, length-append}
-use Rattle.trend_num.specs.declared.value.CalcValue.{CalcValue}
-use Rattle.disk_model.specs.Calls.{Sees}
-use Rattle.disk_model.specs.Images.{FromOld, IsSettled, Now}
-use Rattle.disk_model.specs.Moments.{During}
-use Rattle.disk_model.specs.Traces.{Trace, seen, written}
+use Rattle.trend_num.specs.{CalcValue}
+use Rattle.disk_model.specs.{Sees, FromOld, IsSettled, Now, During, Trace, seen, written, IsGuarded, IsOpen, IsShut, open_byte}
 use Rattle.disk_model.proofs.Bytes.{length-written}
 use Rattle.disk_model.proofs.Images.{present}
 use Rattle.disk_model.proofs.Moments.{during_now}
-use Rattle.disk_model.specs.Gates.{IsGuarded, IsOpen, IsShut, open_byte}
-use Rattle.group_layout.specs.Blocks.{HasBlock, HasBlocks, MayFollow, BlockParts, block_image, block_size, end_of, last_of, unsaved}
-use Rattle.archive_file.specs.TextHeads.{IsOfText, blocks_at}
-use Rattle.group_layout.specs.Images.{HasSaved, letters}
-use Rattle.group_layout.specs.Rows.{AreRowsOf}
+use Rattle.group_layout.specs.{HasBlock, HasBlocks, MayFollow, BlockParts, block_image, block_size, end_of, last_of, unsaved, HasSaved, letters, AreRowsOf}
+use Rattle.archive_file.specs.{IsOfText, blocks_at}
 use Rattle.archive_file.proofs.TextHeads.{head_same}
 use Rattle.archive_file.proofs.PlacedBytes.{SameFront, guarded_front, holds_left, next_shut, part_same, written_byte}
 use Rattle.group_layout.proofs.Beginnings.{length-block_image}

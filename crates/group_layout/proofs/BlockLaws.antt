@@ -1,15 +1,12 @@
 -- A block, read in turn: its number, the versions, how many windows and rows, the rows, and the next gate.
-use Rattle.std.proofs.Common.{◌≡◌, ℕ, zero, suc, ◌+◌, ◌*◌, ◌<◌, ◌≤◌, ◌&&◌, Bool, true, All, List, [], ◌∷◌, ◌++◌, drop, length, get_or, map, Option, None, Some, refl, sym, ap, ◌∙◌, subst, arith, nat_eq, nat_le, nat_lt, lit<, eqb-true, leb-true}
+use Rattle.std.proofs.Common.{◌≡◌, ℕ, zero, suc, ◌+◌, ◌*◌, ◌<◌, ◌≤◌, ◌&&◌, Bool, true, All, List, [], ◌∷◌, ◌++◌, drop, length, get_or, map, Option, None, Some, refl, sym, ap, ◌∙◌, subst, arith, nat_eq, nat_le, nat_lt, lit<, eqb-true}
+use Rattle.std.proofs.Common.{leb-true}
 use Rattle.std.proofs.lemmas.List.{get_or-drop, map-append}
 use Rattle.std.specs.Int.{w64, cast_signed}
-use Rattle.archive_file.specs.BlockFiles.{moved}
-use Rattle.archive_file.specs.Fields.{number_bytes}
-use Rattle.archive_file.specs.declared.layout_field.Field.{Field}
-use Rattle.archive_file.specs.LayoutFields.{Keeps, Spells, long_at, short_at}
+use Rattle.archive_file.specs.{moved, number_bytes, Field, Keeps, Spells, long_at, short_at}
 use Rattle.archive_file.proofs.FieldLaws.{KeptUpTo, field_of, kept_more, kept_none}
 use Rattle.archive_file.proofs.Windows.{rest_long, rest_short, then_spelled}
-use Rattle.group_layout.specs.declared.block.BlockRow.{BlockRow}
-use Rattle.group_layout.specs.Blocks.{BlockParts, AreRows, MayFollow, block_fields, block_image, block_size, is_calc_in_order, is_in_order, is_value_ok, row_at, row_fields, rows_fields, rows_image, version_fields, versions_image}
+use Rattle.group_layout.specs.{BlockRow, BlockParts, AreRows, MayFollow, block_fields, block_image, block_size, is_calc_in_order, is_in_order, is_value_ok, row_at, row_fields, rows_fields, rows_image, version_fields, versions_image}
 
 -- the number's field, and the fields after the versions, which end at a place
 abbrev pub number_field : List ℕ → BlockParts → Field

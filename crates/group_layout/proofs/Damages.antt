@@ -1,15 +1,10 @@
 -- Where a group's device is damaged, from what was read of it.
 use Rattle.std.proofs.Common.{ℕ, List, length, Option}
-use Rattle.disk_model.specs.Calls.{Shows}
-use Rattle.disk_model.specs.Gates.{IsBegun}
-use Rattle.disk_model.specs.Traces.{Trace}
-use Rattle.archive_file.specs.LayoutFields.{BreaksFirst}
-use Rattle.archive_file.specs.TextHeads.{IsOfText, blocks_at, head_fields}
+use Rattle.disk_model.specs.{Shows, IsBegun, Trace}
+use Rattle.archive_file.specs.{BreaksFirst, IsOfText, blocks_at, head_fields}
 use Rattle.archive_file.proofs.ReadImages.{shows_both}
-use Rattle.group_layout.specs.Blocks.{AreBlocks, AreDamaged, BlockParts}
-use Rattle.group_layout.specs.Images.{IsGroupDamage, letters}
+use Rattle.group_layout.specs.{AreBlocks, AreDamaged, BlockParts, IsGroupDamage, letters, IsIncomplete}
 use Rattle.group_layout.specs.Images.IsGroupDamage.{BadBlock, BadHead, BadRows}
-use Rattle.group_layout.specs.Rows.{IsIncomplete}
 
 module _ (o : Trace) (text : List ℕ) (inputs calcs a : ℕ) (byte : Option ℕ) where
   -- in its head

@@ -1,10 +1,8 @@
 -- Fewer rows than cells leave a cell without a value.
 use Rattle.std.proofs.Common.{◌≡◌, inl, inr, ℕ, zero, suc, ◌+◌, ◌*◌, ◌<◌, ◌≤◌, List, [], ◌∷◌, length, get_or, map, drop, set, fold, replicate, Option, None, Some, refl, sym, ap, ◌∙◌, arith}
 use Rattle.std.proofs.lemmas.Bool.{cases_lt}
-use Rattle.trend_num.specs.declared.value.CalcValue.{CalcValue}
-use Rattle.group_layout.specs.declared.block.BlockRow.{BlockRow}
-use Rattle.group_layout.specs.Blocks.{BlockParts}
-use Rattle.group_layout.specs.Rows.{rows_of_blocks, saved_value, value_of, with_row}
+use Rattle.trend_num.specs.{CalcValue}
+use Rattle.group_layout.specs.{BlockRow, BlockParts, rows_of_blocks, saved_value, value_of, with_row}
 use Rattle.group_layout.proofs.SavedRows.{lengths_saved, cells_saved}
 
 -- how many of these cells have a value

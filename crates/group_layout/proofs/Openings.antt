@@ -2,21 +2,14 @@
 use Rattle.std.proofs.Common.{◌≡◌, ◌⊎◌, inl, inr, ℕ, zero, suc, All, List, [], ◌∷◌, length, map, replicate, Result, Ok, Err, IfOk, refl, sym, ap, ◌∙◌, subst, arith}
 use Rattle.std.proofs.lemmas.List.{length-map, length-replicate}
 use Rattle.std.proofs.lemmas.List.Elements.{All-head, All-tail}
-use Rattle.trend_num.specs.declared.value.CalcValue.{CalcValue}
-use Rattle.disk_model.specs.Traces.{Synced, Trace, noted, seen}
-use Rattle.disk_model.specs.Moments.{During}
-use Rattle.disk_model.specs.Calls.{Shows}
+use Rattle.trend_num.specs.{CalcValue}
+use Rattle.disk_model.specs.{Synced, Trace, noted, seen, During, Shows}
 use Rattle.disk_model.proofs.Moments.{in_turn, weaker}
-use Rattle.group_layout.specs.declared.block.Block.{Block}
-use Rattle.group_layout.specs.declared.layout_reader.Found.{Found}
+use Rattle.group_layout.specs.{Block, Found, SavedGroup, last_of, parts_of, unsaved, ByBlocks, ByNothing, HasSaved, IsUnsaved, StandsFor, letters, GainsGroupSync, HasShape, IsFound, IsLeftOrSame, IsReadOf, SavesNothing, StandsSame}
+use Rattle.group_layout.specs.{AreRowsOf, block_lists_of}
 use Rattle.group_layout.specs.declared.layout_reader.Found.TheVariants.{New, Other, Saved}
-use Rattle.group_layout.specs.declared.layout_reader.SavedGroup.{SavedGroup}
-use Rattle.group_layout.specs.Blocks.{last_of, parts_of, unsaved}
-use Rattle.archive_file.specs.TextHeads.{IsEmpty}
+use Rattle.archive_file.specs.{IsEmpty}
 use Rattle.archive_file.proofs.Beginnings.{not_new}
-use Rattle.group_layout.specs.Images.{ByBlocks, ByNothing, HasSaved, IsUnsaved, StandsFor, letters}
-use Rattle.group_layout.specs.Readings.{GainsGroupSync, HasShape, IsFound, IsLeftOrSame, IsReadOf, SavesNothing, StandsSame}
-use Rattle.group_layout.specs.Rows.{AreRowsOf, block_lists_of}
 
 -- no blocks give rows without values
 none_given : (calcs : ℕ) (rows : List (List CalcValue)) → length rows ≡ calcs → All (λ row. length row ≡ 0) rows → rows ≡ replicate calcs []

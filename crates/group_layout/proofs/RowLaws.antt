@@ -1,15 +1,13 @@
 -- A row whose fields are kept.
-use Rattle.std.proofs.Common.{◌≡◌, ℕ, suc, ◌+◌, ◌-◌, ◌^◌, ◌<◌, ◌≤◌, inl, inr, true, List, [], ◌∷◌, ◌++◌, All, AllPairs, length, get_or, MatchOption, length-append, Option, None, Some, refl, sym, ap, ◌∙◌, subst, arith, lit<, ltb-true, leb-true}
+use Rattle.std.proofs.Common.{◌≡◌, ℕ, suc, ◌+◌, ◌-◌, ◌^◌, ◌<◌, ◌≤◌, inl, inr, true, List, [], ◌∷◌, ◌++◌, All, AllPairs, length, get_or, MatchOption, length-append, Option, None, Some, refl, sym, ap, ◌∙◌, subst, arith, lit<, ltb-true}
+use Rattle.std.proofs.Common.{leb-true}
 use Rattle.std.proofs.Math.Seq.{get_or-append_seam}
 use Rattle.std.proofs.lemmas.Bool.{and_parts, cases_lt}
 use Rattle.std.proofs.lemmas.Bool.Decides.{nat_tests}
 use Rattle.std.proofs.lemmas.List.Quantifiers.{all_pairs_push}
-use Rattle.group_layout.specs.declared.block.BlockRow.{BlockRow}
-use Rattle.archive_file.specs.declared.layout_field.Field.{Field}
-use Rattle.archive_file.specs.LayoutFields.{BreaksFirst, Keeps, Spells, long_at, short_at}
-use Rattle.archive_file.specs.Fields.{number_bytes, value_bytes}
+use Rattle.group_layout.specs.{BlockRow, IsBefore, IsRow, comes_before, is_in_order, row_at, row_fields, row_image, rows_fields}
+use Rattle.archive_file.specs.{Field, BreaksFirst, Keeps, Spells, long_at, short_at, number_bytes, value_bytes}
 use Rattle.std.specs.Int.{w64, cast_signed}
-use Rattle.group_layout.specs.Blocks.{IsBefore, IsRow, comes_before, is_in_order, row_at, row_fields, row_image, rows_fields}
 use Rattle.archive_file.proofs.FieldLaws.{KeptUpTo, breaks_after, breaks_within, kept_more}
 use Rattle.archive_file.proofs.Windows.{then_spelled, value_spelled}
 

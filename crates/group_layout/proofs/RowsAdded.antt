@@ -5,10 +5,8 @@ use Rattle.std.proofs.lemmas.Grind.{flat_map-append}
 use Rattle.std.proofs.lemmas.List.{append-nil}
 use Rattle.std.proofs.lemmas.List.Elements.{All-head, All-tail}
 use Rattle.std.proofs.lemmas.Option.{slice_get-get_or, slice_get_cases, slice_get_past}
-use Rattle.trend_num.specs.declared.value.CalcValue.{CalcValue}
-use Rattle.group_layout.specs.declared.block.BlockRow.{BlockRow}
-use Rattle.group_layout.specs.Blocks.{BlockParts}
-use Rattle.group_layout.specs.Rows.{AreRowsOf, rows_of_blocks, cell_of, is_at, listed_from, saved_value, value_of}
+use Rattle.trend_num.specs.{CalcValue}
+use Rattle.group_layout.specs.{BlockRow, BlockParts, AreRowsOf, rows_of_blocks, cell_of, is_at, listed_from, saved_value, value_of}
 use Rattle.group_layout.proofs.SavedRows.{listed-append}
 
 -- ---- cells

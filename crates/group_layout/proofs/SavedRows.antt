@@ -9,11 +9,8 @@ use Rattle.std.proofs.lemmas.Bool.Decides.{eqb_tells}
 use Rattle.std.proofs.lemmas.List.{drop_more, get_or-map, get_or-replicate, get_or-set_other, get_or-set_same, length-map, length-replicate, length-set, map-set}
 use Rattle.std.proofs.lemmas.List.Sums.{fold-append}
 use Rattle.std.proofs.lemmas.List.Elements.{All-push}
-use Rattle.trend_num.specs.declared.value.CalcValue.{CalcValue}
-use Rattle.group_layout.specs.declared.block.Block.{Block}
-use Rattle.group_layout.specs.declared.block.BlockRow.{BlockRow}
-use Rattle.group_layout.specs.Blocks.{BlockParts, parts_of}
-use Rattle.group_layout.specs.Rows.{AreRowsOf, block_lists_of, rows_of_blocks, is_at, listed_from, saved_value, value_of, with_row}
+use Rattle.trend_num.specs.{CalcValue}
+use Rattle.group_layout.specs.{Block, BlockRow, BlockParts, parts_of, AreRowsOf, block_lists_of, rows_of_blocks, is_at, listed_from, saved_value, value_of, with_row}
 
 -- rows after rows
 pub listed-append : (v : Option CalcValue) (xs ys : List BlockRow) (calc k : ℕ)

@@ -1,9 +1,8 @@
 -- The versions of a block, read in turn.
 use Rattle.std.proofs.Common.{ℕ, ◌+◌, ◌<◌, All, List, [], ◌∷◌, ◌++◌, length, get_or, drop, Option, subst, nat_le}
 use Rattle.std.proofs.lemmas.List.{drop_more}
-use Rattle.archive_file.specs.declared.layout_field.Field.{Field}
-use Rattle.archive_file.specs.LayoutFields.{BreaksFirst, Keeps, short_at}
-use Rattle.group_layout.specs.Blocks.{version_fields}
+use Rattle.archive_file.specs.{Field, BreaksFirst, Keeps, short_at}
+use Rattle.group_layout.specs.{version_fields}
 use Rattle.archive_file.proofs.FieldLaws.{KeptUpTo, breaks_after, breaks_within, field_of, kept_more}
 
 module _ (c : List ℕ) (before : List ℕ) (start at i : ℕ) (low : i < length before)

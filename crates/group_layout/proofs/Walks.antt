@@ -1,15 +1,11 @@
 -- Blocks one after the other, and one more.
 use Rattle.std.proofs.Common.{◌≡◌, inl, inr, ℕ, suc, ◌+◌, ◌-◌, ◌<◌, ◌≤◌, List, [], ◌∷◌, ◌++◌, drop, map, length, get_or, Option, refl, sym, ap, ◌∙◌, subst, arith, length-drop}
 use Rattle.std.proofs.lemmas.List.{length-replicate}
-use Rattle.disk_model.specs.Gates.{IsOpen, IsShut}
-use Rattle.archive_file.specs.declared.layout_field.Field.{Field}
-use Rattle.archive_file.specs.BlockFiles.{AreAllRead, AreRead, IsFirstBroken, Step}
-use Rattle.archive_file.specs.LayoutFields.{BreaksFirst}
+use Rattle.disk_model.specs.{IsOpen, IsShut}
+use Rattle.archive_file.specs.{Field, AreAllRead, AreRead, IsFirstBroken, Step, BreaksFirst}
 use Rattle.archive_file.proofs.BlockFiles.{read_keeps}
 use Rattle.archive_file.proofs.Windows.{rest_spells}
-use Rattle.group_layout.specs.declared.block.Block.{Block}
-use Rattle.group_layout.specs.declared.block_reader.GroupReader.{GroupReader}
-use Rattle.group_layout.specs.Blocks.{AddsBlock, AreBlocks, AreDamaged, BlockParts, HasBlock, HasBlocks, block_fields, block_image, block_size, end_of, last_of, last_read, parts_of, unsaved}
+use Rattle.group_layout.specs.{Block, GroupReader, AddsBlock, AreBlocks, AreDamaged, BlockParts, HasBlock, HasBlocks, block_fields, block_image, block_size, end_of, last_of, last_read, parts_of, unsaved}
 use Rattle.group_layout.proofs.BlockLaws.{block_here}
 
 -- the last of blocks and one more is that one

@@ -1,13 +1,12 @@
 -- Blocks: what the saves of a group leave, one after the other, each after its gate.
-use Rattle.std.specs.Prelude.{◌≡◌, ◌⊎◌, ℕ, ℤ, pos, zero, suc, ◌+◌, ◌*◌, ◌<◌, ◌≤◌, Bool, true, ◌&&◌, ◌||◌, List, [], ◌∷◌, ◌++◌, All, AllPairs, length, flat_map, map, replicate, slice_index, Option, None, Some, nat_eq, nat_le, nat_lt, unsigned_abs, if◌then◌else◌}
+use Rattle.std.specs.Prelude.{◌≡◌, ◌⊎◌, ℕ, ℤ, pos, zero, suc, ◌+◌, ◌*◌, ◌<◌, ◌≤◌, Bool, true, ◌&&◌, ◌||◌, List, [], ◌∷◌, ◌++◌, All, AllPairs, length, flat_map, map, replicate, slice_index, Option, None, Some, nat_eq, nat_le, nat_lt}
+use Rattle.std.specs.Prelude.{unsigned_abs, if◌then◌else◌}
 use Rattle.std.specs.Ordering.{int_eq}
 use Rattle.std.specs.Int.{w64, cast_signed}
-use Rattle.disk_model.specs.Gates.{IsOpen, IsShut, Holds}
-use Rattle.archive_file.specs.Fields.{number_bytes, value_bytes}
+use Rattle.disk_model.specs.{IsOpen, IsShut, Holds}
+use Rattle.archive_file.specs.{number_bytes, value_bytes, Field, BreaksFirst, EndsIn, Spells, long_at, short_at}
 use Rattle.group_layout.specs.declared.block.BlockRow.{BlockRow}
 use Rattle.group_layout.specs.declared.block.Block.{Block}
-use Rattle.archive_file.specs.declared.layout_field.Field.{Field}
-use Rattle.archive_file.specs.LayoutFields.{BreaksFirst, EndsIn, Spells, long_at, short_at}
 
 -- what a block records: its number, the versions of the inputs, how many windows are complete, and the rows that
 -- changed

@@ -1,9 +1,8 @@
 -- What an image of a group's device stands for, and where it is damaged.
 use Rattle.std.specs.Prelude.{◌≡◌, ◌≢◌, ◌⊎◌, ℕ, List, [], codes, length, replicate, Option}
-use Rattle.trend_num.specs.declared.value.CalcValue.{CalcValue}
-use Rattle.disk_model.specs.Gates.{IsBegun, IsNew}
-use Rattle.archive_file.specs.LayoutFields.{BreaksFirst}
-use Rattle.archive_file.specs.TextHeads.{HasHead, IsOfText, blocks_at, head_fields, text_in}
+use Rattle.trend_num.specs.{CalcValue}
+use Rattle.disk_model.specs.{IsBegun, IsNew}
+use Rattle.archive_file.specs.{BreaksFirst, HasHead, IsOfText, blocks_at, head_fields, text_in}
 use Rattle.group_layout.specs.Blocks.{BlockParts, AreBlocks, AreDamaged, unsaved, last_of}
 use Rattle.group_layout.specs.Rows.{AreRowsOf, IsIncomplete}
 

@@ -1,11 +1,8 @@
 -- What was found on a group's device, and what a device is begun with.
 use Rattle.std.specs.Prelude.{◌≡◌, ◌⊎◌, ℕ, ◌^◌, ◌<◌, All, List, length}
-use Rattle.trend_num.specs.declared.value.CalcValue.{CalcValue}
-use Rattle.disk_model.specs.Gates.{IsNew}
-use Rattle.disk_model.specs.Images.{MayLeave}
-use Rattle.disk_model.specs.Calls.{Shows}
-use Rattle.disk_model.specs.Traces.{Synced, Trace, noted, seen}
-use Rattle.archive_file.specs.TextHeads.{IsEmpty, blocks_at}
+use Rattle.trend_num.specs.{CalcValue}
+use Rattle.disk_model.specs.{IsNew, MayLeave, Shows, Synced, Trace, noted, seen}
+use Rattle.archive_file.specs.{IsEmpty, blocks_at}
 use Rattle.group_layout.specs.declared.layout_reader.Found.{Found}
 use Rattle.group_layout.specs.declared.layout_reader.Found.TheVariants.{New, Other, Saved}
 use Rattle.group_layout.specs.declared.layout_reader.SavedGroup.{SavedGroup}

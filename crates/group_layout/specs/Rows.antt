@@ -2,7 +2,7 @@
 use Rattle.std.specs.Prelude.{◌≡◌, ℕ, ◌+◌, ◌<◌, Bool, ◌&&◌, List, [], ◌∷◌, All, length, flat_map, slice_get, slice_index_or, slice_set, map, Vec, Option, None, Some, option_and_then, nat_eq, if◌then◌else◌}
 use Rattle.std.specs.declared.alloc.Global.{Global}
 use Rattle.trend_num.specs.declared.value.Bad.TheVariants.{NoData, DivZero, Range}
-use Rattle.trend_num.specs.declared.value.CalcValue.{CalcValue}
+use Rattle.trend_num.specs.{CalcValue}
 use Rattle.trend_num.specs.declared.value.CalcValue.TheVariants.{Num, Bad}
 use Rattle.group_layout.specs.declared.block.BlockRow.{BlockRow}
 use Rattle.group_layout.specs.Blocks.{BlockParts, unsaved, last_of, end_of, block_size}

@@ -1,7 +1,7 @@
 -- The definition text of a group.
 use Rattle.std.specs.Prelude.{ℕ, List, ◌∷◌, ◌++◌, codes, flat_map}
 use Rattle.std.specs.Fmt.{decimal}
-use Rattle.calc_parser.specs.Canonical.{text_of}
+use Rattle.calc_parser.specs.{text_of}
 use Rattle.calc_check.specs.Group.{Calculation, Group}
 
 -- a comma before each name

@@ -1,6 +1,6 @@
 // Reading the blocks of a device, one at a time.
 ghost use Rattle.std.specs.Prelude.{◌≡◌, ℕ, Option, IfOk, IsErrOf, length, map};
-ghost use Rattle.disk_model.specs.Calls.{CountsFault, Shows};
+ghost use Rattle.disk_model.specs.{CountsFault, Shows};
 ghost use Rattle.archive_file.specs.declared.failure.ScanNo.TheVariants.{Damaged, DeviceFault};
 ghost use Rattle.group_layout.specs.Blocks.{AreBlocks, AreDamaged, end_of, last_of, parts_of, unsaved};
 
@@ -27,7 +27,7 @@ pub struct GroupReader {
 
 impl BlockReader for GroupReader {
     ghost use Rattle.std.specs.Prelude.{◌≡◌, ◌+◌, ◌*◌, length};
-    ghost use Rattle.archive_file.specs.LayoutFields.{short_at};
+    ghost use Rattle.archive_file.specs.{short_at};
     ghost use Rattle.group_layout.specs.Blocks.{AddsBlock, block_fields, last_read};
 
     ghost is_ready = { λ r. length (last_read r.unsaved r.list.items).versions ≡ r.inputs };

@@ -1,8 +1,8 @@
 // Reading a group's device: its definition text, and what its saves left.
 ghost use Rattle.std.specs.Prelude.{◌≡◌, ℕ, ◌+◌, ◌^◌, ◌<◌, Option, IfOk, IsErrOf, map};
-ghost use Rattle.disk_model.specs.Calls.{CountsFault, Shows};
+ghost use Rattle.disk_model.specs.{CountsFault, Shows};
 ghost use Rattle.archive_file.specs.declared.failure.ScanNo.TheVariants.{Damaged, DeviceFault};
-ghost use Rattle.archive_file.specs.TextHeads.{IsOfText};
+ghost use Rattle.archive_file.specs.{IsOfText};
 ghost use Rattle.group_layout.specs.Blocks.{end_of, last_of, parts_of, unsaved};
 ghost use Rattle.group_layout.specs.Rows.{AreRowsOf, IsIncomplete, block_lists_of};
 ghost use Rattle.group_layout.specs.Images.{IsGroupDamage, letters};

@@ -1,15 +1,11 @@
 // Beginning a group's device, and adding a block.
 ghost use Rattle.std.specs.Prelude.{◌≡◌, ◌+◌, ◌<◌, ◌≤◌, ◌∷◌, ◌++◌, [], IfOk, IsErrOf, OnOk, length};
-ghost use Rattle.disk_model.specs.Traces.{seen, written, moment};
-ghost use Rattle.disk_model.specs.Images.{FromOld, IsSettled, Now};
-ghost use Rattle.disk_model.specs.Moments.{During};
-ghost use Rattle.disk_model.specs.Calls.{CountsFault, Sees, Shows};
-ghost use Rattle.disk_model.specs.Gates.{IsGuarded, IsShut, layout_calls, open_byte};
+ghost use Rattle.disk_model.specs.{seen, written, moment, FromOld, IsSettled, Now, During, CountsFault, Sees, Shows, IsGuarded, IsShut, layout_calls, open_byte};
 ghost use Rattle.archive_file.specs.declared.failure.PutNo.TheVariants.{DeviceFault, WantOfMemory as NoMemory};
 ghost use Rattle.group_layout.specs.Blocks.{block_image, block_size, parts_of};
 ghost use Rattle.group_layout.specs.Images.{IsUnsaved, letters};
 ghost use Rattle.group_layout.specs.Readings.{SavesNothing};
-ghost use Rattle.archive_file.specs.TextHeads.{IsEmpty, blocks_at};
+ghost use Rattle.archive_file.specs.{IsEmpty, blocks_at};
 
 use crate::block::Block;
 use crate::writer::block_bytes;

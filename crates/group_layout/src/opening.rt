@@ -1,15 +1,11 @@
 // Opening a group's device.
 ghost use Rattle.std.specs.Prelude.{◌≡◌, ℕ, ◌+◌, ◌^◌, ◌<◌, ◌≤◌, [], Option, IfOk, IsErrOf, OnOk, replicate};
-ghost use Rattle.disk_model.specs.Images.{IsSettled, Now};
-ghost use Rattle.disk_model.specs.Moments.{During};
-ghost use Rattle.disk_model.specs.Calls.{CountsFault, Shows};
-ghost use Rattle.disk_model.specs.Gates.{IsShut, layout_calls};
-ghost use Rattle.archive_file.specs.TextHeads.{TextOpensAt};
+ghost use Rattle.disk_model.specs.{IsSettled, Now, During, CountsFault, Shows, IsShut, layout_calls, moment};
+ghost use Rattle.archive_file.specs.{TextOpensAt};
 ghost use Rattle.archive_file.specs.declared.failure.ScanNo.TheVariants.{Damaged, DeviceFault};
 ghost use Rattle.group_layout.specs.Images.{IsGroupDamage, IsUnsaved, StandsFor};
 ghost use Rattle.group_layout.specs.Readings.{GainsGroupSync, HasShape, IsLeftOrSame, IsReadOf, SavesNothing};
 ghost use Rattle.group_layout.specs.Rows.{block_lists_of};
-ghost use Rattle.disk_model.specs.Traces.{moment};
 
 use crate::block::Blocks;
 use crate::layout_reader::{Found, SavedGroup, gather, read_group};

@@ -1,8 +1,7 @@
 // Reading a block that is in memory.
 ghost use Rattle.std.specs.Prelude.{◌≡◌, ℕ, ◌+◌, ◌*◌, ◌^◌, ◌<◌, ◌≤◌, All, Option, IfOk, IsErrOf, OnOk, length, map, slice_index, nat_eq};
 ghost use Rattle.archive_file.specs.declared.failure.ScanNo.TheVariants.{Damaged, DeviceFault};
-ghost use Rattle.archive_file.specs.LayoutFields.{BreaksFirst, Keeps, Spells, short_at};
-ghost use Rattle.archive_file.specs.Windows.{IsWindow};
+ghost use Rattle.archive_file.specs.{BreaksFirst, Keeps, Spells, short_at, IsWindow};
 ghost use Rattle.group_layout.specs.Blocks.{MayFollow, block_fields, block_image, block_size, last_of, parts_of, unsaved, version_fields, versions_image};
 
 use crate::block::Block;

@@ -2,8 +2,7 @@
 ghost use Rattle.std.specs.Prelude.{◌≡◌, ℕ, ◌+◌, ◌*◌, ◌≤◌, true, ◌&&◌, All, Option, None, IfOk, IsErrOf, OnOk, length, nat_le, nat_lt};
 ghost use Rattle.archive_file.specs.declared.failure.ScanNo.TheVariants.{Damaged, DeviceFault, WantOfMemory};
 ghost use Rattle.group_layout.specs.declared.block.BlockRow.{BlockRow};
-ghost use Rattle.archive_file.specs.LayoutFields.{BreaksFirst, Keeps, Spells};
-ghost use Rattle.archive_file.specs.Windows.{IsWindow};
+ghost use Rattle.archive_file.specs.{BreaksFirst, Keeps, Spells, IsWindow};
 ghost use Rattle.group_layout.specs.Blocks.{AreRows, IsRow, is_calc_in_order, is_in_order, is_value_ok, row_at, row_fields, row_image, rows_fields, rows_image};
 
 use crate::block::BlockRow;

@@ -1,6 +1,6 @@
 // The rows that blocks give.
 ghost use Rattle.std.specs.Prelude.{◌≡◌, ℕ, ◌-◌, ◌^◌, ◌<◌, [], Option, Some, None, IfSome, IfNone, IfOk, fold, length, map, min, replicate, slice_index_or};
-ghost use Rattle.trend_num.specs.declared.value.CalcValue.{CalcValue};
+ghost use Rattle.trend_num.specs.{CalcValue};
 ghost use Rattle.group_layout.specs.Blocks.{parts_of};
 ghost use Rattle.group_layout.specs.Rows.{AreRowsOf, block_lists_of, rows_of_blocks, saved_value, value_of, with_row};
 

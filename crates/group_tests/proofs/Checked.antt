@@ -1,8 +1,7 @@
 -- Changes that were looked at.
 use Rattle.std.proofs.Common.{◌≡◌, ℕ, ◌+◌, ◌<◌, ◌≤◌, List, length, max, get_or, inl, inr, subst, sym, arith}
 use Rattle.std.proofs.lemmas.Bool.{cases_lt}
-use Rattle.event_frames.specs.declared.frame.Change.{Change}
-use Rattle.event_frames.specs.Row.{IsChangeList}
+use Rattle.event_frames.specs.{Change, IsChangeList}
 
 -- the first so many changes follow each other
 pub record AreChecked (windows : ℕ) (cs : List Change) (n : ℕ) : Type 0 where

@@ -1,8 +1,7 @@
 -- A sheet has as many inputs whatever it receives.
 use Rattle.std.proofs.Common.{◌≡◌, List, length, ap, ◌∙◌, Result, Ok, Err, OnOk, OnErr}
-use Rattle.trend_num.specs.declared.archive.Rec.{Rec}
-use Rattle.calc_refresh.specs.Refreshed.{IsRefreshed}
-use Rattle.calc_refresh.specs.Sheet.{SheetState}
+use Rattle.trend_num.specs.{Rec}
+use Rattle.calc_refresh.specs.{IsRefreshed, SheetState}
 use Rattle.calc_refresh.proofs.Inputs.{length-longer}
 
 -- with more records, or as it was where it is refused

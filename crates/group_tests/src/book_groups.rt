@@ -1,6 +1,6 @@
 // A group of one tag and one calculation: the mean of each second.
 ghost use Rattle.std.specs.Prelude.{◌≡◌, IfSome};
-ghost use Rattle.calc_refresh.specs.Sheet.{IsGrid, IsGroup, grid_of};
+ghost use Rattle.calc_refresh.specs.{IsGrid, IsGroup, grid_of};
 
 use calc_parser::parse;
 use calc_refresh::{CalcDef, GroupDefParts, check};

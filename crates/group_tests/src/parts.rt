@@ -1,6 +1,6 @@
 // Random records. The rows are the same, however many records a sheet gets at once.
 ghost use Rattle.std.specs.Prelude.{◌<◌, IfOk};
-ghost use Rattle.calc_refresh.specs.Sheet.{IsCopy};
+ghost use Rattle.calc_refresh.specs.{IsCopy};
 
 use crate::sheets::{def_of, push_row, tell};
 use crate::tables::same;

@@ -1,6 +1,6 @@
 // Books over devices: what is saved, and what is there when the device is opened again.
 ghost use Rattle.std.specs.Prelude.{IfOk};
-ghost use Rattle.calc_refresh.specs.Sheet.{IsCopy};
+ghost use Rattle.calc_refresh.specs.{IsCopy};
 
 use crate::book_groups::means;
 use crate::books::{answers, cell_of, cell_with, refresh, take_all};

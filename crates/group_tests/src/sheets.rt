@@ -1,7 +1,6 @@
 // Sheets that get records step by step: their rows, and how many values they evaluate.
 ghost use Rattle.std.specs.Prelude.{◌≡◌, ◌^◌, ◌<◌, ◌≤◌, All, IfOk, length};
-ghost use Rattle.calc_refresh.specs.Lists.{lists_of};
-ghost use Rattle.calc_refresh.specs.Sheet.{IsCopy, IsGrid, IsGroup, grid_of};
+ghost use Rattle.calc_refresh.specs.{lists_of, IsCopy, IsGrid, IsGroup, grid_of};
 
 use crate::tables::same;
 use calc_parser::parse;

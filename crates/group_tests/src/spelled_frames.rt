@@ -1,7 +1,6 @@
 // Rows, changes and frames as text.
 ghost use Rattle.std.specs.Prelude.{◌≡◌, ℕ, ◌+◌, ◌<◌, ◌≤◌, IsTrue, length, max, slice_index_or};
-ghost use Rattle.event_frames.specs.declared.frame.Change.{Change};
-ghost use Rattle.event_frames.specs.Row.{IsChangeList};
+ghost use Rattle.event_frames.specs.{Change, IsChangeList};
 
 use event_frames::{Bad, CalcValue, Change, Edit, Frame, Frames, WantOfMemory};
 use std::alloc::{AllocError, Global};

@@ -1,30 +1,19 @@
 -- The points of a content that a held point closes, and those next to a time.
-use Rattle.std.proofs.Common.{◌≡◌, ◌≢◌, ℕ, ◌<◌, ◌≤◌, inl, inr, ℤ, pos, Bool, true, false, cond, nat_eq}
-use Rattle.std.proofs.Common.{nat_lt, List, [], ◌∷◌, ◌++◌, Option, None, Some, All, length, take, drop, refl}
-use Rattle.std.proofs.Common.{sym, ap, ◌∙◌, subst, arith, append_assoc, append-nil}
+use Rattle.std.proofs.Common.{◌≡◌, ◌≢◌, ℕ, ◌<◌, ◌≤◌, inl, inr, ℤ, pos, Bool, true, false, cond, nat_eq, nat_lt, List, [], ◌∷◌, ◌++◌, Option, None, Some, All, length, take, drop, refl, sym, ap, ◌∙◌, subst, arith, append_assoc, append-nil}
 use Rattle.std.specs.Prelude.{count_by, slice_get, IfSome}
 use Rattle.std.specs.Option.{option_to_list}
 use Rattle.std.proofs.lemmas.Bool.{cases_eq, cases_lt, ne_eqb, lt-ltb, le-ltb}
 use Rattle.std.proofs.lemmas.List.{map-append, take-append-drop, take_all, length-map}
 use Rattle.std.proofs.lemmas.Option.{slice_get-get_or}
 use Rattle.std.proofs.lemmas.List.Elements.{All-nil, All-cons, All-head, All-tail, All-append, All-map}
-use Rattle.trend_num.specs.declared.archive.Rec.{Rec}
-use Rattle.trend_num.specs.declared.point.Point.{Point}
-use Rattle.trend_num.specs.Ranges.{InRange}
-use Rattle.trend_model.specs.Content.{content_at, is_late_record, kept_at, late_at}
-use Rattle.trend_model.specs.Contents.{IsNotBefore, IsRising, placed, points_of}
-use Rattle.trend_model.specs.Reads.{read_at}
-use Rattle.trend_model.specs.Lists.{IfThere, IsAmong}
-use Rattle.trend_model.specs.Parts.{PointsRise, last_point}
+use Rattle.trend_num.specs.{Rec, Point, InRange}
+use Rattle.trend_model.specs.{content_at, is_late_record, kept_at, late_at, IsNotBefore, IsRising, placed, points_of, read_at, IfThere, IsAmong, PointsRise, last_point}
 use Rattle.trend_model.specs.Walk.{kept}
 use Rattle.trend_model.proofs.ReadLaw.{among_middle, points_rise, read_at_point, read_content}
 use Rattle.trend_model.proofs.WindowLaw.{before_middle}
-use Rattle.interp_read.specs.Closing.{IsAfterAll, points_closed_by}
-use Rattle.interp_read.specs.NextTo.{AreNeighbours}
-use Rattle.interp_read.specs.Readable.{IsReadable}
+use Rattle.interp_read.specs.{IsAfterAll, points_closed_by, AreNeighbours, IsReadable}
 use Rattle.interp_read.proofs.Readable.{readable}
-use Rattle.interp_read.proofs.RisingPoints.{Before, From, IsGapAt, among_all, all_among, first_drop}
-use Rattle.interp_read.proofs.RisingPoints.{first_parts, gap_at, last_parts, last_push, no_last, rises_push}
+use Rattle.interp_read.proofs.RisingPoints.{Before, From, IsGapAt, among_all, all_among, first_drop, first_parts, gap_at, last_parts, last_push, no_last, rises_push}
 
 -- ---- closing
 

@@ -1,20 +1,14 @@
 -- Points from one time to another, by their places.
-use Rattle.std.proofs.Common.{◌≡◌, ℕ, ◌+◌, ◌-◌, ◌^◌, ◌<◌, ◌≤◌, inl, inr, Bool, true, false, nat_le, List, []}
-use Rattle.std.proofs.Common.{◌∷◌, ◌++◌, All, length, take, drop, min, refl, sym, ap, ap₂, ◌∙◌, subst, arith}
-use Rattle.std.proofs.Common.{append-nil}
+use Rattle.std.proofs.Common.{◌≡◌, ℕ, ◌+◌, ◌-◌, ◌^◌, ◌<◌, ◌≤◌, inl, inr, Bool, true, false, nat_le, List, [], ◌∷◌, ◌++◌, All, length, take, drop, min, refl, sym, ap, ap₂, ◌∙◌, subst, arith, append-nil}
 use Rattle.std.specs.Prelude.{◌&&◌, count_by, nat_lt, slice_range}
 use Rattle.std.specs.List.{filter}
 use Rattle.std.proofs.lemmas.Bool.{cases_lt, and_left, and_right, le-leb, lt-leb}
-use Rattle.std.proofs.lemmas.List.{drop-drop, length-append, length-map, length-take, take-append-drop}
-use Rattle.std.proofs.lemmas.List.{take-append-le, take-take, take_all}
+use Rattle.std.proofs.lemmas.List.{drop-drop, length-append, length-map, length-take, take-append-drop, take-append-le, take-take, take_all}
 use Rattle.std.proofs.lemmas.List.Edits.{length-between}
 use Rattle.std.proofs.lemmas.List.Elements.{All-drop, All-head, All-tail, All-take, All-weaker, filter-append}
 use Rattle.std.proofs.lemmas.Slice.{between_is}
-use Rattle.trend_num.specs.declared.archive.Rec.{Rec}
-use Rattle.trend_num.specs.declared.point.Point.{Point}
-use Rattle.trend_num.specs.Ranges.{InRange}
-use Rattle.trend_model.specs.Contents.{IsRising, points_of}
-use Rattle.trend_model.specs.Reads.{points_from_to}
+use Rattle.trend_num.specs.{Rec, Point, InRange}
+use Rattle.trend_model.specs.{IsRising, points_of, points_from_to}
 use Rattle.trend_model.proofs.ReadLaw.{points_rise}
 use Rattle.interp_read.proofs.RisingPoints.{Before, From, IsGapAt, gap_at}
 

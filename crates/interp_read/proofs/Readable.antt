@@ -1,24 +1,16 @@
 -- What is read of points in range can be rounded, and is a value in range.
-use Rattle.std.proofs.Common.{◌≡◌, ℕ, ◌*◌, ◌^◌, ◌<◌, ◌≤◌, inl, inr, ℤ, pos, ◌*ℤ◌, ◌≤ℤ◌, Bool, true, false}
-use Rattle.std.proofs.Common.{nat_eq, List, [], ◌∷◌, Some, All, arith}
-use Rattle.std.specs.Prelude.{FitsSigned, unsigned_abs}
+use Rattle.std.proofs.Common.{◌≡◌, ℕ, ◌*◌, ◌^◌, ◌<◌, ◌≤◌, inl, inr, ℤ, pos, ◌*ℤ◌, ◌≤ℤ◌, Bool, true, false, nat_eq, List, [], ◌∷◌, Some, All, arith}
+use Rattle.std.specs.Prelude.{FitsSigned, unsigned_abs, int_le}
 use Rattle.std.proofs.lemmas.Bool.{cases_eq, cases_lt, cond_both, eq-eqb, ne_eqb, le-ltb, lt-ltb}
 use Rattle.std.proofs.lemmas.Int.{fits_signed_from_abs, ints, to_z-of_z, unsigned_abs-mul}
 use Rattle.std.proofs.lemmas.List.Elements.{All-head, All-tail}
 use Rattle.std.proofs.lemmas.Nat.{mul-le}
-use Rattle.std.specs.Prelude.{int_le}
-use Rattle.trend_num.specs.declared.fraction.Frac.{Frac}
-use Rattle.trend_num.specs.declared.point.Point.{Point}
-use Rattle.trend_num.specs.declared.reading.Reading.{Reading}
+use Rattle.trend_num.specs.{Frac, Point, Reading, IsRounded, line_value, InRange, largest_value, last_time}
 use Rattle.trend_num.specs.declared.reading.Reading.TheVariants.{Exact, Line, Flat, Nothing}
-use Rattle.trend_num.specs.Lines.{IsRounded, line_value}
-use Rattle.trend_num.specs.Ranges.{InRange, largest_value, last_time}
-use Rattle.trend_model.specs.Parts.{PointsRise, RisesAfter}
-use Rattle.trend_model.specs.Reads.{between, read_at, read_from, rounded, value_read}
-use Rattle.trend_model.specs.Windows.{greater, lesser}
+use Rattle.trend_model.specs.{PointsRise, RisesAfter, between, read_at, read_from, rounded, value_read, greater, lesser}
 use Rattle.trend_model.proofs.ReadLaw.{line_between, rounded_between}
 use Rattle.trend_model.proofs.Rounding.{rounded_only}
-use Rattle.interp_read.specs.Readable.{IsReadable, IsRoundable}
+use Rattle.interp_read.specs.{IsReadable, IsRoundable}
 use mir.Syntax.{w64, w128}
 use mir.Val.{of_z, to_z}
 

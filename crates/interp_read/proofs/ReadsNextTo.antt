@@ -1,22 +1,17 @@
 -- A read, by the points next to its time.
-use Rattle.std.proofs.Common.{◌≡◌, ◌≢◌, ℕ, ◌<◌, ◌≤◌, Bool, List, [], ◌∷◌, ◌++◌, Option, None, Some, All, refl}
-use Rattle.std.proofs.Common.{sym, ap, ◌∙◌, subst, arith, append_assoc, append-nil}
+use Rattle.std.proofs.Common.{◌≡◌, ◌≢◌, ℕ, ◌<◌, ◌≤◌, Bool, List, [], ◌∷◌, ◌++◌, Option, None, Some, All, refl, sym, ap, ◌∙◌, subst, arith, append_assoc, append-nil}
 use Rattle.std.specs.Prelude.{slice_get}
 use Rattle.std.proofs.lemmas.Bool.{ne_eqb, le-ltb, lt-ltb}
 use Rattle.std.proofs.lemmas.Int.{fits_signed_from_abs, to_z-of_z}
 use Rattle.std.proofs.lemmas.List.Elements.{All-head}
 use mir.Syntax.{w64}
 use mir.Val.{of_z, to_z}
-use Rattle.trend_num.specs.declared.point.Point.{Point}
+use Rattle.trend_num.specs.{Point, InRange}
 use Rattle.trend_num.specs.declared.reading.Reading.TheVariants.{Exact, Flat, Nothing}
-use Rattle.trend_num.specs.Ranges.{InRange}
-use Rattle.trend_model.specs.Lists.{IsAmong}
-use Rattle.trend_model.specs.Parts.{PointsRise}
-use Rattle.trend_model.specs.Reads.{between, read_at}
+use Rattle.trend_model.specs.{IsAmong, PointsRise, between, read_at}
 use Rattle.trend_model.proofs.ReadLaw.{among_middle, read_at-append, read_at_point, read_between}
-use Rattle.interp_read.specs.NextTo.{AreNeighbours}
-use Rattle.interp_read.proofs.RisingPoints.{Before, From, among_all, first_parts, last_parts, no_first}
-use Rattle.interp_read.proofs.RisingPoints.{no_last}
+use Rattle.interp_read.specs.{AreNeighbours}
+use Rattle.interp_read.proofs.RisingPoints.{Before, From, among_all, first_parts, last_parts, no_first, no_last}
 
 -- the last point before t is before it
 pub before_is : (cs : List Point) (t : ℕ) (p : Point) (after : Option Point)

@@ -1,15 +1,11 @@
 -- Rising lists of points.
-use Rattle.std.proofs.Common.{◌≡◌, ℕ, zero, suc, ◌<◌, ◌≤◌, inl, inr, cond, nat_lt, List, [], ◌∷◌, ◌++◌}
-use Rattle.std.proofs.Common.{None, Some, All, length, take, drop, refl, sym, ap, ◌∙◌, subst, arith}
+use Rattle.std.proofs.Common.{◌≡◌, ℕ, zero, suc, ◌<◌, ◌≤◌, inl, inr, cond, nat_lt, List, [], ◌∷◌, ◌++◌, None, Some, All, length, take, drop, refl, sym, ap, ◌∙◌, subst, arith}
 use Rattle.std.specs.Prelude.{count_by, slice_get}
 use Rattle.std.proofs.lemmas.Bool.{cases_lt, lt-ltb, le-ltb}
 use Rattle.std.proofs.lemmas.List.Elements.{All-nil, All-cons, All-head, All-tail}
 use Rattle.std.proofs.lemmas.List.Sums.{sum_by-cons}
-use Rattle.trend_num.specs.declared.archive.Rec.{Rec}
-use Rattle.trend_num.specs.declared.point.Point.{Point}
-use Rattle.trend_model.specs.Contents.{points_of}
-use Rattle.trend_model.specs.Lists.{IsAmong}
-use Rattle.trend_model.specs.Parts.{PointsRise, RisesAfter, last_point}
+use Rattle.trend_num.specs.{Rec, Point}
+use Rattle.trend_model.specs.{points_of, IsAmong, PointsRise, RisesAfter, last_point}
 use Rattle.trend_model.proofs.WindowLaw.{rises_rest}
 
 -- before a time, and not before it

@@ -1,8 +1,7 @@
 -- A content that is closed by a held point.
 use Rattle.std.specs.Prelude.{◌<◌, List, Option, All}
-use Rattle.trend_num.specs.declared.archive.Rec.{Rec}
-use Rattle.trend_num.specs.declared.point.Point.{Point}
-use Rattle.trend_model.specs.Contents.{closed_by, points_of}
+use Rattle.trend_num.specs.{Rec, Point}
+use Rattle.trend_model.specs.{closed_by, points_of}
 
 -- the points of a content that is closed by a held point: the held point is one of them if the content has none at its
 -- time

@@ -1,7 +1,7 @@
 -- The points next to a time.
 use Rattle.std.specs.Prelude.{◌≡◌, ℕ, ◌<◌, ◌≤◌, List, ◌++◌, Option, All, slice_get}
-use Rattle.trend_num.specs.declared.point.Point.{Point}
-use Rattle.trend_model.specs.Parts.{PointsRise, last_point}
+use Rattle.trend_num.specs.{Point}
+use Rattle.trend_model.specs.{PointsRise, last_point}
 
 -- the points rise in time; `before` is the last of those before t, and `after` is the first of the others
 pub record AreNeighbours (points : List Point) (t : ℕ) (before after : Option Point) : Type 0 where

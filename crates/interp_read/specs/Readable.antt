@@ -1,10 +1,8 @@
 -- Reads that can be rounded to a value.
 use Rattle.std.specs.Prelude.{◌^◌, ◌<◌, ◌≤◌, unsigned_abs}
-use Rattle.trend_num.specs.declared.fraction.Frac.{Frac}
-use Rattle.trend_num.specs.declared.reading.Reading.{Reading}
+use Rattle.trend_num.specs.{Frac, Reading, largest_value, last_time}
 use Rattle.trend_num.specs.declared.reading.Reading.TheVariants.{Exact, Line, Flat, Nothing}
-use Rattle.trend_num.specs.Ranges.{largest_value, last_time}
-use Rattle.trend_model.specs.Reads.{rounded}
+use Rattle.trend_model.specs.{rounded}
 
 -- a fraction that can be rounded, to a value in range
 pub record IsRoundable (f : Frac) : Type 0 where

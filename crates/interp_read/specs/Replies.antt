@@ -1,11 +1,8 @@
 -- Replies. What counts is which points they list, and not where these are in memory.
 use Rattle.std.specs.Prelude.{◌≡◌, ◌↔◌, ◌<◌, IsTrue, Bool, List, length, take}
-use Rattle.trend_num.specs.declared.point.Point.{Point}
-use Rattle.trend_num.specs.declared.query.TagQuery.{TagQuery}
+use Rattle.trend_num.specs.{Point, TagQuery, most_listed}
 use Rattle.trend_num.specs.declared.query.TagQuery.TheVariants as ask
-use Rattle.trend_num.specs.Limits.{most_listed}
-use Rattle.trend_model.specs.Reads.{points_from_to, read_at}
-use Rattle.trend_model.specs.Windows.{window_value}
+use Rattle.trend_model.specs.{points_from_to, read_at, window_value}
 use Rattle.interp_read.specs.declared.list.PointList.{PointList}
 use Rattle.interp_read.specs.declared.query.Reply.{Reply}
 use Rattle.interp_read.specs.declared.query.Reply.TheVariants.{At, Points, Window}

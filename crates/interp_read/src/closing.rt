@@ -1,12 +1,9 @@
 // The points of a content that is closed by a held point.
 ghost use Rattle.std.specs.Prelude.{◌≡◌, ◌++◌, ◌+◌, ◌≤◌, IfSome, count_by, nat_lt, length, take};
 ghost use Rattle.std.specs.Option.{option_to_list};
-ghost use Rattle.trend_num.specs.Ranges.{InRange};
-ghost use Rattle.trend_model.specs.Contents.{points_of};
-ghost use Rattle.trend_model.specs.Lists.{IfThere};
+ghost use Rattle.trend_num.specs.{InRange};
+ghost use Rattle.trend_model.specs.{points_of, IfThere, last_point, IsNotBefore};
 ghost use Rattle.interp_read.specs.NextTo.{AreNeighbours};
-ghost use Rattle.trend_model.specs.Parts.{last_point};
-ghost use Rattle.trend_model.specs.Contents.{IsNotBefore};
 ghost use Rattle.interp_read.specs.Closing.{IsAfterAll, points_closed_by};
 
 use late_insert::Content;

@@ -1,14 +1,8 @@
 // The points from one time to another.
-ghost use Rattle.std.specs.Prelude.{◌≡◌, ◌↔◌, ◌<◌, ◌≤◌, ◌++◌, [], ◌∷◌, IfOk, IsTrue, OnOk, List, length};
-ghost use Rattle.std.specs.Prelude.{slice_range, take};
+ghost use Rattle.std.specs.Prelude.{◌≡◌, ◌↔◌, ◌<◌, ◌≤◌, ◌++◌, [], ◌∷◌, IfOk, IsTrue, OnOk, List, length, slice_range, take};
 ghost use Rattle.std.specs.Option.{option_to_list};
-ghost use Rattle.trend_num.specs.declared.point.Point.{Point};
-ghost use Rattle.trend_num.specs.Ranges.{InRange};
-ghost use Rattle.trend_num.specs.Limits.{most_listed};
-ghost use Rattle.trend_model.specs.Contents.{points_of};
-ghost use Rattle.trend_model.specs.Lists.{IfThere};
-ghost use Rattle.trend_model.specs.Reads.{points_from_to};
-ghost use Rattle.trend_model.specs.Contents.{IsNotBefore};
+ghost use Rattle.trend_num.specs.{Point, InRange, most_listed};
+ghost use Rattle.trend_model.specs.{points_of, IfThere, points_from_to, IsNotBefore};
 ghost use Rattle.interp_read.specs.Closing.{points_closed_by};
 
 use crate::closing::added;

@@ -1,10 +1,7 @@
 // What a tag reads at a time.
 ghost use Rattle.std.specs.Prelude.{◌≡◌, ◌<◌, ◌≤◌, true, false, IfSome, List};
-ghost use Rattle.trend_num.specs.declared.point.Point.{Point};
-ghost use Rattle.trend_num.specs.Ranges.{InRange};
-ghost use Rattle.trend_model.specs.Lists.{IfThere};
-ghost use Rattle.trend_model.specs.Reads.{between, read_at};
-ghost use Rattle.trend_model.specs.Contents.{IsNotBefore};
+ghost use Rattle.trend_num.specs.{Point, InRange};
+ghost use Rattle.trend_model.specs.{IfThere, between, read_at, IsNotBefore};
 ghost use Rattle.interp_read.specs.Closing.{points_closed_by};
 ghost use Rattle.interp_read.specs.NextTo.{AreNeighbours};
 ghost use Rattle.interp_read.specs.Readable.{IsReadable};

@@ -1,7 +1,5 @@
 -- Totals of a list of points, and of one point more.
-use Rattle.std.proofs.Common.{◌≡◌, Bool, true, false, ℕ, zero, suc, ◌+◌, ◌-◌, ◌*◌, ◌<◌, ◌≤◌, ℤ, pos, ◌+ℤ◌}
-use Rattle.std.proofs.Common.{◌*ℤ◌}
-use Rattle.std.proofs.Common.{List, [], ◌∷◌, ◌++◌, length, get_or, take, All, ap, ◌∙◌, arith}
+use Rattle.std.proofs.Common.{◌≡◌, Bool, true, false, ℕ, zero, suc, ◌+◌, ◌-◌, ◌*◌, ◌<◌, ◌≤◌, ℤ, pos, ◌+ℤ◌, ◌*ℤ◌, List, [], ◌∷◌, ◌++◌, length, get_or, take, All, ap, ◌∙◌, arith}
 use Rattle.std.specs.Prelude.{unsigned_abs, FitsSigned}
 use Rattle.std.specs.Int.{int_min, int_max, w128}
 use Rattle.std.proofs.lemmas.Int.{ints, unsigned_abs-mul, fits_signed_from_abs}
@@ -9,12 +7,10 @@ use Rattle.std.proofs.lemmas.List.{get_or-take, take_more, length-take-le}
 use Rattle.std.proofs.lemmas.List.Sums.{fold_push}
 use Rattle.std.proofs.lemmas.List.Elements.{All-head, All-tail}
 use Rattle.std.proofs.lemmas.Nat.{mul-le}
-use Rattle.trend_num.specs.declared.point.Point.{Point}
-use Rattle.trend_num.specs.Ranges.{InRange, last_time, largest_value}
-use Rattle.trend_model.specs.Windows.{area, piece}
-use Rattle.late_insert.specs.declared.total.Extreme.{Extreme}
+use Rattle.trend_num.specs.{Point, InRange, last_time, largest_value}
+use Rattle.trend_model.specs.{area, piece}
+use Rattle.late_insert.specs.{Extreme, least_of, greatest_of, extreme_of, outer}
 use Rattle.late_insert.specs.declared.total.Extreme.TheVariants.{Least, Greatest}
-use Rattle.late_insert.specs.Totals.{least_of, greatest_of, extreme_of, outer}
 
 -- ---- one point more
 

@@ -1,23 +1,17 @@
 -- Records in order, put after all others.
-use Rattle.std.proofs.Common.{◌≡◌, ◌≢◌, ℕ, ◌+◌, ◌-◌, ◌^◌, ◌<◌, ◌≤◌, inl, inr, ℤ, pos, List, [], ◌∷◌, ◌++◌}
-use Rattle.std.proofs.Common.{length, get_or, set, take, drop, All, fold, refl, sym, ap, ◌∙◌, subst, arith, append_assoc}
-use Rattle.std.proofs.Common.{append-nil}
+use Rattle.std.proofs.Common.{◌≡◌, ◌≢◌, ℕ, ◌+◌, ◌-◌, ◌^◌, ◌<◌, ◌≤◌, inl, inr, ℤ, pos, List, [], ◌∷◌, ◌++◌, length, get_or, set, take, drop, All, fold, refl, sym, ap, ◌∙◌, subst, arith, append_assoc, append-nil}
 use Rattle.std.specs.Int.{bit_at}
-use Rattle.std.proofs.lemmas.List.{same_lists, take_more, get_or_default, get_or-set_same, get_or-set_other}
-use Rattle.std.proofs.lemmas.List.{length-set, length-take-le, length-take, get_or-take, get_or-drop}
-use Rattle.std.proofs.lemmas.List.{take-append-drop}
+use Rattle.std.proofs.lemmas.List.{same_lists, take_more, get_or_default, get_or-set_same, get_or-set_other, length-set, length-take-le, length-take, get_or-take, get_or-drop, take-append-drop}
 use Rattle.std.proofs.lemmas.List.Elements.{All-nil, All-cons, All-head, All-tail, All-append}
 use Rattle.std.proofs.lemmas.Bool.{cases_eq}
 use Rattle.std.proofs.lemmas.Nat.Bits.{bit_at_above}
 use Rattle.std.proofs.Math.Pow.{pow_mono}
-use Rattle.trend_num.specs.declared.archive.Rec.{Rec}
+use Rattle.trend_num.specs.{Rec, InRange}
 use Rattle.trend_num.specs.declared.archive.Kind.TheVariants.{Kept}
-use Rattle.trend_num.specs.Ranges.{InRange}
-use Rattle.page_pool.specs.declared.frame.Frame.{Frame}
-use Rattle.trend_model.specs.Contents.{IsRising, placed}
-use Rattle.late_insert.specs.Pages.{kind_of, frame_records_in, IsRecorded}
-use Rattle.trend_model.proofs.Placing.{time, AllBefore, rising_nil, rising_cons, rising_head, rising_tail}
-use Rattle.trend_model.proofs.Placing.{rising_across, rising_left, placed_behind}
+use Rattle.page_pool.specs.{Frame}
+use Rattle.trend_model.specs.{IsRising, placed}
+use Rattle.late_insert.specs.{kind_of, frame_records_in, IsRecorded}
+use Rattle.trend_model.proofs.Placing.{time, AllBefore, rising_nil, rising_cons, rising_head, rising_tail, rising_across, rising_left, placed_behind}
 use Rattle.late_insert.proofs.Summing.{length-records_in, get_or-records_in}
 use Rattle.late_insert.proofs.Storing.{rec_of, same_rec}
 

@@ -1,19 +1,14 @@
 -- The page for a time, and the page of a place.
-use Rattle.std.proofs.Common.{◌≡◌, ℕ, zero, suc, ◌+◌, ◌<◌, ◌≤◌, inl, inr, List, [], ◌∷◌, ◌++◌, length, get_or}
-use Rattle.std.proofs.Common.{take, drop, Option, All, AllPairs, pos, sym, ap, ◌∙◌, subst, arith}
-use Rattle.std.proofs.Common.{length-append}
+use Rattle.std.proofs.Common.{◌≡◌, ℕ, zero, suc, ◌+◌, ◌<◌, ◌≤◌, inl, inr, List, [], ◌∷◌, ◌++◌, length, get_or, take, drop, Option, All, AllPairs, pos, sym, ap, ◌∙◌, subst, arith, length-append}
 use Rattle.std.proofs.lemmas.List.{get_or_append_left, get_or_default, drop_all, drop_more}
 use Rattle.std.proofs.lemmas.List.Elements.{All-nil, All-cons, All-head, All-tail, All-weaker}
 use Rattle.std.proofs.lemmas.Bool.{cases_lt}
-use Rattle.trend_num.specs.declared.archive.Rec.{Rec}
+use Rattle.trend_num.specs.{Rec}
 use Rattle.trend_num.specs.declared.archive.Kind.TheVariants.{Kept}
-use Rattle.page_pool.specs.declared.frame.Frame.{Frame}
+use Rattle.page_pool.specs.{Frame}
 use Rattle.late_insert.specs.declared.directory.Key.TheVariants.{Time}
-use Rattle.late_insert.specs.declared.directory.Page.{Page}
-use Rattle.late_insert.specs.Moves.{IsLastUpto}
-use Rattle.trend_model.specs.Contents.{IsRising}
-use Rattle.late_insert.specs.Pages.{frame_records_in, records_at, page_in, page_records_of, IsPageAt, ArePagesFrom}
-use Rattle.late_insert.specs.Pages.{ArePages, IsFor}
+use Rattle.late_insert.specs.{Page, IsLastUpto, frame_records_in, records_at, page_in, page_records_of, IsPageAt, ArePagesFrom, ArePages, IsFor}
+use Rattle.trend_model.specs.{IsRising}
 use Rattle.trend_model.proofs.Placing.{time, AllBefore, AllAfter, rising_right, rising_across}
 use Rattle.late_insert.proofs.Summing.{length-records_in, get_or-records_in}
 use Rattle.late_insert.proofs.Joining.{all_left, all_right, records-around, page_at}

@@ -1,12 +1,10 @@
 -- The record that is at a time in a rising list, and what the list reads late there.
-use Rattle.std.proofs.Common.{◌≡◌, ℕ, ◌<◌, inl, inr, ℤ, Bool, true, false, cond, List, [], ◌∷◌, Option, None}
-use Rattle.std.proofs.Common.{Some, nat_eq, refl, subst, ◌∙◌, arith}
+use Rattle.std.proofs.Common.{◌≡◌, ℕ, ◌<◌, inl, inr, ℤ, Bool, true, false, cond, List, [], ◌∷◌, Option, None, Some, nat_eq, refl, subst, ◌∙◌, arith}
 use Rattle.std.specs.Option.{option_or}
 use Rattle.std.proofs.lemmas.List.Elements.{All-head, All-tail}
 use Rattle.std.proofs.lemmas.Bool.{cases_eq, ne_eqb, eq-eqb}
-use Rattle.trend_num.specs.declared.archive.Rec.{Rec}
-use Rattle.trend_model.specs.Content.{is_late_record, late_at}
-use Rattle.trend_model.specs.Contents.{IsRising}
+use Rattle.trend_num.specs.{Rec}
+use Rattle.trend_model.specs.{is_late_record, late_at, IsRising}
 use Rattle.trend_model.proofs.Placing.{time, AllAfter, rising_head, rising_tail}
 
 -- the record at a time

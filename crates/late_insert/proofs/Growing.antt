@@ -1,26 +1,20 @@
 -- How many records are on each page.
-use Rattle.std.proofs.Common.{◌≡◌, ℕ, ◌+◌, ◌-◌, ◌<◌, ◌≤◌, ◌⊎◌, inl, inr, cond, List, [], ◌∷◌, ◌++◌, length}
-use Rattle.std.proofs.Common.{get_or, take, drop, Option, All, sum, nat_lt, refl, sym, ap, ◌∙◌, subst, arith}
-use Rattle.std.proofs.Common.{append_assoc, length-append}
+use Rattle.std.proofs.Common.{◌≡◌, ℕ, ◌+◌, ◌-◌, ◌<◌, ◌≤◌, ◌⊎◌, inl, inr, cond, List, [], ◌∷◌, ◌++◌, length, get_or, take, drop, Option, All, sum, nat_lt, refl, sym, ap, ◌∙◌, subst, arith, append_assoc, length-append}
 use Rattle.std.proofs.lemmas.Bool.{cases_lt}
 use Rattle.std.proofs.lemmas.List.{drop_all, get_or_at, length-map, take_at}
 use Rattle.std.proofs.lemmas.List.Sums.{sum-map, sum_by-append, sum_by-cons, count_by-le-length}
 use Rattle.std.proofs.lemmas.List.Concat.{length-flat_map}
-use Rattle.std.proofs.lemmas.List.Elements.{All-nil, All-cons, All-head, All-tail, All-append, All-map}
-use Rattle.std.proofs.lemmas.List.Elements.{All-weaker}
-use Rattle.trend_num.specs.declared.archive.Rec.{Rec}
-use Rattle.page_pool.specs.declared.frame.Frame.{Frame}
-use Rattle.late_insert.specs.declared.directory.Page.{Page}
-use Rattle.late_insert.specs.Pages.{records_at, page_in, page_records_of, lengths_of, ArePages, ArePagesFrom, IsFor, IsPageRead}
-use Rattle.late_insert.specs.PageLengths.{AreFull, ArePagesFilled, IsGrown, IsHalved, IsPutAmong, place_in}
-use Rattle.trend_model.specs.Contents.{placed}
+use Rattle.std.proofs.lemmas.List.Elements.{All-nil, All-cons, All-head, All-tail, All-append, All-map, All-weaker}
+use Rattle.trend_num.specs.{Rec}
+use Rattle.page_pool.specs.{Frame}
+use Rattle.late_insert.specs.{Page, records_at, page_in, page_records_of, lengths_of, ArePages, ArePagesFrom, IsFor, IsPageRead, AreFull, ArePagesFilled, IsGrown, IsHalved, IsPutAmong, place_in}
+use Rattle.trend_model.specs.{placed}
 use Rattle.trend_model.proofs.Placing.{time, AllBefore}
 use Rattle.late_insert.proofs.Filling.{placed_last}
 use Rattle.late_insert.proofs.Summing.{length-records_in}
 use Rattle.late_insert.proofs.Finding.{no_page}
 use Rattle.late_insert.proofs.Joining.{all_right, records-around, lengths-around}
-use Rattle.late_insert.proofs.Reading.{at_place, frame_page, page_len}
-use Rattle.late_insert.proofs.Reading.{count_all, count_none}
+use Rattle.late_insert.proofs.Reading.{at_place, frame_page, page_len, count_all, count_none}
 
 -- together they are all records
 pub sum_lengths : (pool : List (Option Frame)) (pages : List Page)

@@ -2,7 +2,7 @@
 use Rattle.std.proofs.Common.{◌≡◌, ℕ, ◌-◌, ◌<◌, ◌≤◌, inl, inr, List, length, get_or, AllPairs, ap, arith}
 use Rattle.std.proofs.lemmas.List.{get_or_default}
 use Rattle.std.proofs.lemmas.Bool.{cases_eq}
-use Rattle.late_insert.specs.declared.directory.Page.{Page}
+use Rattle.late_insert.specs.{Page}
 
 -- the numbers before `low` are less than x, and those from `high` on are not
 pub record IsHalving (xs : List ℕ) (x low high : ℕ) : Type 0 where

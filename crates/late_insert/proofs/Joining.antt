@@ -1,17 +1,10 @@
 -- Pages one after another.
-use Rattle.std.proofs.Common.{◌≡◌, ◌≢◌, ℕ, ◌+◌, ◌<◌, List, [], ◌∷◌, ◌++◌, length, map, get_or, set, take}
-use Rattle.std.proofs.Common.{drop, Option, None, All, refl, sym, ap, ap₂, ◌∙◌, subst, arith, length-append}
-use Rattle.std.proofs.Common.{add-zero, zero-add}
-use Rattle.std.proofs.lemmas.List.{get_or_append_left, get_or-append-add, get_or-set_other, take-append-drop}
-use Rattle.std.proofs.lemmas.List.{drop_more, map-append}
+use Rattle.std.proofs.Common.{◌≡◌, ◌≢◌, ℕ, ◌+◌, ◌<◌, List, [], ◌∷◌, ◌++◌, length, map, get_or, set, take, drop, Option, None, All, refl, sym, ap, ap₂, ◌∙◌, subst, arith, length-append, add-zero, zero-add}
+use Rattle.std.proofs.lemmas.List.{get_or_append_left, get_or-append-add, get_or-set_other, take-append-drop, drop_more, map-append}
 use Rattle.std.proofs.lemmas.List.Concat.{flat_map-append}
 use Rattle.std.proofs.lemmas.List.Elements.{All-nil, All-cons, All-head, All-tail, All-append}
-use Rattle.page_pool.specs.declared.frame.Frame.{Frame}
-use Rattle.page_pool.specs.Pool.{frame_at}
-use Rattle.late_insert.specs.declared.directory.Page.{Page}
-use Rattle.late_insert.specs.Moves.{moved}
-use Rattle.late_insert.specs.Pages.{records_at, page_in, page_records_of, lengths_of, IsPageAt, ArePagesFrom}
-use Rattle.late_insert.specs.Pages.{AreApart, ids_of}
+use Rattle.page_pool.specs.{Frame, frame_at}
+use Rattle.late_insert.specs.{Page, moved, records_at, page_in, page_records_of, lengths_of, IsPageAt, ArePagesFrom, AreApart, ids_of}
 
 -- ---- facts of each of two lists
 

@@ -1,14 +1,10 @@
 -- What holds of the pages of every content.
-use Rattle.std.proofs.Common.{ℕ, ◌+◌, ◌*◌, ◌<◌, ◌≤◌, List, [], ◌∷◌, length, Option, All, ap, sym, subst}
-use Rattle.std.proofs.Common.{arith, length-append}
+use Rattle.std.proofs.Common.{ℕ, ◌+◌, ◌*◌, ◌<◌, ◌≤◌, List, [], ◌∷◌, length, Option, All, ap, sym, subst, arith, length-append}
 use Rattle.std.proofs.lemmas.List.Elements.{All-nil, All-append, All-map}
-use Rattle.trend_num.specs.declared.archive.Rec.{Rec}
-use Rattle.trend_num.specs.Ranges.{InRange}
-use Rattle.page_pool.specs.declared.frame.Frame.{Frame}
-use Rattle.page_pool.specs.Pool.{spare_of}
-use Rattle.late_insert.specs.declared.directory.Page.{Page}
-use Rattle.late_insert.specs.Pages.{records_at, page_in, page_records_of, AreHalves, ArePagesFrom, IsKept}
-use Rattle.trend_model.specs.Contents.{points_of}
+use Rattle.trend_num.specs.{Rec, InRange}
+use Rattle.page_pool.specs.{Frame, spare_of}
+use Rattle.late_insert.specs.{Page, records_at, page_in, page_records_of, AreHalves, ArePagesFrom, IsKept}
+use Rattle.trend_model.specs.{points_of}
 
 -- pages of which all but the last are half full hold many records
 many_records : (pool : List (Option Frame)) (pages : List Page) → AreHalves pool pages

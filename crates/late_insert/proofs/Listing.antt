@@ -1,16 +1,11 @@
 -- Pages and their places, which are kept apart.
-use Rattle.std.proofs.Common.{◌≡◌, ℕ, zero, suc, ◌+◌, ◌<◌, ◌≤◌, List, [], ◌∷◌, ◌++◌, length, map, get_or, set, take, drop}
-use Rattle.std.proofs.Common.{◌≢◌, All, pos, refl, ap, ap₂, sym, ◌∙◌, subst, arith, length-append}
+use Rattle.std.proofs.Common.{◌≡◌, ℕ, zero, suc, ◌+◌, ◌<◌, ◌≤◌, List, [], ◌∷◌, ◌++◌, length, map, get_or, set, take, drop, ◌≢◌, All, pos, refl, ap, ap₂, sym, ◌∙◌, subst, arith, length-append}
 use Rattle.std.specs.Prelude.{insert}
-use Rattle.std.proofs.lemmas.List.{get_or_append_left, get_or_at, get_or-map, get_or-set_same, get_or-set_other}
-use Rattle.std.proofs.lemmas.List.{get_or_default, length-map, take-append-drop}
+use Rattle.std.proofs.lemmas.List.{get_or_append_left, get_or_at, get_or-map, get_or-set_same, get_or-set_other, get_or_default, length-map, take-append-drop}
 use Rattle.std.proofs.lemmas.List.Edits.{length-insert}
 use Rattle.std.proofs.lemmas.List.Elements.{All-append, All-cons, All-head, All-tail, All-weaker}
 use Rattle.late_insert.proofs.Joining.{all_left, all_right, apart_insert}
-use Rattle.late_insert.specs.Pages.{AreApart}
-use Rattle.late_insert.specs.declared.directory.Leaf.{Leaf}
-use Rattle.late_insert.specs.declared.directory.Page.{Page}
-use Rattle.late_insert.specs.Moves.{AreOrdered, no_leaf, picked, placed_pages, moved, rewritten}
+use Rattle.late_insert.specs.{AreApart, Leaf, Page, AreOrdered, no_leaf, picked, placed_pages, moved, rewritten}
 
 -- a page with its place
 abbrev pub with_place : Leaf → ℕ → Page

@@ -1,14 +1,12 @@
 -- The bits of a number, with one put in between.
-use Rattle.std.proofs.Common.{◌≡◌, ℕ, zero, suc, ◌+◌, ◌-◌, ◌*◌, ◌/◌, ◌%◌, ◌^◌, ◌<◌, ◌≤◌, refl, sym, ap, ◌∙◌}
-use Rattle.std.proofs.Common.{subst, arith}
+use Rattle.std.proofs.Common.{◌≡◌, ℕ, zero, suc, ◌+◌, ◌-◌, ◌*◌, ◌/◌, ◌%◌, ◌^◌, ◌<◌, ◌≤◌, refl, sym, ap, ◌∙◌, subst, arith}
 use Rattle.std.proofs.Math.Pow.{pow_pos, pow_mono}
 use Rattle.std.proofs.Math.Nat.{pow-suc, le-mul_of_pos_right}
 use Rattle.std.specs.Int.{bit_at}
 use Rattle.std.specs.Prelude.{bit_and}
 use Rattle.trend_num.specs.declared.archive.Kind.TheVariants.{Late}
-use Rattle.late_insert.specs.Pages.{kind_of}
-use Rattle.std.proofs.lemmas.Nat.{div-add-mod', mod_below, mul-add-lt, div-mul-add, mod-mul-add, shr_below}
-use Rattle.std.proofs.lemmas.Nat.{pow-add, one_shl, and_mask}
+use Rattle.late_insert.specs.{kind_of}
+use Rattle.std.proofs.lemmas.Nat.{div-add-mod', mod_below, mul-add-lt, div-mul-add, mod-mul-add, shr_below, pow-add, one_shl, and_mask}
 use Rattle.std.proofs.lemmas.Nat.Bits.{bit_at_cat_low, bit_at_cat_high, bit_at_lowest, bit_at-suc}
 
 -- m with the bit b put in at the place i

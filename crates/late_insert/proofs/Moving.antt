@@ -1,8 +1,7 @@
 -- Pages that are moved on.
 use Rattle.std.proofs.Common.{◌≡◌, ℕ, List, ◌++◌, length, map, take, drop, ap, arith, length-append}
 use Rattle.std.proofs.lemmas.List.{length-map, take-append-drop}
-use Rattle.late_insert.specs.declared.directory.Page.{Page}
-use Rattle.late_insert.specs.Moves.{moved}
+use Rattle.late_insert.specs.{Page, moved}
 
 -- they are as many as before
 pub length-moved : (by k : ℕ) (pages : List Page)

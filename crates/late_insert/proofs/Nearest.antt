@@ -1,18 +1,13 @@
 -- The points next to a time, from the place of the first one that is not before it.
-use Rattle.std.proofs.Common.{◌≡◌, ◌≢◌, ℕ, zero, suc, ◌+◌, ◌-◌, ◌<◌, ◌≤◌, inl, inr, cond, List, [], ◌∷◌}
-use Rattle.std.proofs.Common.{length, get_or, take, drop, Some, None, All, Contains, refl, sym, ap, ◌∙◌}
-use Rattle.std.proofs.Common.{subst, arith}
+use Rattle.std.proofs.Common.{◌≡◌, ◌≢◌, ℕ, zero, suc, ◌+◌, ◌-◌, ◌<◌, ◌≤◌, inl, inr, cond, List, [], ◌∷◌, length, get_or, take, drop, Some, None, All, Contains, refl, sym, ap, ◌∙◌, subst, arith}
 use Rattle.std.specs.Prelude.{count_by, nat_lt, slice_get}
-use Rattle.std.proofs.lemmas.List.{get_or-take, get_or-drop, get_or_default, get_or-map, length-map}
-use Rattle.std.proofs.lemmas.List.{length-take-le, length-drop}
+use Rattle.std.proofs.lemmas.List.{get_or-take, get_or-drop, get_or_default, get_or-map, length-map, length-take-le, length-drop}
 use Rattle.std.proofs.lemmas.Option.{slice_get-get_or, slice_get_within, get_or_from_slice_get}
 use Rattle.std.proofs.lemmas.List.Elements.{All-head, All-tail}
 use Rattle.std.proofs.lemmas.Bool.{cases_lt, cases_eq, eq-eqb, ne_eqb}
-use Rattle.trend_num.specs.declared.point.Point.{Point}
-use Rattle.trend_num.specs.declared.archive.Rec.{Rec}
-use Rattle.trend_model.specs.Content.{late_at, is_late_record}
-use Rattle.trend_model.specs.Contents.{IsRising, IsFloor, IsCeil, points_of}
-use Rattle.late_insert.specs.Places.{StandsAt}
+use Rattle.trend_num.specs.{Point, Rec}
+use Rattle.trend_model.specs.{late_at, is_late_record, IsRising, IsFloor, IsCeil, points_of}
+use Rattle.late_insert.specs.{StandsAt}
 use Rattle.trend_model.proofs.Placing.{time, rising_head, rising_tail}
 use Rattle.late_insert.proofs.Reading.{count_gap}
 use Rattle.late_insert.proofs.Found.{found, late_found, late_is}

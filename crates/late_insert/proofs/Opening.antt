@@ -1,25 +1,15 @@
 -- A page in a frame that was taken: the first one, and one after all others.
-use Rattle.std.proofs.Common.{◌≡◌, ◌≢◌, true, ℕ, ℤ, pos, suc, ◌+◌, ◌-◌, ◌<◌, ◌≤◌, inl, inr, List, [], ◌∷◌, ◌++◌}
-use Rattle.std.proofs.Common.{length, get_or, set}
-use Rattle.std.proofs.Common.{Option, Some, None, All, refl, sym, ap, ap₂, ◌∙◌, subst, arith, append-nil}
-use Rattle.std.proofs.Common.{length-append}
-use Rattle.std.proofs.lemmas.List.{get_or-set_same, get_or-set_other, length-replicate, length-set}
-use Rattle.std.proofs.lemmas.List.{map-append}
+use Rattle.std.proofs.Common.{◌≡◌, ◌≢◌, true, ℕ, ℤ, pos, suc, ◌+◌, ◌-◌, ◌<◌, ◌≤◌, inl, inr, List, [], ◌∷◌, ◌++◌, length, get_or, set, Option, Some, None, All, refl, sym, ap, ap₂, ◌∙◌, subst, arith, append-nil, length-append}
+use Rattle.std.proofs.lemmas.List.{get_or-set_same, get_or-set_other, length-replicate, length-set, map-append}
 use Rattle.std.proofs.lemmas.List.Elements.{All-nil, All-cons, All-head, All-tail, All-append}
 use Rattle.std.proofs.lemmas.Bool.{cases_lt}
-use Rattle.trend_num.specs.declared.archive.Rec.{Rec}
-use Rattle.trend_num.specs.Ranges.{InRange}
-use Rattle.page_pool.specs.declared.frame.Frame.{Frame}
-use Rattle.page_pool.specs.Pool.{frame_at, TakesFrame, empty_frame}
-use Rattle.late_insert.specs.declared.directory.Page.{Page}
-use Rattle.trend_model.specs.Contents.{IsRising, points_of}
-use Rattle.trend_model.specs.Windows.{area}
-use Rattle.late_insert.specs.Pages.{AreApart, ids_of, frame_records_in, records_at, page_in, page_records_of, IsPage}
-use Rattle.late_insert.specs.Pages.{IsPageAt, ArePagesFrom, ArePages, AreHalves, lengths_of}
+use Rattle.trend_num.specs.{Rec, InRange}
+use Rattle.page_pool.specs.{Frame, frame_at, TakesFrame, empty_frame}
+use Rattle.late_insert.specs.{Page, AreApart, ids_of, frame_records_in, records_at, page_in, page_records_of, IsPage, IsPageAt, ArePagesFrom, ArePages, AreHalves, lengths_of}
+use Rattle.trend_model.specs.{IsRising, points_of, area}
 use Rattle.trend_model.proofs.Placing.{rising_nil}
 use Rattle.late_insert.proofs.Finding.{HasSome}
-use Rattle.late_insert.proofs.Joining.{Agree, records-agree, pages_agree, records-append, pages_join}
-use Rattle.late_insert.proofs.Joining.{apart_insert, each_id, lengths-agree, lengths-append}
+use Rattle.late_insert.proofs.Joining.{Agree, records-agree, pages_agree, records-append, pages_join, apart_insert, each_id, lengths-agree, lengths-append}
 use Rattle.late_insert.proofs.Replacing.{some_agree, spare_apart}
 
 -- ---- the first page

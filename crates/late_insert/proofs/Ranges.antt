@@ -1,12 +1,11 @@
 -- Points at places one after another.
-use Rattle.std.proofs.Common.{◌≡◌, ℕ, zero, suc, ◌+◌, ◌-◌, ◌<◌, ◌≤◌, List, [], ◌∷◌, ◌++◌, Some, length}
-use Rattle.std.proofs.Common.{get_or, take, drop, ap, ◌∙◌, arith, add-one}
+use Rattle.std.proofs.Common.{◌≡◌, ℕ, zero, suc, ◌+◌, ◌-◌, ◌<◌, ◌≤◌, List, [], ◌∷◌, ◌++◌, Some, length, get_or, take, drop, ap, ◌∙◌, arith, add-one}
 use Rattle.std.specs.Prelude.{slice_get, slice_range}
 use Rattle.std.proofs.lemmas.List.{drop-drop, get_or-take, get_or-drop, length-take, length-drop}
 use Rattle.std.proofs.lemmas.Option.{slice_get-get_or}
 use Rattle.std.proofs.Math.Seq.{take-add}
-use Rattle.trend_num.specs.declared.point.Point.{Point}
-use Rattle.trend_model.specs.Parts.{last_point}
+use Rattle.trend_num.specs.{Point}
+use Rattle.trend_model.specs.{last_point}
 
 -- two ranges that meet
 pub range_joined : (ps : List Point) (i j k : ℕ) → i ≤ j → j ≤ k

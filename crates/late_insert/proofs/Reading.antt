@@ -1,24 +1,15 @@
 -- What is read of the records of pages.
-use Rattle.std.proofs.Common.{◌≡◌, ℕ, ◌+◌, ◌-◌, ◌<◌, ◌≤◌, ◌⊎◌, inl, inr, true, cond, List, [], ◌∷◌, ◌++◌}
-use Rattle.std.proofs.Common.{length, get_or, take, drop, Option, Some, All, nat_lt, count_by, refl, sym, ap}
-use Rattle.std.proofs.Common.{ap₂, ◌∙◌, subst, arith, append-nil, length-append}
-use Rattle.std.proofs.lemmas.List.{get_or_append_left, get_or-append-add, get_or-take, get_or-drop}
-use Rattle.std.proofs.lemmas.List.{get_or_default, take_at, drop_at, take_more, drop_all, length-map}
-use Rattle.std.proofs.lemmas.List.{length-take-le, length-drop, map-append}
+use Rattle.std.proofs.Common.{◌≡◌, ℕ, ◌+◌, ◌-◌, ◌<◌, ◌≤◌, ◌⊎◌, inl, inr, true, cond, List, [], ◌∷◌, ◌++◌, length, get_or, take, drop, Option, Some, All, nat_lt, count_by, refl, sym, ap, ap₂, ◌∙◌, subst, arith, append-nil, length-append}
+use Rattle.std.proofs.lemmas.List.{get_or_append_left, get_or-append-add, get_or-take, get_or-drop, get_or_default, take_at, drop_at, take_more, drop_all, length-map, length-take-le, length-drop, map-append}
 use Rattle.std.proofs.lemmas.List.Sums.{sum_by-cons, sum_by-take-drop}
 use Rattle.std.proofs.lemmas.List.Elements.{All-head, All-tail}
 use Rattle.std.specs.Prelude.{is_some}
 use Rattle.std.proofs.lemmas.Bool.{cases_lt, cases_eq, lt-ltb, le-ltb}
-use Rattle.trend_num.specs.declared.archive.Rec.{Rec}
-use Rattle.page_pool.specs.declared.frame.Frame.{Frame}
-use Rattle.page_pool.specs.Pool.{IsHeld, frame_at}
+use Rattle.trend_num.specs.{Rec}
+use Rattle.page_pool.specs.{Frame, IsHeld, frame_at}
 use Rattle.late_insert.specs.declared.directory.Key.TheVariants.{Place}
-use Rattle.late_insert.specs.declared.directory.Page.{Page}
-use Rattle.late_insert.specs.Moves.{IsLastUpto}
-use Rattle.trend_model.specs.Contents.{IsRising, points_of}
-use Rattle.trend_model.specs.Windows.{area}
-use Rattle.late_insert.specs.Pages.{rec_in, frame_records_in, records_at, page_in, page_records_of, IsPage, IsPageAt}
-use Rattle.late_insert.specs.Pages.{ArePages, IsPageRead, IsFor, IsOn}
+use Rattle.late_insert.specs.{Page, IsLastUpto, rec_in, frame_records_in, records_at, page_in, page_records_of, IsPage, IsPageAt, ArePages, IsPageRead, IsFor, IsOn}
+use Rattle.trend_model.specs.{IsRising, points_of, area}
 use Rattle.trend_model.proofs.Placing.{time, AllBefore, rising_left, rising_right}
 use Rattle.late_insert.proofs.Summing.{length-records_in, get_or-records_in}
 use Rattle.late_insert.proofs.Joining.{records-around, records-append, page_at}

@@ -1,29 +1,19 @@
 -- A page in the middle that is replaced by others.
-use Rattle.std.proofs.Common.{◌≡◌, ◌≢◌, inl, inr, true, ℕ, ℤ, ◌+◌, ◌<◌, ◌≤◌, List, [], ◌∷◌, ◌++◌, length, map}
-use Rattle.std.proofs.Common.{get_or, set, take, drop, Option, Some, None, All, refl, sym, ap, ap₂, ◌∙◌}
-use Rattle.std.proofs.Common.{subst, arith, append_assoc, append-nil, length-append, add-zero, zero-add}
+use Rattle.std.proofs.Common.{◌≡◌, ◌≢◌, inl, inr, true, ℕ, ℤ, ◌+◌, ◌<◌, ◌≤◌, List, [], ◌∷◌, ◌++◌, length, map, get_or, set, take, drop, Option, Some, None, All, refl, sym, ap, ap₂, ◌∙◌, subst, arith, append_assoc, append-nil, length-append}
+use Rattle.std.proofs.Common.{add-zero, zero-add}
 use Rattle.std.specs.Prelude.{is_some}
-use Rattle.std.proofs.lemmas.List.{get_or-set_same, get_or-set_other, map-append, length-map}
-use Rattle.std.proofs.lemmas.List.{take-append-drop, length-set, length-take-le, length-drop, get_or-take}
-use Rattle.std.proofs.lemmas.List.{nil_from_length}
+use Rattle.std.proofs.lemmas.List.{get_or-set_same, get_or-set_other, map-append, length-map, take-append-drop, length-set, length-take-le, length-drop, get_or-take, nil_from_length}
 use Rattle.std.proofs.lemmas.Bool.{cases_lt}
 use Rattle.std.proofs.lemmas.List.Elements.{All-nil, All-cons, All-head, All-tail, All-append, All-map}
-use Rattle.trend_num.specs.declared.archive.Rec.{Rec}
-use Rattle.page_pool.specs.declared.frame.Frame.{Frame}
-use Rattle.page_pool.specs.Pool.{frame_at, IsHeld}
+use Rattle.trend_num.specs.{Rec}
+use Rattle.page_pool.specs.{Frame, frame_at, IsHeld}
 use Rattle.page_pool.proofs.Stored.{held_within}
-use Rattle.late_insert.specs.declared.directory.Page.{Page}
-use Rattle.trend_model.specs.Contents.{IsRising, placed, points_of}
-use Rattle.trend_model.specs.Windows.{area}
-use Rattle.late_insert.specs.Moves.{moved}
-use Rattle.late_insert.specs.Pages.{frame_records_in, records_at, page_in, page_records_of, IsPage, IsPageAt}
-use Rattle.late_insert.specs.Pages.{ArePagesFrom, ArePages, AreApart, AreHalves, ids_of, lengths_of}
+use Rattle.late_insert.specs.{Page, moved, frame_records_in, records_at, page_in, page_records_of, IsPage, IsPageAt, ArePagesFrom, ArePages, AreApart, AreHalves, ids_of, lengths_of}
+use Rattle.trend_model.specs.{IsRising, placed, points_of, area}
 use Rattle.late_insert.proofs.Summing.{length-records_in, get_or-records_in}
 use Rattle.late_insert.proofs.Finding.{no_rec, HasSome}
 use Rattle.trend_model.proofs.Placing.{time, placed_middle, rising_placed, length-placed}
-use Rattle.late_insert.proofs.Joining.{all_left, all_right, apart_at, apart_insert, each_page, each_id}
-use Rattle.late_insert.proofs.Joining.{ids-moved, Agree, records-agree, pages_agree, agree_set}
-use Rattle.late_insert.proofs.Joining.{records-append, pages_split, pages_join, records-moved, pages_moved}
+use Rattle.late_insert.proofs.Joining.{all_left, all_right, apart_at, apart_insert, each_page, each_id, ids-moved, Agree, records-agree, pages_agree, agree_set, records-append, pages_split, pages_join, records-moved, pages_moved}
 use Rattle.late_insert.proofs.Joining.{lengths-agree, lengths-append, lengths-moved}
 
 -- pages whose frames stay keep their records

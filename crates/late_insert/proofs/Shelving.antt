@@ -1,32 +1,21 @@
 -- What the code makes of a list of pages.
-use Rattle.std.proofs.Common.{◌≡◌, true, ℕ, ℤ, zero, suc, ◌+◌, ◌-◌, ◌^◌, ◌<◌, ◌≤◌, List, [], ◌∷◌, ◌++◌, length}
-use Rattle.std.proofs.Common.{map, get_or, set, take, drop, Option, Some, All, sym, ap, ap₂, ◌∙◌}
-use Rattle.std.proofs.Common.{subst, arith, append_assoc, append-nil, length-append, add-one, inl, inr}
-use Rattle.std.proofs.lemmas.List.{take_more_set, drop-set-lt, get_or_default}
-use Rattle.std.proofs.lemmas.List.{length-set, length-take-le, get_or_at, get_or-set_same, drop_all, take_all}
-use Rattle.std.proofs.lemmas.List.{get_or-set_other}
-use Rattle.std.proofs.lemmas.List.Edits.{get_or-insert_at, get_or-insert_below, get_or-insert_above}
-use Rattle.std.proofs.lemmas.List.Edits.{length-insert}
+use Rattle.std.proofs.Common.{◌≡◌, true, ℕ, ℤ, zero, suc, ◌+◌, ◌-◌, ◌^◌, ◌<◌, ◌≤◌, List, [], ◌∷◌, ◌++◌, length, map, get_or, set, take, drop, Option, Some, All, sym, ap, ap₂, ◌∙◌, subst, arith, append_assoc, append-nil, length-append}
+use Rattle.std.proofs.Common.{add-one, inl, inr}
+use Rattle.std.proofs.lemmas.List.{take_more_set, drop-set-lt, get_or_default, length-set, length-take-le, get_or_at, get_or-set_same, drop_all, take_all, get_or-set_other}
+use Rattle.std.proofs.lemmas.List.Edits.{get_or-insert_at, get_or-insert_below, get_or-insert_above, length-insert}
 use Rattle.std.proofs.lemmas.Bool.{cases_eq, cases_lt}
 use Rattle.late_insert.proofs.Finding.{found_for, no_page}
 use Rattle.std.specs.Prelude.{insert}
 use Rattle.std.proofs.lemmas.List.Elements.{All-nil, All-cons, All-set}
-use Rattle.trend_num.specs.declared.archive.Rec.{Rec}
-use Rattle.page_pool.specs.declared.frame.Frame.{Frame}
-use Rattle.page_pool.specs.Pool.{TakesFrame, empty_frame}
-use Rattle.late_insert.specs.declared.directory.Page.{Page}
-use Rattle.trend_model.specs.Contents.{placed, points_of}
-use Rattle.trend_model.specs.Windows.{area}
+use Rattle.trend_num.specs.{Rec}
+use Rattle.page_pool.specs.{Frame, TakesFrame, empty_frame}
+use Rattle.late_insert.specs.{Page, IsLastUpto, moved, frame_records_in, records_at, page_in, page_records_of, IsPage, ArePagesFrom, IsPageRead, ArePages, IsFor, IsHalfFor, IsSplit, lengths_of, IsGrown, place_in}
+use Rattle.trend_model.specs.{placed, points_of, area}
 use Rattle.late_insert.specs.declared.directory.Key.TheVariants.{Time}
-use Rattle.late_insert.specs.Moves.{IsLastUpto, moved}
-use Rattle.late_insert.specs.Pages.{frame_records_in, records_at, page_in, page_records_of, IsPage, ArePagesFrom, IsPageRead}
-use Rattle.late_insert.specs.Pages.{ArePages, IsFor, IsHalfFor, IsSplit, lengths_of}
-use Rattle.late_insert.specs.PageLengths.{IsGrown, place_in}
 use Rattle.trend_model.proofs.Placing.{time, placed_middle, AllBefore}
 use Rattle.late_insert.proofs.Summing.{length-records_in}
 use Rattle.late_insert.proofs.Joining.{all_left, pages_around, records-around, lengths-around}
-use Rattle.late_insert.proofs.Replacing.{pages_put, records-put, lengths-put, pages_in_halves, records-split}
-use Rattle.late_insert.proofs.Replacing.{lengths-split, low_len, high_len}
+use Rattle.late_insert.proofs.Replacing.{pages_put, records-put, lengths-put, pages_in_halves, records-split, lengths-split, low_len, high_len}
 use Rattle.late_insert.proofs.Growing.{place_from, place_upto}
 use Rattle.late_insert.proofs.Reading.{end_within}
 

@@ -1,15 +1,13 @@
 -- Searching a page by time.
-use Rattle.std.proofs.Common.{◌≡◌, ℕ, ◌+◌, ◌<◌, ◌≤◌, inl, inr, [], ◌∷◌, ◌++◌, length, get_or, set, take, drop}
-use Rattle.std.proofs.Common.{append-nil, sym, ap, ◌∙◌, subst, arith}
+use Rattle.std.proofs.Common.{◌≡◌, ℕ, ◌+◌, ◌<◌, ◌≤◌, inl, inr, [], ◌∷◌, ◌++◌, length, get_or, set, take, drop, append-nil, sym, ap, ◌∙◌, subst, arith}
 use Rattle.std.specs.Prelude.{insert}
 use Rattle.std.specs.List.Sorted.{IsNonDecreasing}
-use Rattle.std.proofs.lemmas.List.{get_or-take, get_or-drop, take_all, length-take-le, length-drop}
-use Rattle.std.proofs.lemmas.List.{get_or_default}
+use Rattle.std.proofs.lemmas.List.{get_or-take, get_or-drop, take_all, length-take-le, length-drop, get_or_default}
 use Rattle.std.proofs.lemmas.Bool.{cases_eq}
-use Rattle.trend_num.specs.declared.archive.Rec.{Rec}
-use Rattle.page_pool.specs.declared.frame.Frame.{Frame}
-use Rattle.trend_model.specs.Contents.{IsRising, over, placed}
-use Rattle.late_insert.specs.Pages.{IsRecorded, rec_in, frame_records_in}
+use Rattle.trend_num.specs.{Rec}
+use Rattle.page_pool.specs.{Frame}
+use Rattle.trend_model.specs.{IsRising, over, placed}
+use Rattle.late_insert.specs.{IsRecorded, rec_in, frame_records_in}
 use Rattle.trend_model.proofs.Placing.{time, AllBefore, AllAfter, placed_in_gap, placed_behind, placed_at}
 use Rattle.late_insert.proofs.Summing.{length-records_in, get_or-records_in}
 

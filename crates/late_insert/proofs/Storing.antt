@@ -1,23 +1,18 @@
 -- A frame with one record more, and one with a record changed.
-use Rattle.std.proofs.Common.{◌≡◌, ◌≢◌, ℕ, zero, suc, ◌+◌, ◌-◌, ◌^◌, ◌<◌, ◌≤◌, ◌⊎◌, inl, inr, ℤ, List, [], ◌∷◌, ◌++◌}
-use Rattle.std.proofs.Common.{length, get_or, set, take, drop, All, refl, sym, ap, ◌∙◌, subst, arith, add-one}
+use Rattle.std.proofs.Common.{◌≡◌, ◌≢◌, ℕ, zero, suc, ◌+◌, ◌-◌, ◌^◌, ◌<◌, ◌≤◌, ◌⊎◌, inl, inr, ℤ, List, [], ◌∷◌, ◌++◌, length, get_or, set, take, drop, All, refl, sym, ap, ◌∙◌, subst, arith, add-one}
 use Rattle.std.specs.Prelude.{insert, pos, bit_and, min, ◌/◌, ◌%◌}
 use Rattle.std.proofs.lemmas.Nat.{and_mask, mod_below, div-add-mod', shr_below}
 use Rattle.std.proofs.lemmas.Nat.Bits.{bit_at_above, bit_at_and, bit_at_ones, bit_at-lt, bit_at_cat_high}
 use Rattle.std.proofs.Math.Pow.{pow_mono}
 use Rattle.std.specs.Int.{bit_at}
-use Rattle.std.proofs.lemmas.List.{same_lists, get_or-set_same, get_or-set_other, length-set, get_or-take}
-use Rattle.std.proofs.lemmas.List.{get_or-drop, length-take-le, length-drop}
-use Rattle.std.proofs.lemmas.List.Edits.{length-insert, get_or-insert_below, get_or-insert_at}
-use Rattle.std.proofs.lemmas.List.Edits.{get_or-insert_above, insert_end}
+use Rattle.std.proofs.lemmas.List.{same_lists, get_or-set_same, get_or-set_other, length-set, get_or-take, get_or-drop, length-take-le, length-drop}
+use Rattle.std.proofs.lemmas.List.Edits.{length-insert, get_or-insert_below, get_or-insert_at, get_or-insert_above, insert_end}
 use Rattle.std.proofs.lemmas.List.Elements.{All-append, All-cons, All-take, All-drop, All-set}
 use Rattle.std.proofs.lemmas.Bool.{cases_order, cases_eq}
-use Rattle.trend_num.specs.declared.archive.Kind.{Kind}
+use Rattle.trend_num.specs.{Kind, Rec, InRange}
 use Rattle.trend_num.specs.declared.archive.Kind.TheVariants.{Kept}
-use Rattle.trend_num.specs.declared.archive.Rec.{Rec}
-use Rattle.trend_num.specs.Ranges.{InRange}
-use Rattle.page_pool.specs.declared.frame.Frame.{Frame}
-use Rattle.late_insert.specs.Pages.{kind_of, rec_in, frame_records_in, IsRecorded}
+use Rattle.page_pool.specs.{Frame}
+use Rattle.late_insert.specs.{kind_of, rec_in, frame_records_in, IsRecorded}
 use Rattle.late_insert.proofs.Summing.{length-records_in, get_or-records_in}
 
 -- a record by its parts

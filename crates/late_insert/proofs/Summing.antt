@@ -1,26 +1,17 @@
 -- Totals of a page, counted point by point.
-use Rattle.std.proofs.Common.{◌≡◌, Bool, false, ℕ, ◌+◌, ◌-◌, ◌<◌, ◌≤◌, ℤ, ◌+ℤ◌, List, [], ◌∷◌, ◌++◌, length}
-use Rattle.std.proofs.Common.{get_or, take, drop}
-use Rattle.std.proofs.Common.{All, refl, sym, ap, ap₂, ◌∙◌, subst, arith}
+use Rattle.std.proofs.Common.{◌≡◌, Bool, false, ℕ, ◌+◌, ◌-◌, ◌<◌, ◌≤◌, ℤ, ◌+ℤ◌, List, [], ◌∷◌, ◌++◌, length, get_or, take, drop, All, refl, sym, ap, ap₂, ◌∙◌, subst, arith}
 use Rattle.std.specs.Prelude.{FitsSigned}
 use Rattle.std.specs.Int.{int_min, int_max, w128, w64}
 use Rattle.std.proofs.lemmas.Int.{fits_signed_from_abs}
-use Rattle.std.proofs.lemmas.List.{take_all, drop_more, get_or-drop, length-take, length-drop, length-map}
-use Rattle.std.proofs.lemmas.List.{get_or-map, map_push}
+use Rattle.std.proofs.lemmas.List.{take_all, drop_more, get_or-drop, length-take, length-drop, length-map, get_or-map, map_push}
 use Rattle.std.proofs.lemmas.List.FromFn.{length-map-range_with_len, get_or-map-range_with_len}
 use Rattle.std.proofs.lemmas.List.Elements.{All-take, All-drop, All-map}
-use Rattle.trend_num.specs.declared.point.Point.{Point}
-use Rattle.trend_num.specs.declared.archive.Rec.{Rec}
-use Rattle.trend_num.specs.Ranges.{InRange}
-use Rattle.page_pool.specs.declared.frame.Frame.{Frame}
-use Rattle.late_insert.specs.Pages.{rec_in, frame_records_in, IsRecorded, IsPage}
-use Rattle.trend_model.specs.Contents.{points_of}
-use Rattle.trend_model.specs.Windows.{area, piece}
-use Rattle.late_insert.specs.declared.total.Extreme.{Extreme}
+use Rattle.trend_num.specs.{Point, Rec, InRange}
+use Rattle.page_pool.specs.{Frame}
+use Rattle.late_insert.specs.{rec_in, frame_records_in, IsRecorded, IsPage, Extreme, least_of, greatest_of, extreme_of, outer}
+use Rattle.trend_model.specs.{points_of, area, piece}
 use Rattle.late_insert.specs.declared.total.Extreme.TheVariants.{Least, Greatest}
-use Rattle.late_insert.specs.Totals.{least_of, greatest_of, extreme_of, outer}
-use Rattle.late_insert.proofs.Areas.{area_put, area_more, extreme_more, least_push}
-use Rattle.late_insert.proofs.Areas.{greatest_push, area_fits}
+use Rattle.late_insert.proofs.Areas.{area_put, area_more, extreme_more, least_push, greatest_push, area_fits}
 
 -- ---- the records of a frame
 

@@ -1,23 +1,18 @@
 -- A walk over the records of pages.
-use Rattle.std.proofs.Common.{◌≡◌, ℕ, ◌+◌, ◌-◌, ◌^◌, ◌<◌, ◌≤◌, inl, inr, true, ℤ, List, ◌++◌, length, get_or}
-use Rattle.std.proofs.Common.{take, Option, sym, ap, ◌∙◌, arith, length-append}
+use Rattle.std.proofs.Common.{◌≡◌, ℕ, ◌+◌, ◌-◌, ◌^◌, ◌<◌, ◌≤◌, inl, inr, true, ℤ, List, ◌++◌, length, get_or, take, Option, sym, ap, ◌∙◌, arith, length-append}
 use Rattle.std.specs.Prelude.{min, slice_range}
 use Rattle.std.proofs.lemmas.List.{same_lists, take_all, length-map, get_or-map}
 use Rattle.std.proofs.lemmas.Bool.{cases_lt}
-use Rattle.trend_num.specs.declared.archive.Rec.{Rec}
-use Rattle.page_pool.specs.declared.frame.Frame.{Frame}
+use Rattle.trend_num.specs.{Rec}
+use Rattle.page_pool.specs.{Frame}
 use Rattle.late_insert.specs.declared.directory.Key.TheVariants.{Place}
-use Rattle.late_insert.specs.declared.directory.Page.{Page}
-use Rattle.late_insert.specs.Moves.{IsLastUpto}
-use Rattle.trend_model.specs.Contents.{points_of}
-use Rattle.trend_model.specs.Windows.{area}
-use Rattle.late_insert.specs.Pages.{rec_in, records_at, frame_records_in, page_records_of, ArePages, IsOn, IsWalk, IsRun, IsPageRead}
+use Rattle.late_insert.specs.{Page, IsLastUpto, rec_in, records_at, frame_records_in, page_records_of, ArePages, IsOn, IsWalk, IsRun, IsPageRead}
+use Rattle.trend_model.specs.{points_of, area}
 use Rattle.late_insert.proofs.Summing.{length-records_in, points_in, length-points_in, get_or-points_in}
 use Rattle.late_insert.proofs.Joining.{page_at}
 use Rattle.late_insert.proofs.Finding.{no_rec, no_page}
 use Rattle.late_insert.proofs.Ranges.{range_joined, get_or-range, length-range}
-use Rattle.late_insert.proofs.Reading.{each_read, at_place, frame_page, read_on, records_upto}
-use Rattle.late_insert.proofs.Reading.{place_on, is_on, page_from, page_upto}
+use Rattle.late_insert.proofs.Reading.{each_read, at_place, frame_page, read_on, records_upto, place_on, is_on, page_from, page_upto}
 
 -- a walk from a place, on the page that was found for it
 pub walk_first : (pool : List (Option Frame)) (pages : List Page) (k first behind : ℕ) → ArePages pool pages

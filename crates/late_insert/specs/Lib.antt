@@ -4,3 +4,13 @@ pub mod Moves
 pub mod Pages
 pub mod PageTotals
 pub mod PageLengths
+pub use Totals.{least_of, greatest_of, outer, extreme_of}
+pub use Places.{StandsAt}
+pub use Moves.{Listed, leaf_of, no_leaf, picked, AreOrdered, placed_pages, begin_of, IsLastUpto, rewritten, moved}
+pub use Pages.{kind_of, rec_in, frame_records_in, IsRecorded, IsPage, records_at, page_in, page_records_of, lengths_of, IsPageAt, ArePagesFrom, AreApart, ids_of, AreHalves, ArePages, IsPageRead, IsFor, IsSplit, IsHalfFor, IsOn, IsWalk}
+pub use Pages.{IsRun, IsKept}
+pub use PageTotals.{IsPageOf}
+pub use PageLengths.{place_in, ArePagesFilled, IsGrown, IsHalved, IsPutAmong, AreFull, IsOneOf}
+pub use declared.directory.Leaf.{Leaf}
+pub use declared.directory.Page.{Page}
+pub use declared.total.Extreme.{Extreme}

@@ -1,7 +1,7 @@
 -- How many records each page of a content has, in order, and how a put changes these numbers.
 use Rattle.std.specs.Prelude.{◌≡◌, ℕ, ◌+◌, ◌-◌, ◌<◌, ◌≤◌, ◌⊎◌, List, ◌∷◌, [], ◌++◌, All, length, take, sum, count_by, nat_lt}
-use Rattle.trend_num.specs.declared.archive.Rec.{Rec}
-use Rattle.page_pool.specs.Pool.{full_page}
+use Rattle.trend_num.specs.{Rec}
+use Rattle.page_pool.specs.{full_page}
 use Rattle.late_insert.specs.declared.content.PageTotals.{PageTotals}
 use Rattle.late_insert.specs.Pages.{half_page}
 

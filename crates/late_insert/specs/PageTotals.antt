@@ -1,10 +1,8 @@
 -- The totals of a page.
 use Rattle.std.specs.Prelude.{◌≡◌, ℕ, ◌+◌, ◌<◌, ◌≤◌, List, length, slice_range, false}
-use Rattle.trend_num.specs.declared.point.Point.{Point}
-use Rattle.trend_num.specs.declared.archive.Rec.{Rec}
+use Rattle.trend_num.specs.{Point, Rec}
 use Rattle.late_insert.specs.declared.content.PageTotals.{PageTotals}
-use Rattle.trend_model.specs.Contents.{points_of}
-use Rattle.trend_model.specs.Windows.{area}
+use Rattle.trend_model.specs.{points_of, area}
 use Rattle.late_insert.specs.Totals.{least_of, greatest_of}
 
 -- the points of l that are on a page

@@ -1,18 +1,12 @@
 -- How a content is kept in pages, each in a frame.
-use Rattle.std.specs.Prelude.{◌≡◌, ◌≢◌, true, false, ℕ, ℤ, zero, suc, pos, ◌+◌, ◌*◌, ◌/◌, ◌^◌, ◌<◌, ◌≤◌, ◌⊎◌, List, []}
-use Rattle.std.specs.Prelude.{◌∷◌, Option, None, Some, length, map, slice_index, slice_index_or, take, drop}
-use Rattle.std.specs.Prelude.{insert, slice_set, All}
+use Rattle.std.specs.Prelude.{◌≡◌, ◌≢◌, true, false, ℕ, ℤ, zero, suc, pos, ◌+◌, ◌*◌, ◌/◌, ◌^◌, ◌<◌, ◌≤◌, ◌⊎◌, List, [], ◌∷◌, Option, None, Some, length, map, slice_index, slice_index_or, take, drop, insert, slice_set, All}
 use Rattle.std.specs.Int.{bit_at}
 use Rattle.std.specs.List.{flat_map, range_with_len}
-use Rattle.trend_num.specs.declared.archive.Rec.{Rec}
-use Rattle.trend_num.specs.declared.archive.Kind.{Kind}
+use Rattle.trend_num.specs.{Rec, Kind, InRange}
 use Rattle.trend_num.specs.declared.archive.Kind.TheVariants.{Kept, Late}
-use Rattle.trend_num.specs.Ranges.{InRange}
-use Rattle.page_pool.specs.declared.frame.Frame.{Frame}
-use Rattle.page_pool.specs.Pool.{frame_at, full_page, spare_of}
+use Rattle.page_pool.specs.{Frame, frame_at, full_page, spare_of}
 use Rattle.late_insert.specs.declared.directory.Page.{Page}
-use Rattle.trend_model.specs.Contents.{IsRising, points_of}
-use Rattle.trend_model.specs.Windows.{area}
+use Rattle.trend_model.specs.{IsRising, points_of, area}
 use Rattle.late_insert.specs.Totals.{least_of, greatest_of}
 
 -- ---- a page in a frame

@@ -3,7 +3,7 @@ use Rattle.std.specs.Prelude.{ℤ, pos, List, [], ◌∷◌, fold}
 use Rattle.std.specs.Int.{int_min, int_max}
 use Rattle.late_insert.specs.declared.total.Extreme.{Extreme}
 use Rattle.late_insert.specs.declared.total.Extreme.TheVariants.{Least, Greatest}
-use Rattle.trend_num.specs.declared.point.Point.{Point}
+use Rattle.trend_num.specs.{Point}
 
 -- the least value of these points, and the greatest
 abbrev pub least_of : List Point → ℤ

@@ -1,13 +1,8 @@
 // A content, in pages.
-ghost use Rattle.std.specs.Prelude.{◌≡◌, ◌↔◌, ◌+◌, ◌-◌, ◌<◌, ◌≤◌, List, [], ◌∷◌, ◌++◌, IfNone, IfOk};
-ghost use Rattle.std.specs.Prelude.{IfSome, IsTrue, IsSome, length, count_by, nat_lt, sum, take, drop};
-ghost use Rattle.std.specs.Prelude.{slice_index_or, slice_get, slice_range, All, fold};
-ghost use Rattle.trend_num.specs.declared.archive.Rec.{Rec};
-ghost use Rattle.trend_num.specs.Ranges.{InRange};
-ghost use Rattle.trend_model.specs.Content.{is_late_record, late_at};
-ghost use Rattle.trend_model.specs.Parts.{last_point};
-ghost use Rattle.trend_model.specs.Contents.{IsCeil, IsContentOf, IsFloor, IsRising, listed, placed, points_of};
-ghost use Rattle.page_pool.specs.Pool.{full_page};
+ghost use Rattle.std.specs.Prelude.{◌≡◌, ◌↔◌, ◌+◌, ◌-◌, ◌<◌, ◌≤◌, List, [], ◌∷◌, ◌++◌, IfNone, IfOk, IfSome, IsTrue, IsSome, length, count_by, nat_lt, sum, take, drop, slice_index_or, slice_get, slice_range, All, fold};
+ghost use Rattle.trend_num.specs.{Rec, InRange};
+ghost use Rattle.trend_model.specs.{is_late_record, late_at, last_point, IsCeil, IsContentOf, IsFloor, IsRising, listed, placed, points_of};
+ghost use Rattle.page_pool.specs.{full_page};
 ghost use Rattle.late_insert.specs.Places.{StandsAt};
 ghost use Rattle.late_insert.specs.PageTotals.{IsPageOf};
 ghost use Rattle.late_insert.specs.PageLengths.{AreBefore, AreFull, ArePagesFilled, IsOneOf, IsPutAmong, place_in};
@@ -36,7 +31,7 @@ pub struct Content {
 
 impl Model for Content {
     ghost use Rattle.std.specs.Prelude.{◌-◌};
-    ghost use Rattle.trend_model.specs.Contents.{ContentState};
+    ghost use Rattle.trend_model.specs.{ContentState};
     ghost use Rattle.late_insert.specs.Pages.{IsKept, lengths_of, page_records_of};
 
     ghost Value = { ContentState };

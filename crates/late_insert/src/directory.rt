@@ -1,6 +1,5 @@
 // The list of a content's pages, in order of time.
-ghost use Rattle.std.specs.Prelude.{◌≡◌, ◌+◌, ◌-◌, ◌^◌, ◌<◌, ◌≤◌, [], ◌∷◌, length, map, take, drop, ◌++◌, All};
-ghost use Rattle.std.specs.Prelude.{slice_index_or, slice_set, insert, vec_len, vec_capacity, AllPairs, IfOk};
+ghost use Rattle.std.specs.Prelude.{◌≡◌, ◌+◌, ◌-◌, ◌^◌, ◌<◌, ◌≤◌, [], ◌∷◌, length, map, take, drop, ◌++◌, All, slice_index_or, slice_set, insert, vec_len, vec_capacity, AllPairs, IfOk};
 ghost use Rattle.late_insert.specs.declared.directory.Page.{Page};
 ghost use Rattle.late_insert.specs.declared.directory.Key.TheVariants.{Place, Time};
 ghost use Rattle.late_insert.specs.Moves.{IsLastUpto, begin_of, leaf_of, moved, rewritten};

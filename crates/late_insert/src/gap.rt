@@ -1,10 +1,7 @@
 // Look-ups among the records of pages: the gap for a time, and the record at a place.
-ghost use Rattle.std.specs.Prelude.{◌≡◌, ◌^◌, ◌<◌, ◌≤◌, length, take, drop, ◌+◌, IfSome, count_by, nat_lt};
-ghost use Rattle.std.specs.Prelude.{slice_get, slice_index_or, All};
-ghost use Rattle.trend_num.specs.declared.archive.Rec.{Rec};
-ghost use Rattle.trend_num.specs.Ranges.{InRange};
-ghost use Rattle.trend_model.specs.Contents.{points_of};
-ghost use Rattle.trend_model.specs.Parts.{last_point};
+ghost use Rattle.std.specs.Prelude.{◌≡◌, ◌^◌, ◌<◌, ◌≤◌, length, take, drop, ◌+◌, IfSome, count_by, nat_lt, slice_get, slice_index_or, All};
+ghost use Rattle.trend_num.specs.{Rec, InRange};
+ghost use Rattle.trend_model.specs.{points_of, last_point};
 ghost use Rattle.late_insert.specs.Pages.{ArePages, IsPageRead, page_records_of};
 ghost use Rattle.late_insert.specs.declared.directory.Page.{Page};
 

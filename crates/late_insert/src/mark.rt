@@ -1,7 +1,7 @@
 // The marks of a page's records: one bit a record, set if the record is Late.
 ghost use Rattle.std.specs.Prelude.{◌≡◌, ℕ, ◌+◌, ◌-◌, ◌^◌, ◌<◌, ◌≤◌};
 ghost use Rattle.std.specs.Int.{bit_at};
-ghost use Rattle.page_pool.specs.Pool.{full_page};
+ghost use Rattle.page_pool.specs.{full_page};
 ghost use Rattle.late_insert.specs.Pages.{kind_of};
 
 use trend_num::Kind;

@@ -1,10 +1,8 @@
 // The records of a page, in its frame.
-ghost use Rattle.std.specs.Prelude.{◌≡◌, ℕ, ◌+◌, ◌<◌, ◌≤◌, true, slice_index, length};
-ghost use Rattle.std.specs.Prelude.{◌++◌, ◌∷◌, [], insert, slice_set, take, drop, All};
-ghost use Rattle.trend_num.specs.Ranges.{InRange};
-ghost use Rattle.trend_model.specs.Contents.{IsRising, over, placed, points_of};
-ghost use Rattle.trend_model.specs.Windows.{area};
-ghost use Rattle.page_pool.specs.Pool.{full_page};
+ghost use Rattle.std.specs.Prelude.{◌≡◌, ℕ, ◌+◌, ◌<◌, ◌≤◌, true, slice_index, length, ◌++◌, ◌∷◌, [], insert, slice_set, take, drop, All};
+ghost use Rattle.trend_num.specs.{InRange};
+ghost use Rattle.trend_model.specs.{IsRising, over, placed, points_of, area};
+ghost use Rattle.page_pool.specs.{full_page};
 ghost use Rattle.late_insert.specs.Pages.{IsPage, IsRecorded, half_page, rec_in, frame_records_in};
 
 use crate::array::{count_below, insert_at, rotate};

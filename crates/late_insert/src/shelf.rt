@@ -1,11 +1,10 @@
 // Pages in the frames of a pool. A full page is split, one record is put in, or a run of records is put after all
 // others.
-ghost use Rattle.std.specs.Prelude.{◌≡◌, ◌+◌, ◌-◌, ◌^◌, ◌<◌, ◌≤◌, ◌⊎◌, [], ◌∷◌, ◌++◌, IsTrue, IsFalse, length};
-ghost use Rattle.std.specs.Prelude.{slice_index_or, take, drop, All};
-ghost use Rattle.trend_num.specs.Ranges.{InRange};
-ghost use Rattle.page_pool.specs.Pool.{full_page, spare_of};
+ghost use Rattle.std.specs.Prelude.{◌≡◌, ◌+◌, ◌-◌, ◌^◌, ◌<◌, ◌≤◌, ◌⊎◌, [], ◌∷◌, ◌++◌, IsTrue, IsFalse, length, slice_index_or, take, drop, All};
+ghost use Rattle.trend_num.specs.{InRange};
+ghost use Rattle.page_pool.specs.{full_page, spare_of};
 ghost use Rattle.late_insert.specs.declared.directory.Page.{Page};
-ghost use Rattle.trend_model.specs.Contents.{IsRising, placed};
+ghost use Rattle.trend_model.specs.{IsRising, placed};
 ghost use Rattle.late_insert.specs.Pages.{ArePages, IsFor, IsHalfFor, IsSplit, half_page, lengths_of, page_in, page_records_of};
 ghost use Rattle.late_insert.specs.PageLengths.{AreBefore, IsGrown, IsHalved, place_in};
 

@@ -1,10 +1,8 @@
 // Totals over the records of a page.
-ghost use Rattle.std.specs.Prelude.{◌≡◌, ◌<◌, ◌≤◌, pos, true, false, slice_range, length};
-ghost use Rattle.std.specs.Prelude.{◌*◌, ◌*ℤ◌, unsigned_abs};
-ghost use Rattle.trend_num.specs.Ranges.{InRange, largest_value, last_time};
-ghost use Rattle.trend_model.specs.Contents.{points_of};
+ghost use Rattle.std.specs.Prelude.{◌≡◌, ◌<◌, ◌≤◌, pos, true, false, slice_range, length, ◌*◌, ◌*ℤ◌, unsigned_abs};
+ghost use Rattle.trend_num.specs.{InRange, largest_value, last_time};
+ghost use Rattle.trend_model.specs.{points_of, area, piece};
 ghost use Rattle.late_insert.specs.Pages.{IsPage, IsRecorded, rec_in, frame_records_in};
-ghost use Rattle.trend_model.specs.Windows.{area, piece};
 ghost use Rattle.late_insert.specs.Totals.{extreme_of, greatest_of, least_of, outer};
 
 use page_pool::Frame;

@@ -1,10 +1,7 @@
 // The points of a content in order, in runs of points on one page.
-ghost use Rattle.std.specs.Prelude.{◌≡◌, ◌<◌, ◌≤◌, [], ◌++◌, IfNone, IfSome, Some, length, slice_get};
-ghost use Rattle.std.specs.Prelude.{slice_range};
-ghost use Rattle.trend_num.specs.Ranges.{InRange};
-ghost use Rattle.trend_model.specs.Contents.{points_of};
-ghost use Rattle.trend_model.specs.Parts.{last_point};
-ghost use Rattle.trend_model.specs.Windows.{area};
+ghost use Rattle.std.specs.Prelude.{◌≡◌, ◌<◌, ◌≤◌, [], ◌++◌, IfNone, IfSome, Some, length, slice_get, slice_range};
+ghost use Rattle.trend_num.specs.{InRange};
+ghost use Rattle.trend_model.specs.{points_of, last_point, area};
 ghost use Rattle.late_insert.specs.Pages.{ArePages, page_records_of};
 ghost use Rattle.late_insert.specs.Totals.{extreme_of, greatest_of, least_of};
 
@@ -29,8 +26,8 @@ pub struct Run<'a> {
 
 impl<'a> Model for Run<'a> {
     ghost use Rattle.std.specs.Prelude.{List, slice_range};
-    ghost use Rattle.trend_num.specs.declared.point.Point.{Point};
-    ghost use Rattle.trend_model.specs.Contents.{points_of};
+    ghost use Rattle.trend_num.specs.{Point};
+    ghost use Rattle.trend_model.specs.{points_of};
     ghost use Rattle.late_insert.specs.Pages.{IsRun, frame_records_in};
 
     ghost Value = { List Point };
@@ -109,8 +106,8 @@ pub struct Runs<'a> {
 
 impl<'a> Model for Runs<'a> {
     ghost use Rattle.std.specs.Prelude.{List, slice_range};
-    ghost use Rattle.trend_num.specs.declared.point.Point.{Point};
-    ghost use Rattle.trend_model.specs.Contents.{points_of};
+    ghost use Rattle.trend_num.specs.{Point};
+    ghost use Rattle.trend_model.specs.{points_of};
     ghost use Rattle.late_insert.specs.Pages.{IsWalk, page_records_of};
 
     ghost Value = { List Point };

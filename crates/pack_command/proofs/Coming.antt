@@ -2,23 +2,17 @@
 use Rattle.std.proofs.Common.{◌≡◌, ◌≢◌, ℕ, ◌+◌, ◌<◌, ◌≤◌, Bool, true, false, cond, min, ◌-◌, List, [], ◌∷◌, ◌++◌, length, map, drop, nat_eq, Result, Ok, Err, arith, refl, sym, ap, ◌∙◌, append-nil, append_assoc, length-append}
 use Rattle.std.proofs.lemmas.Bool.{eqb-true, eqb-false}
 use Rattle.std.proofs.lemmas.List.{drop_at, drop-drop, map-append}
-use Rattle.trend_num.specs.Limits.{most_records}
-use Rattle.trend_num.specs.declared.point.Point.{Point}
-use Rattle.trend_num.specs.declared.refusal.Reason.{Reason}
-use Rattle.trend_model.specs.History.{Event, Origin, Raw}
+use Rattle.trend_num.specs.{most_records, Point, Reason}
+use Rattle.trend_model.specs.{Event, Origin, Raw}
 use Rattle.trend_model.specs.State.{Stands}
 use Rattle.tag_core.specs.Core.{Core}
-use Rattle.point_text.specs.FirstPoint.{HasNoFeed, IsFirstPoint, ReadSame, reads_of}
-use Rattle.point_text.specs.Row.{point_of_line, line_points_of}
-use Rattle.point_text.specs.declared.failure.RowNo.{RowNo}
+use Rattle.point_text.specs.{HasNoFeed, IsFirstPoint, ReadSame, reads_of, point_of_line, line_points_of, RowNo}
 use Rattle.point_text.specs.declared.failure.RowNo.TheVariants.{BadRow, TooMany}
 use Rattle.point_text.proofs.RowList.{all_read, rows_from, rows_from-all, rows_from-bad, rows_from-more, rows_of-reads}
 use Rattle.point_text.proofs.Split.{lines_begun, lines_fed}
 use Rattle.std.specs.Str.Lines.{lines}
-use Rattle.pack_command.specs.Pack.{history_of, most_rows}
-use Rattle.pack_command.specs.Coming.{AreRefused, HasCome, IsNextRow, IsReadUpTo, IsReady, MayCome, numbered, point_of_row}
+use Rattle.pack_command.specs.{history_of, most_rows, AreRefused, HasCome, IsNextRow, IsReadUpTo, IsReady, MayCome, numbered, point_of_row, Standing}
 use Rattle.pack_command.proofs.History.{taken_more, full_at, full_after}
-use Rattle.pack_command.specs.declared.intake.Standing.{Standing}
 use Rattle.pack_command.specs.declared.intake.Standing.TheVariants.{Taken, Full, Refused}
 
 -- before the end anything may follow

@@ -2,16 +2,12 @@
 use Rattle.std.proofs.Common.{◌≡◌, ℕ, inr, false, List, [], ap, ◌∙◌, arith, length}
 use Rattle.trend_model.specs.Walk.{records}
 use Rattle.trend_num.specs.declared.refusal.What.TheVariants.{Records}
-use Rattle.trend_num.specs.declared.point.Point.{Point}
-use Rattle.trend_num.specs.declared.tuning.Tuning.{Tuning}
+use Rattle.trend_num.specs.{Point, Tuning}
 use Rattle.tag_core.specs.Core.{Core}
 use Rattle.byte_io.specs.Outside.{Outside}
-use Rattle.point_text.specs.Text.{archive_text}
-use Rattle.point_text.specs.declared.failure.RowNo.{RowNo}
+use Rattle.point_text.specs.{archive_text, RowNo}
 use Rattle.plant_status.specs.declared.status.Status.TheVariants.{Limit}
-use Rattle.pack_command.specs.Pack.{IsPackRefusal, IsPrinted, IsInputRead, answer_full, history_of, origin_of, status_of_rows}
-use Rattle.pack_command.specs.Coming.{IsAllRead, IsReadUpTo}
-use Rattle.pack_command.specs.declared.intake.Standing.{Standing}
+use Rattle.pack_command.specs.{IsPackRefusal, IsPrinted, IsInputRead, answer_full, history_of, origin_of, status_of_rows, IsAllRead, IsReadUpTo, Standing}
 use Rattle.pack_command.specs.declared.intake.Standing.TheVariants.{Taken, Full, Refused}
 use Rattle.pack_command.proofs.Coming.{all_points, all_refused}
 use Rattle.pack_command.proofs.Refusal.{history_refused, rows_refused}

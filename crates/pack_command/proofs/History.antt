@@ -3,15 +3,12 @@ use Rattle.std.proofs.Common.{◌≡◌, ℕ, ◌+◌, ◌<◌, Bool, true, fals
 use Rattle.std.specs.Option.{option_or}
 use Rattle.std.proofs.lemmas.Bool.Decides.{nat_tests}
 use Rattle.std.proofs.lemmas.List.{reverse-append}
-use Rattle.trend_num.specs.declared.point.Point.{Point}
-use Rattle.trend_num.specs.declared.archive.Rec.{Rec}
-use Rattle.trend_num.specs.Limits.{most_records}
+use Rattle.trend_num.specs.{Point, Rec, most_records}
 use Rattle.trend_model.specs.Walk.{records}
-use Rattle.trend_model.specs.History.{Event, Raw, Origin}
+use Rattle.trend_model.specs.{Event, Raw, Origin}
 use Rattle.trend_model.specs.State.{Stands}
 use Rattle.tag_core.specs.Core.{Core}
-use Rattle.pack_command.specs.Coming.{AreTaken}
-use Rattle.pack_command.specs.Pack.{first_full, history_of}
+use Rattle.pack_command.specs.{AreTaken, first_full, history_of}
 
 -- a history that was full stays so
 pub full_stays : (o : Origin) (later h : List Event) (n : ℕ) → first_full o h ≡ Some n → first_full o (later ++ h) ≡ Some n

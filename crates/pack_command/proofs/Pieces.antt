@@ -5,15 +5,13 @@ use Rattle.std.proofs.lemmas.Bool.Decides.{nat_tests}
 use Rattle.std.proofs.lemmas.List.{drop_at, length-take-le, take_at, take-append-le}
 use Rattle.std.specs.Io.KnownBytes.{IsAtEnd}
 use Rattle.trend_num.specs.declared.refusal.What.TheVariants.{FileBytes}
-use Rattle.trend_num.specs.declared.tuning.Tuning.{Tuning}
-use Rattle.trend_model.specs.History.{Origin}
+use Rattle.trend_num.specs.{Tuning}
+use Rattle.trend_model.specs.{Origin}
 use Rattle.tag_core.specs.Core.{Core}
 use Rattle.byte_io.specs.Outside.{Outside, CountsNoFault, Takes}
-use Rattle.point_text.specs.Row.{line_points_of}
+use Rattle.point_text.specs.{line_points_of}
 use Rattle.plant_status.specs.declared.status.Status.TheVariants.{Limit}
-use Rattle.pack_command.specs.Pack.{IsPackRefusal, Refuses, answer_rows, most_input_bytes, most_rows}
-use Rattle.pack_command.specs.Coming.{AreTakenFrom, HasCome, IsReadAfter}
-use Rattle.pack_command.specs.declared.intake.Standing.{Standing}
+use Rattle.pack_command.specs.{IsPackRefusal, Refuses, answer_rows, most_input_bytes, most_rows, AreTakenFrom, HasCome, IsReadAfter, Standing}
 use Rattle.pack_command.proofs.Coming.{come_more}
 
 -- a piece more was taken

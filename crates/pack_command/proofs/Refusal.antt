@@ -1,18 +1,16 @@
 -- Why `pack` refuses what it has read.
 use Rattle.std.proofs.Common.{◌≡◌, ℕ, ◌+◌, ◌≤◌, ◌⊎◌, inl, inr, cond, false, List, length, nat_lt, Option, None, Some, Err, arith, ap, sym, ◌∙◌, subst}
 use Rattle.std.proofs.lemmas.Bool.Decides.{nat_tests}
-use Rattle.trend_num.specs.declared.point.Point.{Point}
+use Rattle.trend_num.specs.{Point, Tuning}
 use Rattle.trend_num.specs.declared.refusal.What.TheVariants.{FileBytes, Rows, Records}
-use Rattle.trend_num.specs.declared.tuning.Tuning.{Tuning}
-use Rattle.trend_model.specs.History.{Event, Origin}
+use Rattle.trend_model.specs.{Event, Origin}
 use Rattle.byte_io.specs.Outside.{Outside, CountsNoFault, TakesAll}
-use Rattle.point_text.specs.Row.{line_points_of}
-use Rattle.point_text.specs.declared.failure.RowNo.{RowNo}
+use Rattle.point_text.specs.{line_points_of, RowNo}
 use Rattle.point_text.specs.declared.failure.RowNo.TheVariants as row_no
 use Rattle.plant_status.specs.declared.file.FileId.TheVariants.{Input}
 use Rattle.plant_status.specs.declared.status.Status.{Status}
 use Rattle.plant_status.specs.declared.status.Status.TheVariants.{BadRow, Limit, WantOfMemory}
-use Rattle.pack_command.specs.Pack.{Refuses, IsPackRefusal, IsInputRead, RefusesBytes, answer_full, answer_rows, first_full, history_answer, history_of, most_input_bytes, origin_of, most_rows, pack_answer, status_of_rows}
+use Rattle.pack_command.specs.{Refuses, IsPackRefusal, IsInputRead, RefusesBytes, answer_full, answer_rows, first_full, history_answer, history_of, most_input_bytes, origin_of, most_rows, pack_answer, status_of_rows}
 
 -- the test of too many bytes, where there are none too many
 within_is : (n : ℕ) → n ≤ most_input_bytes → nat_lt most_input_bytes n ≡ false

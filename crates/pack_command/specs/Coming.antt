@@ -1,16 +1,12 @@
 -- What the rows read so far amount to. Only private functions cite it.
 use Rattle.std.specs.Prelude.{◌≡◌, ℕ, ◌+◌, ◌≤◌, Bool, false, if◌then◌else◌, List, [], ◌∷◌, ◌++◌, length, map, take, None, Some, nat_eq, Result, Ok, Err}
-use Rattle.trend_num.specs.Limits.{most_records}
-use Rattle.trend_num.specs.declared.point.Point.{Point}
-use Rattle.trend_num.specs.declared.refusal.Reason.{Reason}
-use Rattle.trend_model.specs.History.{Origin}
+use Rattle.trend_num.specs.{most_records, Point, Reason}
+use Rattle.trend_model.specs.{Origin}
 use Rattle.trend_model.specs.State.{Stands}
 use Rattle.tag_core.specs.Core.{Core}
 use Rattle.byte_io.specs.Outside.{Outside, CountsNoFault, Takes, TakesAll}
 use Rattle.std.specs.Io.KnownBytes.{IsAtEnd}
-use Rattle.point_text.specs.Row.{line_points_of}
-use Rattle.point_text.specs.FirstPoint.{reads_of}
-use Rattle.point_text.specs.declared.failure.RowNo.{RowNo}
+use Rattle.point_text.specs.{line_points_of, reads_of, RowNo}
 use Rattle.point_text.specs.declared.failure.RowNo.TheVariants.{BadRow, TooMany}
 use Rattle.pack_command.specs.Pack.{first_full, history_of, most_input_bytes, most_rows}
 use Rattle.pack_command.specs.declared.intake.Standing.{Standing}

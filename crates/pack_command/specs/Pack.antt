@@ -2,16 +2,12 @@
 use Rattle.std.specs.Prelude.{◌≡◌, ℕ, ◌+◌, ◌<◌, ◌≤◌, ◌⊎◌, if◌then◌else◌, false, List, [], ◌∷◌, length, map, reverse, Option, None, Some, nat_lt, Result, Ok, Err}
 use Rattle.std.specs.Io.KnownBytes.{IsAtEnd}
 use Rattle.std.specs.Option.{option_or}
-use Rattle.trend_num.specs.Limits.{most_records}
-use Rattle.trend_num.specs.declared.point.Point.{Point}
+use Rattle.trend_num.specs.{most_records, Point, Tuning}
 use Rattle.trend_num.specs.declared.refusal.What.TheVariants.{FileBytes, Rows, Records}
-use Rattle.trend_num.specs.declared.tuning.Tuning.{Tuning}
-use Rattle.trend_model.specs.History.{Event, Raw, Origin}
+use Rattle.trend_model.specs.{Event, Raw, Origin}
 use Rattle.trend_model.specs.Walk.{records, held}
 use Rattle.byte_io.specs.Outside.{Outside, CountsNoFault, CountsOneFault, Takes, TakesAll, TakesExactly, TakesAtMost}
-use Rattle.point_text.specs.Row.{line_points_of}
-use Rattle.point_text.specs.Text.{archive_text}
-use Rattle.point_text.specs.declared.failure.RowNo.{RowNo}
+use Rattle.point_text.specs.{line_points_of, archive_text, RowNo}
 use Rattle.point_text.specs.declared.failure.RowNo.TheVariants as row_no
 use Rattle.plant_status.specs.declared.file.FileId.TheVariants.{Input}
 use Rattle.plant_status.specs.declared.status.Status.{Status}

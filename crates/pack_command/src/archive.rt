@@ -1,7 +1,7 @@
 // The text of an archive, before it is printed.
 ghost use Rattle.std.specs.Prelude.{◌≡◌, OnOk, OnErr};
 ghost use Rattle.byte_io.specs.Outside.{IsWritten, IsCutShort};
-ghost use Rattle.point_text.specs.Text.{archive_text};
+ghost use Rattle.point_text.specs.{archive_text};
 
 use byte_io::{Sink, WriteFault};
 use point_text::write_archive;
@@ -17,7 +17,7 @@ pub struct ArchiveText {
 
 impl Model for ArchiveText {
     ghost use Rattle.std.specs.Prelude.{List, ℕ};
-    ghost use Rattle.point_text.specs.Text.{archive_text};
+    ghost use Rattle.point_text.specs.{archive_text};
 
     ghost Value = { List ℕ };
 

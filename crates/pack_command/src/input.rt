@@ -1,11 +1,10 @@
 // Reads all of the input, a piece at a time.
 ghost use Rattle.std.specs.Prelude.{◌≡◌, ◌+◌, ◌<◌, ◌≤◌, [], List, ℕ, true, length, take, slice_range, IfOk, IfErr, OnOk, OnErr, vec_len};
 ghost use Rattle.std.specs.Io.KnownBytes.{Keeps};
-ghost use Rattle.trend_num.specs.Ranges.{TuningInRange};
-ghost use Rattle.trend_num.specs.declared.tuning.Tuning.{Tuning};
-ghost use Rattle.trend_model.specs.History.{Origin};
+ghost use Rattle.trend_num.specs.{TuningInRange, Tuning};
+ghost use Rattle.trend_model.specs.{Origin};
 ghost use Rattle.byte_io.specs.Outside.{CountsOneFault};
-ghost use Rattle.point_text.specs.FirstPoint.{HasNoFeed, ReadSame};
+ghost use Rattle.point_text.specs.{HasNoFeed, ReadSame};
 ghost use Rattle.pack_command.specs.Pack.{IsPackRefusal, origin_of};
 ghost use Rattle.pack_command.specs.Coming.{HasCome, IsAllRead, IsReadAfter, IsReady};
 

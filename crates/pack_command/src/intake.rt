@@ -1,8 +1,8 @@
 // What the rows of an input have come to so far.
 ghost use Rattle.std.specs.Prelude.{◌≡◌, ◌+◌, ◌-◌, ◌<◌, ◌≤◌, [], List, ℕ, Bool, true, false, length, drop, min, IfOk, Result};
-ghost use Rattle.trend_num.specs.Ranges.{InRange, TuningInRange};
-ghost use Rattle.trend_model.specs.History.{Origin};
-ghost use Rattle.point_text.specs.FirstPoint.{HasNoFeed};
+ghost use Rattle.trend_num.specs.{InRange, TuningInRange};
+ghost use Rattle.trend_model.specs.{Origin};
+ghost use Rattle.point_text.specs.{HasNoFeed};
 ghost use Rattle.pack_command.specs.Pack.{most_rows, origin_of};
 ghost use Rattle.pack_command.specs.Coming.{HasCome, IsNextRow, IsReady, point_of_row};
 

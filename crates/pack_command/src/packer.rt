@@ -1,6 +1,6 @@
 // The command: it takes the input's points into an archive.
 ghost use Rattle.std.specs.Prelude.{◌≡◌, IfOk, IfErr};
-ghost use Rattle.trend_num.specs.Ranges.{TuningInRange};
+ghost use Rattle.trend_num.specs.{TuningInRange};
 ghost use Rattle.pack_command.specs.Pack.{IsPackRefusal, IsPrinted, status_of_rows};
 
 use crate::archive::ArchiveText;

@@ -1,14 +1,13 @@
 -- Pooled frames that are written, given back and taken.
-use Rattle.std.proofs.Common.{◌≡◌, ◌≢◌, ℕ, zero, suc, ◌+◌, ◌-◌, ◌<◌, Bool, true, false, cond, List, [], ◌∷◌, ◌++◌, length, map, get_or, set, replicate, Option, Some, None, IsSome, is_none, All, AllPairs, refl, sym, ap, ◌∙◌, arith, subst, append_assoc}
+use Rattle.std.proofs.Common.{◌≡◌, ◌≢◌, ℕ, zero, suc, ◌+◌, ◌-◌, ◌<◌, Bool, true, false, cond, List, [], ◌∷◌, ◌++◌, length, map, get_or, set, replicate, Option, Some, None, IsSome, is_none, All, AllPairs, refl, sym, ap, ◌∙◌, arith, subst}
+use Rattle.std.proofs.Common.{append_assoc}
 use Rattle.std.specs.Prelude.{not}
-use Rattle.std.proofs.lemmas.List.{length-set, length-map, length-append, length_push, map-set, map_push, set-append_left, set_at, get_or-set_same, get_or-set_other, get_or_append_left, get_or_push, get_or-map, get_or-append_right, length-replicate}
+use Rattle.std.proofs.lemmas.List.{length-set, length-map, length-append, length_push, map-set, map_push, set-append_left, set_at, get_or-set_same, get_or-set_other, get_or_append_left, get_or_push, get_or-map, get_or-append_right}
+use Rattle.std.proofs.lemmas.List.{length-replicate}
 use Rattle.std.proofs.lemmas.List.Sums.{sum_by-set, count_by-le-length}
 use Rattle.std.proofs.lemmas.List.Elements.{All-push, All-pop}
 use Rattle.std.proofs.lemmas.List.Quantifiers.{all_pairs_push}
-use Rattle.page_pool.specs.declared.frame.Frame.{Frame}
-use Rattle.page_pool.specs.declared.pool.PooledFrame.{PooledFrame}
-use Rattle.page_pool.specs.Pool.{frame_at, spare_of, empty_frame, TakesFrame, IsHeld}
-use Rattle.page_pool.specs.PooledFrames.{held_in, places_of, IsFree, AreFramesStored}
+use Rattle.page_pool.specs.{Frame, PooledFrame, frame_at, spare_of, empty_frame, TakesFrame, IsHeld, held_in, places_of, IsFree, AreFramesStored}
 
 -- ---- places
 

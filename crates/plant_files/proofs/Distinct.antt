@@ -11,18 +11,11 @@ use Rattle.std.proofs.lemmas.List.Quantifiers.{all_pairs_push}
 use Rattle.std.proofs.lemmas.List.Sums.{fails_before_first}
 use Rattle.std.proofs.lemmas.Slice.Eq.{bytes_eq-Decides}
 use Rattle.toml.specs.Data.{Members, get_member}
-use Rattle.toml_tables.specs.Tables.{document}
-use Rattle.trend_num.specs.declared.tuning.Tuning.{Tuning}
-use Rattle.trend_num.specs.declared.tag_def.TagDef.{TagDef}
-use Rattle.tag_base.specs.declared.definition.Base.{Base}
-use Rattle.tag_base.specs.declared.definition.GroupDef.{GroupDef}
-use Rattle.tag_base.specs.declared.refusal.TextNo.{TextNo}
-use Rattle.tag_base.specs.Answers.{broken, where_held, where_given, after_step, Follows}
-use Rattle.tag_base.specs.Tables.{name_at}
-use Rattle.tag_base.specs.Tags.{has_tag_form, tuning_at, step_of, tag_place, new_tag_name, tag_of, tags_after}
-use Rattle.tag_base.specs.Groups.{GroupsRead}
+use Rattle.toml_tables.specs.{document}
+use Rattle.trend_num.specs.{Tuning, TagDef}
+use Rattle.tag_base.specs.{Base, GroupDef, TextNo, broken, where_held, where_given, after_step, Follows, name_at, has_tag_form, tuning_at, step_of, tag_place, new_tag_name, tag_of, tags_after, GroupsRead}
 use Rattle.tag_base.specs.Bases.{BaseForm, BaseRead, IsBaseOf, TablesRead, base_tables}
-use Rattle.plant_files.specs.Texts.{tag_names}
+use Rattle.plant_files.specs.{tag_names}
 
 -- no two names are the same
 abbrev AreApart : List TagDef → Type 0

@@ -9,20 +9,14 @@ use Rattle.std.proofs.lemmas.Grind.{common_steps}
 use Rattle.std.proofs.lemmas.List.Quantifiers.{all_pairs_push}
 use Rattle.std.proofs.lemmas.Slice.Eq.{bytes_eq-Decides}
 use Rattle.toml.specs.Data.{Members}
-use Rattle.toml_tables.specs.Tables.{document, has_keys}
+use Rattle.toml_tables.specs.{document, has_keys}
 use Rattle.trend_num.specs.declared.refusal.What.TheVariants.{Calcs}
-use Rattle.trend_num.specs.declared.tag_def.TagDef.{TagDef}
+use Rattle.trend_num.specs.{TagDef, last_time}
 use Rattle.calc_check.specs.Group.{Group}
-use Rattle.tag_base.specs.declared.definition.Base.{Base}
-use Rattle.tag_base.specs.declared.definition.GroupDef.{GroupDef}
-use Rattle.tag_base.specs.declared.refusal.TextNo.{TextNo}
+use Rattle.tag_base.specs.{Base, GroupDef, TextNo, broken, where_held, limited, where_given, Follows, name_at, number_at, CalcForm, GroupForm, GroupRead, GroupsRead, IsGroupAnswer, TextRead, calcs_at, group_keys, group_place, group_text}
+use Rattle.tag_base.specs.{inputs_at, longest_period, most_calcs, new_group_name, tags_after}
 use Rattle.tag_base.specs.declared.refusal.TextNo.TheVariants.{Limit}
-use Rattle.tag_base.specs.Answers.{broken, where_held, limited, where_given, Follows}
-use Rattle.tag_base.specs.Tables.{name_at, number_at}
-use Rattle.tag_base.specs.Groups.{CalcForm, GroupForm, GroupRead, GroupsRead, IsGroupAnswer, TextRead, calcs_at, group_keys, group_place, group_text, inputs_at, longest_period, most_calcs, new_group_name}
-use Rattle.tag_base.specs.Tags.{tags_after}
 use Rattle.tag_base.specs.Bases.{BaseForm, BaseRead, IsBaseOf, TablesRead, base_tables}
-use Rattle.trend_num.specs.Ranges.{last_time}
 use Rattle.plant_files.proofs.Distinct.{nobody}
 
 -- no two names are the same

@@ -1,21 +1,15 @@
 -- Of which file a read fault is reported.
 use Rattle.std.proofs.Common.{◌≡◌, ◌∙◌, ◌+◌, ℕ, List, Option, subst, sym}
 use Rattle.std.specs.Prelude.{◌≢◌}
-use Rattle.byte_io.specs.Files.{FileTold, IsFaultOf}
-use Rattle.tag_base.specs.declared.definition.Base.{Base}
-use Rattle.tag_base.specs.declared.definition.GroupDef.{GroupDef}
-use Rattle.tag_base.specs.declared.schedule.Plan.{Plan}
-use Rattle.plant_status.specs.declared.file.FileId.{FileId}
+use Rattle.byte_io.specs.{FileTold, IsFaultOf}
+use Rattle.tag_base.specs.{Base, GroupDef, Plan}
+use Rattle.plant_status.specs.{FileId}
 use Rattle.plant_status.specs.declared.file.FileId.TheVariants as file
 use Rattle.plant_status.specs.declared.status.Status.{Status}
 use Rattle.plant_status.specs.declared.status.Status.TheVariants.{Limit, ReadFault, WantOfMemory}
 use Rattle.trend_num.specs.declared.refusal.What.TheVariants.{Rows}
-use Rattle.plant_files.specs.Asked.{IsQueriesRefusal}
-use Rattle.plant_files.specs.Collected.{AreRowsTooMany, IsCollectedRefusal, most_collector_rows}
-use Rattle.plant_files.specs.Faults.{IsFaultOfPlanned}
+use Rattle.plant_files.specs.{IsQueriesRefusal, AreRowsTooMany, IsCollectedRefusal, most_collector_rows, IsFaultOfPlanned, ToldFiles, IsBaseFile, IsBaseRefusal, IsPlanFile, IsPlanRefusal}
 use Rattle.plant_files.specs.Reading.{IsFaultAt}
-use Rattle.plant_files.specs.RowFiles.{ToldFiles}
-use Rattle.plant_files.specs.Texts.{IsBaseFile, IsBaseRefusal, IsPlanFile, IsPlanRefusal}
 
 -- want of memory, and more rows than there may be, are no read fault
 memory_is_no_fault : (which : FileId) → ReadFault which ≢ WantOfMemory

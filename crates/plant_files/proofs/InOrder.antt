@@ -1,9 +1,9 @@
 -- The files of a list, one after another.
 use Rattle.std.proofs.Common.{◌≡◌, ℕ, ◌+◌, ◌<◌, List, [], ◌∷◌, ◌++◌, length, take, drop, get_or, sym, ap, subst, ◌∙◌, arith}
 use Rattle.std.proofs.lemmas.List.{drop_more, take_more, length-take-le, take-append-drop}
-use Rattle.byte_io.specs.Files.{FileTold}
+use Rattle.byte_io.specs.{FileTold}
 use Rattle.plant_status.specs.declared.status.Status.{Status}
-use Rattle.plant_files.specs.RowFiles.{ToldFiles, IsFileOf, AreRowFiles, IsFirstRefused}
+use Rattle.plant_files.specs.{ToldFiles, IsFileOf, AreRowFiles, IsFirstRefused}
 
 module _ {R : Type 0} (IsFile : IsFileOf R) (told : ToldFiles) where
   -- one file more

@@ -3,19 +3,11 @@ use Rattle.std.proofs.Common.{◌≡◌, ℕ, ◌<◌, List, [], ◌∷◌, ◌+
 use Rattle.std.proofs.lemmas.List.{length-map}
 use Rattle.std.specs.List.{slice_index_or}
 use Rattle.calc_check.specs.Group.{calculation, names_of}
-use Rattle.calc_check.specs.declared.definition.CalcDef.{CalcDef}
-use Rattle.tag_base.specs.declared.definition.Base.{Base}
-use Rattle.tag_base.specs.declared.definition.GroupDef.{GroupDef}
-use Rattle.value_rows.specs.Asked.{IsQuery}
-use Rattle.value_rows.specs.Raw.{IsRawRow}
-use Rattle.value_rows.specs.declared.raw.RawRow.{RawRow}
-use Rattle.value_rows.specs.Asked.{calc_names_at as names_at}
-use Rattle.value_rows.specs.declared.asked.GroupNames.{GroupNames}
-use Rattle.value_rows.specs.declared.asked.Query.{Query}
+use Rattle.calc_check.specs.{CalcDef}
+use Rattle.tag_base.specs.{Base, GroupDef}
+use Rattle.value_rows.specs.{IsQuery, IsRawRow, RawRow, calc_names_at as names_at, GroupNames, Query}
 use Rattle.value_rows.specs.declared.asked.Query.TheVariants.{Tag, Snap, Row}
-use Rattle.plant_files.specs.Texts.{tag_names}
-use Rattle.plant_files.specs.Asked.{IsNamed, AreNamed, IsQueryOfBase, asked_calcs_at}
-use Rattle.plant_files.specs.Collected.{IsRowOfBase}
+use Rattle.plant_files.specs.{tag_names, IsNamed, AreNamed, IsQueryOfBase, asked_calcs_at, IsRowOfBase}
 
 -- the names of what definitions define
 pub names_of_defs : (defs : List CalcDef) → map (λ d. d.name) defs ≡ names_of (map calculation defs)

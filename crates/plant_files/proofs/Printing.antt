@@ -3,7 +3,7 @@ use Rattle.std.proofs.Common.{◌≡◌, inl, inr, ℕ, List, Result, Ok, Err, I
 use Rattle.byte_io.specs.Outside.{Outside, IsWritten, IsCutShort}
 use Rattle.plant_status.specs.declared.status.Status.{Status}
 use Rattle.plant_status.specs.declared.status.Status.TheVariants.{Done, BadWords, BadText, BadRow, ReadFault, WriteFault, DeviceFault, Damaged, OtherTag, Limit, Mismatch, Halted, WantOfMemory, OtherPlant, BadName}
-use Rattle.plant_files.specs.Printing.{IsPrintedSo, IsTold, PrintsSo, WhereDone}
+use Rattle.plant_files.specs.{IsPrintedSo, IsTold, PrintsSo, WhereDone}
 
 module _ (IsText : List ℕ → Type 0) (IsRefusal : Status → Type 0) (before now : Outside) where
   -- a refusal whose line was printed

@@ -1,15 +1,13 @@
 -- Which status refused rows come to.
 use Rattle.std.proofs.Common.{◌≡◌, ℕ, ◌+◌, Bool, true, false, cond, List, length, map, take, nat_lt, Result, Ok, Err, inr, refl}
-use Rattle.byte_io.specs.Files.{FileTold}
-use Rattle.trend_num.specs.declared.refusal.Reason.{Reason}
-use Rattle.trend_num.specs.declared.refusal.What.{What}
-use Rattle.point_text.specs.Row.{all_rows, unless_more}
-use Rattle.point_text.specs.declared.failure.RowNo.{RowNo}
+use Rattle.byte_io.specs.{FileTold}
+use Rattle.trend_num.specs.{Reason, What}
+use Rattle.point_text.specs.{all_rows, unless_more, RowNo}
 use Rattle.point_text.specs.declared.failure.RowNo.TheVariants as row_no
-use Rattle.value_rows.specs.Reading.{text_records_of, rows_of_text, AreRefusedFor}
-use Rattle.plant_status.specs.declared.file.FileId.{FileId}
+use Rattle.value_rows.specs.{text_records_of, rows_of_text, AreRefusedFor}
+use Rattle.plant_status.specs.{FileId}
 use Rattle.plant_files.specs.Reading.{IsReadWhole}
-use Rattle.plant_files.specs.RowFiles.{IsRowRefusal, most_file_bytes, row_status}
+use Rattle.plant_files.specs.{IsRowRefusal, most_file_bytes, row_status}
 
 -- rows that are too many are reported as one more than there may be
 one_row_more : {R : Type 0} (most count : ℕ) (found : Result (List R) (ℕ × Reason)) (number : ℕ)

@@ -1,17 +1,14 @@
 -- What the readers of a plan ask. The queries of a reader are the rows of a file.
 use Rattle.std.specs.Prelude.{◌≡◌, ◌≢◌, ℕ, ◌-◌, ◌^◌, ◌<◌, ◌≤◌, min, List, [], ◌∷◌, length, slice_get, ⊤}
 use Rattle.std.specs.Option.{option_map_or}
-use Rattle.byte_io.specs.Files.{FileTold}
+use Rattle.byte_io.specs.{FileTold}
 use Rattle.trend_num.specs.declared.refusal.What.TheVariants.{Queries}
 use Rattle.calc_check.specs.Group.{Calculation, names_of}
-use Rattle.tag_base.specs.declared.definition.Base.{Base}
-use Rattle.tag_base.specs.declared.definition.GroupDef.{GroupDef}
-use Rattle.trend_num.specs.Queries.{IsTagQuery}
-use Rattle.value_rows.specs.Asked.{last_window, query_rows}
-use Rattle.value_rows.specs.declared.asked.GroupNames.{GroupNames}
-use Rattle.value_rows.specs.declared.asked.Query.{Query}
+use Rattle.tag_base.specs.{Base, GroupDef}
+use Rattle.trend_num.specs.{IsTagQuery}
+use Rattle.value_rows.specs.{last_window, query_rows, GroupNames, Query}
 use Rattle.value_rows.specs.declared.asked.Query.TheVariants.{Tag, Snap, Row}
-use Rattle.plant_status.specs.declared.file.FileId.{FileId}
+use Rattle.plant_status.specs.{FileId}
 use Rattle.plant_status.specs.declared.file.FileId.TheVariants.{Reader}
 use Rattle.plant_status.specs.declared.status.Status.{Status}
 use Rattle.plant_status.specs.declared.status.Status.TheVariants.{WantOfMemory}

@@ -1,12 +1,11 @@
 -- What the collectors of a plan take. The values of a collector are the rows of a file.
 use Rattle.std.specs.Prelude.{◌≡◌, ◌≢◌, ℕ, ◌+◌, ◌-◌, ◌^◌, ◌<◌, min, List, length, sum_by}
-use Rattle.byte_io.specs.Files.{FileTold}
+use Rattle.byte_io.specs.{FileTold}
 use Rattle.trend_num.specs.declared.refusal.What.TheVariants.{Rows}
-use Rattle.trend_num.specs.Ranges.{InRange}
-use Rattle.tag_base.specs.declared.definition.Base.{Base}
-use Rattle.value_rows.specs.Raw.{raw_rows}
-use Rattle.value_rows.specs.declared.raw.RawRow.{RawRow}
-use Rattle.plant_status.specs.declared.file.FileId.{FileId}
+use Rattle.trend_num.specs.{InRange}
+use Rattle.tag_base.specs.{Base}
+use Rattle.value_rows.specs.{raw_rows, RawRow}
+use Rattle.plant_status.specs.{FileId}
 use Rattle.plant_status.specs.declared.file.FileId.TheVariants.{Collector}
 use Rattle.plant_status.specs.declared.status.Status.{Status}
 use Rattle.plant_status.specs.declared.status.Status.TheVariants.{Limit, WantOfMemory}

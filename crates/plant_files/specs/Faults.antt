@@ -1,8 +1,7 @@
 -- Whose read failed, if the status is a read fault.
 use Rattle.std.specs.Prelude.{◌≡◌, ℕ, List, Option}
-use Rattle.byte_io.specs.Files.{IsFaultOf}
-use Rattle.tag_base.specs.declared.definition.Base.{Base}
-use Rattle.tag_base.specs.declared.schedule.Plan.{Plan}
+use Rattle.byte_io.specs.{IsFaultOf}
+use Rattle.tag_base.specs.{Base, Plan}
 use Rattle.plant_status.specs.declared.file.FileId.TheVariants as file
 use Rattle.plant_status.specs.declared.status.Status.{Status}
 use Rattle.plant_status.specs.declared.status.Status.TheVariants.{ReadFault}

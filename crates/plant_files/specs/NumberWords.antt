@@ -1,6 +1,6 @@
 -- The numbers among the words of a command line.
 use Rattle.std.specs.Prelude.{ℕ, List, Option, None, Some, nat_eq, option_and_then, if◌then◌else◌}
-use Rattle.trend_num.specs.Numerals.{numeral, natural_upto}
+use Rattle.trend_num.specs.{numeral, natural_upto}
 
 -- the number that a numeral spells, if it is from 0 up to `most`
 abbrev pub number_upto : ℕ → List ℕ → Option ℕ

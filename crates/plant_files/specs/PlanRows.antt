@@ -1,13 +1,10 @@
 -- What is read of a base, a plan over it and its files, and why it is refused.
 use Rattle.std.specs.Prelude.{◌≡◌, ◌≢◌, ℕ, ◌<◌, ◌≤◌, List, All, AllPairs, length, vec_len}
-use Rattle.trend_num.specs.Ranges.{TuningInRange}
+use Rattle.trend_num.specs.{TuningInRange}
 use Rattle.plant_status.specs.declared.status.Status.{Status}
 use Rattle.plant_status.specs.declared.status.Status.TheVariants.{WantOfMemory}
-use Rattle.tag_base.specs.declared.definition.Base.{Base}
-use Rattle.tag_base.specs.declared.schedule.Plan.{Plan}
-use Rattle.tag_base.specs.Groups.{IsSoundGroup}
-use Rattle.value_rows.specs.declared.asked.Query.{Query}
-use Rattle.value_rows.specs.declared.raw.RawRow.{RawRow}
+use Rattle.tag_base.specs.{Base, Plan, IsSoundGroup}
+use Rattle.value_rows.specs.{Query, RawRow}
 use Rattle.plant_files.specs.Asked.{AreQueries, IsQueriesRefusal, IsQueryOfBase}
 use Rattle.plant_files.specs.Collected.{AreCollectedRows, AreRowsTooMany, IsRowOfBase, IsCollectedRefusal, most_collector_rows, row_count}
 use Rattle.plant_files.specs.RowFiles.{ToldFiles}

@@ -1,7 +1,7 @@
 -- What the output gained of an answer, and the status for it.
 use Rattle.std.specs.Prelude.{◌≡◌, ◌⊎◌, ℕ, List}
 use Rattle.byte_io.specs.Outside.{Outside, IsWritten, IsCutShort}
-use Rattle.plant_status.specs.Status.{status_line_of}
+use Rattle.plant_status.specs.{status_line_of}
 use Rattle.plant_status.specs.declared.status.Status.{Status}
 use Rattle.plant_status.specs.declared.status.Status.TheVariants.{Done, WriteFault}
 

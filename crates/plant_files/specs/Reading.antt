@@ -1,9 +1,9 @@
 -- Files that are read whole, within a limit, and why a file is not.
 use Rattle.std.specs.Prelude.{◌≡◌, ℕ, ◌+◌, ◌≤◌, List, length, slice_get, ⊤, Option, Some, IfSome, Result, Ok, Err}
-use Rattle.byte_io.specs.Files.{FileTold, IsWhole, IsLongerThan}
+use Rattle.byte_io.specs.{FileTold, IsWhole, IsLongerThan}
 use Rattle.byte_io.specs.Outside.{next_fault_count}
-use Rattle.trend_num.specs.declared.refusal.What.{What}
-use Rattle.plant_status.specs.declared.file.FileId.{FileId}
+use Rattle.trend_num.specs.{What}
+use Rattle.plant_status.specs.{FileId}
 use Rattle.plant_status.specs.declared.status.Status.{Status}
 use Rattle.plant_status.specs.declared.status.Status.TheVariants.{ReadFault, Limit, WantOfMemory}
 

@@ -1,11 +1,11 @@
 -- Files of rows of any kind, one after another: what each holds, and the first one that is refused.
 use Rattle.std.specs.Prelude.{◌≡◌, ◌⊎◌, ℕ, ◌+◌, List, [], ◌∷◌, ◌++◌, length, ⊤, Result, Ok, Err}
-use Rattle.byte_io.specs.Files.{FileTold}
-use Rattle.trend_num.specs.declared.refusal.What.{What}
+use Rattle.byte_io.specs.{FileTold}
+use Rattle.trend_num.specs.{What}
 use Rattle.trend_num.specs.declared.refusal.What.TheVariants.{FileBytes}
-use Rattle.point_text.specs.declared.failure.RowNo.{RowNo}
+use Rattle.point_text.specs.{RowNo}
 use Rattle.point_text.specs.declared.failure.RowNo.TheVariants as row_no
-use Rattle.plant_status.specs.declared.file.FileId.{FileId}
+use Rattle.plant_status.specs.{FileId}
 use Rattle.plant_status.specs.declared.status.Status.{Status}
 use Rattle.plant_status.specs.declared.status.Status.TheVariants.{ReadFault, Limit, BadRow, WantOfMemory}
 use Rattle.plant_files.specs.Reading.{IsReadWholeAs, IsTooLong}

@@ -1,17 +1,13 @@
 -- The base and the plan of a plant, each the text of a file.
 use Rattle.std.specs.Prelude.{◌≡◌, ◌⊎◌, ℕ, List, map, ⊤, Ok, Err}
-use Rattle.byte_io.specs.Files.{FileTold}
+use Rattle.byte_io.specs.{FileTold}
 use Rattle.trend_num.specs.declared.refusal.What.TheVariants.{TextBytes}
-use Rattle.trend_num.specs.declared.tag_def.TagDef.{TagDef}
+use Rattle.trend_num.specs.{TagDef}
 use Rattle.tag_base.specs.Bases.{BaseRead}
-use Rattle.tag_base.specs.Plans.{plan_parts}
-use Rattle.tag_base.specs.Plans.{plan as plan_read}
-use Rattle.tag_base.specs.declared.definition.Base.{Base}
-use Rattle.tag_base.specs.declared.definition.GroupDef.{GroupDef}
-use Rattle.tag_base.specs.declared.schedule.Plan.{Plan}
-use Rattle.tag_base.specs.declared.refusal.TextNo.{TextNo}
+use Rattle.tag_base.specs.Plans.{plan_parts, plan as plan_read}
+use Rattle.tag_base.specs.{Base, GroupDef, Plan, TextNo}
 use Rattle.tag_base.specs.declared.refusal.TextNo.TheVariants as text_no
-use Rattle.plant_status.specs.declared.file.FileId.{FileId}
+use Rattle.plant_status.specs.{FileId}
 use Rattle.plant_status.specs.declared.file.FileId.TheVariants as file_id
 use Rattle.plant_status.specs.declared.status.Status.{Status}
 use Rattle.plant_status.specs.declared.status.Status.TheVariants.{ReadFault, Limit, BadText, WantOfMemory}

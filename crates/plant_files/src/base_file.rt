@@ -1,10 +1,10 @@
 // The base of a plant.
 ghost use Rattle.std.specs.Prelude.{◌≡◌, ◌≢◌, All, length, IfOk, IfErr, IsErrOf};
 ghost use Rattle.std.specs.List.{AllPairs};
-ghost use Rattle.trend_num.specs.Ranges.{TuningInRange};
-ghost use Rattle.tag_base.specs.Groups.{IsSoundGroup};
-ghost use Rattle.byte_io.specs.Files.{IsFaultOf};
-ghost use Rattle.plant_status.specs.declared.file.FileId.{FileId};
+ghost use Rattle.trend_num.specs.{TuningInRange};
+ghost use Rattle.tag_base.specs.{IsSoundGroup};
+ghost use Rattle.byte_io.specs.{IsFaultOf};
+ghost use Rattle.plant_status.specs.{FileId};
 ghost use Rattle.plant_status.specs.declared.status.Status.TheVariants.{ReadFault};
 ghost use Rattle.plant_files.specs.Reading.{faults_after};
 ghost use Rattle.plant_files.specs.Texts.{IsBaseFile, IsBaseRefusal, tag_names};

@@ -3,8 +3,8 @@ ghost use Rattle.std.specs.Prelude.{◌≡◌, ◌<◌, ◌^◌, ℕ, All, lengt
 ghost use Rattle.trend_num.specs.declared.refusal.What.TheVariants.{Queries};
 ghost use Rattle.plant_status.specs.declared.file.FileId.TheVariants.{Reader};
 ghost use Rattle.plant_status.specs.declared.status.Status.TheVariants.{ReadFault};
-ghost use Rattle.tag_base.specs.Groups.{IsSoundGroup};
-ghost use Rattle.value_rows.specs.Asked.{IsQuery, query_row};
+ghost use Rattle.tag_base.specs.{IsSoundGroup};
+ghost use Rattle.value_rows.specs.{IsQuery, query_row};
 ghost use Rattle.plant_files.specs.Reading.{IsFaultAt, faults_after};
 ghost use Rattle.plant_files.specs.Asked.{AreQueries, IsQueryOfBase, IsQueriesRefusal, most_queries, reader_at};
 

@@ -1,11 +1,10 @@
 // Files of rows of one kind, read one after the other.
 ghost use Rattle.std.specs.Prelude.{◌≡◌, ◌≢◌, ◌<◌, ◌^◌, ℕ, All, IfErr, IfOk, IsErrOf, List, Ok, Result, length, map};
-ghost use Rattle.byte_io.specs.Files.{IsFaultOf};
-ghost use Rattle.trend_num.specs.declared.refusal.Reason.{Reason};
-ghost use Rattle.value_rows.specs.Reading.{AreRefusedFor, rows_of_text};
-ghost use Rattle.plant_status.specs.declared.file.FileId.{FileId};
+ghost use Rattle.byte_io.specs.{IsFaultOf};
+ghost use Rattle.trend_num.specs.{Reason, What};
+ghost use Rattle.value_rows.specs.{AreRefusedFor, rows_of_text};
+ghost use Rattle.plant_status.specs.{FileId};
 ghost use Rattle.plant_status.specs.declared.status.Status.TheVariants.{ReadFault, WantOfMemory};
-ghost use Rattle.trend_num.specs.declared.refusal.What.{What};
 ghost use Rattle.plant_files.specs.Reading.{IsFaultAt, faults_after};
 ghost use Rattle.plant_files.specs.RowFiles.{AreRowFiles, IsFirstRefused, IsRowFile, IsRowRefusal};
 

@@ -3,7 +3,7 @@ ghost use Rattle.std.specs.Prelude.{◌≡◌, ◌<◌, ◌≤◌, ◌^◌, ℕ,
 ghost use Rattle.trend_num.specs.declared.refusal.What.TheVariants.{Rows};
 ghost use Rattle.plant_status.specs.declared.file.FileId.TheVariants.{Collector};
 ghost use Rattle.plant_status.specs.declared.status.Status.TheVariants.{ReadFault};
-ghost use Rattle.value_rows.specs.Raw.{IsRawRow, raw_row};
+ghost use Rattle.value_rows.specs.{IsRawRow, raw_row};
 ghost use Rattle.plant_files.specs.Reading.{IsFaultAt, faults_after};
 ghost use Rattle.plant_files.specs.Collected.{AreCollectedRows, AreRowsTooMany, IsRowOfBase, IsCollectedRefusal, collector_at, most_collector_rows, row_count};
 

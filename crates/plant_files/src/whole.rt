@@ -1,7 +1,7 @@
 // All of a file, or the status of its refusal.
 ghost use Rattle.std.specs.Prelude.{◌≡◌, ◌+◌, ◌<◌, ◌^◌, IfOk, IfErr, IsErrOf};
-ghost use Rattle.byte_io.specs.Files.{IsFaultOf};
-ghost use Rattle.plant_status.specs.declared.file.FileId.{FileId};
+ghost use Rattle.byte_io.specs.{IsFaultOf};
+ghost use Rattle.plant_status.specs.{FileId};
 ghost use Rattle.plant_status.specs.declared.status.Status.TheVariants.{ReadFault};
 ghost use Rattle.plant_files.specs.Reading.{IsReadWhole, IsReadRefusal, faults_after};
 

@@ -1,14 +1,12 @@
 -- A log whose device is seen under a brand.
 use Rattle.std.proofs.Common.{◌≡◌, ℕ, List, Option, None, Some, sym, ◌∙◌, ap, subst}
 use Rattle.std.specs.Prelude.{IfSome, IsSome}
-use Rattle.disk_model.specs.Traces.{Device, FitsName, Trace}
-use Rattle.branded_disk.specs.Pasts.{Past, branded, past_of}
-use Rattle.value_rows.specs.declared.raw.RawRow.{RawRow}
-use Rattle.commit_log.specs.declared.row.LogRow.{LogRow}
-use Rattle.commit_log.specs.Openings.{IsLogOpenedWell, LogBeganWell}
+use Rattle.disk_model.specs.{Device, FitsName, Trace}
+use Rattle.branded_disk.specs.{Past, branded, past_of}
+use Rattle.value_rows.specs.{RawRow}
+use Rattle.commit_log.specs.{LogRow, IsLogOpenedWell, LogBeganWell}
 use Rattle.plant_store.proofs.DeviceNames.{own_name}
-use Rattle.plant_more.specs.declared.log_known.KnownLog.{KnownLog}
-use Rattle.plant_more.specs.declared.log_session.EndedLog.{EndedLog}
+use Rattle.plant_more.specs.{KnownLog, EndedLog}
 use Rattle.plant_more.specs.LogHeadline.{IsEnded}
 
 -- its end is that of a log whose device is seen without the brand

@@ -3,16 +3,12 @@ use Rattle.std.proofs.Common.{◌≡◌, ℕ, zero, suc, ◌<◌, Bool, false, t
 use Rattle.std.specs.Prelude.{Result, Ok, Err, IsErrOf}
 use Rattle.std.proofs.lemmas.List.{append-nil}
 use Rattle.std.proofs.lemmas.List.Elements.{All-nil, All-push, All-append}
-use Rattle.disk_model.specs.Traces.{moment, Device}
-use Rattle.commit_log.specs.declared.history.LogAcked.{LogAcked}
-use Rattle.commit_log.specs.declared.history.LogTurn.{LogTurn}
+use Rattle.disk_model.specs.{moment, Device}
+use Rattle.commit_log.specs.{LogAcked, LogTurn, LogCommitNo, AreRowsAcknowledged, ToldLog, rows_waiting, puts}
 use Rattle.commit_log.specs.declared.history.LogTurn.TheVariants.{Commit}
-use Rattle.commit_log.specs.declared.refusal.LogCommitNo.{LogCommitNo}
 use Rattle.commit_log.specs.declared.refusal.LogCommitNo.TheVariants.{Broken}
-use Rattle.commit_log.specs.Told.{AreRowsAcknowledged, ToldLog, rows_waiting}
-use Rattle.commit_log.specs.Tapes.{puts}
 use Rattle.commit_log.proofs.Tapes.{puts-append}
-use Rattle.plant_more.specs.LogTurns.{IsCommit, IsCommitted, IsSameLog}
+use Rattle.plant_more.specs.{IsCommit, IsCommitted, IsSameLog}
 
 -- the log of an equation is the same
 same_log : {D : Type 0} (old new : ToldLog D) → new ≡ old → IsSameLog old new

@@ -5,12 +5,10 @@ use Rattle.std.proofs.Math.Seq.{take-suc}
 use Rattle.std.proofs.lemmas.List.{length-take-le, take_all}
 use Rattle.std.proofs.lemmas.List.Sums.{sum_by-append}
 use Rattle.std.proofs.lemmas.Bool.{cases_eq, cases_lt}
-use Rattle.value_rows.specs.declared.raw.RawRow.{RawRow}
-use Rattle.commit_log.specs.declared.history.LogTurn.{LogTurn}
-use Rattle.commit_log.specs.declared.row.LogRow.{LogRow}
-use Rattle.commit_log.specs.Tapes.{puts}
+use Rattle.value_rows.specs.{RawRow}
+use Rattle.commit_log.specs.{LogTurn, LogRow, puts}
 use Rattle.plant_more.specs.LogFinding.{AreFound, rows_by, rows_in}
-use Rattle.plant_more.specs.LogMaking.{total_rows}
+use Rattle.plant_more.specs.{total_rows}
 use Rattle.plant_more.proofs.LogRows.{rows_in_at, rows_length, rows_of_none}
 
 -- one, where two numbers are the same

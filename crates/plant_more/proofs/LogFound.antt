@@ -5,11 +5,9 @@ use Rattle.std.proofs.lemmas.List.{append-nil, get_or-set_other, get_or-set_same
 use Rattle.std.proofs.lemmas.List.Elements.{filter-append}
 use Rattle.std.proofs.lemmas.Bool.{cases_eq, cases_lt}
 use Rattle.std.proofs.lemmas.Option.{get_or_from_slice_get, slice_get_within}
-use Rattle.value_rows.specs.declared.raw.RawRow.{RawRow}
-use Rattle.commit_log.specs.declared.history.LogTurn.{LogTurn}
+use Rattle.value_rows.specs.{RawRow}
+use Rattle.commit_log.specs.{LogTurn, LogRow, puts}
 use Rattle.commit_log.specs.declared.history.LogTurn.TheVariants.{Put, Commit}
-use Rattle.commit_log.specs.declared.row.LogRow.{LogRow}
-use Rattle.commit_log.specs.Tapes.{puts}
 use Rattle.commit_log.proofs.Tapes.{puts-append}
 use Rattle.plant_more.specs.LogFinding.{AreFound, AreWhole, IsFollowed, rows_by, rows_in}
 use Rattle.plant_more.proofs.LogRows.{rows_of_none}

@@ -1,19 +1,13 @@
 -- The device of a log that is not opened, or to which no collector put a row.
 use Rattle.std.proofs.Common.{◌≡◌, ◌∙◌, ℕ, List, length, refl, sym, subst, inl, inr}
-use Rattle.disk_model.specs.Calls.{Shows}
-use Rattle.disk_model.specs.Moments.{During}
-use Rattle.disk_model.specs.Traces.{Device, Trace}
+use Rattle.disk_model.specs.{Shows, During, Device, Trace}
 use Rattle.disk_model.proofs.Moments.{started}
-use Rattle.commit_log.specs.declared.row.LogRow.{LogRow}
-use Rattle.commit_log.specs.Images.{StandsForRows}
-use Rattle.commit_log.specs.Openings.{GainsLogSync, IsLogLeftOrSame, IsLeftOrStands}
-use Rattle.tag_base.specs.declared.definition.Base.{Base}
+use Rattle.commit_log.specs.{LogRow, StandsForRows, GainsLogSync, IsLogLeftOrSame, IsLeftOrStands, ToldLog, log_name}
+use Rattle.tag_base.specs.{Base}
 use Rattle.plant_status.specs.declared.status.Status.TheVariants.{WantOfMemory}
-use Rattle.commit_log.specs.Told.{ToldLog}
 use Rattle.plant_more.specs.LogHeadline.{IsUnopened}
 use Rattle.plant_more.specs.LogOpenings.{AreOthersSame, GainsSyncAtMost, TracesByName, IsGivenBack, IsLogKept, IsLogOpened}
-use Rattle.commit_log.specs.Devices.{log_name}
-use Rattle.plant_more.specs.LogTexts.{plant_text}
+use Rattle.plant_more.specs.{plant_text}
 
 -- nothing was called
 still : (text : List ℕ) (tags : ℕ) (o : Trace) → During o o (IsLogLeftOrSame text tags o)

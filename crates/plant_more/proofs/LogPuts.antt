@@ -2,15 +2,11 @@
 use Rattle.std.proofs.Common.{◌≡◌, ℕ, zero, suc, ◌+◌, ◌<◌, Bool, false, true, List, [], ◌∷◌, ◌++◌, length, get_or, refl, sym, subst, arith}
 use Rattle.std.specs.Prelude.{◌≢◌, IsSomeAnd, Some, slice_get}
 use Rattle.std.proofs.lemmas.Option.{slice_get-get_or}
-use Rattle.value_rows.specs.declared.raw.RawRow.{RawRow}
+use Rattle.value_rows.specs.{RawRow}
 use Rattle.commit_log.specs.declared.history.LogTurn.TheVariants.{Put}
-use Rattle.commit_log.specs.declared.refusal.LogCommitNo.{LogCommitNo}
+use Rattle.commit_log.specs.{LogCommitNo, PutRowNo, ToldLog, put_refusal, rows_waiting}
 use Rattle.commit_log.specs.declared.refusal.LogCommitNo.TheVariants.{Broken, DeviceFault, WantOfMemory as NoMemory}
-use Rattle.commit_log.specs.declared.refusal.PutRowNo.{PutRowNo}
-use Rattle.commit_log.specs.Told.{ToldLog, put_refusal, rows_waiting}
-use Rattle.plant_more.specs.declared.log_note.LogEnding.{LogEnding}
-use Rattle.plant_more.specs.LogNotes.{EndsAt, RefusesPut, ending_of_commit}
-use Rattle.plant_more.specs.LogTurns.{IsCommitted, IsPutAt, is_commit_due, row_of}
+use Rattle.plant_more.specs.{LogEnding, EndsAt, RefusesPut, ending_of_commit, IsCommitted, IsPutAt, is_commit_due, row_of}
 use Rattle.plant_more.proofs.LogCommitting.{none_committed}
 
 -- what holds of the row at a place is found there

@@ -3,13 +3,10 @@ use Rattle.std.proofs.Common.{◌≡◌, ℕ, ◌+◌, ◌<◌, List, length, sy
 use Rattle.std.specs.Prelude.{Some, Vec, slice_get, slice_index, slice_set}
 use Rattle.std.specs.declared.alloc.Global.{Global}
 use Rattle.std.proofs.lemmas.Option.{slice_get_within}
-use Rattle.value_rows.specs.declared.raw.RawRow.{RawRow}
-use Rattle.commit_log.specs.declared.history.LogTurn.{LogTurn}
-use Rattle.commit_log.specs.declared.row.LogRow.{LogRow}
-use Rattle.commit_log.specs.Told.{ToldLog}
-use Rattle.plant_more.specs.LogNotes.{row_lists_of}
+use Rattle.value_rows.specs.{RawRow}
+use Rattle.commit_log.specs.{LogTurn, LogRow, ToldLog}
+use Rattle.plant_more.specs.{row_lists_of, AreRowsFor, IsRowPut}
 use Rattle.plant_more.specs.LogFinding.{AreFound, next_of, rows_in}
-use Rattle.plant_more.specs.LogMaking.{AreRowsFor, IsRowPut}
 use Rattle.plant_more.proofs.LogFound.{one_found}
 use Rattle.plant_more.proofs.LogRows.{IsGoodRow, files_length, good_row}
 

@@ -6,22 +6,15 @@ use Rattle.std.proofs.lemmas.Bool.{cases_eq, cases_lt}
 use Rattle.std.proofs.lemmas.List.{append-nil, get_or-append-add, get_or_append_left, get_or-set_other, get_or-set_same, length-append, length-map, length-set, map-append, take_more}
 use Rattle.std.proofs.lemmas.List.Elements.{filter-append}
 use Rattle.std.proofs.lemmas.Option.{get_or_from_slice_get, slice_get_read, slice_get_within}
-use Rattle.trend_num.specs.Limits.{most_records}
-use Rattle.trend_num.specs.declared.point.Point.{Point}
-use Rattle.trend_num.specs.declared.tag_def.TagDef.{TagDef}
-use Rattle.trend_model.specs.History.{Event, Origin, Raw}
+use Rattle.trend_num.specs.{most_records, Point, TagDef}
+use Rattle.trend_model.specs.{Event, Origin, Raw}
 use Rattle.trend_model.specs.State.{Stands, followed}
 use Rattle.tag_core.specs.Core.{Core}
-use Rattle.commit_log.specs.declared.history.LogHistory.{LogHistory}
-use Rattle.commit_log.specs.declared.history.LogTurn.{LogTurn}
+use Rattle.commit_log.specs.{LogHistory, LogTurn, LogRow, IsLogRow, log_points_of, puts}
 use Rattle.commit_log.specs.declared.history.LogTurn.TheVariants.{Put, Commit}
-use Rattle.commit_log.specs.declared.row.LogRow.{LogRow}
-use Rattle.commit_log.specs.Blocks.{IsLogRow}
-use Rattle.commit_log.specs.Images.{log_points_of}
-use Rattle.commit_log.specs.Tapes.{puts}
 use Rattle.commit_log.proofs.Tapes.{puts-append}
 use Rattle.plant_status.proofs.Elements.{element}
-use Rattle.plant_more.specs.LogReports.{AreStanding, HasRoomAt, HasRoomBelow, IsTagFull, log_history_of, log_origin_of, log_rows}
+use Rattle.plant_more.specs.{AreStanding, HasRoomAt, HasRoomBelow, IsTagFull, log_history_of, log_origin_of, log_rows}
 
 -- one event more
 followed-push : (h events : List Event) (e : Event) → followed h (events ++ e ∷ []) ≡ e ∷ followed h events

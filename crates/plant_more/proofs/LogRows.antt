@@ -7,14 +7,12 @@ use Rattle.plant_status.specs.declared.mismatch.Seen.TheVariants.{Nothing}
 use Rattle.std.proofs.lemmas.List.{length-map}
 use Rattle.std.proofs.lemmas.List.Sums.{sum_by-cons}
 use Rattle.std.proofs.lemmas.Option.{get_or_from_slice_get, slice_get-get_or, slice_get_past}
-use Rattle.trend_num.specs.Ranges.{InRange}
-use Rattle.value_rows.specs.declared.raw.RawRow.{RawRow}
-use Rattle.commit_log.specs.declared.row.LogRow.{LogRow}
-use Rattle.plant_more.specs.LogNotes.{row_lists_of}
-use Rattle.plant_more.specs.LogTurns.{row_of}
+use Rattle.trend_num.specs.{InRange}
+use Rattle.value_rows.specs.{RawRow}
+use Rattle.commit_log.specs.{LogRow}
+use Rattle.plant_more.specs.{row_lists_of, row_of, AreRowsFor, IsRowFor, total_rows}
 use Rattle.plant_status.proofs.Elements.{mapped_at}
 use Rattle.plant_more.specs.LogFinding.{rows_from, rows_in, seen_of}
-use Rattle.plant_more.specs.LogMaking.{AreRowsFor, IsRowFor, total_rows}
 
 -- two rows of the same parts are one
 pub same_row : (a b : LogRow) → a.tag ≡ b.tag → a.collector ≡ b.collector → a.row ≡ b.row → a.point ≡ b.point → a ≡ b

@@ -4,37 +4,21 @@ use Rattle.std.specs.Prelude.{◌⊎◌, All, IfErr, IfOk, OnOk, string_bytes}
 use Rattle.std.specs.declared.alloc.Global.{Global}
 use Rattle.std.proofs.lemmas.List.Elements.{All-append}
 use Rattle.std.proofs.lemmas.Bool.{cases_lt}
-use Rattle.disk_model.specs.Calls.{Rose, Shows, sum_of_counts}
-use Rattle.disk_model.specs.Traces.{Device, Trace, moment}
-use Rattle.tag_base.specs.declared.definition.Base.{Base}
-use Rattle.value_rows.specs.declared.raw.RawRow.{RawRow}
+use Rattle.disk_model.specs.{Rose, Shows, sum_of_counts, Device, Trace, moment, IsNew}
+use Rattle.tag_base.specs.{Base}
+use Rattle.value_rows.specs.{RawRow}
 use Rattle.plant_status.specs.declared.status.Status.{Status}
 use Rattle.plant_status.specs.declared.status.Status.TheVariants.{DeviceFault}
 use Rattle.plant_status.specs.declared.unit.Unit.{Unit as UnitOf}
 use Rattle.plant_status.specs.declared.unit.Unit.TheVariants.{Tag, Group, Log}
-use Rattle.commit_log.specs.declared.history.LogHistory.{LogHistory}
-use Rattle.commit_log.specs.declared.history.LogTurn.{LogTurn}
-use Rattle.commit_log.specs.declared.row.LogRow.{LogRow}
-use Rattle.commit_log.specs.Blocks.{IsLogRow}
-use Rattle.commit_log.specs.Images.{StandsForRows}
-use Rattle.disk_model.specs.Gates.{IsNew}
-use Rattle.archive_file.specs.TextHeads.{TextOpensAt}
-use Rattle.commit_log.specs.Openings.{IsLogOpenedWell}
-use Rattle.commit_log.specs.Tapes.{puts, log_begin}
-use Rattle.commit_log.specs.Told.{IsHandedOut, ToldLog}
+use Rattle.commit_log.specs.{LogHistory, LogTurn, LogRow, IsLogRow, StandsForRows, IsLogOpenedWell, puts, log_begin, IsHandedOut, ToldLog, log_name}
+use Rattle.archive_file.specs.{TextOpensAt}
 use Rattle.commit_log.proofs.Tapes.{fit_rows}
-use Rattle.plant_more.specs.declared.log_note.LogNote.{LogNote}
-use Rattle.plant_more.specs.declared.log_known.KnownLog.{KnownLog}
-use Rattle.plant_more.specs.declared.log_session.EndedLog.{EndedLog}
+use Rattle.plant_more.specs.{LogNote, KnownLog, EndedLog, IsAsKnown, total_rows, log_rows, plant_text}
 use Rattle.plant_more.specs.LogFinding.{ArePutsBegun, AreWhole}
 use Rattle.plant_more.specs.LogHeadline.{HasLogCountRisen, IsDone, IsEnded, IsHistoryOfLog, IsLogOpenedAs, IsRun, IsLogReported, IsUndone, OfReport, OfSettling}
-use Rattle.plant_more.specs.LogKnown.{IsAsKnown}
-use Rattle.plant_more.specs.LogMaking.{total_rows}
 use Rattle.plant_more.specs.LogOpenings.{AreOthersSame, TracesByName, IsLogOpened}
 use Rattle.plant_more.specs.LogRefusals.{AdmitsForeignPut, ArePutsMade, AreUnstopped, IsOfOpening, IsSettlingRefusal, OfCommit, OfFinding, OfMemory, OfOpening, OfPut, OfRest, OfStop}
-use Rattle.plant_more.specs.LogReports.{log_rows}
-use Rattle.commit_log.specs.Devices.{log_name}
-use Rattle.plant_more.specs.LogTexts.{plant_text}
 
 -- all rows of a legal history are of its tags
 pub rows_legal : (tags : ℕ) (h : LogHistory) (trace : Trace) (ticks faults : ℕ) → IsHandedOut h trace ticks faults → h.tags ≡ tags

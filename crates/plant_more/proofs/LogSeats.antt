@@ -3,11 +3,9 @@ use Rattle.std.proofs.Common.{◌≡◌, ℕ, ◌<◌, List, [], ◌∷◌, ◌+
 use Rattle.std.specs.Prelude.{All, Vec}
 use Rattle.std.specs.declared.alloc.Global.{Global}
 use Rattle.std.proofs.lemmas.Grind.{common_steps}
-use Rattle.value_rows.specs.declared.raw.RawRow.{RawRow}
+use Rattle.value_rows.specs.{RawRow}
 use Rattle.plant_status.proofs.Elements.{element, mapped_at, mapped_length}
-use Rattle.plant_more.specs.declared.log_note.LogNote.{LogNote}
-use Rattle.plant_more.specs.declared.log_worker.LogWorker.{LogWorker}
-use Rattle.plant_more.specs.LogNotes.{AreLogNotesOf, IsNoteOf, halts, row_lists_of}
+use Rattle.plant_more.specs.{LogNote, LogWorker, AreLogNotesOf, IsNoteOf, halts, row_lists_of}
 use Rattle.plant_more.specs.LogCrew.{AreDone, AreSeated, IsReady}
 
 -- no one is in the crew yet

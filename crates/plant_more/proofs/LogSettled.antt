@@ -3,24 +3,17 @@ use Rattle.std.proofs.Common.{◌≡◌, ℕ, suc, List, [], ◌∷◌, ◌++◌
 use Rattle.std.specs.Prelude.{All, IfErr, OnOk, slice_index}
 use Rattle.std.proofs.lemmas.List.{append-nil, take-append-drop}
 use Rattle.plant_status.specs.declared.mismatch.Place.TheVariants.{Log as LogPlace, Opening}
-use Rattle.plant_status.specs.declared.mismatch.Seen.{Seen}
+use Rattle.plant_status.specs.{Seen}
 use Rattle.plant_status.specs.declared.status.Status.{Status}
 use Rattle.plant_status.specs.declared.status.Status.TheVariants.{Mismatch}
-use Rattle.value_rows.specs.declared.raw.RawRow.{RawRow}
-use Rattle.commit_log.specs.declared.history.LogTurn.{LogTurn}
+use Rattle.value_rows.specs.{RawRow}
+use Rattle.commit_log.specs.{LogTurn, puts, ToldLog, rows_waiting, LogRow}
 use Rattle.commit_log.specs.declared.history.LogTurn.TheVariants.{Put, Commit}
-use Rattle.commit_log.specs.Tapes.{puts}
-use Rattle.commit_log.specs.Told.{ToldLog, rows_waiting}
 use Rattle.commit_log.proofs.Tapes.{puts-append}
-use Rattle.plant_more.specs.declared.log_note.LogNote.{LogNote}
-use Rattle.plant_more.specs.LogTurns.{IsCommit, IsCommitted}
-use Rattle.plant_more.specs.declared.log_known.KnownLog.{KnownLog}
+use Rattle.plant_more.specs.{LogNote, IsCommit, IsCommitted, KnownLog, FirstDiffer, IsAsKnown, IsLogMismatch, found_numbers, known_numbers, AreRowsFor, IsCommitRefusal}
 use Rattle.plant_more.specs.LogFinding.{AreFound, AreLeadingRows, ArePutsBegun, AreWhole, IsPutMismatch, rows_by, rows_in}
-use Rattle.commit_log.specs.declared.row.LogRow.{LogRow}
-use Rattle.plant_more.specs.LogKnown.{FirstDiffer, IsAsKnown, IsLogMismatch, found_numbers, known_numbers}
-use Rattle.plant_more.specs.LogMaking.{AreRowsFor, IsCommitRefusal}
 use Rattle.plant_more.specs.LogRefusals.{AreUnstopped, ArePutsMade, IsOpening, IsRestRefusal, MayBeForeignPut, OfCommit}
-use Rattle.disk_model.specs.Traces.{moment}
+use Rattle.disk_model.specs.{moment}
 
 -- a log that differs from what was kept is reported as an opening
 opening_of : (found wanted : List ℕ) (why : Status) → FirstDiffer found wanted why → IsOpening why

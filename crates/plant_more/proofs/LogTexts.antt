@@ -4,8 +4,8 @@ use Rattle.std.specs.Prelude.{flat_map}
 use Rattle.std.proofs.Math.Seq.{take-suc}
 use Rattle.std.proofs.lemmas.Grind.{flat_map-append}
 use Rattle.std.proofs.lemmas.List.{append-nil}
-use Rattle.trend_num.specs.declared.tag_def.TagDef.{TagDef}
-use Rattle.plant_more.specs.LogTexts.{plant_text}
+use Rattle.trend_num.specs.{TagDef}
+use Rattle.plant_more.specs.{plant_text}
 
 -- the names after the first one
 abbrev behind : List TagDef → List ℕ

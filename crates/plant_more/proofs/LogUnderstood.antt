@@ -2,27 +2,21 @@
 use Rattle.std.proofs.Common.{◌≡◌, ℕ, List, length, Option, None, Some, Result, Ok, Err, String, refl, sym, subst, inl, inr}
 use Rattle.std.specs.Prelude.{◌≢◌, ◌⊎◌, IfErr, IfSome}
 use Rattle.std.specs.declared.alloc.Global.{Global}
-use Rattle.disk_model.specs.Traces.{Device}
-use Rattle.tag_base.specs.declared.definition.Base.{Base}
-use Rattle.value_rows.specs.declared.raw.RawRow.{RawRow}
+use Rattle.disk_model.specs.{Device}
+use Rattle.tag_base.specs.{Base}
+use Rattle.value_rows.specs.{RawRow}
 use Rattle.plant_files.specs.Reading.{faults_after, faults_told}
-use Rattle.plant_files.specs.RowFiles.{ToldFiles}
+use Rattle.plant_files.specs.{ToldFiles}
 use Rattle.plant_files.specs.PlanRows as plans
-use Rattle.plant_status.specs.declared.file.FileId.{FileId}
+use Rattle.plant_status.specs.{FileId}
 use Rattle.plant_status.specs.declared.status.Status.{Status}
 use Rattle.plant_status.specs.declared.status.Status.TheVariants.{BadWords, Done, ReadFault, WantOfMemory, WriteFault}
-use Rattle.commit_log.specs.declared.history.LogHistory.{LogHistory}
-use Rattle.commit_log.specs.declared.refusal.LogNo.{LogNo}
+use Rattle.commit_log.specs.{LogHistory, LogNo, ToldLog, log_name}
 use Rattle.commit_log.specs.declared.refusal.LogNo.TheVariants as no
-use Rattle.commit_log.specs.Told.{ToldLog}
-use Rattle.plant_more.specs.declared.log_note.LogNote.{LogNote}
-use Rattle.plant_more.specs.declared.log_known.KnownLog.{KnownLog}
+use Rattle.plant_more.specs.{LogNote, KnownLog, total_rows, plant_text}
 use Rattle.plant_more.specs.LogHeadline.{IsOfOthers, IsRun, IsUndone, IsUnopened, OfReport, OfSettling}
-use Rattle.plant_more.specs.LogMaking.{total_rows}
 use Rattle.plant_more.specs.LogOpenings.{TracesByName, IsOpeningRefusal, status_of}
 use Rattle.plant_more.specs.LogRefusals.{IsSettlingRefusal, OfCommit, OfFinding, OfMemory, OfOpening, OfPut, OfRest, OfStop}
-use Rattle.commit_log.specs.Devices.{log_name}
-use Rattle.plant_more.specs.LogTexts.{plant_text}
 
 -- no file is refused so
 no_read : (name plan_name : List ℕ) (told : ToldFiles) (why : Status) → plans.IsReadRefusal name plan_name told why → IsOfOthers why → ⊥

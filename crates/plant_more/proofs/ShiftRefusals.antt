@@ -1,16 +1,16 @@
 -- Which statuses the command is refused with, and which file a read fault names.
 use Rattle.std.proofs.Common.{◌≡◌, ℕ, List, Option, subst}
 use Rattle.std.specs.Prelude.{◌≢◌}
-use Rattle.byte_io.specs.Files.{FileTold, IsFaultOf}
-use Rattle.trend_num.specs.declared.tag_def.TagDef.{TagDef}
-use Rattle.plant_status.specs.declared.file.FileId.{FileId}
+use Rattle.byte_io.specs.{FileTold, IsFaultOf}
+use Rattle.trend_num.specs.{TagDef}
+use Rattle.plant_status.specs.{FileId}
 use Rattle.plant_status.specs.declared.file.FileId.TheVariants as file
 use Rattle.plant_status.specs.declared.status.Status.{Status}
 use Rattle.plant_status.specs.declared.status.Status.TheVariants.{ReadFault}
-use Rattle.plant_files.specs.Texts.{IsBaseRefusal}
+use Rattle.plant_files.specs.{IsBaseRefusal}
 use Rattle.plant_store.specs.TagRefusals.{IsRefusal}
 use Rattle.plant_store.specs.Groups.{DeviceTraces}
-use Rattle.plant_more.specs.CalendarFile.{IsCalendarRefusal}
+use Rattle.plant_more.specs.{IsCalendarRefusal}
 use Rattle.plant_more.specs.Shifts.{IsCommandRefusal, IsFaultOfRead}
 
 -- the refusal of a base is one of a command

@@ -4,14 +4,10 @@ use Rattle.std.specs.List.{flat_map}
 use Rattle.std.specs.Option.{option_map_or}
 use Rattle.std.proofs.lemmas.List.{take_more}
 use Rattle.std.proofs.lemmas.Slice.Zip.{all_zipped_more}
-use Rattle.trend_num.specs.declared.measure.Measure.{Measure}
-use Rattle.trend_num.specs.declared.tag_def.TagDef.{TagDef}
+use Rattle.trend_num.specs.{Measure, TagDef}
 use Rattle.tag_core.specs.Core.{Core}
-use Rattle.shift_calendar.specs.Calendars.{CalendarParts}
-use Rattle.shift_calendar.specs.declared.window.ShiftWindow.{ShiftWindow}
-use Rattle.plant_more.specs.ShiftLines.{AreLines, AreShiftLines, DatedWindow, shift_name_at, shift_line, value_at, value_in, window_lines}
-use Rattle.plant_more.specs.ShiftTags.{AreShiftTags, IsShiftTag, tag_line, tag_lines, shift_value_of}
-use Rattle.plant_more.specs.declared.shift_tag.ShiftTag.{ShiftTag}
+use Rattle.shift_calendar.specs.{CalendarParts, ShiftWindow}
+use Rattle.plant_more.specs.{AreLines, AreShiftLines, DatedWindow, shift_name_at, shift_line, value_at, value_in, window_lines, AreShiftTags, IsShiftTag, tag_line, tag_lines, shift_value_of, ShiftTag}
 
 -- one tag more
 pub tags_more : (defs : List TagDef) (cores : List Core) (places : List ℕ) (tags : List ShiftTag) (i d : ℕ) (tag : ShiftTag)

@@ -4,9 +4,8 @@ use Rattle.std.specs.List.{flat_map}
 use Rattle.std.proofs.lemmas.List.{append-nil, map_push, take_more}
 use Rattle.std.proofs.lemmas.List.Concat.{flat_map-append}
 use Rattle.std.proofs.lemmas.List.Elements.{All-push}
-use Rattle.shift_calendar.specs.Days.{IsDayWord}
-use Rattle.shift_calendar.specs.declared.window.ShiftWindow.{ShiftWindow}
-use Rattle.plant_more.specs.ShiftLines.{AreLines, DatedWindow, dated}
+use Rattle.shift_calendar.specs.{IsDayWord, ShiftWindow}
+use Rattle.plant_more.specs.{AreLines, DatedWindow, dated}
 
 -- what is printed of one more window comes after the rest
 pub window_more : (lines : DatedWindow → List ℕ) (windows : List ShiftWindow) (i : ℕ) (d : ShiftWindow) (word text more : List ℕ)

@@ -1,10 +1,9 @@
 -- What is so of the shifts that words ask for is so of the words.
 use Rattle.std.proofs.Common.{◌≡◌, Option, subst}
 use Rattle.plant_status.specs.declared.status.Status.{Status}
-use Rattle.plant_files.specs.Asked.{ToldFiles}
+use Rattle.plant_files.specs.{ToldFiles}
 use Rattle.plant_store.specs.Groups.{DeviceTraces}
-use Rattle.plant_more.specs.Endings.{EndsOfShifts, KeepsForShifts, Scene}
-use Rattle.plant_more.specs.Words.{AskedShifts}
+use Rattle.plant_more.specs.{EndsOfShifts, KeepsForShifts, Scene, AskedShifts}
 
 module _ (asked words : Option AskedShifts) (same : asked ≡ words) where
   pub ends_of : (before now : Scene) (status : Status) → EndsOfShifts asked before now status → EndsOfShifts words before now status

@@ -2,18 +2,17 @@
 -- is.
 use Rattle.std.proofs.Common.{◌≡◌, inl, inr, ℕ, ◌^◌, ◌<◌, List, Result, Ok, Err, IfOk, IfErr, ◌≢◌, String, Global, string_bytes, sym, subst, ap, ◌∙◌}
 use Rattle.byte_io.specs.Outside.{Outside}
-use Rattle.disk_model.specs.Calls.{Rose}
-use Rattle.plant_status.specs.declared.unit.Unit.{Unit}
+use Rattle.disk_model.specs.{Rose}
+use Rattle.plant_status.specs.{Unit}
 use Rattle.plant_status.specs.declared.unit.Unit.TheVariants.{Tag, Group, Log}
 use Rattle.plant_status.specs.declared.status.Status.{Status}
 use Rattle.plant_status.specs.declared.status.Status.TheVariants.{Done, BadWords, BadText, BadRow, ReadFault, WriteFault, DeviceFault, Damaged, OtherTag, Limit, Mismatch, Halted, WantOfMemory, OtherPlant, BadName}
-use Rattle.plant_files.specs.Asked.{ToldFiles}
+use Rattle.plant_files.specs.{ToldFiles, IsPrintedSo, IsTold}
 use Rattle.plant_files.specs.Reading.{faults_after, faults_told}
-use Rattle.plant_files.specs.Printing.{IsPrintedSo, IsTold}
-use Rattle.plant_store.specs.OpenedBases.{CountsDevices}
+use Rattle.plant_store.specs.{CountsDevices}
 use Rattle.plant_store.specs.Groups.{DeviceTraces}
 use Rattle.plant_more.specs.Shifts.{IsShiftsRefusal, OfBase, OfCalendar, OfTag, OfMemory}
-use Rattle.plant_more.specs.Endings.{CountsFor}
+use Rattle.plant_more.specs.{CountsFor}
 
 -- the faults of files that an answer reports are those that its status reports, once it was printed
 pub faults_so : (before now : Outside) (answer : Result (String Global) Status) (status : Status) (old new : ℕ)

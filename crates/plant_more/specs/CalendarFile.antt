@@ -1,15 +1,14 @@
 -- The calendar of a plant, read from the text of a file.
 use Rattle.std.specs.Prelude.{◌≡◌, ℕ, List, ⊤, Ok, Err}
-use Rattle.byte_io.specs.Files.{FileTold}
+use Rattle.byte_io.specs.{FileTold}
 use Rattle.trend_num.specs.declared.refusal.What.TheVariants.{TextBytes}
-use Rattle.plant_status.specs.declared.file.FileId.{FileId}
+use Rattle.plant_status.specs.{FileId}
 use Rattle.plant_status.specs.declared.file.FileId.TheVariants as file
 use Rattle.plant_status.specs.declared.status.Status.{Status}
 use Rattle.plant_status.specs.declared.status.Status.TheVariants.{BadText, Limit, ReadFault, WantOfMemory}
 use Rattle.plant_files.specs.Reading.{IsReadWholeAs, IsTooLong}
-use Rattle.plant_files.specs.Texts.{most_text_bytes}
-use Rattle.shift_calendar.specs.Calendars.{CalendarParts, calendar, calendar_form_of}
-use Rattle.shift_calendar.specs.declared.refusal.CalNo.{CalNo}
+use Rattle.plant_files.specs.{most_text_bytes}
+use Rattle.shift_calendar.specs.{CalendarParts, calendar, calendar_form_of, CalNo}
 use Rattle.shift_calendar.specs.declared.refusal.CalNo.TheVariants as no
 
 -- the file spells this calendar over these names of tags

@@ -1,15 +1,14 @@
 -- How a command ends: what it has read and printed, and what became of the devices, for each status.
 use Rattle.std.specs.Prelude.{◌≡◌, ◌⊎◌, ℕ, ℤ, ◌^◌, ◌<◌, List, Option, None, Some}
 use Rattle.byte_io.specs.Outside.{Outside}
-use Rattle.disk_model.specs.Calls.{Rose}
+use Rattle.disk_model.specs.{Rose}
 use Rattle.plant_status.specs.declared.status.Status.{Status}
 use Rattle.plant_status.specs.declared.status.Status.TheVariants.{BadWords, DeviceFault}
-use Rattle.plant_files.specs.Asked.{ToldFiles}
+use Rattle.plant_files.specs.{ToldFiles, IsTold, PrintsSo, WhereDone}
 use Rattle.plant_files.specs.Reading.{faults_told}
-use Rattle.plant_files.specs.Printing.{IsTold, PrintsSo, WhereDone}
-use Rattle.plant_store.specs.OpenedBases.{AreKept, IsDurable}
+use Rattle.plant_store.specs.{AreKept, IsDurable}
 use Rattle.plant_store.specs.Groups.{DeviceTraces}
-use Rattle.shift_calendar.specs.Days.{IsDayWord, IsFirstDay}
+use Rattle.shift_calendar.specs.{IsDayWord, IsFirstDay}
 use Rattle.plant_more.specs.Shifts.{IsFaultOfRead, IsShifts, IsShiftsRefusal}
 use Rattle.plant_more.specs.Words.{AskedShifts}
 

@@ -1,6 +1,6 @@
 -- What a worker has before it begins, and what it leaves.
 use Rattle.std.specs.Prelude.{◌≡◌, ℕ, ◌<◌, List, length, slice_index_or}
-use Rattle.value_rows.specs.declared.raw.RawRow.{RawRow}
+use Rattle.value_rows.specs.{RawRow}
 use Rattle.plant_more.specs.declared.log_worker.LogWorker.{LogWorker}
 use Rattle.plant_more.specs.LogNotes.{IsNoteOf, halts}
 

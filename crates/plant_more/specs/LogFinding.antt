@@ -2,15 +2,13 @@
 use Rattle.std.specs.Prelude.{◌≡◌, ◌≢◌, ℕ, ◌+◌, ◌<◌, ◌≤◌, List, [], ◌∷◌, ◌++◌, filter, length, nat_eq, slice_get, slice_index, slice_set, take, Option, Some}
 use Rattle.std.specs.Option.{option_map, option_map_or, unwrap_or}
 use Rattle.plant_status.specs.declared.mismatch.Place.TheVariants.{Log as LogPlace}
-use Rattle.plant_status.specs.declared.mismatch.Seen.{Seen}
+use Rattle.plant_status.specs.{Seen}
 use Rattle.plant_status.specs.declared.mismatch.Seen.TheVariants as seen
 use Rattle.plant_status.specs.declared.status.Status.{Status}
 use Rattle.plant_status.specs.declared.status.Status.TheVariants.{Mismatch}
-use Rattle.value_rows.specs.declared.raw.RawRow.{RawRow}
-use Rattle.commit_log.specs.declared.history.LogTurn.{LogTurn}
+use Rattle.value_rows.specs.{RawRow}
+use Rattle.commit_log.specs.{LogTurn, LogRow, puts}
 use Rattle.commit_log.specs.declared.history.LogTurn.TheVariants.{Put}
-use Rattle.commit_log.specs.declared.row.LogRow.{LogRow}
-use Rattle.commit_log.specs.Tapes.{puts}
 use Rattle.plant_more.specs.LogTurns.{row_of}
 
 -- ---- what a log has to have of a collector

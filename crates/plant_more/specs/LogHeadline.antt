@@ -1,24 +1,17 @@
 -- What `log` results in: the history of the log, or why no log was opened.
 use Rattle.std.specs.Prelude.{◌≡◌, ◌≢◌, ◌⊎◌, ℕ, ◌+◌, ◌-◌, ◌^◌, ◌<◌, ◌≤◌, List, length, Result, Err, IfErr, IfOk, OnOk, String, string_bytes}
 use Rattle.std.specs.declared.alloc.Global.{Global}
-use Rattle.disk_model.specs.Calls.{Rose, Shows}
-use Rattle.disk_model.specs.Traces.{Device, Trace, moment}
-use Rattle.tag_base.specs.declared.definition.Base.{Base}
-use Rattle.tag_base.specs.declared.schedule.Plan.{Plan}
-use Rattle.value_rows.specs.declared.raw.RawRow.{RawRow}
+use Rattle.disk_model.specs.{Rose, Shows, Device, Trace, moment, IsNew}
+use Rattle.tag_base.specs.{Base, Plan}
+use Rattle.value_rows.specs.{RawRow}
 use Rattle.plant_status.specs.declared.status.Status.{Status}
 use Rattle.plant_status.specs.declared.status.Status.TheVariants.{BadWords, DeviceFault, Done, WantOfMemory, WriteFault}
 use Rattle.plant_status.specs.declared.unit.Unit.{Unit as UnitOf}
 use Rattle.plant_status.specs.declared.unit.Unit.TheVariants.{Log as LogUnit}
-use Rattle.plant_files.specs.RowFiles.{ToldFiles}
+use Rattle.plant_files.specs.{ToldFiles}
 use Rattle.plant_files.specs.PlanRows.{IsCollected, IsCollectingRefusal}
-use Rattle.commit_log.specs.declared.history.LogHistory.{LogHistory}
-use Rattle.commit_log.specs.Images.{StandsForRows}
-use Rattle.disk_model.specs.Gates.{IsNew}
-use Rattle.archive_file.specs.TextHeads.{TextOpensAt}
-use Rattle.commit_log.specs.Openings.{IsLogOpenedWell}
-use Rattle.commit_log.specs.Tapes.{puts}
-use Rattle.commit_log.specs.Told.{IsHandedOut, ToldLog}
+use Rattle.commit_log.specs.{LogHistory, StandsForRows, IsLogOpenedWell, puts, IsHandedOut, ToldLog, log_name}
+use Rattle.archive_file.specs.{TextOpensAt}
 use Rattle.plant_more.specs.declared.log_note.LogNote.{LogNote}
 use Rattle.plant_more.specs.declared.log_known.KnownLog.{KnownLog}
 use Rattle.plant_more.specs.declared.log_session.EndedLog.{EndedLog}
@@ -28,7 +21,6 @@ use Rattle.plant_more.specs.LogMaking.{total_rows}
 use Rattle.plant_more.specs.LogOpenings.{AreOthersSame, GainsSyncAtMost, TracesByName, IsLogKept, IsLogOpened, IsOpeningRefusal}
 use Rattle.plant_more.specs.LogRefusals.{AdmitsForeignPut, AreNotes, ArePutsMade, AreUnstopped, IsOfOpening, IsSettlingRefusal}
 use Rattle.plant_more.specs.LogReports.{IsReportRefusal, IsLineToldOf, log_rows}
-use Rattle.commit_log.specs.Devices.{log_name}
 use Rattle.plant_more.specs.LogTexts.{plant_text}
 
 -- ---- a log at its end

@@ -5,7 +5,7 @@ use Rattle.plant_status.specs.declared.mismatch.Place.TheVariants.{Opening}
 use Rattle.plant_status.specs.declared.mismatch.Seen.TheVariants.{Number}
 use Rattle.plant_status.specs.declared.status.Status.{Status}
 use Rattle.plant_status.specs.declared.status.Status.TheVariants.{Mismatch}
-use Rattle.commit_log.specs.Told.{ToldLog}
+use Rattle.commit_log.specs.{ToldLog}
 use Rattle.plant_more.specs.declared.log_known.KnownLog.{KnownLog}
 
 -- the log's plant and opening are those of the copy

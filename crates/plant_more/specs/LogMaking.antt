@@ -1,16 +1,14 @@
 -- How a log gets the rows that it lacks, and why it does not get them.
 use Rattle.std.specs.Prelude.{◌≡◌, ℕ, ◌<◌, List, [], ◌∷◌, ◌++◌, All, length, sum_by, ⊤}
-use Rattle.trend_num.specs.Ranges.{InRange}
+use Rattle.trend_num.specs.{InRange}
 use Rattle.plant_status.specs.declared.unit.Unit.TheVariants.{Log as LogUnit}
 use Rattle.plant_status.specs.declared.mismatch.Place.TheVariants.{Log as LogPlace}
 use Rattle.plant_status.specs.declared.mismatch.Seen.TheVariants.{Number}
 use Rattle.plant_status.specs.declared.status.Status.{Status}
 use Rattle.plant_status.specs.declared.status.Status.TheVariants.{DeviceFault, Mismatch, WantOfMemory}
-use Rattle.value_rows.specs.declared.raw.RawRow.{RawRow}
+use Rattle.value_rows.specs.{RawRow}
 use Rattle.commit_log.specs.declared.history.LogTurn.TheVariants.{Put}
-use Rattle.commit_log.specs.declared.row.LogRow.{LogRow}
-use Rattle.commit_log.specs.Tapes.{puts}
-use Rattle.commit_log.specs.Told.{ToldLog}
+use Rattle.commit_log.specs.{LogRow, puts, ToldLog}
 
 -- how many rows the files of collectors have together
 abbrev pub total_rows : List (List RawRow) → ℕ

@@ -1,13 +1,10 @@
 -- What the note of a worker contains: how many of its rows are done, and how it ended.
 use Rattle.std.specs.Prelude.{◌≡◌, ◌≢◌, ℕ, ◌+◌, ◌<◌, true, List, map, fold, length, slice_get, slice_index_or, IsSomeAnd, Some, Vec}
 use Rattle.std.specs.declared.alloc.Global.{Global}
-use Rattle.value_rows.specs.declared.raw.RawRow.{RawRow}
-use Rattle.plant_status.specs.Pass.{sum_of_fault_counts}
-use Rattle.commit_log.specs.declared.refusal.LogCommitNo.{LogCommitNo}
+use Rattle.value_rows.specs.{RawRow}
+use Rattle.plant_status.specs.{sum_of_fault_counts}
+use Rattle.commit_log.specs.{LogCommitNo, PutRowNo, LogRow, ToldLog, put_refusal}
 use Rattle.commit_log.specs.declared.refusal.LogCommitNo.TheVariants as commit
-use Rattle.commit_log.specs.declared.refusal.PutRowNo.{PutRowNo}
-use Rattle.commit_log.specs.declared.row.LogRow.{LogRow}
-use Rattle.commit_log.specs.Told.{ToldLog, put_refusal}
 use Rattle.plant_more.specs.declared.log_note.LogEnding.{LogEnding}
 use Rattle.plant_more.specs.declared.log_note.LogEnding.TheVariants.{Ended, Halted, Put, Commit, WantOfMemory}
 use Rattle.plant_more.specs.declared.log_note.LogNote.{LogNote}

@@ -1,20 +1,13 @@
 -- Opening the device of a plant's log, and why it fails.
 use Rattle.std.specs.Prelude.{◌≡◌, ◌≢◌, ◌⊎◌, ℕ, ◌^◌, ◌<◌, List, [], false, Result, Ok, Err}
-use Rattle.disk_model.specs.Calls.{Rose, Shows, sum_of_counts}
-use Rattle.disk_model.specs.Moments.{During}
-use Rattle.disk_model.specs.Gates.{IsNew}
-use Rattle.disk_model.specs.Traces.{Device, Synced, Trace, moment, noted}
+use Rattle.disk_model.specs.{Rose, Shows, sum_of_counts, During, IsNew, Device, Synced, Trace, moment, noted}
 use Rattle.trend_num.specs.declared.refusal.What.TheVariants.{Rows}
 use Rattle.plant_status.specs.declared.unit.Unit.TheVariants.{Log as LogUnit}
 use Rattle.plant_status.specs.declared.status.Status.{Status}
 use Rattle.plant_status.specs.declared.status.Status.TheVariants.{Damaged, DeviceFault, Limit, OtherPlant, WantOfMemory}
-use Rattle.commit_log.specs.declared.refusal.LogNo.{LogNo}
+use Rattle.commit_log.specs.{LogNo, StandsForRows, GainsLogSync, IsLogCause, IsLogLeftOrSame, IsLeftOrStands, ToldLog, log_name}
 use Rattle.commit_log.specs.declared.refusal.LogNo.TheVariants as no
-use Rattle.commit_log.specs.Images.{StandsForRows}
-use Rattle.archive_file.specs.TextHeads.{TextOpensAt}
-use Rattle.commit_log.specs.Openings.{GainsLogSync, IsLogCause, IsLogLeftOrSame, IsLeftOrStands}
-use Rattle.commit_log.specs.Told.{ToldLog}
-use Rattle.commit_log.specs.Devices.{log_name}
+use Rattle.archive_file.specs.{TextOpensAt}
 
 -- the traces of a store's devices by name
 abbrev pub TracesByName : Type 0

@@ -5,8 +5,8 @@ use Rattle.plant_status.specs.declared.mismatch.Place.TheVariants.{Log as LogPla
 use Rattle.plant_status.specs.declared.mismatch.Seen.TheVariants as seen
 use Rattle.plant_status.specs.declared.status.Status.{Status}
 use Rattle.plant_status.specs.declared.status.Status.TheVariants as status
-use Rattle.value_rows.specs.declared.raw.RawRow.{RawRow}
-use Rattle.commit_log.specs.Told.{ToldLog, rows_waiting}
+use Rattle.value_rows.specs.{RawRow}
+use Rattle.commit_log.specs.{ToldLog, rows_waiting}
 use Rattle.plant_more.specs.declared.log_note.LogEnding.TheVariants.{Halted, WantOfMemory}
 use Rattle.plant_more.specs.declared.log_note.LogNote.{LogNote}
 use Rattle.plant_more.specs.LogNotes.{AreLogNotesOf, log_stops_with}

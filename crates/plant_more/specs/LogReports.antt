@@ -1,18 +1,14 @@
 -- What the command prints of the rows of a log: one line for each tag.
 use Rattle.std.specs.Prelude.{◌≡◌, ℕ, ◌+◌, ◌<◌, ◌≤◌, List, [], ◌++◌, length, map, take, slice_get, slice_index_or, Some, ⊤}
-use Rattle.trend_num.specs.Limits.{most_records}
+use Rattle.trend_num.specs.{most_records, TagDef}
 use Rattle.trend_num.specs.declared.refusal.What.TheVariants.{Records}
-use Rattle.trend_num.specs.declared.tag_def.TagDef.{TagDef}
-use Rattle.trend_model.specs.History.{Event, Origin, Raw}
+use Rattle.trend_model.specs.{Event, Origin, Raw}
 use Rattle.trend_model.specs.State.{State, Stands, followed}
 use Rattle.tag_core.specs.Core.{Core}
-use Rattle.trend_report.specs.CheckLines.{check_text}
+use Rattle.trend_report.specs.{check_text}
 use Rattle.plant_status.specs.declared.status.Status.{Status}
 use Rattle.plant_status.specs.declared.status.Status.TheVariants.{Limit, WantOfMemory}
-use Rattle.commit_log.specs.declared.history.LogHistory.{LogHistory}
-use Rattle.commit_log.specs.declared.row.LogRow.{LogRow}
-use Rattle.commit_log.specs.Images.{log_points_of}
-use Rattle.commit_log.specs.Tapes.{puts}
+use Rattle.commit_log.specs.{LogHistory, LogRow, log_points_of, puts}
 
 -- all rows of a log, in order: those of its opening, and those that were put
 abbrev pub log_rows : LogHistory → List LogRow

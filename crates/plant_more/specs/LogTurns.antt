@@ -1,10 +1,8 @@
 -- What a worker leaves on the tape of a log.
 use Rattle.std.specs.Prelude.{◌≡◌, ℕ, ◌+◌, ◌==◌, ◌||◌, ◌%◌, Bool, false, true, List, [], ◌∷◌, ◌++◌, All, length, slice_get, Some, ⊤}
-use Rattle.value_rows.specs.declared.raw.RawRow.{RawRow}
-use Rattle.commit_log.specs.declared.row.LogRow.{LogRow}
-use Rattle.commit_log.specs.declared.history.LogTurn.{LogTurn}
+use Rattle.value_rows.specs.{RawRow}
+use Rattle.commit_log.specs.{LogRow, LogTurn, ToldLog, rows_waiting}
 use Rattle.commit_log.specs.declared.history.LogTurn.TheVariants.{Put, Commit}
-use Rattle.commit_log.specs.Told.{ToldLog, rows_waiting}
 
 -- a row of a collector, by its number from 1, as a log has it
 abbrev pub row_of : ℕ → ℕ → RawRow → LogRow

@@ -2,12 +2,11 @@
 use Rattle.std.specs.Prelude.{◌≡◌, ◌≢◌, ℕ, ◌^◌, ◌<◌, List, None, Some, Option, Result, String, IfErr, IfOk, IfSome, OnOk, string_bytes}
 use Rattle.std.specs.Option.{IsSome}
 use Rattle.std.specs.declared.alloc.Global.{Global}
-use Rattle.disk_model.specs.Traces.{Device}
+use Rattle.disk_model.specs.{Device}
 use Rattle.plant_status.specs.declared.status.Status.{Status}
 use Rattle.plant_status.specs.declared.status.Status.TheVariants.{BadWords}
-use Rattle.plant_files.specs.Faults.{IsFaultOfPlanned}
+use Rattle.plant_files.specs.{IsFaultOfPlanned, IsPrintedSo, IsTold}
 use Rattle.plant_files.specs.Reading.{faults_after}
-use Rattle.plant_files.specs.Printing.{IsPrintedSo, IsTold}
 use Rattle.plant_more.specs.LogHeadline.{IsLogged, IsUnlogged}
 use Rattle.plant_more.specs.LogOpenings.{CountsOpening}
 use Rattle.plant_more.specs.declared.log_command.LogOutcome.{LogOutcome}

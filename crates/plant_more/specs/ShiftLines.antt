@@ -3,15 +3,12 @@ use Rattle.std.specs.Prelude.{◌≡◌, ℕ, ℤ, List, [], ◌++◌, All, Opti
 use Rattle.std.specs.Fmt.{decimal}
 use Rattle.std.specs.List.{flat_map}
 use Rattle.std.specs.Option.{option_map_or}
-use Rattle.trend_num.specs.declared.measure.Measure.{Measure}
-use Rattle.trend_num.specs.declared.tag_def.TagDef.{TagDef}
-use Rattle.trend_model.specs.Windows.{window_value}
+use Rattle.trend_num.specs.{Measure, TagDef}
+use Rattle.trend_model.specs.{window_value}
 use Rattle.tag_core.specs.Core.{Core}
-use Rattle.trend_report.specs.Lines.{number_text}
-use Rattle.plant_store.specs.OpenedBases.{points_recovered}
-use Rattle.shift_calendar.specs.Calendars.{CalendarParts}
-use Rattle.shift_calendar.specs.Days.{IsDayWord}
-use Rattle.shift_calendar.specs.declared.window.ShiftWindow.{ShiftWindow}
+use Rattle.trend_report.specs.{number_text}
+use Rattle.plant_store.specs.{points_recovered}
+use Rattle.shift_calendar.specs.{CalendarParts, IsDayWord, ShiftWindow}
 
 -- ---- one tag in one window
 

@@ -2,13 +2,11 @@
 use Rattle.std.specs.Prelude.{◌≡◌, ℕ, ℤ, List, ◌++◌, codes, Option, None, Some, if◌then◌else◌, nat_lt, slice_get}
 use Rattle.std.specs.Fmt.{decimal}
 use Rattle.std.specs.List.{AllZip, flat_map}
-use Rattle.trend_num.specs.declared.measure.Measure.{Measure}
-use Rattle.trend_num.specs.declared.tag_def.TagDef.{TagDef}
-use Rattle.trend_model.specs.Contents.{listed}
-use Rattle.trend_model.specs.Windows.{window_value}
+use Rattle.trend_num.specs.{Measure, TagDef}
+use Rattle.trend_model.specs.{listed, window_value}
 use Rattle.tag_core.specs.Core.{Core}
-use Rattle.interp_read.specs.Closing.{points_closed_by}
-use Rattle.shift_calendar.specs.declared.window.ShiftWindow.{ShiftWindow}
+use Rattle.interp_read.specs.{points_closed_by}
+use Rattle.shift_calendar.specs.{ShiftWindow}
 use Rattle.plant_more.specs.ShiftLines.{DatedWindow, shift_line}
 use Rattle.plant_more.specs.declared.shift_tag.ShiftTag.{ShiftTag}
 

@@ -1,19 +1,16 @@
 -- What `shifts` prints, and why it prints nothing.
 use Rattle.std.specs.Prelude.{◌≡◌, ◌≢◌, ℕ, ℤ, List, Option}
-use Rattle.byte_io.specs.Files.{IsFaultOf}
+use Rattle.byte_io.specs.{IsFaultOf}
 use Rattle.tag_core.specs.Core.{Core}
-use Rattle.tag_base.specs.declared.definition.Base.{Base}
+use Rattle.tag_base.specs.{Base}
 use Rattle.plant_status.specs.declared.status.Status.{Status}
 use Rattle.plant_status.specs.declared.status.Status.TheVariants.{BadWords, Done, ReadFault, WantOfMemory, WriteFault}
 use Rattle.plant_status.specs.declared.file.FileId.TheVariants as file
-use Rattle.plant_files.specs.Asked.{ToldFiles}
-use Rattle.plant_files.specs.Texts.{IsBaseFile, IsBaseRefusal, tag_names}
+use Rattle.plant_files.specs.{ToldFiles, IsBaseFile, IsBaseRefusal, tag_names}
 use Rattle.plant_store.specs.TagRefusals.{IsRefusal}
-use Rattle.plant_store.specs.OpenedBases.{AreUntouched, IsOpenedBase}
+use Rattle.plant_store.specs.{AreUntouched, IsOpenedBase}
 use Rattle.plant_store.specs.Groups.{DeviceTraces}
-use Rattle.shift_calendar.specs.Calendars.{CalendarParts}
-use Rattle.shift_calendar.specs.Windows.{AreWindows, shifts_over}
-use Rattle.shift_calendar.specs.declared.window.ShiftWindow.{ShiftWindow}
+use Rattle.shift_calendar.specs.{CalendarParts, AreWindows, shifts_over, ShiftWindow}
 use Rattle.plant_more.specs.CalendarFile.{IsCalendarFile, IsCalendarRefusal}
 use Rattle.plant_more.specs.ShiftLines.{AreShiftLines}
 

@@ -1,7 +1,7 @@
 -- What the words of `log` and of `shifts` name.
 use Rattle.std.specs.Prelude.{ℕ, List, [], ◌∷◌, Option, None, Some, codes, if◌then◌else◌}
 use Rattle.std.specs.Str.{bytes_eq}
-use Rattle.plant_files.specs.NumberWords.{count_upto}
+use Rattle.plant_files.specs.{count_upto}
 use Rattle.plant_more.specs.declared.words.Planned.{Planned}
 use Rattle.plant_more.specs.declared.words.ShiftWords.{ShiftWords}
 

@@ -1,10 +1,10 @@
 // The calendar of a plant.
 ghost use Rattle.std.specs.Prelude.{◌≡◌, ◌<◌, All, length, vec_len, IfOk, IfErr, IsErrOf};
-ghost use Rattle.byte_io.specs.Files.{IsFaultOf};
-ghost use Rattle.plant_status.specs.declared.file.FileId.{FileId};
+ghost use Rattle.byte_io.specs.{IsFaultOf};
+ghost use Rattle.plant_status.specs.{FileId};
 ghost use Rattle.plant_status.specs.declared.status.Status.TheVariants.{ReadFault};
 ghost use Rattle.plant_files.specs.Reading.{IsReadWhole, IsReadRefusal, faults_after};
-ghost use Rattle.plant_files.specs.Texts.{most_text_bytes, tag_names};
+ghost use Rattle.plant_files.specs.{most_text_bytes, tag_names};
 ghost use Rattle.plant_more.specs.CalendarFile.{IsCalendarFile, IsCalendarRefusal, calendar_status};
 
 use byte_io::{Files, ReadNo, read_file};

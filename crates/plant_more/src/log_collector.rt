@@ -1,6 +1,6 @@
 // A worker: it puts the rows of its collector into the log, in order, and commits.
 ghost use Rattle.std.specs.Prelude.{◌≡◌, ◌<◌, All, IfErr, OnOk, length};
-ghost use Rattle.trend_num.specs.Ranges.{InRange};
+ghost use Rattle.trend_num.specs.{InRange};
 ghost use Rattle.plant_more.specs.LogNotes.{EndsAt, IsNoteOf, ending_of_commit, halts};
 ghost use Rattle.plant_more.specs.LogTurns.{IsPutAt, is_commit_due};
 

@@ -1,7 +1,7 @@
 // Acknowledging what waits on a log.
 ghost use Rattle.std.specs.Prelude.{◌≡◌, ◌≢◌, ◌<◌, IfErr, OnOk, false, true};
 ghost use Rattle.commit_log.specs.declared.refusal.LogCommitNo.TheVariants.{WantOfMemory as NoMemory};
-ghost use Rattle.commit_log.specs.Told.{rows_waiting};
+ghost use Rattle.commit_log.specs.{rows_waiting};
 ghost use Rattle.plant_more.specs.LogTurns.{IsCommitted};
 
 use commit_log::{Log, LogCommitNo};

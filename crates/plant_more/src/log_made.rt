@@ -1,8 +1,7 @@
 // Doing what the workers of a log left undone: rows are put, and acknowledged.
 ghost use Rattle.std.specs.Prelude.{◌≡◌, ◌+◌, ◌^◌, ◌<◌, IfErr, OnErr, OnOk, false, length, slice_index, slice_set};
-ghost use Rattle.trend_num.specs.Ranges.{InRange};
-ghost use Rattle.commit_log.specs.Tapes.{puts};
-ghost use Rattle.commit_log.specs.Told.{rows_waiting};
+ghost use Rattle.trend_num.specs.{InRange};
+ghost use Rattle.commit_log.specs.{puts, rows_waiting};
 ghost use Rattle.plant_more.specs.LogNotes.{row_lists_of};
 ghost use Rattle.plant_more.specs.LogTurns.{IsCommitted, IsSameLog};
 ghost use Rattle.plant_more.specs.LogFinding.{AreFound, AreOthersSame, AreWhole, rows_in};

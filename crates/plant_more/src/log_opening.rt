@@ -1,11 +1,11 @@
 // Opening the log of a plant on its device.
 ghost use Rattle.std.specs.Prelude.{◌≡◌, ◌≢◌, ◌^◌, ◌<◌, IfErr, IfOk, IsTrue, OnErr, OnOk, ℕ, List};
-ghost use Rattle.branded_disk.specs.Pasts.{IsUnused};
-ghost use Rattle.disk_model.specs.Traces.{Synced, noted};
+ghost use Rattle.branded_disk.specs.{IsUnused};
+ghost use Rattle.disk_model.specs.{Synced, noted};
 ghost use Rattle.plant_status.specs.declared.status.Status.TheVariants.{DeviceFault as Fault};
 ghost use Rattle.plant_status.specs.declared.unit.Unit.TheVariants.{Log as LogUnit};
 ghost use Rattle.plant_more.specs.LogOpenings.{IsLogOpened, IsLogKept, IsOpeningRefusal, CountsOpening, status_of};
-ghost use Rattle.commit_log.specs.Devices.{log_name};
+ghost use Rattle.commit_log.specs.{log_name};
 
 use branded_disk::{Begun, Branded, give_back, take};
 use commit_log::{Log, LogFail, LogNo, open_log};

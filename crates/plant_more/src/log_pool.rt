@@ -1,6 +1,6 @@
 // Running all workers of a log at the same time.
 ghost use Rattle.std.specs.Prelude.{◌≡◌, ℕ, ◌^◌, ◌<◌, ◌≤◌, [], All, IfErr, IfOk, OnErr, length, slice_index_or, vec_capacity, vec_len};
-ghost use Rattle.trend_num.specs.Ranges.{InRange};
+ghost use Rattle.trend_num.specs.{InRange};
 ghost use Rattle.plant_more.specs.LogNotes.{AreLogNotesOf, row_lists_of, log_stops_with};
 ghost use Rattle.plant_more.specs.LogCrew.{AreDone, AreSeated, IsDone, IsReady};
 

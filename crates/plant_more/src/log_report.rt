@@ -1,8 +1,8 @@
 // The report of a log: one line for each tag.
 ghost use Rattle.std.specs.Prelude.{◌≡◌, ◌+◌, ◌<◌, [], All, IfErr, IfOk, OnOk, Some, length, slice_get, string_bytes, take, vec_len};
-ghost use Rattle.trend_num.specs.Ranges.{TuningInRange};
+ghost use Rattle.trend_num.specs.{TuningInRange};
 ghost use Rattle.trend_model.specs.State.{Stands};
-ghost use Rattle.commit_log.specs.Blocks.{IsLogRow};
+ghost use Rattle.commit_log.specs.{IsLogRow};
 ghost use Rattle.plant_more.specs.LogReports.{AreStanding, HasRoomBelow, IsReportRefusal, IsLineToldOf, log_rows, log_origin_of};
 
 use commit_log::{LogHistory, LogRow, LogTurn};

@@ -1,8 +1,7 @@
 // Running the collectors of a plan on an open log, and ending the log after them.
 ghost use Rattle.std.specs.Prelude.{◌≡◌, ◌^◌, ◌<◌, IfErr, IfOk, OnErr, length};
-ghost use Rattle.disk_model.specs.Traces.{FitsName};
-ghost use Rattle.commit_log.specs.Devices.{log_name};
-ghost use Rattle.commit_log.specs.Openings.{LogBeganWell};
+ghost use Rattle.disk_model.specs.{FitsName};
+ghost use Rattle.commit_log.specs.{log_name, LogBeganWell};
 ghost use Rattle.plant_more.specs.LogNotes.{row_lists_of};
 ghost use Rattle.plant_more.specs.LogMaking.{AreRowsFor, total_rows};
 ghost use Rattle.plant_more.specs.LogHeadline.{IsEnded};

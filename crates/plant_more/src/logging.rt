@@ -1,11 +1,10 @@
 // The command `log`: putting the rows of a plan's collectors into the log of a plant.
 ghost use Rattle.std.specs.Prelude.{◌≡◌, ◌^◌, ◌<◌, ◌≤◌, All, Err, IfErr, IfOk, IfSome, IsTrue, None, OnOk, Some, length};
 ghost use Rattle.std.specs.Option.{IsSome};
-ghost use Rattle.trend_num.specs.Ranges.{TuningInRange};
-ghost use Rattle.branded_disk.specs.Pasts.{IsWholePast};
-ghost use Rattle.commit_log.specs.Blocks.{IsLogRow};
-ghost use Rattle.plant_files.specs.Collected.{most_collector_rows};
-ghost use Rattle.plant_files.specs.Faults.{IsFaultOfPlanned};
+ghost use Rattle.trend_num.specs.{TuningInRange};
+ghost use Rattle.branded_disk.specs.{IsWholePast};
+ghost use Rattle.commit_log.specs.{IsLogRow, log_name};
+ghost use Rattle.plant_files.specs.{most_collector_rows, IsFaultOfPlanned};
 ghost use Rattle.plant_files.specs.Reading.{faults_after};
 ghost use Rattle.plant_files.specs.PlanRows.{AreRowsOfBase, IsGoodBase};
 ghost use Rattle.plant_more.specs.LogNotes.{row_lists_of};
@@ -14,7 +13,6 @@ ghost use Rattle.plant_more.specs.LogKnown.{IsAsKnown};
 ghost use Rattle.plant_more.specs.LogMaking.{AreRowsFor, total_rows};
 ghost use Rattle.plant_more.specs.LogOpenings.{AreOthersSame, CountsOpening, TracesByName, IsGivenBack, IsLogOpened};
 ghost use Rattle.plant_more.specs.LogReports.{log_rows};
-ghost use Rattle.commit_log.specs.Devices.{log_name};
 ghost use Rattle.plant_more.specs.LogTexts.{plant_text};
 
 use crate::log_known::{KnownLog, known_of};

@@ -1,6 +1,6 @@
 // The tags of a calendar, each with its content.
 ghost use Rattle.std.specs.Prelude.{◌≡◌, ◌<◌, All, length, IfOk};
-ghost use Rattle.trend_model.specs.Contents.{listed};
+ghost use Rattle.trend_model.specs.{listed};
 ghost use Rattle.plant_more.specs.ShiftTags.{AreShiftTags};
 
 use crate::shift_tag::ShiftTag;

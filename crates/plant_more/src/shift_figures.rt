@@ -1,10 +1,8 @@
 // The text that the command `shifts` prints.
 ghost use Rattle.std.specs.Prelude.{◌^◌, ◌<◌, ◌≤◌, ◌≡◌, length, string_bytes, All, IfOk, IfErr, List, OnOk};
 ghost use Rattle.plant_files.specs.Reading.{faults_after};
-ghost use Rattle.plant_store.specs.OpenedBases.{AreKept, CountsDevices, IsDurable};
-ghost use Rattle.shift_calendar.specs.Days.{IsFirstDay};
-ghost use Rattle.shift_calendar.specs.Windows.{AreWindows, shifts_over};
-ghost use Rattle.shift_calendar.specs.declared.window.ShiftWindow.{ShiftWindow};
+ghost use Rattle.plant_store.specs.{AreKept, CountsDevices, IsDurable};
+ghost use Rattle.shift_calendar.specs.{IsFirstDay, AreWindows, shifts_over, ShiftWindow};
 ghost use Rattle.plant_more.specs.ShiftLines.{AreShiftLines};
 ghost use Rattle.plant_more.specs.Shifts.{IsCommandRefusal, IsFaultOfRead, IsShifts, IsShiftsRefusal};
 

@@ -1,8 +1,7 @@
 // The lines of shifts.
 ghost use Rattle.std.specs.Prelude.{◌≡◌, ◌++◌, All, IfOk, OnOk, List, ℕ, string_bytes};
-ghost use Rattle.trend_report.specs.Lines.{number_text};
-ghost use Rattle.shift_calendar.specs.Days.{IsDayWord};
-ghost use Rattle.shift_calendar.specs.Windows.{IsWindowTimed};
+ghost use Rattle.trend_report.specs.{number_text};
+ghost use Rattle.shift_calendar.specs.{IsDayWord, IsWindowTimed};
 ghost use Rattle.plant_more.specs.ShiftLines.{AreLines, dated, shift_line};
 ghost use Rattle.plant_more.specs.ShiftTags.{heading, tag_lines};
 

@@ -1,6 +1,6 @@
 // A tag of a calendar, as it was opened.
-ghost use Rattle.trend_num.specs.Ranges.{InRange};
-ghost use Rattle.trend_model.specs.Contents.{IsNotBefore};
+ghost use Rattle.trend_num.specs.{InRange};
+ghost use Rattle.trend_model.specs.{IsNotBefore};
 ghost use Rattle.std.specs.Option.{ForSome};
 
 use late_insert::Content;

@@ -1,6 +1,6 @@
 // The value of a tag in a window.
 ghost use Rattle.std.specs.Prelude.{◌≡◌, ◌≤◌};
-ghost use Rattle.trend_num.specs.Ranges.{last_time};
+ghost use Rattle.trend_num.specs.{last_time};
 ghost use Rattle.plant_more.specs.ShiftTags.{shift_value_of};
 
 use crate::shift_tag::ShiftTag;

@@ -1,14 +1,14 @@
 -- Refusals of the commands are reported as they are.
 use Rattle.std.proofs.Common.{inl, inr, ℕ, ◌^◌, ◌<◌, List, ◌≢◌}
-use Rattle.plant_files.specs.Asked.{ToldFiles}
+use Rattle.plant_files.specs.{ToldFiles}
 use Rattle.store_commands.specs.Commands.{IsCheckRefusal, IsTrendRefusal, OfBase, OfGroup, OfPlan, OfReader, OfTag, OfMemory}
 use Rattle.plant_store.specs.Groups.{DeviceTraces}
-use Rattle.disk_model.specs.Calls.{Rose}
-use Rattle.trend_num.specs.declared.archive.Rec.{Rec}
-use Rattle.tag_base.specs.declared.definition.GroupDef.{GroupDef}
+use Rattle.disk_model.specs.{Rose}
+use Rattle.trend_num.specs.{Rec}
+use Rattle.tag_base.specs.{GroupDef}
 use Rattle.plant_store.specs.BookRefusals as group
 use Rattle.store_commands.specs.GroupRows.{IsGroupRowsRefusal, OfCells, OfCopies, OfOpening, OfWant}
-use Rattle.plant_status.specs.declared.unit.Unit.{Unit}
+use Rattle.plant_status.specs.{Unit}
 use Rattle.plant_status.specs.declared.unit.Unit.TheVariants.{Tag, Group, Log}
 use Rattle.plant_status.specs.declared.status.Status.TheVariants.{Done, WriteFault, DeviceFault, WantOfMemory}
 use Rattle.store_commands.specs.FrameCommands as frame

@@ -2,10 +2,9 @@
 use Rattle.std.proofs.Common.{◌≡◌, ℕ, List, Option, None, Some, Result, Ok, Err, IfErr, IfOk, String, Global, refl, string_bytes}
 use Rattle.plant_status.specs.declared.status.Status.{Status}
 use Rattle.plant_status.specs.declared.status.Status.TheVariants.{Done, WriteFault}
-use Rattle.session_report.specs.declared.session.Session.{Session}
+use Rattle.session_report.specs.{Session}
 use Rattle.run_command.proofs.Understood.{drill_no_done, drill_no_fault, held_no_done, held_no_fault, unheld_no_done, unheld_no_fault}
-use Rattle.plant_run.specs.Run.{World}
-use Rattle.plant_run.specs.Sessions.{IsDrillEnd, IsRunEnd}
+use Rattle.plant_run.specs.{World, IsDrillEnd, IsRunEnd}
 
 module _ (P : Result (String Global) Status → Type 0) where
   pub of_text : (answer : Result (String Global) Status) → P answer

@@ -1,10 +1,9 @@
 -- What the words of a command line ask for.
 use Rattle.std.specs.Prelude.{ℕ, ◌≤◌, ◌*◌, List, [], ◌∷◌, Option, None, Some, codes, map, nat_le, option_and_then, string_bytes, if◌then◌else◌}
 use Rattle.std.specs.Str.{bytes_eq}
-use Rattle.trend_num.specs.declared.tuning.Tuning.{Tuning}
-use Rattle.trend_num.specs.Ranges.{TuningInRange, last_time, largest_value}
-use Rattle.plant_files.specs.NumberWords.{count_upto, number_upto}
-use Rattle.plant_more.specs.Words.{AskedShifts, log_words, shift_words}
+use Rattle.trend_num.specs.{Tuning, TuningInRange, last_time, largest_value}
+use Rattle.plant_files.specs.{count_upto, number_upto}
+use Rattle.plant_more.specs.{AskedShifts, log_words, shift_words}
 use Rattle.plant_run.specs.declared.command_line.Form.{Form as FormOfWords}
 use Rattle.plant_run.specs.declared.command_line.Form.TheVariants as form
 

@@ -1,25 +1,22 @@
 -- How a command that holds no session ends: in each status, what it has read and printed, and what became of the
 -- devices.
 use Rattle.std.specs.Prelude.{◌≡◌, ℕ, List, Option, None}
-use Rattle.trend_num.specs.declared.point.Point.{Point}
-use Rattle.trend_num.specs.declared.tuning.Tuning.{Tuning}
+use Rattle.trend_num.specs.{Point, Tuning}
 use Rattle.trend_model.specs.Walk.{records, held}
-use Rattle.trend_model.specs.Bound.{IsBounded}
+use Rattle.trend_model.specs.{IsBounded}
 use Rattle.byte_io.specs.Outside.{Outside, CountsNoFault}
-use Rattle.byte_io.specs.Files.{IsFaultOf}
-use Rattle.point_text.specs.Text.{archive_text}
-use Rattle.plant_status.specs.declared.file.FileId.{FileId}
+use Rattle.byte_io.specs.{IsFaultOf}
+use Rattle.point_text.specs.{archive_text}
+use Rattle.plant_status.specs.{FileId}
 use Rattle.plant_status.specs.declared.status.Status.{Status}
 use Rattle.plant_status.specs.declared.status.Status.TheVariants.{BadWords, ReadFault, WantOfMemory}
-use Rattle.plant_files.specs.Asked.{ToldFiles}
-use Rattle.plant_files.specs.Faults.{IsFaultOfPlanned}
-use Rattle.pack_command.specs.Pack.{IsInputRead, IsPackRefusal, first_full, history_of, origin_of}
-use Rattle.plant_files.specs.Printing.{PrintsSo, WhereDone}
+use Rattle.plant_files.specs.{ToldFiles, IsFaultOfPlanned, PrintsSo, WhereDone}
+use Rattle.pack_command.specs.{IsInputRead, IsPackRefusal, first_full, history_of, origin_of}
 use Rattle.store_commands.specs.Commands.{IsChecked, IsCheckRefusal, IsTrend, IsTrendRefusal, AreAllKept, HaveGroupsSynced}
 use Rattle.plant_store.specs.Groups.{DeviceTraces}
-use Rattle.plant_store.specs.OpenedBases.{AreKept}
+use Rattle.plant_store.specs.{AreKept}
 use Rattle.store_commands.specs.FrameCommands.{AreFramesKept, HasGroupSynced, IsFrames, IsFramesRefusal}
-use Rattle.plant_more.specs.Endings.{AsksForNone, EndsOfShifts, EndsOver, IsUnread, KeepsForShifts, Scene, scene}
+use Rattle.plant_more.specs.{AsksForNone, EndsOfShifts, EndsOver, IsUnread, KeepsForShifts, Scene, scene}
 use Rattle.plant_run.specs.CommandLine.{Form, Pack, Check, Trend, Log, Shifts, Frames, Unknown}
 
 -- All of the input was read, and this is the text of what its history keeps. What is kept is near all values of the

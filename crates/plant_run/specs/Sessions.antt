@@ -3,21 +3,18 @@
 use Rattle.std.specs.Prelude.{◌≡◌, ◌⊎◌, ◌^◌, ◌<◌, ℕ, List, [], None, Some, Option, Result, Ok, Err, String, IfErr, IfSome, OnOk, string_bytes}
 use Rattle.std.specs.Option.{IsSome}
 use Rattle.std.specs.declared.alloc.Global.{Global}
-use Rattle.disk_model.specs.Traces.{Device}
-use Rattle.plant_status.specs.Status.{code_of}
+use Rattle.disk_model.specs.{Device}
+use Rattle.plant_status.specs.{code_of}
 use Rattle.plant_status.specs.declared.status.Status.{Status}
 use Rattle.plant_status.specs.declared.status.Status.TheVariants.{WantOfMemory}
-use Rattle.plant_files.specs.Faults.{IsFaultOfPlanned}
+use Rattle.plant_files.specs.{IsFaultOfPlanned, IsTold, PrintsSo}
 use Rattle.plant_files.specs.Reading.{faults_after}
-use Rattle.plant_store.specs.Openings.{CountsPlant}
-use Rattle.run_command.specs.Drills.{IsDrilled}
-use Rattle.run_command.specs.Headline.{IsPromised}
+use Rattle.plant_store.specs.{CountsPlant}
+use Rattle.run_command.specs.{IsDrilled, IsPromised}
 use Rattle.run_command.specs.Runs.{IsUnheld}
-use Rattle.commit_log.specs.declared.history.LogHistory.{LogHistory}
-use Rattle.session_report.specs.declared.session.Session.{Session}
-use Rattle.plant_files.specs.Printing.{IsTold, PrintsSo}
-use Rattle.plant_more.specs.Logs.{EndsOfLog}
-use Rattle.plant_more.specs.declared.log_command.LogOutcome.{LogOutcome}
+use Rattle.commit_log.specs.{LogHistory}
+use Rattle.session_report.specs.{Session}
+use Rattle.plant_more.specs.{EndsOfLog, LogOutcome}
 use Rattle.plant_run.specs.CommandLine.{Form, Run, Log, Drill, form_of}
 use Rattle.plant_run.specs.declared.program.Outcome.{Outcome}
 use Rattle.plant_run.specs.Run.{EndsFor, KeepsFor, World}

@@ -3,8 +3,8 @@ ghost use Rattle.std.specs.Prelude.{◌≡◌, drop, map, string_bytes, IfOk, If
 ghost use Rattle.std.specs.IoError.{error_kind};
 ghost use Rattle.std.specs.Process.{exit_status};
 ghost use Rattle.std.specs.Vec.Iter.{into_iter_items};
-ghost use Rattle.plant_status.specs.Status.{code_of};
-ghost use Rattle.plant_files.specs.Printing.{IsTold};
+ghost use Rattle.plant_status.specs.{code_of};
+ghost use Rattle.plant_files.specs.{IsTold};
 ghost use Rattle.plant_run.specs.Argument.{status_of_args};
 ghost use Rattle.plant_run.specs.Run.{world};
 ghost use Rattle.plant_run.specs.Sessions.{ComesWithCode};

@@ -1,6 +1,6 @@
 // What the words of a command line ask for.
 ghost use Rattle.std.specs.Prelude.{◌≡◌, ◌<◌, ◌≤◌, ◌^◌, map, string_bytes, IfSome};
-ghost use Rattle.trend_num.specs.Ranges.{TuningInRange};
+ghost use Rattle.trend_num.specs.{TuningInRange};
 ghost use Rattle.plant_run.specs.CommandLine.{FormInRange, asked, drilling, form_of, framing, most_events, most_least, most_tags, packing, tuning_of};
 
 use plant_files::{count_upto, number_upto};

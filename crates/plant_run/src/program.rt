@@ -1,7 +1,7 @@
 // The top call.
 ghost use Rattle.std.specs.Prelude.{◌≡◌, ◌↔◌, ◌≢◌, IfErr, IfOk, None, map, string_bytes};
-ghost use Rattle.trend_num.specs.Ranges.{TuningInRange};
-ghost use Rattle.plant_files.specs.Printing.{IsPrintedSo, IsTold, PrintsSo};
+ghost use Rattle.trend_num.specs.{TuningInRange};
+ghost use Rattle.plant_files.specs.{IsPrintedSo, IsTold, PrintsSo};
 ghost use Rattle.plant_run.specs.CommandLine.{form_of};
 ghost use Rattle.plant_run.specs.Run.{IsNotPacked, IsPacked, MeansNothing, world};
 ghost use Rattle.plant_run.specs.Sessions.{ComesOf, IsHandedOn};

@@ -3,19 +3,15 @@ use Rattle.std.proofs.Common.{◌≡◌, ℕ, ◌^◌, ◌<◌, ◌≤◌, List,
 use Rattle.std.specs.Prelude.{All, true, string_bytes}
 use Rattle.std.proofs.lemmas.List.{get_or-map, length-map}
 use Rattle.std.proofs.lemmas.List.Elements.{All-weaker}
-use Rattle.disk_model.specs.Traces.{Device}
-use Rattle.tag_cell.specs.Told.{ToldCell as Cell}
-use Rattle.group_book.specs.Told.{ToldBook as Book, faults_of}
+use Rattle.disk_model.specs.{Device}
+use Rattle.tag_cell.specs.{ToldCell as Cell}
+use Rattle.group_book.specs.{ToldBook as Book, faults_of}
 use Rattle.plant_store.specs.CellClosings.{AreGivenBack, CountsCells, HasRisen}
-use Rattle.plant_store.specs.CellNames.{texts}
+use Rattle.plant_store.specs.{texts, AreOtherNamesSame, Shelf, AreDevicesBack, CountsClosed, IsShelf}
 use Rattle.plant_store.specs.BookEndings.{AreGivenBack as AreBooksBack, counts_after}
 use Rattle.plant_store.specs.Groups.{DeviceTraces}
-use Rattle.plant_store.specs.BookSteps.{AreOtherNamesSame}
 use Rattle.plant_store.proofs.Risen.{sooner_risen, still_risen}
 use Rattle.plant_store.proofs.BookReturns.{counts_small}
-use Rattle.plant_store.specs.declared.shelf.Shelf.{Shelf}
-use Rattle.plant_store.specs.Closings.{AreDevicesBack, CountsClosed}
-use Rattle.plant_store.specs.Shelves.{IsShelf}
 
 -- the devices of the books are given back, and then those of the cells
 pub all_back : {D : Type 0} (device : D → Device) (shelf : Shelf) (cells : List (Cell D)) (books : List (Book D))

@@ -4,19 +4,15 @@ use Rattle.std.specs.Prelude.{IfSome, String}
 use Rattle.std.specs.declared.alloc.Global.{Global}
 use Rattle.std.proofs.lemmas.Bool.{cases_lt}
 use Rattle.std.proofs.lemmas.List.{get_or_default, get_or-map, length-map}
-use Rattle.trend_num.specs.declared.archive.Rec.{Rec}
-use Rattle.disk_model.specs.Calls.{CountsFault, Rose}
-use Rattle.disk_model.specs.Moments.{During}
-use Rattle.disk_model.specs.Traces.{Trace, Device}
-use Rattle.tag_base.specs.declared.definition.GroupDef.{GroupDef}
-use Rattle.group_book.specs.declared.refusal.LoadNo.{LoadNo}
+use Rattle.trend_num.specs.{Rec}
+use Rattle.disk_model.specs.{CountsFault, Rose, During, Trace, Device}
+use Rattle.tag_base.specs.{GroupDef}
+use Rattle.group_book.specs.{LoadNo, BookStaysSame, ToldBook}
 use Rattle.group_book.specs.declared.refusal.LoadNo.TheVariants.{DeviceFault, Damaged, Ahead, Shape, WantOfMemory}
-use Rattle.group_book.specs.Openings.{BookStaysSame}
-use Rattle.group_book.specs.Told.{ToldBook}
 use Rattle.plant_store.specs.Groups.{AllStaySame, AreBooksOpened, AreDistinct, AreNamesOf, AreGroupsOpened, DeviceTraces, IsGroupOpening, group_parts_of, input_records_of, group_definition_text, group_trace_at}
 use Rattle.plant_store.specs.BookRefusals.{CountsStore, IsRefusal, IsRefusedAt, OfDamage, OfFault, OfMemory, OfVersion, OfWindows, status_of}
 use Rattle.plant_store.specs.BookEndings.{AreGivenBack, counts_after, trace_after}
-use Rattle.plant_store.specs.BookSteps.{AreOtherNamesSame, IsCauseAt, RestStaysSame}
+use Rattle.plant_store.specs.{AreOtherNamesSame, IsCauseAt, RestStaysSame}
 use Rattle.plant_store.proofs.BookNames.{as_many, named_at}
 use Rattle.plant_store.proofs.BookReturns.{counts_none}
 use Rattle.plant_store.proofs.BookTurns.{unreached}

@@ -1,14 +1,10 @@
 -- Facts about groups over some traces, if other traces are the same at the devices of groups.
 use Rattle.std.proofs.Common.{◌≡◌, ℕ, ◌^◌, ◌<◌, List, get_or, sym, subst}
-use Rattle.trend_num.specs.declared.archive.Rec.{Rec}
-use Rattle.disk_model.specs.Calls.{Rose}
-use Rattle.disk_model.specs.Moments.{During}
-use Rattle.disk_model.specs.Traces.{Trace, Device}
+use Rattle.trend_num.specs.{Rec}
+use Rattle.disk_model.specs.{Rose, During, Trace, Device}
 use Rattle.plant_status.specs.declared.status.Status.{Status}
-use Rattle.tag_base.specs.declared.definition.GroupDef.{GroupDef}
-use Rattle.group_book.specs.declared.history.GroupOpening.{GroupOpening}
-use Rattle.group_book.specs.Openings.{BookStaysSame}
-use Rattle.group_book.specs.Told.{ToldBook}
+use Rattle.tag_base.specs.{GroupDef}
+use Rattle.group_book.specs.{GroupOpening, BookStaysSame, ToldBook}
 use Rattle.plant_store.specs.Groups.{AllStaySame, AreBooksOpened, AreGroupsOpened, DeviceTraces, IsBookOpened, IsGroupOpening, group_parts_of, input_records_of, group_definition_text, group_trace_at}
 use Rattle.plant_store.specs.BookRefusals.{IsRefusal, IsRefusedAt, OfDamage, OfFault, OfMemory, OfVersion, OfWindows}
 use Rattle.plant_store.proofs.BookTurns.{untouched}

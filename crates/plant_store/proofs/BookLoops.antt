@@ -2,11 +2,11 @@
 use Rattle.std.proofs.Common.{◌≡◌, ◌≢◌, ℕ, ◌+◌, ◌<◌, ◌≤◌, List, ◌∷◌, length, get_or, drop, string_bytes, AllPairs, sym, ◌∙◌, ap, subst, arith}
 use Rattle.std.specs.Prelude.{Bool, IsTrue, String}
 use Rattle.std.specs.declared.alloc.Global.{Global}
-use Rattle.disk_model.specs.Traces.{Device}
-use Rattle.group_book.specs.Told.{ToldBook}
+use Rattle.disk_model.specs.{Device}
+use Rattle.group_book.specs.{ToldBook}
 use Rattle.plant_store.specs.Groups.{DeviceTraces}
 use Rattle.plant_store.specs.BookEndings.{IsBackUnder, count_after, counts_after}
-use Rattle.plant_store.specs.BookSteps.{HavePlaces}
+use Rattle.plant_store.specs.{HavePlaces}
 use Rattle.plant_store.proofs.BookReturns.{AreBack, none_back, one_back}
 use Rattle.plant_store.proofs.CellLists.{IsNext, next_of}
 

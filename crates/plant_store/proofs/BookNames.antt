@@ -4,9 +4,9 @@ use Rattle.std.specs.Prelude.{Bool, IsTrue, String}
 use Rattle.std.specs.declared.alloc.Global.{Global}
 use Rattle.std.proofs.lemmas.Bool.{cases_lt}
 use Rattle.std.proofs.lemmas.List.{append_cancel_right, get_or-map, get_or_default, length-map}
-use Rattle.tag_base.specs.declared.definition.GroupDef.{GroupDef}
+use Rattle.tag_base.specs.{GroupDef}
 use Rattle.plant_store.specs.Groups.{AreDistinct, AreNamesOf, device_name}
-use Rattle.plant_store.specs.BookSteps.{HavePlaces}
+use Rattle.plant_store.specs.{HavePlaces}
 
 -- there are as many names as groups
 pub as_many : (groups : List GroupDef) (names : List (String Global)) → AreNamesOf groups names → length names ≡ length groups

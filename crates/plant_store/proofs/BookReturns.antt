@@ -5,12 +5,11 @@ use Rattle.std.specs.declared.alloc.Global.{Global}
 use Rattle.std.proofs.lemmas.Bool.{cases_eq, cases_order}
 use Rattle.std.proofs.lemmas.List.{get_or_append_left, get_or_default}
 use Rattle.std.proofs.Math.Seq.{get_or-append_seam}
-use Rattle.disk_model.specs.Traces.{Device}
-use Rattle.group_book.specs.declared.history.GroupHistory.{GroupHistory}
-use Rattle.group_book.specs.Told.{ToldBook, faults_of}
+use Rattle.disk_model.specs.{Device}
+use Rattle.group_book.specs.{GroupHistory, ToldBook, faults_of}
 use Rattle.plant_store.specs.Groups.{DeviceTraces}
 use Rattle.plant_store.specs.BookEndings.{IsBackUnder, IsHistoryOfBook, count_after, counts_after, trace_after}
-use Rattle.plant_store.specs.BookSteps.{AreOtherNamesSame}
+use Rattle.plant_store.specs.{AreOtherNamesSame}
 use Rattle.plant_store.specs.CellClosings.{HasRisen}
 use Rattle.plant_store.proofs.BookTurns.{one_more_name}
 use Rattle.plant_store.proofs.CellLists.{IsNext, next_of}

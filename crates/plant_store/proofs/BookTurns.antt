@@ -5,17 +5,14 @@ use Rattle.std.specs.declared.alloc.Global.{Global}
 use Rattle.std.proofs.lemmas.Bool.{cases_eq, cases_order}
 use Rattle.std.proofs.lemmas.List.{get_or_append_left, get_or_default}
 use Rattle.std.proofs.Math.Seq.{get_or-append_seam}
-use Rattle.trend_num.specs.declared.archive.Rec.{Rec}
-use Rattle.disk_model.specs.Moments.{During}
-use Rattle.disk_model.specs.Traces.{Trace, Device}
-use Rattle.branded_disk.specs.Pasts.{IsUnused, Past}
-use Rattle.tag_base.specs.declared.definition.GroupDef.{GroupDef}
-use Rattle.group_book.specs.declared.refusal.LoadNo.{LoadNo}
-use Rattle.group_book.specs.Openings.{IsBookCause, BookStaysSame}
-use Rattle.group_book.specs.Told.{ToldBook}
+use Rattle.trend_num.specs.{Rec}
+use Rattle.disk_model.specs.{During, Trace, Device}
+use Rattle.branded_disk.specs.{IsUnused, Past}
+use Rattle.tag_base.specs.{GroupDef}
+use Rattle.group_book.specs.{LoadNo, IsBookCause, BookStaysSame, ToldBook}
 use Rattle.disk_model.proofs.Moments.{started}
 use Rattle.plant_store.specs.Groups.{AreBooksOpened, AreDistinct, AreNamesOf, AreOtherGroupsSame, DeviceTraces, IsBookOpened, device_name, group_parts_of, input_records_of, group_definition_text, group_trace_at, AreGroupsUnused}
-use Rattle.plant_store.specs.BookSteps.{AreOtherNamesSame, IsCauseAt, RestStaysSame, StaysSameOf}
+use Rattle.plant_store.specs.{AreOtherNamesSame, IsCauseAt, RestStaysSame, StaysSameOf}
 use Rattle.plant_store.proofs.BookNames.{apart, as_many, named_at}
 
 -- of a device that is as it was a crash leaves what one before might have left

@@ -4,18 +4,13 @@ use Rattle.std.specs.Prelude.{All, IfSome}
 use Rattle.std.proofs.lemmas.List.{get_or_default, get_or-take, length-take-le, length_push, take_all, take_more}
 use Rattle.std.proofs.lemmas.List.Elements.{All-nil, All-push, All-weaker}
 use Rattle.std.proofs.lemmas.Slice.Zip.{all_zipped_more}
-use Rattle.disk_model.specs.Calls.{sum_of_counts}
-use Rattle.disk_model.specs.Traces.{Trace, Device}
-use Rattle.tag_cell.specs.declared.history.TagHistory.{TagHistory}
-use Rattle.tag_cell.specs.declared.history.TagOpening.{TagOpening}
-use Rattle.tag_cell.specs.Crashes.{BeganWell, IsOpenedWell}
-use Rattle.tag_cell.specs.Told.{ToldCell}
-use Rattle.branded_disk.specs.Pasts.{Past, past_of}
+use Rattle.disk_model.specs.{sum_of_counts, Trace, Device}
+use Rattle.tag_cell.specs.{TagHistory, TagOpening, BeganWell, IsOpenedWell, ToldCell, device_name}
+use Rattle.branded_disk.specs.{Past, past_of}
 use Rattle.plant_store.proofs.TagTurns.{zip_weaker}
 use Rattle.plant_store.specs.CellClosings.{AreGivenBack, AreHistoriesAt, AreHistoriesOf, CountsCells, HasRisen, IsBackAt, IsHistoryAt, IsHistoryOfCell}
-use Rattle.tag_cell.specs.Devices.{device_name}
-use Rattle.trend_num.specs.declared.tag_def.TagDef.{TagDef}
-use Rattle.plant_store.specs.CellNames.{AreApart}
+use Rattle.trend_num.specs.{TagDef}
+use Rattle.plant_store.specs.{AreApart}
 use Rattle.plant_store.proofs.Risen.{higher_or_end, still_risen}
 use Rattle.plant_store.proofs.CellLists.{all_before, all_last, next_of, zip_joined}
 

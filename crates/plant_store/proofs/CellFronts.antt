@@ -4,21 +4,18 @@ use Rattle.std.specs.Prelude.{All}
 use Rattle.std.proofs.lemmas.Bool.{cases_lt}
 use Rattle.std.proofs.lemmas.List.{get_or_default, get_or-take, length-take-le, take-take}
 use Rattle.std.proofs.lemmas.List.Elements.{All-take}
-use Rattle.trend_num.specs.declared.tag_def.TagDef.{TagDef}
+use Rattle.trend_num.specs.{TagDef}
 use Rattle.tag_core.specs.Core.{Core}
-use Rattle.disk_model.specs.Traces.{Trace, Device}
-use Rattle.crash_recovery.specs.Opening.{StaysSame}
+use Rattle.disk_model.specs.{Trace, Device}
+use Rattle.crash_recovery.specs.{StaysSame}
 use Rattle.atomic_table.specs.Seated.{TableId}
-use Rattle.snapshot_table.specs.Boards.{new_posters, Posting, PostsTo}
-use Rattle.snapshot_table.specs.Snaps.{nothing}
+use Rattle.snapshot_table.specs.{new_posters, Posting, PostsTo, nothing}
 use Rattle.snapshot_table.proofs.Places.{poster_at, posts_at}
-use Rattle.tag_cell.specs.Told.{ToldCell}
-use Rattle.tag_cell.specs.Devices.{device_name}
+use Rattle.tag_cell.specs.{ToldCell, device_name}
 use Rattle.plant_store.specs.Tags.{tag_trace_of, AreDistinct, IsOpened, AreTagsOpened, AreOtherTagsSame, AllStaySame, tag_records_in}
 use Rattle.plant_store.proofs.TagDevices.{untouched}
 use Rattle.plant_store.proofs.TagTurns.{IsTag, not_reached, reached}
-use Rattle.plant_store.specs.CellOpenings.{core_of, IsCellOpened, AreCellsOpened, records_opened}
-use Rattle.plant_store.specs.CellStops.{AreTold}
+use Rattle.plant_store.specs.{core_of, IsCellOpened, AreCellsOpened, records_opened, AreTold}
 use Rattle.plant_store.proofs.CellLists.{next_of, sum_by_seen, zip_as, zip_both}
 
 -- ---- tags by their place

@@ -5,29 +5,23 @@ use Rattle.std.specs.declared.alloc.Global.{Global}
 use Rattle.std.proofs.lemmas.List.{length_push, map_push, take_more}
 use Rattle.std.proofs.lemmas.List.Sums.{sum_by_push}
 use Rattle.std.proofs.lemmas.Slice.Zip.{all_zipped_more}
-use Rattle.trend_num.specs.Limits.{most_stored}
+use Rattle.trend_num.specs.{most_stored, TagDef}
 use Rattle.trend_num.specs.declared.refusal.What.TheVariants.{StoreRecords}
-use Rattle.trend_num.specs.declared.tag_def.TagDef.{TagDef}
 use Rattle.tag_core.specs.Core.{Core}
-use Rattle.disk_model.specs.Calls.{CountsFault, Rose, sum_of_counts}
-use Rattle.disk_model.specs.Traces.{Trace, Device}
-use Rattle.branded_disk.specs.Pasts.{IsUnused, Past}
-use Rattle.device_layout.specs.declared.failure.OpenNo.{OpenNo}
+use Rattle.disk_model.specs.{CountsFault, Rose, sum_of_counts, Trace, Device}
+use Rattle.branded_disk.specs.{IsUnused, Past}
+use Rattle.device_layout.specs.{OpenNo, IsCause}
 use Rattle.device_layout.specs.declared.failure.OpenNo.TheVariants.{DeviceFault, Damaged, OtherTag, Full, WantOfMemory}
-use Rattle.device_layout.specs.Readings.{IsCause}
-use Rattle.crash_recovery.specs.Opening.{StaysSame}
+use Rattle.crash_recovery.specs.{StaysSame}
 use Rattle.plant_status.specs.declared.status.Status.{Status}
 use Rattle.plant_status.specs.declared.status.Status.TheVariants.{Limit}
-use Rattle.tag_cell.specs.Told.{ToldCell}
+use Rattle.tag_cell.specs.{ToldCell, device_name}
 use Rattle.plant_store.specs.TagRefusals.{status_of, CountsStore, IsRefusedAt, IsRefusal, IsTooMuch}
-use Rattle.tag_cell.specs.Devices.{device_name}
 use Rattle.plant_store.specs.Tags.{tag_trace_of, AllStaySame, AreDistinct, AreTagsOpened, AreOtherTagsSame, tag_records_in, AreTagsUnused}
 use Rattle.plant_store.proofs.TagEndings.{counted}
 use Rattle.plant_store.proofs.TagTurns.{IsTag, not_reached, one_longer, reached}
 use Rattle.plant_store.specs.CellClosings.{AreGivenBack, CountsCells}
-use Rattle.plant_store.specs.CellNames.{device_names_of, texts}
-use Rattle.plant_store.specs.CellOpenings.{core_of, IsCellOpened, AreCellsOpened, records_opened}
-use Rattle.plant_store.specs.CellStops.{IsStopped}
+use Rattle.plant_store.specs.{device_names_of, texts, core_of, IsCellOpened, AreCellsOpened, records_opened, IsStopped}
 use Rattle.plant_store.proofs.CellFronts.{AllStayFrom, all_stay, cores_opened, given_later, records_are, turned_from}
 use Rattle.plant_store.proofs.CellLabels.{given_of}
 use Rattle.plant_store.proofs.CellLists.{zip_each}

@@ -5,16 +5,13 @@ use Rattle.std.specs.declared.alloc.Global.{Global}
 use Rattle.std.specs.List.{AllZip}
 use Rattle.std.proofs.lemmas.List.{get_or-map, get_or-take, length-map, length-take-le, take_all, take-map}
 use Rattle.std.proofs.lemmas.List.Elements.{All-map, All-more, All-weaker}
-use Rattle.trend_num.specs.declared.tag_def.TagDef.{TagDef}
-use Rattle.disk_model.specs.Traces.{Trace, Device}
-use Rattle.tag_cell.specs.Told.{ToldCell}
-use Rattle.tag_cell.specs.Devices.{device_name}
+use Rattle.trend_num.specs.{TagDef}
+use Rattle.disk_model.specs.{Trace, Device}
+use Rattle.tag_cell.specs.{ToldCell, device_name}
 use Rattle.plant_store.specs.Tags.{tag_trace_of, AreDistinct, AreOtherTagsSame}
 use Rattle.plant_store.proofs.TagTurns.{IsTag, one_name}
 use Rattle.plant_store.specs.CellClosings.{AreGivenBack, IsBackAt}
-use Rattle.plant_store.specs.CellOpenings.{AreCellsOpened, IsCellOpened}
-use Rattle.plant_store.specs.CellNames.{AreApart, HasPlaces, device_names_of, texts}
-use Rattle.plant_store.specs.CellStops.{AreTold}
+use Rattle.plant_store.specs.{AreCellsOpened, IsCellOpened, AreApart, HasPlaces, device_names_of, texts, AreTold}
 use Rattle.plant_store.proofs.CellLists.{zip_follows, zip_seen}
 
 -- there is a name for each tag

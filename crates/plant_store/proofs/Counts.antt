@@ -2,7 +2,7 @@
 use Rattle.std.proofs.Common.{◌≡◌, inl, inr, ℕ, ◌^◌, ◌<◌, Err, sym, ap, subst, arith}
 use Rattle.std.specs.Prelude.{IsErrOf}
 use Rattle.std.proofs.lemmas.Bool.{cases_lt}
-use Rattle.disk_model.specs.Calls.{CountsFault}
+use Rattle.disk_model.specs.{CountsFault}
 
 -- an error is the one that a refusal reports
 error_is : {T E : Type 0} (why fault : E) → IsErrOf {T = T} (Err why) fault → why ≡ fault

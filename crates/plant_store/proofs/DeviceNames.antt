@@ -3,10 +3,10 @@ use Rattle.std.proofs.Common.{◌≡◌, ◌==◌, ℕ, Bool, true, false, ◌&&
 use Rattle.std.specs.Prelude.{IsSome, codes}
 use Rattle.std.specs.List.{list_all}
 use Rattle.std.proofs.lemmas.Bool.Decides.{nat_tests}
-use Rattle.trend_num.specs.Names.{IsName, is_name_byte}
-use Rattle.disk_model.specs.Traces.{FitsName, HandOut}
-use Rattle.tag_base.specs.declared.definition.GroupDef.{GroupDef}
-use Rattle.group_book.specs.Told.{device_name_of, upto_comma}
+use Rattle.trend_num.specs.{IsName, is_name_byte}
+use Rattle.disk_model.specs.{FitsName, HandOut}
+use Rattle.tag_base.specs.{GroupDef}
+use Rattle.group_book.specs.{device_name_of, upto_comma}
 use Rattle.plant_store.specs.Groups.{device_name, group_definition_text}
 
 -- a device that was handed out under a name may be kept under it

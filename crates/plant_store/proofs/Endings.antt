@@ -3,22 +3,18 @@ use Rattle.std.proofs.Common.{◌≡◌, inl, inr, ℕ, ◌^◌, ◌<◌, ◌≤
 use Rattle.std.specs.Prelude.{String}
 use Rattle.std.specs.declared.alloc.Global.{Global}
 use Rattle.std.specs.List.{AllZip}
-use Rattle.trend_num.specs.Limits.{most_stored}
-use Rattle.trend_num.specs.declared.tag_def.TagDef.{TagDef}
+use Rattle.trend_num.specs.{most_stored, TagDef}
 use Rattle.trend_model.specs.State.{State}
-use Rattle.disk_model.specs.Calls.{Rose}
-use Rattle.disk_model.specs.Traces.{Device}
-use Rattle.crash_recovery.specs.Opening.{StaysSame}
+use Rattle.disk_model.specs.{Rose, Device}
+use Rattle.crash_recovery.specs.{StaysSame}
 use Rattle.plant_status.specs.declared.status.Status.{Status}
 use Rattle.plant_status.specs.declared.unit.Unit.TheVariants.{Tag, Group}
-use Rattle.tag_base.specs.declared.definition.Base.{Base}
-use Rattle.tag_cell.specs.Told.{ToldCell}
+use Rattle.tag_base.specs.{Base}
+use Rattle.tag_cell.specs.{ToldCell, device_name}
 use Rattle.plant_store.specs.TagRefusals as tags
 use Rattle.plant_store.specs.Tags as tag
-use Rattle.tag_cell.specs.Devices.{device_name}
 use Rattle.plant_store.specs.CellClosings.{AreGivenBack, CountsCells, IsBackAt}
-use Rattle.plant_store.specs.CellNames.{device_names_of, texts}
-use Rattle.plant_store.specs.CellOpenings.{AreCellsOpened, IsCellOpened, core_of, records_opened}
+use Rattle.plant_store.specs.{device_names_of, texts, AreCellsOpened, IsCellOpened, core_of, records_opened, AreRestSame, CountsPlant, IsPlantRefusal, OfGroups, cell_records_in, opened_records_of}
 use Rattle.plant_store.proofs.CellFronts.{cores_opened, records_are}
 use Rattle.plant_store.proofs.CellHalts.{all_faultless}
 use Rattle.plant_store.proofs.CellLabels.{none_named}
@@ -27,7 +23,6 @@ use Rattle.plant_store.specs.Groups as group
 use Rattle.plant_store.specs.Groups.{DeviceTraces}
 use Rattle.plant_store.specs.BookRefusals as groups
 use Rattle.plant_store.proofs.BookDevices.{refusal_before, same_before}
-use Rattle.plant_store.specs.Openings.{AreRestSame, CountsPlant, IsPlantRefusal, OfGroups, cell_records_in, opened_records_of}
 use Rattle.plant_store.proofs.Labels.{groups_same}
 
 -- ---- the tags that were opened

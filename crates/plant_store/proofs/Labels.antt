@@ -4,21 +4,17 @@ use Rattle.std.specs.Prelude.{All, IfSome, String, vec_capacity}
 use Rattle.std.specs.declared.alloc.Global.{Global}
 use Rattle.std.proofs.lemmas.List.{append_assoc, same_from_push}
 use Rattle.std.proofs.lemmas.List.Elements.{All-map}
-use Rattle.trend_num.specs.Names.{IsName}
-use Rattle.trend_num.specs.declared.tag_def.TagDef.{TagDef}
-use Rattle.tag_base.specs.declared.definition.Base.{Base}
-use Rattle.tag_base.specs.declared.definition.GroupDef.{GroupDef}
-use Rattle.disk_model.specs.Traces.{Trace}
-use Rattle.branded_disk.specs.Pasts.{Past}
+use Rattle.trend_num.specs.{IsName, TagDef}
+use Rattle.tag_base.specs.{Base, GroupDef}
+use Rattle.disk_model.specs.{Trace}
+use Rattle.branded_disk.specs.{Past}
 use Rattle.plant_store.specs.Tags as tag
-use Rattle.tag_cell.specs.Devices.{device_name}
+use Rattle.tag_cell.specs.{device_name}
 use Rattle.plant_store.specs.Groups as group
 use Rattle.plant_store.specs.Groups.{DeviceTraces, group_trace_at}
-use Rattle.plant_store.specs.CellNames.{AreApart, device_names_of, texts}
+use Rattle.plant_store.specs.{AreApart, device_names_of, texts, Shelf, IsShelfFor}
 use Rattle.plant_store.proofs.CellLabels.{as_many_names}
 use Rattle.plant_store.proofs.BookNames.{as_many, names_differ}
-use Rattle.plant_store.specs.declared.shelf.Shelf.{Shelf}
-use Rattle.plant_store.specs.Shelves.{IsShelfFor}
 
 -- no tag's device is called as a group's
 pub names_apart : (t g : List ℕ) → device_name t ≢ group.device_name g

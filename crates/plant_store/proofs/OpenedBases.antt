@@ -2,18 +2,17 @@
 use Rattle.std.proofs.Common.{◌≡◌, inl, inr, ℕ, ◌^◌, ◌<◌, ◌≤◌, List, All, length, Result, Ok, Err, refl, subst, arith}
 use Rattle.std.specs.Prelude.{◌≢◌}
 use Rattle.std.proofs.lemmas.List.Sums.{get_or-le-sum_by}
-use Rattle.trend_num.specs.Limits.{most_stored}
-use Rattle.trend_num.specs.declared.tag_def.TagDef.{TagDef}
+use Rattle.trend_num.specs.{most_stored, TagDef}
 use Rattle.tag_core.specs.Core.{Core}
-use Rattle.disk_model.specs.Traces.{Trace}
-use Rattle.device_layout.specs.declared.failure.OpenNo.{OpenNo}
+use Rattle.disk_model.specs.{Trace}
+use Rattle.device_layout.specs.{OpenNo}
 use Rattle.device_layout.specs.declared.failure.OpenNo.TheVariants.{DeviceFault}
-use Rattle.plant_status.specs.declared.file.FileId.{FileId}
+use Rattle.plant_status.specs.{FileId}
 use Rattle.plant_status.specs.declared.status.Status.{Status}
 use Rattle.plant_status.specs.declared.status.Status.TheVariants.{ReadFault}
 use Rattle.plant_status.specs.declared.unit.Unit.TheVariants.{Tag}
 use Rattle.plant_files.specs.Reading.{faults_told}
-use Rattle.plant_store.specs.OpenedBases.{CountsDevices}
+use Rattle.plant_store.specs.{CountsDevices}
 use Rattle.plant_store.specs.Tags.{tag_records_in}
 use Rattle.plant_store.specs.TagRefusals.{CountsStore, IsRefusal, status_of}
 

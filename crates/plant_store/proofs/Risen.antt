@@ -1,7 +1,7 @@
 -- Counts that have risen, or are the largest value of their type.
 use Rattle.std.proofs.Common.{◌≡◌, inl, inr, ℕ, ◌+◌, ◌-◌, ◌^◌, ◌<◌, ◌≤◌, arith}
 use Rattle.std.proofs.lemmas.Bool.{cases_lt}
-use Rattle.disk_model.specs.Calls.{sum_of_counts}
+use Rattle.disk_model.specs.{sum_of_counts}
 use Rattle.plant_store.specs.CellClosings.{HasRisen}
 
 -- what has risen stays so

@@ -1,15 +1,13 @@
 -- What the opening of one device does to a store, and for which histories the opened tag stands.
 use Rattle.std.proofs.Common.{◌≡◌, ◌∙◌, ℕ, List, ◌^◌, ◌<◌, inl, Some, Result, Ok, Err, subst, sym, arith}
-use Rattle.disk_model.specs.Calls.{CountsFault, sum_of_counts, Shows}
-use Rattle.device_layout.specs.declared.failure.OpenNo.{OpenNo}
+use Rattle.disk_model.specs.{CountsFault, sum_of_counts, Shows, Device, FitsName, Trace}
+use Rattle.device_layout.specs.{OpenNo, Recovers}
 use Rattle.device_layout.specs.declared.failure.OpenNo.TheVariants.{DeviceFault}
-use Rattle.trend_num.specs.declared.tag_def.TagDef.{TagDef}
-use Rattle.disk_model.specs.Traces.{Device, FitsName, Trace}
+use Rattle.trend_num.specs.{TagDef}
 use Rattle.disk_model.proofs.Moments.{started}
 use Rattle.trend_model.specs.State.{State}
 use Rattle.tag_core.specs.Core.{Core}
-use Rattle.device_layout.specs.Recovery.{Recovers}
-use Rattle.crash_recovery.specs.Opening.{IsOpenedAs, StaysSame}
+use Rattle.crash_recovery.specs.{IsOpenedAs, StaysSame}
 use Rattle.crash_recovery.proofs.Openings.{opened_stands}
 use Rattle.plant_store.specs.Groups.{DeviceTraces}
 use Rattle.plant_store.specs.Tags.{IsOpened}

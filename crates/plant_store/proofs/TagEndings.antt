@@ -2,16 +2,13 @@
 use Rattle.std.proofs.Common.{◌≡◌, ◌≢◌, inl, inr, ℕ, ◌+◌, ◌^◌, ◌<◌, ◌≤◌, List, length, get_or, take, Err, refl, sym, subst, arith}
 use Rattle.std.proofs.lemmas.List.{take_all}
 use Rattle.std.proofs.lemmas.List.Elements.{All-take}
-use Rattle.trend_num.specs.declared.tag_def.TagDef.{TagDef}
+use Rattle.trend_num.specs.{TagDef, most_stored}
 use Rattle.tag_core.specs.Core.{Core}
-use Rattle.disk_model.specs.Traces.{Trace}
-use Rattle.crash_recovery.specs.Opening.{StaysSame}
-use Rattle.device_layout.specs.declared.failure.OpenNo.{OpenNo}
+use Rattle.disk_model.specs.{Trace, CountsFault, Rose}
+use Rattle.crash_recovery.specs.{StaysSame}
+use Rattle.device_layout.specs.{OpenNo, IsCause}
 use Rattle.device_layout.specs.declared.failure.OpenNo.TheVariants.{DeviceFault, Damaged, OtherTag, Full, WantOfMemory}
-use Rattle.device_layout.specs.Readings.{IsCause}
-use Rattle.trend_num.specs.Limits.{most_stored}
-use Rattle.disk_model.specs.Calls.{CountsFault, Rose}
-use Rattle.tag_cell.specs.Devices.{device_name}
+use Rattle.tag_cell.specs.{device_name}
 use Rattle.plant_store.specs.Tags.{tag_trace_of, AllStaySame, AreDistinct, AreTagsOpened, AreLeft, AreOtherTagsSame, tag_records_in}
 use Rattle.plant_store.specs.TagRefusals.{status_of, IsRefusedAt, IsRefusal, CountsStore}
 use Rattle.plant_store.proofs.TagTurns.{IsSoFar, IsTag, IsTurn, all_same, not_reached, reached}

@@ -4,11 +4,11 @@ use Rattle.std.proofs.lemmas.List.{get_or-take, get_or_default, take_more, appen
 use Rattle.std.specs.List.{AllZip}
 use Rattle.std.proofs.lemmas.Bool.{cases_order}
 use Rattle.std.proofs.lemmas.Slice.Zip.{all_zipped_more}
-use Rattle.trend_num.specs.declared.tag_def.TagDef.{TagDef}
+use Rattle.trend_num.specs.{TagDef}
 use Rattle.tag_core.specs.Core.{Core}
-use Rattle.disk_model.specs.Traces.{Trace}
-use Rattle.crash_recovery.specs.Opening.{StaysSame}
-use Rattle.tag_cell.specs.Devices.{device_name}
+use Rattle.disk_model.specs.{Trace}
+use Rattle.crash_recovery.specs.{StaysSame}
+use Rattle.tag_cell.specs.{device_name}
 use Rattle.plant_store.specs.Tags.{tag_trace_of, AreDistinct, IsOpened, AreTagsOpened, AreOtherTagsSame, AllStaySame, IsLeft, AreLeft}
 use Rattle.plant_store.proofs.TagDevices.{still}
 use Rattle.plant_store.proofs.CellLists.{all_before, all_last}

@@ -1,13 +1,9 @@
 -- Books whose devices are given back, and the histories that they leave.
 use Rattle.std.specs.Prelude.{◌≡◌, ℕ, ◌<◌, true, false, List, [], ◌∷◌, length, slice_index_or, string_bytes, Option, None, Some, String, IfSome}
 use Rattle.std.specs.declared.alloc.Global.{Global}
-use Rattle.disk_model.specs.Calls.{Rose, sum_of_counts}
-use Rattle.disk_model.specs.Traces.{Trace, Device}
-use Rattle.calc_refresh.specs.Lists.{lists_of}
-use Rattle.calc_refresh.specs.Sheet.{grid_of}
-use Rattle.group_book.specs.declared.history.GroupHistory.{GroupHistory}
-use Rattle.group_book.specs.Openings.{BookBeganWell}
-use Rattle.group_book.specs.Told.{IsBookHistory, IsOnDevice, ToldBook, device_name_of, trace_of, versions_of, moment_of, faults_of}
+use Rattle.disk_model.specs.{Rose, sum_of_counts, Trace, Device}
+use Rattle.calc_refresh.specs.{lists_of, grid_of}
+use Rattle.group_book.specs.{GroupHistory, BookBeganWell, IsBookHistory, IsOnDevice, ToldBook, device_name_of, trace_of, versions_of, moment_of, faults_of}
 use Rattle.plant_store.specs.Groups.{DeviceTraces}
 
 -- This is the history of the group of a book, on the book's device. The book's sheet is that of its definition. If the

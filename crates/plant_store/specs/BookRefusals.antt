@@ -1,14 +1,11 @@
 -- Why the groups of a base are not opened.
 use Rattle.std.specs.Prelude.{◌≡◌, ◌⊎◌, ℕ, ◌^◌, ◌<◌, List, length, slice_index_or, Option, Result, Ok, Err}
-use Rattle.trend_num.specs.declared.archive.Rec.{Rec}
-use Rattle.disk_model.specs.Calls.{Rose, Shows}
-use Rattle.disk_model.specs.Traces.{Trace}
-use Rattle.group_layout.specs.Images.{IsGroupDamage}
-use Rattle.tag_base.specs.declared.definition.GroupDef.{GroupDef}
-use Rattle.group_book.specs.declared.history.GroupOpening.{GroupOpening}
-use Rattle.group_book.specs.declared.refusal.LoadNo.{LoadNo}
+use Rattle.trend_num.specs.{Rec}
+use Rattle.disk_model.specs.{Rose, Shows, Trace}
+use Rattle.group_layout.specs.{IsGroupDamage}
+use Rattle.tag_base.specs.{GroupDef}
+use Rattle.group_book.specs.{GroupOpening, LoadNo, SavesAhead, SavesShape}
 use Rattle.group_book.specs.declared.refusal.LoadNo.TheVariants as no
-use Rattle.group_book.specs.Openings.{SavesAhead, SavesShape}
 use Rattle.plant_status.specs.declared.mismatch.Place.TheVariants.{Version, Windows}
 use Rattle.plant_status.specs.declared.mismatch.Seen.TheVariants.{Number}
 use Rattle.plant_status.specs.declared.status.Status.{Status}

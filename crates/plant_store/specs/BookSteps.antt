@@ -1,11 +1,10 @@
 -- What single steps of opening and giving back leave.
 use Rattle.std.specs.Prelude.{◌≡◌, ◌≢◌, ℕ, ◌<◌, ◌≤◌, List, length, slice_index_or, string_bytes, Bool, IsTrue, String}
 use Rattle.std.specs.declared.alloc.Global.{Global}
-use Rattle.trend_num.specs.declared.archive.Rec.{Rec}
-use Rattle.disk_model.specs.Moments.{During}
-use Rattle.tag_base.specs.declared.definition.GroupDef.{GroupDef}
-use Rattle.group_book.specs.declared.refusal.LoadNo.{LoadNo}
-use Rattle.group_book.specs.Openings.{IsBookCause, BookStaysSame}
+use Rattle.trend_num.specs.{Rec}
+use Rattle.disk_model.specs.{During}
+use Rattle.tag_base.specs.{GroupDef}
+use Rattle.group_book.specs.{LoadNo, IsBookCause, BookStaysSame}
 use Rattle.plant_store.specs.Groups.{DeviceTraces, group_parts_of, input_records_of, group_definition_text, group_trace_at}
 
 -- a crash at any moment since left of this device what a crash might have left before, or what stands for the same of

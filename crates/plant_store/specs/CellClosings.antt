@@ -1,13 +1,9 @@
 -- Giving back the devices of cells.
 use Rattle.std.specs.Prelude.{◌≡◌, ◌≢◌, ◌⊎◌, ℕ, ◌-◌, ◌^◌, ◌<◌, ◌≤◌, true, false, List, All, Option, Some, IfSome}
 use Rattle.std.specs.List.{AllZip}
-use Rattle.disk_model.specs.Calls.{Rose}
-use Rattle.disk_model.specs.Traces.{Trace, Device}
-use Rattle.tag_cell.specs.declared.history.TagHistory.{TagHistory}
-use Rattle.branded_disk.specs.Pasts.{Past}
-use Rattle.tag_cell.specs.Crashes.{BeganWell, IsOpenedWell}
-use Rattle.tag_cell.specs.Told.{ToldCell, IsCellHistory}
-use Rattle.tag_cell.specs.Devices.{device_name}
+use Rattle.disk_model.specs.{Rose, Trace, Device}
+use Rattle.tag_cell.specs.{TagHistory, BeganWell, IsOpenedWell, ToldCell, IsCellHistory, device_name}
+use Rattle.branded_disk.specs.{Past}
 
 -- This is the history of a cell, on this device. If the cell's journal has failed, the device has counted one fault
 -- since the opening. Otherwise it has counted none. It was handed out under the name of the tag's device, and began well.

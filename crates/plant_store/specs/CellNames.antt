@@ -1,8 +1,8 @@
 -- The names of the devices of tags.
 use Rattle.std.specs.Prelude.{◌≢◌, ℕ, Bool, IsTrue, List, map, All, AllPairs, String, string_bytes}
 use Rattle.std.specs.declared.alloc.Global.{Global}
-use Rattle.trend_num.specs.declared.tag_def.TagDef.{TagDef}
-use Rattle.tag_cell.specs.Devices.{device_name}
+use Rattle.trend_num.specs.{TagDef}
+use Rattle.tag_cell.specs.{device_name}
 
 -- the bytes of each of these texts
 abbrev pub texts : List (String Global) → List (List ℕ)

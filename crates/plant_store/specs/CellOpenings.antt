@@ -1,13 +1,11 @@
 -- The tags of a base, opened as cells over their devices.
 use Rattle.std.specs.Prelude.{◌≡◌, ℕ, false, List, [], length}
 use Rattle.std.specs.List.{AllZip, sum_by}
-use Rattle.trend_num.specs.declared.tag_def.TagDef.{TagDef}
+use Rattle.trend_num.specs.{TagDef}
 use Rattle.tag_core.specs.Core.{Core}
-use Rattle.disk_model.specs.Calls.{Shows}
-use Rattle.disk_model.specs.Traces.{Trace, moment, Device}
-use Rattle.crash_recovery.specs.Opening.{HasSlots, LeavesFree, OpensAt, StaysSame}
-use Rattle.tag_cell.specs.Tapes.{opened}
-use Rattle.tag_cell.specs.Told.{ToldCell}
+use Rattle.disk_model.specs.{Shows, Trace, moment, Device}
+use Rattle.crash_recovery.specs.{HasSlots, LeavesFree, OpensAt, StaysSame}
+use Rattle.tag_cell.specs.{opened, ToldCell}
 use Rattle.plant_store.specs.Tags.{lane_slots, tag_trace_of, IsOpened, IsLeft}
 
 -- the core that a cell was opened as; its room for records does not matter here and is set to 0

@@ -1,10 +1,10 @@
 -- Tags that are opened up to a refusal, while the devices of the opened ones are still out.
 use Rattle.std.specs.Prelude.{ℕ, ◌≡◌, ◌^◌, ◌<◌, List, length, take, Err}
 use Rattle.std.specs.List.{AllZip}
-use Rattle.trend_num.specs.declared.tag_def.TagDef.{TagDef}
-use Rattle.disk_model.specs.Traces.{Trace, Device}
+use Rattle.trend_num.specs.{TagDef}
+use Rattle.disk_model.specs.{Trace, Device}
 use Rattle.plant_status.specs.declared.status.Status.{Status}
-use Rattle.tag_cell.specs.Told.{ToldCell}
+use Rattle.tag_cell.specs.{ToldCell}
 use Rattle.plant_store.specs.Tags.{tag_trace_of, AreOtherTagsSame, AllStaySame}
 use Rattle.plant_store.specs.TagRefusals.{IsRefusal, CountsStore}
 

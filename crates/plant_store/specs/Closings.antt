@@ -1,9 +1,9 @@
 -- Giving back the devices of a plant.
 use Rattle.std.specs.Prelude.{◌≡◌, ◌≢◌, ℕ, ◌<◌, ◌≤◌, true, List, All}
 use Rattle.std.specs.List.{AllZip}
-use Rattle.disk_model.specs.Traces.{Device}
-use Rattle.tag_cell.specs.Told.{ToldCell as Cell}
-use Rattle.group_book.specs.Told.{ToldBook as Book, faults_of}
+use Rattle.disk_model.specs.{Device}
+use Rattle.tag_cell.specs.{ToldCell as Cell}
+use Rattle.group_book.specs.{ToldBook as Book, faults_of}
 use Rattle.plant_store.specs.CellClosings.{HasRisen, IsBackAt}
 use Rattle.plant_store.specs.CellNames.{texts}
 use Rattle.plant_store.specs.BookEndings.{AreGivenBack}

@@ -1,23 +1,14 @@
 -- The groups of a base, opened as books over a store of devices.
 use Rattle.std.specs.Prelude.{◌≡◌, ◌≢◌, ℕ, ◌<◌, List, [], ◌++◌, length, map, codes, string_bytes, slice_index_or, IfSome, IsSome, false, All, AllPairs, String}
 use Rattle.std.specs.declared.alloc.Global.{Global}
-use Rattle.trend_num.specs.declared.archive.Rec.{Rec}
-use Rattle.disk_model.specs.Calls.{Shows}
-use Rattle.disk_model.specs.Moments.{During}
-use Rattle.disk_model.specs.Traces.{Trace, Device}
-use Rattle.branded_disk.specs.Pasts.{IsUnused, Past}
-use Rattle.calc_refresh.specs.declared.definition.GroupDefParts.{GroupDefParts}
-use Rattle.calc_refresh.specs.Lists.{lists_of}
-use Rattle.calc_refresh.specs.Sheet.{AreRowsWhole}
-use Rattle.archive_file.specs.TextHeads.{TextOpensAt}
-use Rattle.group_layout.specs.Images.{IsUnsaved}
-use Rattle.group_layout.specs.Readings.{GainsGroupSync}
-use Rattle.group_layout.specs.Texts.{definition_text}
-use Rattle.tag_base.specs.declared.definition.GroupDef.{GroupDef}
-use Rattle.group_book.specs.declared.history.GroupOpening.{GroupOpening}
-use Rattle.group_book.specs.Openings.{StandsForGroup, BookStaysSame}
-use Rattle.group_book.specs.Tapes.{cut}
-use Rattle.group_book.specs.Told.{ToldBook, device_name_of, versions_of, moment_of, faults_of}
+use Rattle.trend_num.specs.{Rec}
+use Rattle.disk_model.specs.{Shows, During, Trace, Device}
+use Rattle.branded_disk.specs.{IsUnused, Past}
+use Rattle.calc_refresh.specs.{GroupDefParts, lists_of, AreRowsWhole}
+use Rattle.archive_file.specs.{TextOpensAt}
+use Rattle.group_layout.specs.{IsUnsaved, GainsGroupSync, definition_text}
+use Rattle.tag_base.specs.{GroupDef}
+use Rattle.group_book.specs.{GroupOpening, StandsForGroup, BookStaysSame, cut, ToldBook, device_name_of, versions_of, moment_of, faults_of}
 
 -- the traces of a store's devices by name
 abbrev pub DeviceTraces : Type 0

@@ -1,16 +1,14 @@
 -- A base that was read, and whose tags are opened.
 use Rattle.std.specs.Prelude.{◌≡◌, ◌⊎◌, ℕ, ◌≤◌, List, Result, Ok, Err}
-use Rattle.disk_model.specs.Calls.{Rose}
-use Rattle.trend_num.specs.declared.point.Point.{Point}
-use Rattle.trend_num.specs.Limits.{most_stored}
-use Rattle.trend_model.specs.Contents.{closed_points}
+use Rattle.disk_model.specs.{Rose}
+use Rattle.trend_num.specs.{Point, most_stored}
+use Rattle.trend_model.specs.{closed_points}
 use Rattle.tag_core.specs.Core.{Core}
-use Rattle.tag_base.specs.declared.definition.Base.{Base}
+use Rattle.tag_base.specs.{Base}
 use Rattle.plant_status.specs.declared.status.Status.{Status}
 use Rattle.plant_status.specs.declared.status.Status.TheVariants.{DeviceFault}
-use Rattle.plant_status.specs.declared.unit.Unit.{Unit}
-use Rattle.plant_files.specs.RowFiles.{ToldFiles}
-use Rattle.plant_files.specs.Texts.{IsBaseFile}
+use Rattle.plant_status.specs.{Unit}
+use Rattle.plant_files.specs.{ToldFiles, IsBaseFile}
 use Rattle.plant_store.specs.Groups.{DeviceTraces}
 use Rattle.plant_store.specs.Tags.{AllStaySame, AreLeft, AreTagsOpened, AreOtherTagsSame, tag_records_in}
 

@@ -1,17 +1,15 @@
 -- What a plant is opened as, and why it is not opened.
 use Rattle.std.specs.Prelude.{◌≡◌, ◌≢◌, ◌⊎◌, ℕ, ◌≤◌, List, All, map, Result, Ok, Err}
-use Rattle.trend_num.specs.declared.archive.Rec.{Rec}
-use Rattle.trend_num.specs.Limits.{most_stored}
+use Rattle.trend_num.specs.{Rec, most_stored}
 use Rattle.tag_core.specs.Core.{Core}
-use Rattle.disk_model.specs.Calls.{Rose}
+use Rattle.disk_model.specs.{Rose}
 use Rattle.plant_status.specs.declared.status.Status.{Status}
 use Rattle.plant_status.specs.declared.status.Status.TheVariants.{DeviceFault}
 use Rattle.plant_status.specs.declared.unit.Unit.{Unit as Device}
-use Rattle.tag_base.specs.declared.definition.Base.{Base}
-use Rattle.tag_cell.specs.Told.{ToldCell}
+use Rattle.tag_base.specs.{Base}
+use Rattle.tag_cell.specs.{ToldCell, device_name}
 use Rattle.plant_store.specs.TagRefusals as tags
 use Rattle.plant_store.specs.Tags as tag
-use Rattle.tag_cell.specs.Devices.{device_name}
 use Rattle.plant_store.specs.Groups as group
 use Rattle.plant_store.specs.Groups.{DeviceTraces}
 use Rattle.plant_store.specs.BookRefusals as groups

@@ -1,8 +1,7 @@
 -- What is needed to give a plant's devices back.
 use Rattle.std.specs.Prelude.{◌≡◌, ◌≢◌, ◌≤◌, ℕ, Bool, List, [], length, All, AllPairs, string_bytes, vec_capacity}
-use Rattle.trend_num.specs.Names.{IsName}
-use Rattle.tag_base.specs.declared.definition.Base.{Base}
-use Rattle.tag_base.specs.declared.definition.GroupDef.{GroupDef}
+use Rattle.trend_num.specs.{IsName}
+use Rattle.tag_base.specs.{Base, GroupDef}
 use Rattle.plant_store.specs.CellNames.{AreApart, HasPlaces, device_names_of, texts}
 use Rattle.plant_store.specs.Groups.{AreNamesOf}
 use Rattle.plant_store.specs.BookSteps.{HavePlaces}

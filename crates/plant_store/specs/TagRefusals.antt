@@ -1,19 +1,15 @@
 -- Why the tags of a base are not opened.
 use Rattle.std.specs.Prelude.{◌≡◌, ◌⊎◌, ℕ, ◌+◌, ◌^◌, ◌<◌, ◌≤◌, List, length, take, slice_index_or, Result, Ok, Err}
-use Rattle.trend_num.specs.declared.tag_def.TagDef.{TagDef}
+use Rattle.trend_num.specs.{TagDef, most_stored}
 use Rattle.trend_num.specs.declared.refusal.What.TheVariants.{Records, StoreRecords}
 use Rattle.trend_model.specs.State.{State}
 use Rattle.tag_core.specs.Core.{Core}
-use Rattle.disk_model.specs.Traces.{Trace}
-use Rattle.disk_model.specs.Calls.{Rose, Shows}
-use Rattle.device_layout.specs.declared.failure.OpenNo.{OpenNo}
+use Rattle.disk_model.specs.{Trace, Rose, Shows}
+use Rattle.device_layout.specs.{OpenNo, IsTagDamage, IsOther, IsFull}
 use Rattle.device_layout.specs.declared.failure.OpenNo.TheVariants as no
-use Rattle.device_layout.specs.Damages.{IsTagDamage}
-use Rattle.device_layout.specs.Readings.{IsOther, IsFull}
 use Rattle.plant_status.specs.declared.unit.Unit.TheVariants.{Tag}
 use Rattle.plant_status.specs.declared.status.Status.{Status}
 use Rattle.plant_status.specs.declared.status.Status.TheVariants.{DeviceFault, Damaged, OtherTag, Limit, WantOfMemory}
-use Rattle.trend_num.specs.Limits.{most_stored}
 use Rattle.plant_store.specs.Tags.{tag_trace_of, IsOpened, AreTagsOpened, AreOtherTagsSame, tag_records_in}
 
 -- the status for a tag that is not opened

@@ -1,17 +1,15 @@
 -- The tags of a base, opened over a store of devices.
 use Rattle.std.specs.Prelude.{◌≡◌, ◌≢◌, ℕ, List, length, All, AllPairs}
 use Rattle.std.specs.List.{AllZip, sum_by}
-use Rattle.trend_num.specs.declared.tag_def.TagDef.{TagDef}
-use Rattle.trend_model.specs.History.{Event, Origin}
+use Rattle.trend_num.specs.{TagDef}
+use Rattle.trend_model.specs.{Event, Origin}
 use Rattle.trend_model.specs.State.{State}
 use Rattle.tag_core.specs.Core.{Core}
-use Rattle.disk_model.specs.Traces.{Trace}
-use Rattle.branded_disk.specs.Pasts.{IsUnused, Past}
-use Rattle.device_layout.specs.Recovery.{Recovers}
-use Rattle.disk_model.specs.Calls.{Shows}
-use Rattle.crash_recovery.specs.Opening.{IsOpenedAs, StaysSame, RecoversThen, MakesLayout, GainsSync}
-use Rattle.crash_recovery.specs.TagImages.{ImageStands, StandsOpened}
-use Rattle.tag_cell.specs.Devices.{device_name}
+use Rattle.disk_model.specs.{Trace, Shows}
+use Rattle.branded_disk.specs.{IsUnused, Past}
+use Rattle.device_layout.specs.{Recovers}
+use Rattle.crash_recovery.specs.{IsOpenedAs, StaysSame, RecoversThen, MakesLayout, GainsSync, ImageStands, StandsOpened}
+use Rattle.tag_cell.specs.{device_name}
 
 -- the trace of a tag's device, from these traces by name
 abbrev pub tag_trace_of : (List ℕ → Trace) → TagDef → Trace

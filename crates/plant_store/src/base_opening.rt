@@ -1,9 +1,8 @@
 // Opening the tags of a base.
 ghost use Rattle.std.specs.Prelude.{◌≡◌, ◌≢◌, ◌^◌, ◌<◌, ◌≤◌, ℕ, All, AllPairs, length, IfOk, IfErr};
-ghost use Rattle.trend_num.specs.Limits.{most_stored};
-ghost use Rattle.trend_num.specs.Ranges.{TuningInRange};
+ghost use Rattle.trend_num.specs.{most_stored, TuningInRange};
 ghost use Rattle.plant_files.specs.Reading.{faults_told};
-ghost use Rattle.plant_files.specs.Texts.{tag_names};
+ghost use Rattle.plant_files.specs.{tag_names};
 ghost use Rattle.plant_store.specs.Tags.{AllStaySame, AreLeft, AreTagsOpened, AreOtherTagsSame, tag_records_in};
 ghost use Rattle.plant_store.specs.TagRefusals.{CountsStore, IsRefusal};
 

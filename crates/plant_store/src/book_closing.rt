@@ -1,7 +1,7 @@
 // Giving back the devices of books.
 ghost use Rattle.std.specs.Prelude.{◌≡◌, ◌≢◌, ℕ, ◌^◌, ◌<◌, ◌≤◌, List, [], All, AllPairs, IsTrue, length, slice_index_or, string_bytes, vec_capacity, vec_len};
-ghost use Rattle.group_book.specs.Told.{ToldBook, faults_of};
-ghost use Rattle.branded_disk.specs.Pasts.{branded};
+ghost use Rattle.group_book.specs.{ToldBook, faults_of};
+ghost use Rattle.branded_disk.specs.{branded};
 ghost use Rattle.plant_store.specs.BookEndings.{AreGivenBack, AreHistoriesOf, counts_after};
 ghost use Rattle.plant_store.specs.CellClosings.{HasRisen};
 ghost use Rattle.plant_store.specs.BookSteps.{AreOtherNamesSame, HavePlaces};

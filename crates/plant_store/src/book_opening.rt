@@ -1,9 +1,9 @@
 // Opening the groups of a base.
 ghost use Rattle.std.specs.Prelude.{◌≡◌, ℕ, ◌^◌, ◌<◌, ◌≤◌, List, [], All, IfErr, IfOk, IsTrue, OnErr, OnOk, length, map, vec_capacity};
-ghost use Rattle.calc_refresh.specs.Sheet.{IsCopy};
-ghost use Rattle.branded_disk.specs.Pasts.{branded};
-ghost use Rattle.disk_model.specs.Calls.{CountsFault};
-ghost use Rattle.tag_base.specs.Groups.{IsSoundGroup};
+ghost use Rattle.calc_refresh.specs.{IsCopy};
+ghost use Rattle.branded_disk.specs.{branded};
+ghost use Rattle.disk_model.specs.{CountsFault};
+ghost use Rattle.tag_base.specs.{IsSoundGroup};
 ghost use Rattle.group_book.specs.declared.refusal.LoadNo.TheVariants.{DeviceFault};
 ghost use Rattle.plant_store.specs.Groups.{AllStaySame, AreBooksOpened, AreDistinct, AreGroupsUnused, AreNamesOf, AreOtherGroupsSame};
 ghost use Rattle.plant_store.specs.BookRefusals.{CountsStore, IsRefusal};

@@ -1,10 +1,10 @@
 // Giving back the devices of cells.
 ghost use Rattle.std.specs.Prelude.{◌≡◌, ◌≢◌, ℕ, ◌^◌, ◌<◌, ◌≤◌, List, [], IsTrue, true, vec_len, vec_capacity, length};
-ghost use Rattle.branded_disk.specs.Pasts.{branded};
-ghost use Rattle.disk_model.specs.Calls.{sum_of_counts};
+ghost use Rattle.branded_disk.specs.{branded};
+ghost use Rattle.disk_model.specs.{sum_of_counts};
 ghost use Rattle.plant_store.specs.CellClosings.{AreGivenBack, AreHistoriesAt, AreHistoriesOf, CountsCells, IsHistoryOfCell};
 ghost use Rattle.plant_store.specs.CellNames.{AreApart, HasPlaces, texts};
-ghost use Rattle.tag_cell.specs.Devices.{device_name};
+ghost use Rattle.tag_cell.specs.{device_name};
 
 use branded_disk::{Begun, Branded, give_back};
 use disk_model::{Disk, Store};

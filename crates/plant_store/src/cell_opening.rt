@@ -1,10 +1,9 @@
 // Opening the tags of a base as cells.
 ghost use Rattle.std.specs.Prelude.{◌≡◌, ◌^◌, ◌<◌, ◌≤◌, ℕ, List, All, IfErr, IfOk, IsTrue, OnErr, OnOk, length, map};
 ghost use Rattle.std.specs.Arc.{arc_value};
-ghost use Rattle.trend_num.specs.Limits.{most_stored};
-ghost use Rattle.trend_num.specs.Ranges.{TuningInRange};
-ghost use Rattle.snapshot_table.specs.Boards.{new_posters};
-ghost use Rattle.branded_disk.specs.Pasts.{branded};
+ghost use Rattle.trend_num.specs.{most_stored, TuningInRange};
+ghost use Rattle.snapshot_table.specs.{new_posters};
+ghost use Rattle.branded_disk.specs.{branded};
 ghost use Rattle.plant_store.specs.Tags.{AllStaySame, AreDistinct, AreOtherTagsSame, AreTagsUnused};
 ghost use Rattle.plant_store.specs.TagRefusals.{CountsStore, IsRefusal};
 ghost use Rattle.plant_store.specs.CellNames.{HasPlaces, device_names_of, texts};

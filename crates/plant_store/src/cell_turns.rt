@@ -1,16 +1,14 @@
 // Opening tags one after the other.
 ghost use Rattle.std.specs.Prelude.{◌≡◌, ◌≢◌, ◌^◌, ◌<◌, ◌≤◌, ℕ, List, [], All, IfErr, IfOk, IsTrue, OnErr, OnOk, length, map, take, vec_capacity};
 ghost use Rattle.std.specs.Arc.{arc_value};
-ghost use Rattle.trend_num.specs.Limits.{most_stored};
-ghost use Rattle.trend_num.specs.Ranges.{TuningInRange};
-ghost use Rattle.branded_disk.specs.Pasts.{IsUnused, branded};
-ghost use Rattle.disk_model.specs.Calls.{CountsFault};
+ghost use Rattle.trend_num.specs.{most_stored, TuningInRange};
+ghost use Rattle.branded_disk.specs.{IsUnused, branded};
+ghost use Rattle.disk_model.specs.{CountsFault};
 ghost use Rattle.device_layout.specs.declared.failure.OpenNo.TheVariants.{DeviceFault};
-ghost use Rattle.device_layout.specs.Readings.{IsCause};
-ghost use Rattle.crash_recovery.specs.Opening.{StaysSame};
-ghost use Rattle.snapshot_table.specs.Boards.{PostsTo, new_posters};
-ghost use Rattle.snapshot_table.specs.Snaps.{nothing};
-ghost use Rattle.tag_cell.specs.Devices.{device_name};
+ghost use Rattle.device_layout.specs.{IsCause};
+ghost use Rattle.crash_recovery.specs.{StaysSame};
+ghost use Rattle.snapshot_table.specs.{PostsTo, new_posters, nothing};
+ghost use Rattle.tag_cell.specs.{device_name};
 ghost use Rattle.plant_store.specs.Tags.{AreDistinct, AreOtherTagsSame, AreTagsUnused};
 ghost use Rattle.plant_store.specs.CellNames.{HasPlaces, device_names_of, texts};
 ghost use Rattle.plant_store.specs.CellOpenings.{AreCellsOpened, IsCellOpened, records_opened};

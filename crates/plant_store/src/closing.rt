@@ -1,6 +1,6 @@
 // Giving back the devices of a plant.
 ghost use Rattle.std.specs.Prelude.{◌≡◌, ◌^◌, ◌<◌, length, vec_len};
-ghost use Rattle.branded_disk.specs.Pasts.{branded};
+ghost use Rattle.branded_disk.specs.{branded};
 ghost use Rattle.plant_store.specs.CellClosings.{AreHistoriesAt, AreHistoriesOf};
 ghost use Rattle.plant_store.specs.CellNames.{texts};
 ghost use Rattle.plant_store.specs.BookEndings.{AreHistoriesOf as AreGroupHistoriesOf};

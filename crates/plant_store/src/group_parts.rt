@@ -1,9 +1,8 @@
 // The name of a group's device, and what its book is made with.
 ghost use Rattle.std.specs.Prelude.{◌≡◌, ◌^◌, ◌<◌, [], All, IfOk, OnOk, length, map, slice_index_or, string_bytes, vec_len};
-ghost use Rattle.calc_refresh.specs.Lists.{lists_of};
-ghost use Rattle.calc_refresh.specs.Sheet.{IsCopy, IsGrid, IsGroup, grid_of};
-ghost use Rattle.tag_base.specs.Groups.{IsSoundGroup};
-ghost use Rattle.trend_num.specs.Names.{IsName};
+ghost use Rattle.calc_refresh.specs.{lists_of, IsCopy, IsGrid, IsGroup, grid_of};
+ghost use Rattle.tag_base.specs.{IsSoundGroup};
+ghost use Rattle.trend_num.specs.{IsName};
 ghost use Rattle.plant_store.specs.Groups.{AreNamesOf, device_name, group_parts_of, input_records_of, group_definition_text};
 
 use calc_refresh::GroupDefParts;

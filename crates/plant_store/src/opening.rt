@@ -1,12 +1,11 @@
 // Opening a plant.
 ghost use Rattle.std.specs.Prelude.{◌≡◌, ◌^◌, ◌<◌, ◌≤◌, ℕ, List, All, IfErr, IfOk, IsTrue, OnErr, OnOk, length, map};
 ghost use Rattle.std.specs.Arc.{arc_value};
-ghost use Rattle.trend_num.specs.Limits.{most_stored};
-ghost use Rattle.trend_num.specs.Ranges.{TuningInRange};
-ghost use Rattle.calc_refresh.specs.Sheet.{IsCopy};
-ghost use Rattle.snapshot_table.specs.Boards.{new_posters};
-ghost use Rattle.tag_base.specs.Groups.{IsSoundGroup};
-ghost use Rattle.branded_disk.specs.Pasts.{branded};
+ghost use Rattle.trend_num.specs.{most_stored, TuningInRange};
+ghost use Rattle.calc_refresh.specs.{IsCopy};
+ghost use Rattle.snapshot_table.specs.{new_posters};
+ghost use Rattle.tag_base.specs.{IsSoundGroup};
+ghost use Rattle.branded_disk.specs.{branded};
 ghost use Rattle.plant_store.specs.Tags.{AllStaySame, AreDistinct, AreTagsUnused};
 ghost use Rattle.plant_store.specs.CellOpenings.{AreCellsOpened, records_opened};
 ghost use Rattle.plant_store.specs.Groups.{AllStaySame as AllGroupsStaySame, AreBooksOpened, AreDistinct as AreDistinctGroups, AreGroupsUnused, AreNamesOf, AreOtherGroupsSame};

@@ -1,12 +1,12 @@
 // One group: opening its book, and giving its device back.
 ghost use Rattle.std.specs.Prelude.{◌≡◌, ◌≢◌, ℕ, ◌^◌, ◌<◌, List, All, IfErr, IfOk, IsTrue, OnErr, OnOk, length, map};
-ghost use Rattle.calc_refresh.specs.Sheet.{IsCopy};
-ghost use Rattle.branded_disk.specs.Pasts.{IsUnused, branded};
-ghost use Rattle.disk_model.specs.Calls.{CountsFault};
-ghost use Rattle.group_layout.specs.Readings.{GainsGroupSync};
-ghost use Rattle.tag_base.specs.Groups.{IsSoundGroup};
+ghost use Rattle.calc_refresh.specs.{IsCopy};
+ghost use Rattle.branded_disk.specs.{IsUnused, branded};
+ghost use Rattle.disk_model.specs.{CountsFault};
+ghost use Rattle.group_layout.specs.{GainsGroupSync};
+ghost use Rattle.tag_base.specs.{IsSoundGroup};
 ghost use Rattle.group_book.specs.declared.refusal.LoadNo.TheVariants.{DeviceFault, WantOfMemory as NoMemory};
-ghost use Rattle.group_book.specs.Openings.{IsBookCause};
+ghost use Rattle.group_book.specs.{IsBookCause};
 ghost use Rattle.plant_store.specs.Groups.{IsBookOpened, device_name, group_parts_of, input_records_of, group_definition_text};
 ghost use Rattle.plant_store.specs.BookEndings.{IsBackUnder, IsHistoryOfBook, count_after};
 ghost use Rattle.plant_store.specs.BookSteps.{StaysSameOf};

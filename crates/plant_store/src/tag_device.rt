@@ -1,11 +1,11 @@
 // The device of one tag.
 ghost use Rattle.std.specs.Prelude.{◌≡◌, ◌≢◌, ◌^◌, ◌<◌, ℕ, List, IfOk, IfErr, string_bytes};
-ghost use Rattle.trend_num.specs.Ranges.{TuningInRange};
-ghost use Rattle.disk_model.specs.Calls.{CountsFault};
+ghost use Rattle.trend_num.specs.{TuningInRange};
+ghost use Rattle.disk_model.specs.{CountsFault};
 ghost use Rattle.device_layout.specs.declared.failure.OpenNo.TheVariants.{DeviceFault};
-ghost use Rattle.device_layout.specs.Readings.{IsCause};
-ghost use Rattle.crash_recovery.specs.Opening.{StaysSame};
-ghost use Rattle.tag_cell.specs.Devices.{device_name};
+ghost use Rattle.device_layout.specs.{IsCause};
+ghost use Rattle.crash_recovery.specs.{StaysSame};
+ghost use Rattle.tag_cell.specs.{device_name};
 ghost use Rattle.plant_store.specs.Tags.{tag_trace_of, IsOpened, IsLeft};
 
 use crash_recovery::{OpenFail, OpenNo, Opened, open_tag};

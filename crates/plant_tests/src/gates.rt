@@ -1,5 +1,5 @@
 // Passes that hold a reader, and a device whose sync waits for it.
-ghost use Rattle.disk_model.specs.Memory.{handed_as};
+ghost use Rattle.disk_model.specs.{handed_as};
 
 use disk_model::{Disk, Failed, MemDisk, MemStore, Store};
 use plant_run::{Pass, Passes};
@@ -127,7 +127,7 @@ pub struct GateStore<'a> {
 }
 
 impl<'a> Store for GateStore<'a> {
-    ghost use Rattle.disk_model.specs.Stores.{trace_at, has_device};
+    ghost use Rattle.disk_model.specs.{trace_at, has_device};
 
     type Dev = GateDisk<'a>;
 

@@ -1,5 +1,5 @@
 // Windows of shifts on days on which the clock is set, and on other days.
-ghost use Rattle.shift_calendar.specs.Days.{IsFirstDay};
+ghost use Rattle.shift_calendar.specs.{IsFirstDay};
 
 use shift_calendar::{
     Calendar, DayWord, ShiftWindow, day_of_word, read_calendar, shift_windows, word_of_day,

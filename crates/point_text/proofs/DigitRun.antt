@@ -10,7 +10,7 @@ use Rattle.std.specs.Float.Numeral.{digits_len}
 use Rattle.core.specs.Str.Parse.{AllDigits, digits_value_after, digits_value as ascii_value}
 use Rattle.core.proofs.dec2flt.DigitsLemmas.{digit_range, is_digit, digits_len_short, digits_len-take, digits_value-append}
 use Rattle.std.proofs.lemmas.Int.Digits.{digits_value-lt}
-use Rattle.trend_num.specs.Numerals.{digits_value}
+use Rattle.trend_num.specs.{digits_value}
 
 -- of the first 16 bytes these are the digits before any other, and they spell v
 pub record IsDigitRun (bytes : List ℕ) (n v : ℕ) : Type 0 where

@@ -1,5 +1,6 @@
 -- Lemmas on a line that is too long to have a point.
-use Rattle.std.proofs.Common.{◌≡◌, ℕ, ◌+◌, ◌-◌, ◌<◌, ℤ, pos, neg_ℤ, ◌⊎◌, inl, inr, Bool, ◌&&◌, suc, nat_le, drop, true, false, cond, List, [], ◌∷◌, ◌++◌, length, take, get_or, map, nat_eq, nat_lt, position, Option, Some, None, Result, Err, arith, refl, sym, ap, ◌∙◌, append_assoc, length-append, length-take}
+use Rattle.std.proofs.Common.{◌≡◌, ℕ, ◌+◌, ◌-◌, ◌<◌, ℤ, pos, neg_ℤ, ◌⊎◌, inl, inr, Bool, ◌&&◌, suc, nat_le, drop, true, false, cond, List, [], ◌∷◌, ◌++◌, length, take, get_or, map, nat_eq, nat_lt, position, Option, Some, None, Result, Err}
+use Rattle.std.proofs.Common.{arith, refl, sym, ap, ◌∙◌, append_assoc, length-append, length-take}
 use Rattle.std.proofs.lemmas.Bool.Decides.{nat_tests}
 use Rattle.std.proofs.lemmas.Bool.{eqb-true, ltb-true, ltb-false}
 use Rattle.std.proofs.lemmas.List.{take_more, take_all}
@@ -9,12 +10,9 @@ use Rattle.std.proofs.lemmas.List.Sums.{sum_by-append}
 use Rattle.std.specs.Char.{is_ascii_digit}
 use Rattle.std.specs.List.{count_by, join_with_byte, list_all, slice_split}
 use Rattle.std.specs.Str.Lines.{strip_carriage_return}
-use Rattle.trend_num.specs.declared.point.Point.{Point}
-use Rattle.trend_num.specs.declared.refusal.Reason.{Reason}
+use Rattle.trend_num.specs.{Point, Reason, digits_value, numeral, unsigned_numeral, signed_by}
 use Rattle.trend_num.specs.declared.refusal.Reason.TheVariants.{Fields, Number}
-use Rattle.trend_num.specs.Numerals.{digits_value, numeral, unsigned_numeral, signed_by}
-use Rattle.point_text.specs.Row.{point_read, point_of_fields, point_of_line}
-use Rattle.point_text.specs.FirstPoint.{HasNoFeed, ReadSame, reads_of}
+use Rattle.point_text.specs.{point_read, point_of_fields, point_of_line, HasNoFeed, ReadSame, reads_of}
 use Rattle.point_text.proofs.Split.{feed_found, feed_not_found, lines_begun, lines_fed}
 
 -- how many commas are in a line

@@ -1,5 +1,6 @@
 -- Lemmas on a plain line, which a text begins with.
-use Rattle.std.proofs.Common.{◌≡◌, ◌⊎◌, inl, inr, cond, ℕ, zero, suc, ◌+◌, ◌-◌, ◌<◌, ◌≤◌, ℤ, pos, neg_ℤ, true, false, List, [], ◌∷◌, ◌++◌, length, get_or, take, drop, nat_eq, unsigned_abs, Some, Result, Ok, All, arith, refl, sym, ap, ◌∙◌, subst, append_assoc, add-one, length-append, length-drop, le-leb}
+use Rattle.std.proofs.Common.{◌≡◌, ◌⊎◌, inl, inr, cond, ℕ, zero, suc, ◌+◌, ◌-◌, ◌<◌, ◌≤◌, ℤ, pos, neg_ℤ, true, false, List, [], ◌∷◌, ◌++◌, length, get_or, take, drop, nat_eq, unsigned_abs, Some, Result, Ok, All, arith, refl, sym, ap, ◌∙◌}
+use Rattle.std.proofs.Common.{subst, append_assoc, add-one, length-append, length-drop, le-leb}
 use Rattle.std.proofs.lemmas.Bool.Decides.{nat_tests}
 use Rattle.std.proofs.lemmas.List.{take-append-drop, drop-drop, length-take-le, take_at, get_or_at, drop_more}
 use Rattle.std.proofs.lemmas.List.Elements.{All-from_get_or, All-weaker, All-append, All-cons, All-nil}
@@ -8,14 +9,10 @@ use Rattle.std.proofs.Math.Seq.{drop-cons}
 use Rattle.std.specs.Char.{is_ascii_digit}
 use Rattle.std.specs.List.{list_all, slice_split}
 use Rattle.std.specs.Str.Lines.{strip_carriage_return}
-use Rattle.trend_num.specs.declared.point.Point.{Point}
-use Rattle.trend_num.specs.declared.refusal.Reason.{Reason}
+use Rattle.trend_num.specs.{Point, Reason, numeral, unsigned_numeral, digits_value, last_time, largest_value}
 use Rattle.trend_num.proofs.Numbers.{digit_at, digit_code}
-use Rattle.trend_num.specs.Numerals.{numeral, unsigned_numeral, digits_value}
-use Rattle.trend_num.specs.Ranges.{last_time, largest_value}
-use Rattle.point_text.specs.Row.{point_read, point_of_fields, point_of_line}
+use Rattle.point_text.specs.{point_read, point_of_fields, point_of_line, EndsAt, HasNoFeed, IsField, IsFirstPoint}
 use Rattle.point_text.proofs.Split.{rest_whole}
-use Rattle.point_text.specs.FirstPoint.{EndsAt, HasNoFeed, IsField, IsFirstPoint}
 
 -- 1 to 20 digits, which spell n
 pub record AreDigits (ds : List ℕ) (n : ℕ) : Type 0 where

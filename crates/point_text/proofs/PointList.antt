@@ -2,12 +2,9 @@
 use Rattle.std.proofs.Common.{◌≡◌, ℕ, ◌≤◌, ℤ, pos, negsuc, true, false, cond, List, [], ◌∷◌, nat_eq, nat_le, unsigned_abs, Option, Some, None, Result, Ok, Err, IfOk, arith, refl, sym, subst}
 use Rattle.std.proofs.lemmas.Bool.Decides.{nat_tests}
 use Rattle.std.specs.List.{slice_split}
-use Rattle.trend_num.specs.declared.point.Point.{Point}
-use Rattle.trend_num.specs.declared.refusal.Reason.{Reason}
+use Rattle.trend_num.specs.{Point, Reason, numeral, natural_upto, InRange, last_time, largest_value}
 use Rattle.trend_num.specs.declared.refusal.Reason.TheVariants.{Range}
-use Rattle.trend_num.specs.Numerals.{numeral, natural_upto}
-use Rattle.trend_num.specs.Ranges.{InRange, last_time, largest_value}
-use Rattle.point_text.specs.Row.{point_of, point_read, point_of_fields, point_of_line}
+use Rattle.point_text.specs.{point_of, point_read, point_of_fields, point_of_line}
 
 -- a number in range
 natural_upto-le : (most : ℕ) (z : ℤ) (n : ℕ) → natural_upto most z ≡ Some n → n ≤ most

@@ -5,10 +5,9 @@ use Rattle.std.proofs.KnownBytes.{Appends-trans}
 use Rattle.std.proofs.lemmas.Grind.{flat_map-append}
 use Rattle.std.proofs.lemmas.List.{take-append-drop, take-append-le}
 use Rattle.std.specs.List.{flat_map}
-use Rattle.trend_num.specs.declared.archive.Rec.{Rec}
-use Rattle.trend_num.specs.declared.point.Point.{Point}
+use Rattle.trend_num.specs.{Rec, Point}
 use Rattle.byte_io.specs.Outside.{Outside, Gains, IsWritten, IsCutShort, next_fault_count}
-use Rattle.point_text.specs.Text.{archive_text, held_line, record_line}
+use Rattle.point_text.specs.{archive_text, held_line, record_line}
 
 -- a text was written after another
 pub written_more : (before at now : Outside) (x y : List ℕ) → IsWritten before at x → IsWritten at now y → IsWritten before now (x ++ y)

@@ -2,10 +2,9 @@
 use Rattle.std.proofs.Common.{◌≡◌, ℕ, suc, ◌+◌, ◌-◌, ◌<◌, ◌≤◌, true, false, cond, List, [], ◌∷◌, ◌++◌, length, map, take, drop, take-add, nat_lt, Result, Ok, Err, arith, refl, sym, ap, ◌∙◌, length-append}
 use Rattle.std.proofs.lemmas.Bool.Decides.{nat_tests}
 use Rattle.std.proofs.lemmas.List.{length-map, take-map, take_at, take_all, drop_at}
-use Rattle.trend_num.specs.declared.refusal.Reason.{Reason}
-use Rattle.point_text.specs.declared.failure.RowNo.{RowNo}
+use Rattle.trend_num.specs.{Reason}
+use Rattle.point_text.specs.{RowNo, all_rows, unless_more, rows_of, with_first}
 use Rattle.point_text.specs.declared.failure.RowNo.TheVariants.{BadRow, TooMany}
-use Rattle.point_text.specs.Row.{all_rows, unless_more, rows_of, with_first}
 
 -- all of these were read
 abbrev pub all_read : {R : Type 0} → List R → List (Result R Reason)

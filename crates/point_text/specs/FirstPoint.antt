@@ -3,9 +3,7 @@ use Rattle.std.specs.Prelude.{◌≡◌, ℕ, ◌+◌, ◌-◌, ◌<◌, ◌≤�
 use Rattle.std.specs.Char.{is_ascii_digit}
 use Rattle.std.specs.List.{list_all}
 use Rattle.std.specs.Str.Lines.{lines, strip_carriage_return}
-use Rattle.trend_num.specs.Numerals.{digits_value}
-use Rattle.trend_num.specs.declared.point.Point.{Point}
-use Rattle.trend_num.specs.declared.refusal.Reason.{Reason}
+use Rattle.trend_num.specs.{digits_value, Point, Reason}
 use Rattle.point_text.specs.Row.{point_of_line}
 
 -- there is no line feed in these bytes

@@ -2,13 +2,10 @@
 use Rattle.std.specs.Prelude.{ℕ, ◌+◌, ℤ, if◌then◌else◌, List, [], ◌∷◌, length, map, take, Option, None, Some, nat_eq, nat_le, nat_lt, unsigned_abs, Result, Ok, Err}
 use Rattle.std.specs.List.{slice_split}
 use Rattle.std.specs.Str.Lines.{lines}
-use Rattle.trend_num.specs.declared.point.Point.{Point}
-use Rattle.trend_num.specs.declared.refusal.Reason.{Reason}
+use Rattle.trend_num.specs.{Point, Reason, last_time, largest_value, numeral, natural_upto}
 use Rattle.trend_num.specs.declared.refusal.Reason.TheVariants.{Fields, Number, Range}
 use Rattle.point_text.specs.declared.failure.RowNo.{RowNo}
 use Rattle.point_text.specs.declared.failure.RowNo.TheVariants.{BadRow, TooMany}
-use Rattle.trend_num.specs.Ranges.{last_time, largest_value}
-use Rattle.trend_num.specs.Numerals.{numeral, natural_upto}
 
 -- ---- rows of any kind
 

@@ -2,8 +2,7 @@
 ghost use Rattle.std.specs.Prelude.{◌≡◌, ◌≢◌, ◌+◌, ◌<◌, ◌≤◌, [], ◌∷◌, length, position, nat_eq, IfOk, IfSome, IfNone};
 ghost use Rattle.std.specs.List.{count_by, slice_split};
 ghost use Rattle.std.specs.Str.Lines.{strip_carriage_return};
-ghost use Rattle.trend_num.specs.Numerals.{natural_upto};
-ghost use Rattle.trend_num.specs.Ranges.{InRange, last_time};
+ghost use Rattle.trend_num.specs.{natural_upto, InRange, last_time};
 ghost use Rattle.point_text.specs.Row.{point_of, point_of_line};
 ghost use Rattle.point_text.specs.FirstPoint.{HasNoFeed, IsFirstPoint, ReadSame};
 

@@ -8,8 +8,7 @@ ghost use Rattle.core.specs.Int.Digits.{number_from_digits};
 ghost use Rattle.core.specs.Slice.Scan.{digits_from, flag_word, little_endian};
 ghost use Rattle.core.specs.Str.Parse.{digits_value as ascii_value};
 ghost use lib.Lanes.{number_l};
-ghost use Rattle.trend_num.specs.Numerals.{digits_value};
-ghost use Rattle.trend_num.specs.Ranges.{InRange, largest_value, last_time};
+ghost use Rattle.trend_num.specs.{digits_value, InRange, largest_value, last_time};
 ghost use Rattle.point_text.specs.FirstPoint.{EndsAt, IsField, IsFirstPoint};
 
 use trend_num::{MAX_T, MAX_V, Point};

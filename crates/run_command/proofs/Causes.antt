@@ -7,31 +7,17 @@ use Rattle.std.proofs.lemmas.Bool.{cases_lt}
 use Rattle.std.proofs.lemmas.List.{get_or-map, length-map}
 use Rattle.std.proofs.lemmas.List.Sums.{sum_by-cons}
 use Rattle.std.proofs.lemmas.Option.{get_or_from_slice_get, slice_get-get_or, slice_get_within}
-use Rattle.trend_num.specs.Limits.{most_stored}
+use Rattle.trend_num.specs.{most_stored, Rec, TagDef}
 use Rattle.trend_model.specs.State.{State}
-use Rattle.trend_num.specs.declared.archive.Rec.{Rec}
-use Rattle.trend_num.specs.declared.tag_def.TagDef.{TagDef}
-use Rattle.disk_model.specs.Traces.{moment, Device}
-use Rattle.calc_refresh.specs.declared.definition.GroupDefParts.{GroupDefParts}
+use Rattle.disk_model.specs.{moment, Device}
+use Rattle.calc_refresh.specs.{GroupDefParts, lists_of, total_length, cells_after, limit_fault, most_cells, most_copies, grid_of}
 use Rattle.calc_refresh.specs.declared.refusal.SheetNo.TheVariants as sheet
-use Rattle.calc_refresh.specs.Lists.{lists_of, total_length}
-use Rattle.calc_refresh.specs.Refreshed.{cells_after, limit_fault, most_cells, most_copies}
-use Rattle.calc_refresh.specs.Sheet.{grid_of}
-use Rattle.tag_cell.specs.declared.entry.Entry.{Entry}
-use Rattle.tag_cell.specs.declared.history.TagHistory.{TagHistory}
-use Rattle.tag_cell.specs.Tapes.{taken}
-use Rattle.tag_cell.specs.Told.{ToldCell as Cell, takes_waiting}
-use Rattle.group_book.specs.declared.history.GroupHistory.{GroupHistory}
+use Rattle.tag_cell.specs.{Entry, TagHistory, taken, ToldCell as Cell, takes_waiting}
+use Rattle.group_book.specs.{GroupHistory, SaveNo, Turn, IsPullAhead, lists_at, uncut, ToldBook as Book, versions_of}
 use Rattle.group_book.specs.declared.refusal.RefreshNo.TheVariants as refresh
-use Rattle.group_book.specs.declared.refusal.SaveNo.{SaveNo}
 use Rattle.group_book.specs.declared.refusal.SaveNo.TheVariants as save
-use Rattle.group_book.specs.declared.turn.Turn.{Turn}
-use Rattle.group_book.specs.InputLists.{IsPullAhead, lists_at}
-use Rattle.group_book.specs.Tapes.{uncut}
-use Rattle.group_book.specs.Told.{ToldBook as Book, versions_of}
-use Rattle.sheet_law.specs.Touched.{longer}
-use Rattle.sheet_law.specs.Windows.{complete_windows}
-use Rattle.plant_status.specs.declared.mismatch.Seen.{Seen}
+use Rattle.sheet_law.specs.{longer, complete_windows}
+use Rattle.plant_status.specs.{Seen}
 use Rattle.plant_status.specs.declared.mismatch.Seen.TheVariants.{Nothing, Number}
 use Rattle.plant_status.specs.declared.status.Status.{Status}
 use Rattle.plant_status.specs.declared.status.Status.TheVariants.{DeviceFault, WantOfMemory}
@@ -40,46 +26,28 @@ use Rattle.plant_status.proofs.Elements.{element}
 use Rattle.plant_files.specs.PlanRows.{IsGoodBase}
 use Rattle.plant_store.specs.BookEndings.{IsHistoryOfBook}
 use Rattle.plant_store.specs.CellClosings.{IsHistoryOfCell}
-use Rattle.plant_store.specs.CellOpenings.{AreCellsOpened, IsCellOpened, records_opened}
+use Rattle.plant_store.specs.{AreCellsOpened, IsCellOpened, records_opened, cell_records_in}
 use Rattle.plant_store.specs.Groups.{DeviceTraces, group_trace_at, input_records_of}
-use Rattle.plant_store.specs.Openings.{cell_records_in}
 use Rattle.plant_store.specs.Tags.{tag_trace_of}
-use Rattle.tag_base.specs.declared.definition.Base.{Base}
-use Rattle.tag_base.specs.declared.definition.GroupDef.{GroupDef}
-use Rattle.tag_base.specs.declared.schedule.Refresher.{Refresher}
-use Rattle.value_rows.specs.declared.asked.Query.{Query}
-use Rattle.value_rows.specs.declared.raw.RawRow.{RawRow}
-use Rattle.collector_pool.specs.declared.note.WorkerNote.{WorkerNote}
-use Rattle.session_audit.specs.declared.agenda.Item.{Item}
-use Rattle.session_audit.specs.declared.book_opening.KeptGroup.{KeptGroup}
-use Rattle.session_audit.specs.declared.cell_opening.Kept.{Kept}
-use Rattle.session_audit.specs.declared.kind.Shown.{Shown}
+use Rattle.tag_base.specs.{Base, GroupDef, Refresher}
+use Rattle.value_rows.specs.{Query, RawRow}
+use Rattle.collector_pool.specs.{WorkerNote}
+use Rattle.session_audit.specs.{Item, KeptGroup, Kept, Shown, IsBookRefusal, IsRefreshRefusal, OfRefresh as OfLists, OfSave, save_status, IsCellAsKept, IsCellCopied, IsCellDifference, IsTagAsKept, IsTagDifference, book_tape, cell_tape}
+use Rattle.session_audit.specs.{IsMismatchAt, IsCommittedCell, IsTakeRefusal, tag_rows, takes_mismatch, IsDifference, IsFirstPart, Reached, due_of, tape_shows, refreshes, row_ask_of, IsAboveTurns, IsWithinTurns, IsRefreshedTo}
+use Rattle.session_audit.specs.{durable_lists, ask_of, take_of, AreOver, LacksRow, file_due}
 use Rattle.session_audit.specs.Agendas.{ask_item, phase_item, row_item}
 use Rattle.session_audit.specs.BookOpenings.{IsBookAsKept, IsBookCopied, IsBookDifference, IsGroupAsKept, IsGroupDifference}
-use Rattle.session_audit.specs.BookRefusals.{IsBookRefusal, IsRefreshRefusal, OfRefresh as OfLists, OfSave, save_status}
-use Rattle.session_audit.specs.CellOpenings.{IsCellAsKept, IsCellCopied, IsCellDifference, IsTagAsKept, IsTagDifference}
-use Rattle.session_audit.specs.Books.{book_tape}
-use Rattle.session_audit.specs.Cells.{cell_tape}
-use Rattle.session_audit.specs.Finding.{IsMismatchAt}
 use Rattle.session_audit.proofs.Begun.{due_of_file}
-use Rattle.session_audit.specs.CellRefusals.{IsCommittedCell, IsTakeRefusal, tag_rows, takes_mismatch}
 use Rattle.session_audit.specs.CellRefusals as cell
-use Rattle.session_audit.specs.Found.{IsDifference, IsFirstPart, Reached, due_of, tape_shows}
-use Rattle.session_audit.specs.GroupTapes.{refreshes, row_ask_of}
-use Rattle.session_audit.specs.GroupTurns.{IsAboveTurns, IsWithinTurns}
 use Rattle.session_audit.specs.Openings.{AreAsKept, IsOpeningMismatch}
 use Rattle.session_audit.specs.Pulls.{IsInputApart, IsInputPulled, IsPullMismatch}
-use Rattle.session_audit.specs.Refreshing.{IsRefreshedTo, durable_lists}
-use Rattle.session_audit.specs.Tapes.{ask_of, take_of}
-use Rattle.session_audit.specs.Workers.{AreOver, LacksRow, file_due}
-use Rattle.session_report.specs.declared.session.Session.{Session}
-use Rattle.run_command.specs.declared.work.Given.{Given}
-use Rattle.run_command.specs.Steps.{AreCellAsksBegun, AreStepsMade, AreCellTakesBegun}
-use Rattle.run_command.specs.Causes.{AreKept, AreTurnsWithin, IsTagKept, IsUnitChanged, IsCommitCause, IsGroupCause, IsRefusalCause, IsOpeningCause, IsPullCause, IsRefreshCause, HasPulled, IsTakeCause, IsTapeCause, IsTapeDifference, OfDevice, OfLimit, OfRoom, cells_with_all, copies_with_all}
+use Rattle.session_report.specs.{Session}
+use Rattle.run_command.specs.{Given, AreCellAsksBegun, AreStepsMade, AreCellTakesBegun, AreAsksBegun, AreTakesBegun, AreUnitsOpened, IsGroupOpened, IsGroupRefreshed, IsTagOpened, group_tape, tag_records_of, tag_tape, turns_in}
+use Rattle.run_command.specs.Causes.{AreKept, AreTurnsWithin, IsTagKept, IsUnitChanged, IsCommitCause, IsGroupCause, IsRefusalCause, IsOpeningCause, IsPullCause, IsRefreshCause, HasPulled, IsTakeCause, IsTapeCause, IsTapeDifference}
+use Rattle.run_command.specs.Causes.{OfDevice, OfLimit, OfRoom, cells_with_all, copies_with_all}
 use Rattle.run_command.specs.Causes as cause
 use Rattle.run_command.specs.Refusals.{IsFindingRefusal, IsOpening, IsRefused, OfCommit, OfFinding, OfGroup, OfMaking, OfMemory, OfPull, OfRefresh, OfRest, OfStop, OfTag, OfTaking, OfWant}
 use Rattle.run_command.specs.Runs.{AreUnitsOpen, IsContinued, IsContinuedGroup, IsOver, IsUndone, IsWorkIn, OfNone, OfSettling}
-use Rattle.run_command.specs.Units.{AreAsksBegun, AreTakesBegun, AreUnitsOpened, IsGroupOpened, IsGroupRefreshed, IsTagOpened, group_tape, tag_records_of, tag_tape, turns_in}
 use Rattle.run_command.proofs.Foreign.{AtAsk, AtRowAsk, AtTake, AtTurns, Finding, found_at, opening_is}
 use Rattle.run_command.proofs.Headline.{acknowledged, begun, begun_asks, begun_takes, group_opened, on_tapes, recorded, records_of_tags, refreshed, tag_opened, tags_of, turns_of_group}
 use Rattle.run_command.proofs.Mismatches.{differing}

@@ -3,16 +3,14 @@ use Rattle.std.proofs.Common.{◌≡◌, ◌⊎◌, inl, inr, ℕ, List, Option,
 use Rattle.plant_status.specs.declared.status.Status.{Status}
 use Rattle.plant_status.specs.declared.status.Status.TheVariants.{Mismatch, WantOfMemory}
 use Rattle.plant_store.specs.Groups.{DeviceTraces}
-use Rattle.tag_base.specs.declared.definition.Base.{Base}
-use Rattle.value_rows.specs.declared.asked.Query.{Query}
-use Rattle.value_rows.specs.declared.raw.RawRow.{RawRow}
-use Rattle.collector_pool.specs.declared.note.WorkerNote.{WorkerNote}
-use Rattle.session_audit.specs.declared.agenda.Item.{Item}
-use Rattle.session_report.specs.declared.session.Session.{Session}
+use Rattle.tag_base.specs.{Base}
+use Rattle.value_rows.specs.{Query, RawRow}
+use Rattle.collector_pool.specs.{WorkerNote}
+use Rattle.session_audit.specs.{Item}
+use Rattle.session_report.specs.{Session}
 use Rattle.run_command.specs.Causes.{IsRefusalCause, IsSessionCause, OfCopies, OfRefusal}
-use Rattle.run_command.specs.Copies.{AreCopied, AsItCame, AsUncopied, IsChecked, MayBeUncopied}
+use Rattle.run_command.specs.{AreCopied, AsItCame, AsUncopied, IsChecked, MayBeUncopied, AtEachGroup}
 use Rattle.run_command.specs.Refusals.{IsOpening, MayBeForeign}
-use Rattle.run_command.specs.Units.{AtEachGroup}
 
 -- a refusal that is checked is neither of an opening nor one that admits a take of no file
 record IsPlain (why : Status) : Type 0 where

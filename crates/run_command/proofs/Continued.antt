@@ -3,18 +3,14 @@ use Rattle.std.proofs.Common.{◌≡◌, ◌∙◌, ◌<◌, ℕ, List, [], All,
 use Rattle.std.proofs.lemmas.List.{get_or-map, length-map}
 use Rattle.std.specs.List.{AllZip}
 use Rattle.std.specs.declared.alloc.Global.{Global}
-use Rattle.tag_base.specs.declared.definition.GroupDef.{GroupDef}
-use Rattle.tag_base.specs.Groups.{IsSoundGroup}
-use Rattle.tag_cell.specs.Told.{ToldCell as Cell}
-use Rattle.group_book.specs.Told.{ToldBook as Book}
-use Rattle.session_audit.specs.declared.cell_opening.Kept.{Kept}
-use Rattle.session_audit.specs.declared.book_opening.KeptGroup.{KeptGroup}
+use Rattle.tag_base.specs.{GroupDef, IsSoundGroup}
+use Rattle.tag_cell.specs.{ToldCell as Cell}
+use Rattle.group_book.specs.{ToldBook as Book}
+use Rattle.session_audit.specs.{Kept, KeptGroup, AreInputs, IsInputsOf, IsCellCopied, IsCellAsKept}
 use Rattle.session_audit.specs.Openings.{AreAsKept}
 use Rattle.session_audit.specs.BookOpenings.{IsBookAsKept, IsBookCopied}
-use Rattle.session_audit.specs.Inputs.{AreInputs, IsInputsOf}
-use Rattle.session_audit.specs.CellOpenings.{IsCellCopied, IsCellAsKept}
 use Rattle.run_command.specs.Runs.{AreDefined, IsContinued, IsContinuedGroup}
-use Rattle.run_command.specs.Steps.{AreInputsFor}
+use Rattle.run_command.specs.{AreInputsFor}
 use Rattle.plant_status.proofs.Elements.{element}
 use Rattle.run_command.proofs.Zipped.{zip_at, zip_each, zip_length, zip_on, zip_same}
 

@@ -2,39 +2,31 @@
 use Rattle.std.proofs.Common.{◌≡◌, ◌+◌, ◌-◌, ◌<◌, ℕ, List, [], ◌∷◌, All, Some, Result, Ok, Err, String, arith, subst, min, length, ◌∙◌}
 use Rattle.std.specs.Prelude.{◌^◌, IfErr, slice_get, true}
 use Rattle.std.specs.declared.alloc.Global.{Global}
-use Rattle.tag_cell.specs.Told.{ToldCell as Cell}
+use Rattle.tag_cell.specs.{ToldCell as Cell, TagHistory}
 use Rattle.plant_status.specs.declared.status.Status.{Status}
 use Rattle.plant_status.specs.declared.status.Status.TheVariants.{DeviceFault}
-use Rattle.disk_model.specs.Traces.{Device}
+use Rattle.disk_model.specs.{Device}
 use Rattle.plant_status.specs.declared.unit.Unit.{Unit as PlantUnit}
 use Rattle.session_audit.proofs.Walking.{at_place}
-use Rattle.group_book.specs.Told.{ToldBook as Book}
+use Rattle.group_book.specs.{ToldBook as Book, SaveNo}
 use Rattle.group_book.specs.declared.refusal.RefreshNo.TheVariants as refresh
-use Rattle.group_book.specs.declared.refusal.SaveNo.{SaveNo}
 use Rattle.group_book.specs.declared.refusal.SaveNo.TheVariants as save
-use Rattle.trend_num.specs.declared.archive.Rec.{Rec}
-use Rattle.session_audit.specs.Refreshing.{durable_lists}
-use Rattle.session_audit.specs.BookRefusals.{IsBookRefusal, IsSaveCause, OfRefresh, OfSave, save_status}
+use Rattle.trend_num.specs.{Rec, TagDef}
+use Rattle.session_audit.specs.{durable_lists, IsBookRefusal, IsSaveCause, OfRefresh, OfSave, save_status, IsCommittedCell, IsSo, OfBroken, OfFault, OfLimit, OfRoom}
 use Rattle.plant_store.specs.CellClosings.{HasRisen, AreHistoriesOf}
 use Rattle.plant_store.specs.Groups.{DeviceTraces}
-use Rattle.plant_store.specs.Closings.{CountsClosed}
-use Rattle.session_report.specs.declared.session.Session.{Session}
-use Rattle.tag_base.specs.declared.definition.Base.{Base}
-use Rattle.run_command.specs.declared.work.Given.{Given}
+use Rattle.plant_store.specs.{CountsClosed, AreCellsOpened}
+use Rattle.session_report.specs.{Session}
+use Rattle.tag_base.specs.{Base}
+use Rattle.run_command.specs.{Given, AreStepsMade, IsFaultCounted}
 use Rattle.run_command.specs.Refusals.{IsMakingRefusal, IsRefused, OfAsk, OfCommit, OfFinding, OfGroup, OfMaking, OfMemory, OfPull, OfRefresh as OfRefreshing, OfRest, OfRowAsk, OfStop, OfTag, OfTake, OfTaking, OfTurns, OfWant}
 use Rattle.run_command.specs.Runs.{AreUnitsOpen, IsContinued, IsContinuedGroup, IsOver, IsUndone, OfNone, OfSettling}
-use Rattle.run_command.specs.Steps.{AreStepsMade}
 use Rattle.run_command.proofs.Zipped.{zip_at, zip_length}
 use Rattle.std.specs.List.{AllZip}
 use Rattle.std.proofs.lemmas.List.Elements.{All-cons, All-head, All-tail}
-use Rattle.trend_num.specs.declared.tag_def.TagDef.{TagDef}
-use Rattle.tag_cell.specs.declared.history.TagHistory.{TagHistory}
-use Rattle.plant_store.specs.CellOpenings.{AreCellsOpened}
-use Rattle.run_command.specs.Headline.{IsFaultCounted}
 use Rattle.plant_status.proofs.Elements.{element}
-use Rattle.session_audit.specs.CellRefusals.{IsCommittedCell, IsSo, OfBroken, OfFault, OfLimit, OfRoom}
 use Rattle.session_audit.specs.CellRefusals as no_memory
-use Rattle.collector_pool.specs.declared.note.WorkerNote.{WorkerNote}
+use Rattle.collector_pool.specs.{WorkerNote}
 
 -- what is counted once more is not zero
 some_count : (n m : ℕ) → m ≡ min (n + 1) (2 ^ 64 - 1) → 0 < m

@@ -3,15 +3,13 @@ use Rattle.std.proofs.Common.{◌≡◌, ◌≤◌, ℕ, zero, suc, List, [], �
 use Rattle.std.proofs.lemmas.List.Elements.{All-from_recursion}
 use Rattle.trend_num.specs.declared.measure.Measure.TheVariants.{Avg, High, Low}
 use Rattle.calc_parser.specs.declared.tree.Op.TheVariants as op
-use Rattle.calc_parser.specs.Formulas.{IsFormula, deepest}
-use Rattle.calc_parser.specs.Grammar.{measured, more_terms, one_factor, one_term, plain}
+use Rattle.calc_parser.specs.{IsFormula, deepest, measured, more_terms, one_factor, one_term, plain}
 use Rattle.calc_parser.specs.Tree.{Tree, tree_of, two, window}
 use Rattle.std.proofs.lemmas.Fmt.{decimal_digit}
-use Rattle.calc_check.specs.declared.definition.CalcDef.{CalcDef}
-use Rattle.calc_check.specs.declared.refusal.CheckNo.{CheckNo}
+use Rattle.calc_check.specs.{CalcDef, CheckNo}
 use Rattle.calc_check.specs.declared.refusal.CheckNo.TheVariants as check_no
 use Rattle.calc_check.specs.Group.{Calculation, Group, IsToldOf, calculation, fault_of, group_of, is_among}
-use Rattle.run_command.specs.DrillPlant.{drill_names}
+use Rattle.run_command.specs.{drill_names}
 
 -- the trees of the mean and of the spread
 abbrev pub mean_tree : Tree

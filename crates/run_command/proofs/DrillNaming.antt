@@ -6,8 +6,8 @@ use Rattle.std.proofs.lemmas.Bool.Decides.{nat_tests}
 use Rattle.std.proofs.lemmas.Fmt.{decimal_by_steps, decimal_injective, length-decimal-le}
 use Rattle.std.proofs.lemmas.List.Folds.{list_all-append}
 use Rattle.std.proofs.lemmas.List.FromFn.{get_or-map-range_with_len, length-map-range_with_len}
-use Rattle.trend_num.specs.Names.{IsName, is_name_byte}
-use Rattle.run_command.specs.DrillPlant.{drill_tag, drill_tags}
+use Rattle.trend_num.specs.{IsName, is_name_byte}
+use Rattle.run_command.specs.{drill_tag, drill_tags}
 
 -- a digit may occur in a name
 digit_spelled : (n : ℕ) → n < 10 → is_name_byte (48 + n) ≡ true

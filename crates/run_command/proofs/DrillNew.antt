@@ -1,25 +1,20 @@
 -- What is opened over devices that hold nothing.
 use Rattle.std.proofs.Common.{◌≡◌, ℕ, List, [], ◌∷◌, inl, inr, refl, arith, length, replicate, get_or}
 use Rattle.std.specs.List.{AllZip}
-use Rattle.trend_num.specs.declared.tag_def.TagDef.{TagDef}
-use Rattle.trend_num.specs.declared.archive.Rec.{Rec}
-use Rattle.trend_num.specs.declared.value.CalcValue.{CalcValue}
-use Rattle.trend_model.specs.History.{Origin}
+use Rattle.trend_num.specs.{TagDef, Rec, CalcValue}
+use Rattle.trend_model.specs.{Origin}
 use Rattle.trend_model.specs.State.{Stands, State, nothing_taken}
 use Rattle.trend_model.proofs.StateLaw.{nothing_stands}
-use Rattle.crash_recovery.specs.TagImages.{ImageStands, StandsOpened}
-use Rattle.group_layout.specs.Images.{ByBlocks, ByNothing, StandsFor}
-use Rattle.tag_base.specs.declared.definition.Base.{Base}
-use Rattle.tag_base.specs.declared.definition.GroupDef.{GroupDef}
-use Rattle.tag_cell.specs.declared.history.TagHistory.{TagHistory}
-use Rattle.tag_cell.specs.Tapes.{opened}
+use Rattle.crash_recovery.specs.{ImageStands, StandsOpened}
+use Rattle.group_layout.specs.{ByBlocks, ByNothing, StandsFor}
+use Rattle.tag_base.specs.{Base, GroupDef}
+use Rattle.tag_cell.specs.{TagHistory, opened}
 use Rattle.plant_store.specs.Tags.{tag_trace_of}
 use Rattle.plant_store.specs.Groups.{group_parts_of, group_definition_text, group_trace_at}
-use Rattle.group_book.specs.declared.history.GroupHistory.{GroupHistory}
-use Rattle.calc_refresh.specs.Lists.{lists_of}
-use Rattle.session_report.specs.declared.session.Session.{Session}
-use Rattle.run_command.specs.Units.{AreUnitsOpened, IsGroupOpened, IsTagOpened}
-use Rattle.run_command.specs.Drills.{AreNew, IsGroupNew, IsTagNew, fresh_devices}
+use Rattle.group_book.specs.{GroupHistory}
+use Rattle.calc_refresh.specs.{lists_of}
+use Rattle.session_report.specs.{Session}
+use Rattle.run_command.specs.{AreUnitsOpened, IsGroupOpened, IsTagOpened, AreNew, IsGroupNew, IsTagNew, fresh_devices}
 
 -- the origin of a tag that was made so
 abbrev pub origin_of : TagDef → Origin

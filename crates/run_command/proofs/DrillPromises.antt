@@ -3,21 +3,16 @@ use Rattle.std.proofs.Common.{◌≡◌, ◌∙◌, inl, inr, ◌+◌, ◌/◌, 
 use Rattle.std.specs.Prelude.{⊤}
 use Rattle.plant_status.specs.declared.status.Status.{Status}
 use Rattle.plant_store.specs.Groups.{DeviceTraces}
-use Rattle.tag_base.specs.declared.definition.Base.{Base}
-use Rattle.value_rows.specs.declared.raw.RawRow.{RawRow}
+use Rattle.tag_base.specs.{Base}
+use Rattle.value_rows.specs.{RawRow}
 use Rattle.session_audit.specs.Agendas.{phase_item}
-use Rattle.session_audit.specs.FirstPulls.{IsFirstPullMismatch}
-use Rattle.session_report.specs.declared.session.Session.{Session}
-use Rattle.run_command.specs.declared.work.Given.{Given}
-use Rattle.run_command.specs.Copies.{AreCopied, AsItCame, AsUncopied, IsChecked, MayBeUncopied}
-use Rattle.run_command.specs.DrillPhases.{IsUndoneOfBoth, OfFirst, OfFirstPull, OfReport, OfSecond}
-use Rattle.run_command.specs.DrillRows.{drill_rows_of}
-use Rattle.run_command.specs.Drills.{InFirst, InPull, InReport, InSecond, IsDrillBase, IsDrillCause, IsDrilled, IsPhaseCause, IsRunInPhases, drill_status, fresh_devices, memory_device}
+use Rattle.session_audit.specs.{IsFirstPullMismatch}
+use Rattle.session_report.specs.{Session}
+use Rattle.run_command.specs.{Given, AreCopied, AsItCame, AsUncopied, IsChecked, MayBeUncopied, IsUndoneOfBoth, OfFirst, OfFirstPull, OfReport, OfSecond, drill_rows_of, InFirst, InPull, InReport, InSecond, IsDrillBase, IsDrillCause}
+use Rattle.run_command.specs.{IsDrilled, IsPhaseCause, IsRunInPhases, drill_status, fresh_devices, memory_device, IsDoneSo, AtEachGroup, turns_in}
 use Rattle.run_command.specs.Runs.{IsWorkIn}
 use Rattle.plant_files.specs.PlanRows.{IsGoodBase}
-use Rattle.run_command.specs.Headline.{IsDoneSo}
 use Rattle.run_command.specs.Refusals.{IsOpening}
-use Rattle.run_command.specs.Units.{AtEachGroup, turns_in}
 use Rattle.run_command.proofs.Causes.{refusal_cause}
 use Rattle.run_command.proofs.Checks.{copied_so, opening_reported, reported}
 use Rattle.run_command.proofs.Continued.{groups_still, still}

@@ -1,21 +1,18 @@
 -- The first pulls of a drill: what cells show, their histories show.
 use Rattle.std.proofs.Common.{◌≡◌, ◌∙◌, ℕ, ◌<◌, List, [], Result, Ok, Err, OnOk, IfErr, arith, ap, ap₂, length, get_or, refl, sym, subst}
 use Rattle.std.proofs.lemmas.Option.{slice_get_within}
-use Rattle.disk_model.specs.Traces.{Device}
+use Rattle.disk_model.specs.{Device}
 use Rattle.plant_status.proofs.Elements.{element}
 use Rattle.plant_status.specs.declared.status.Status.{Status}
 use Rattle.plant_store.specs.CellClosings.{IsHistoryOfCell}
 use Rattle.plant_store.specs.Groups.{DeviceTraces}
-use Rattle.tag_base.specs.declared.definition.Base.{Base}
-use Rattle.tag_cell.specs.declared.history.TagHistory.{TagHistory}
-use Rattle.tag_cell.specs.Told.{ToldCell as Cell}
-use Rattle.group_book.specs.Told.{ToldBook as Book}
-use Rattle.value_rows.specs.declared.raw.RawRow.{RawRow}
-use Rattle.session_audit.specs.CellRefusals.{tag_rows, takes_mismatch}
-use Rattle.session_audit.specs.FirstPulls.{HaveFirstPulls, IsFirstPullMismatch, takes_at_pull}
-use Rattle.session_report.specs.declared.session.Session.{Session}
-use Rattle.run_command.specs.declared.work.Given.{Given}
-use Rattle.run_command.specs.Drills.{ArePhasesApart, IsPulledElsewhere}
+use Rattle.tag_base.specs.{Base}
+use Rattle.tag_cell.specs.{TagHistory, ToldCell as Cell}
+use Rattle.group_book.specs.{ToldBook as Book}
+use Rattle.value_rows.specs.{RawRow}
+use Rattle.session_audit.specs.{tag_rows, takes_mismatch, HaveFirstPulls, IsFirstPullMismatch, takes_at_pull}
+use Rattle.session_report.specs.{Session}
+use Rattle.run_command.specs.{Given, ArePhasesApart, IsPulledElsewhere}
 use Rattle.run_command.specs.Runs.{IsOver, IsWorkIn}
 use Rattle.run_command.proofs.Zipped.{zip_at, zip_length, zip_right}
 

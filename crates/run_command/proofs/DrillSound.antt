@@ -5,13 +5,10 @@ use Rattle.std.proofs.lemmas.List.{length-drop, length-map}
 use Rattle.std.proofs.lemmas.List.Elements.{All-map}
 use Rattle.std.proofs.lemmas.List.FromFn.{get_or-range_with_len, length-map-range_with_len, length-range_with_len}
 use Rattle.calc_check.specs.Group.{Calculation}
-use Rattle.tag_base.specs.declared.definition.GroupDef.{GroupDef}
-use Rattle.tag_base.specs.Groups.{CalcForm, Define, IsSoundGroup}
-use Rattle.trend_num.specs.declared.point.Point.{Point}
-use Rattle.trend_num.specs.Ranges.{InRange, TuningInRange}
-use Rattle.trend_report.specs.Drill.{drill_points, event, signal_at}
-use Rattle.run_command.specs.DrillPlant.{drill_calcs, drill_names, drill_tag, drill_tags, drill_tuning, IsDrillGroup}
-use Rattle.run_command.specs.DrillRows.{drill_file, row_of}
+use Rattle.tag_base.specs.{GroupDef, CalcForm, Define, IsSoundGroup}
+use Rattle.trend_num.specs.{Point, InRange, TuningInRange}
+use Rattle.trend_report.specs.{drill_points, event, signal_at}
+use Rattle.run_command.specs.{drill_calcs, drill_names, drill_tag, drill_tags, drill_tuning, IsDrillGroup, drill_file, row_of}
 use Rattle.run_command.proofs.DrillNaming.{as_many_tags}
 
 -- the tuning is in range, so each tag's is

@@ -2,26 +2,21 @@
 use Rattle.std.proofs.Common.{◌≡◌, ◌⊎◌, inl, inr, ◌≤◌, ℕ, List, false, Result, Ok, Err, OnOk, IfErr, String, Global, arith, ap, length, refl, sym, subst}
 use Rattle.std.specs.Result.{is_err}
 use Rattle.plant_status.specs.declared.status.Status.{Status}
-use Rattle.disk_model.specs.Traces.{Device}
+use Rattle.disk_model.specs.{Device}
 use Rattle.plant_status.specs.declared.unit.Unit.{Unit as PlantUnit}
 use Rattle.plant_status.specs.declared.status.Status.TheVariants.{DeviceFault}
-use Rattle.tag_base.specs.declared.definition.Base.{Base}
-use Rattle.tag_cell.specs.Told.{ToldCell as Cell}
-use Rattle.group_book.specs.Told.{ToldBook as Book}
+use Rattle.tag_base.specs.{Base}
+use Rattle.tag_cell.specs.{ToldCell as Cell}
+use Rattle.group_book.specs.{ToldBook as Book}
 use Rattle.plant_store.specs.Groups.{DeviceTraces}
-use Rattle.collector_pool.specs.declared.note.WorkerNote.{WorkerNote}
+use Rattle.collector_pool.specs.{WorkerNote, worker_count}
 use Rattle.collector_pool.specs.declared.work.Work.{Work}
-use Rattle.collector_pool.specs.Work.{worker_count}
-use Rattle.session_audit.specs.FirstPulls.{HaveFirstPulls}
-use Rattle.session_report.specs.declared.session.Session.{Session}
-use Rattle.run_command.specs.declared.work.Given.{Given}
-use Rattle.run_command.specs.Copies.{IsChecked}
+use Rattle.session_audit.specs.{HaveFirstPulls}
+use Rattle.session_report.specs.{Session}
+use Rattle.run_command.specs.{Given, IsChecked, AreBegun, IsRunInPhases, drill_answer, drill_status, AreAllOrNone, AreNotesOfAllBoth, AreNotesOfBoth, IsUndoneOfBoth, OfReport}
 use Rattle.run_command.specs.Refusals.{AdmitsForeign, IsOpening, MayBeForeign}
-use Rattle.run_command.specs.Steps.{AreBegun}
 use Rattle.run_command.specs.Runs.{IsSessionHeld, IsReported}
 use Rattle.run_command.specs.Sessions.{AreNotes, OfAll, OfNone}
-use Rattle.run_command.specs.Drills.{IsRunInPhases, drill_answer, drill_status}
-use Rattle.run_command.specs.DrillPhases.{AreAllOrNone, AreNotesOfAllBoth, AreNotesOfBoth, IsUndoneOfBoth, OfReport}
 use Rattle.run_command.proofs.Checks.{memory_checked}
 
 -- what is so where a call succeeds

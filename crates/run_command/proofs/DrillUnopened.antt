@@ -1,35 +1,26 @@
 -- Over devices that hold nothing a plant is opened, but for want of memory and for faults.
 use Rattle.std.proofs.Common.{◌≡◌, ◌∙◌, ◌≤◌, ◌+◌, ◌-◌, ℕ, zero, suc, List, [], ◌∷◌, Option, None, Some, inl, inr, refl, ap, arith, length, replicate, take, fold, slice_index, div-le_self}
-use Rattle.trend_num.specs.declared.archive.Rec.{Rec}
-use Rattle.trend_num.specs.declared.archive.Summary.{Summary}
+use Rattle.trend_num.specs.{Rec, Summary, TagDef}
 use Rattle.trend_num.specs.declared.refusal.What.TheVariants.{FileBytes, TextBytes, Rows, Tags, Collectors, Readers, Queries, Groups, Calcs, Records, StoreRecords, Copies, Cells}
-use Rattle.trend_num.specs.declared.tag_def.TagDef.{TagDef}
 use Rattle.trend_model.specs.State.{State}
 use Rattle.tag_core.specs.Core.{Core}
-use Rattle.disk_model.specs.Gates.{IsOpen}
-use Rattle.device_layout.specs.Damages.{IsTagDamage, EndsShort, BadHeader, BadLayout, BadSummary, BadLog, BadParts, BadQueue, BadValue}
-use Rattle.device_layout.specs.Readings.{IsFull}
-use Rattle.device_layout.specs.Recovery.{IsStored, Recovers}
-use Rattle.sheet_law.specs.declared.grid.Grid.{Grid}
-use Rattle.sheet_law.specs.Windows.{complete_windows, windows_before}
-use Rattle.calc_refresh.specs.Refreshed.{shape_fault}
-use Rattle.calc_refresh.specs.Sheet.{grid_of}
-use Rattle.group_layout.specs.Images.{IsGroupDamage, BadHead, BadBlock, BadRows}
-use Rattle.group_book.specs.Openings.{SavesAhead, SavesShape}
-use Rattle.group_book.specs.Tapes.{cut}
-use Rattle.calc_refresh.specs.declared.definition.GroupDefParts.{GroupDefParts}
+use Rattle.disk_model.specs.{IsOpen}
+use Rattle.device_layout.specs.{IsTagDamage, EndsShort, BadHeader, BadLayout, BadSummary, BadLog, BadParts, BadQueue, BadValue, IsFull, IsStored, Recovers}
+use Rattle.sheet_law.specs.{Grid, complete_windows, windows_before}
+use Rattle.calc_refresh.specs.{shape_fault, grid_of, GroupDefParts}
+use Rattle.group_layout.specs.{IsGroupDamage, BadHead, BadBlock, BadRows}
+use Rattle.group_book.specs.{SavesAhead, SavesShape, cut}
 use Rattle.plant_status.specs.declared.status.Status.{Status}
 use Rattle.plant_status.specs.declared.status.Status.TheVariants.{Done, BadWords, BadText, BadRow, ReadFault, WriteFault, DeviceFault, Damaged, OtherTag, Limit, Mismatch, Halted, WantOfMemory, OtherPlant, BadName}
 use Rattle.plant_status.specs.declared.unit.Unit.TheVariants as unit
-use Rattle.tag_base.specs.declared.definition.Base.{Base}
-use Rattle.tag_base.specs.declared.definition.GroupDef.{GroupDef}
+use Rattle.tag_base.specs.{Base, GroupDef}
 use Rattle.plant_store.specs.TagRefusals as tags
 use Rattle.plant_store.specs.Tags.{AreTagsOpened, IsOpened, tag_records_in, tag_trace_of}
 use Rattle.plant_store.specs.Groups.{DeviceTraces, group_definition_text, group_parts_of}
 use Rattle.plant_store.specs.BookRefusals as groups
-use Rattle.plant_store.specs.Openings.{IsPlantRefusal, OfGroups, OfTags}
+use Rattle.plant_store.specs.{IsPlantRefusal, OfGroups, OfTags}
 use Rattle.run_command.specs.Runs as runs
-use Rattle.run_command.specs.Drills.{IsDrillUnopened, drill_status, fresh_devices}
+use Rattle.run_command.specs.{IsDrillUnopened, drill_status, fresh_devices}
 use Rattle.run_command.proofs.DrillNew.{empty_stands, opened_nothing, origin_of, saved_nothing}
 
 -- ---- tags

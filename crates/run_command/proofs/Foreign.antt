@@ -1,25 +1,16 @@
 -- Entries of no file, and after which refusals a tape may have one.
 use Rattle.std.proofs.Common.{◌≡◌, ℕ, List, length, refl, subst, sym}
-use Rattle.calc_refresh.specs.Lists.{lists_of}
-use Rattle.plant_status.specs.declared.mismatch.Seen.{Seen}
+use Rattle.calc_refresh.specs.{lists_of}
+use Rattle.plant_status.specs.{Seen, Unit}
 use Rattle.session_audit.specs.Agendas.{ask_item, phase_item, row_item}
-use Rattle.session_audit.specs.Books.{book_tape}
-use Rattle.session_audit.specs.Cells.{cell_tape}
-use Rattle.session_audit.specs.GroupTapes.{row_ask_of}
-use Rattle.session_audit.specs.Tapes.{ask_of, take_of}
-use Rattle.session_audit.specs.Workers.{AreOver}
+use Rattle.session_audit.specs.{book_tape, cell_tape, row_ask_of, ask_of, take_of, AreOver, IsAskMismatch, IsMismatchAt, IsRowAskMismatch, IsTakeMismatch, Reached, IsBookAbove, IsTurnsMismatch}
 use Rattle.plant_status.specs.declared.mismatch.Place.TheVariants as place
 use Rattle.plant_status.specs.declared.status.Status.{Status}
-use Rattle.plant_status.specs.declared.unit.Unit.{Unit}
 use Rattle.plant_status.specs.declared.status.Status.TheVariants.{Done, BadWords, BadText, BadRow, ReadFault, WriteFault, DeviceFault, Damaged, OtherTag, Limit, Mismatch, Halted, WantOfMemory, OtherPlant, BadName}
-use Rattle.session_audit.specs.Finding.{IsAskMismatch, IsMismatchAt, IsRowAskMismatch, IsTakeMismatch}
-use Rattle.session_audit.specs.Found.{Reached}
-use Rattle.session_audit.specs.GroupTurns.{IsBookAbove, IsTurnsMismatch}
-use Rattle.tag_cell.specs.Told.{ToldCell as Cell}
-use Rattle.group_book.specs.Told.{ToldBook as Book}
-use Rattle.run_command.specs.declared.work.Given.{Given}
+use Rattle.tag_cell.specs.{ToldCell as Cell}
+use Rattle.group_book.specs.{ToldBook as Book}
+use Rattle.run_command.specs.{Given, AreCellAsksBegun, AreBegun, AreCellTakesBegun}
 use Rattle.run_command.specs.Refusals.{IsFindingRefusal, IsOpening, MayBeForeign, OfAsk, OfRowAsk, OfTake, OfTurns}
-use Rattle.run_command.specs.Steps.{AreCellAsksBegun, AreBegun, AreCellTakesBegun}
 
 -- a changed opening, and the status that reports it
 pub opening_is : (s : Status) → IsOpening s → (unit : Unit) × (kept : Seen) × (told : Seen) × (s ≡ Mismatch (place.Opening unit) kept told)

@@ -3,19 +3,16 @@ use Rattle.std.proofs.Common.{◌≡◌, ◌∙◌, ◌<◌, ◌++◌, ◌∷◌
 use Rattle.std.specs.Prelude.{IfSome}
 use Rattle.std.specs.declared.alloc.Global.{Global}
 use Rattle.std.proofs.lemmas.List.{get_or-map, length-map}
-use Rattle.disk_model.specs.Traces.{Trace, Device, moment}
-use Rattle.group_book.specs.declared.history.GroupHistory.{GroupHistory}
-use Rattle.branded_disk.specs.Pasts.{IsWholePast, Past, past_of}
-use Rattle.calc_refresh.specs.declared.definition.GroupDefParts.{GroupDefParts}
-use Rattle.group_book.specs.declared.history.GroupOpening.{GroupOpening}
-use Rattle.group_book.specs.Openings.{BookBeganWell, IsBookOpenedWell}
-use Rattle.group_book.specs.Told.{IsBookHistory, ToldBook as Book, device_name_of, trace_of, moment_of, faults_of}
-use Rattle.tag_base.specs.declared.definition.GroupDef.{GroupDef}
+use Rattle.disk_model.specs.{Trace, Device, moment}
+use Rattle.group_book.specs.{GroupHistory, GroupOpening, BookBeganWell, IsBookOpenedWell, IsBookHistory, ToldBook as Book, device_name_of, trace_of, moment_of, faults_of}
+use Rattle.branded_disk.specs.{IsWholePast, Past, past_of}
+use Rattle.calc_refresh.specs.{GroupDefParts}
+use Rattle.tag_base.specs.{GroupDef}
 use Rattle.plant_store.specs.BookEndings.{AreGivenBack, AreHistoriesOf}
 use Rattle.plant_store.specs.Groups.{AreNamesOf, DeviceTraces, device_name, group_definition_text}
 use Rattle.plant_store.proofs.BookCauses.{back_is}
 use Rattle.plant_store.proofs.DeviceNames.{text_names}
-use Rattle.trend_num.specs.Names.{IsName}
+use Rattle.trend_num.specs.{IsName}
 use Rattle.plant_status.proofs.Elements.{element}
 use Rattle.run_command.specs.Runs.{AreGroupHistoriesAt}
 

@@ -5,81 +5,46 @@ use Rattle.std.specs.List.{AllZip, fold, sum_by}
 use Rattle.std.specs.declared.alloc.Global.{Global}
 use Rattle.std.proofs.lemmas.List.{ext_get_or, get_or-map, length-map, length_push, take_all}
 use Rattle.std.proofs.lemmas.List.Sums.{sum_by-cons}
-use Rattle.trend_num.specs.Limits.{most_stored}
-use Rattle.trend_num.specs.declared.point.Point.{Point}
-use Rattle.trend_num.specs.declared.archive.Rec.{Rec}
-use Rattle.trend_num.specs.declared.archive.Summary.{Summary}
-use Rattle.trend_num.specs.declared.tag_def.TagDef.{TagDef}
-use Rattle.trend_model.specs.History.{Raw}
+use Rattle.trend_num.specs.{most_stored, Point, Rec, Summary, TagDef}
+use Rattle.trend_model.specs.{Raw}
 use Rattle.trend_model.specs.State.{State, followed}
 use Rattle.trend_model.proofs.BoundLaw.{bounded}
-use Rattle.disk_model.specs.Calls.{Shows}
-use Rattle.disk_model.specs.Traces.{Trace, moment, Device}
-use Rattle.tag_cell.specs.declared.entry.Entry.{Entry}
+use Rattle.disk_model.specs.{Shows, Trace, moment, Device, LeftSince}
+use Rattle.tag_cell.specs.{Entry, TagHistory, TagOpening, FitAll, IsTapeReplayed, Shown, replayed, IsSafe, CellWalk, after_entry, opened, cell_start, taken, cell_walked, ToldCell as Cell, durable_records, takes_waiting, device_name}
 use Rattle.tag_cell.specs.declared.entry.Entry.TheVariants.{Take, Ask, Pull, Commit}
-use Rattle.tag_cell.specs.declared.history.TagHistory.{TagHistory}
-use Rattle.tag_cell.specs.declared.history.TagOpening.{TagOpening}
-use Rattle.tag_cell.specs.Replays.{FitAll, IsTapeReplayed, Shown, replayed}
-use Rattle.tag_cell.specs.Crashes.{IsSafe}
-use Rattle.disk_model.specs.Moments.{LeftSince}
-use Rattle.tag_cell.specs.Tapes.{CellWalk, after_entry, opened, cell_start, taken, cell_walked}
-use Rattle.tag_cell.specs.Told.{ToldCell as Cell, durable_records, takes_waiting}
 use Rattle.tag_cell.proofs.Entries.{points-end}
 use Rattle.tag_cell.proofs.Laws.{legal}
 use Rattle.calc_check.specs.Group.{Group}
-use Rattle.sheet_law.specs.Windows.{complete_windows}
-use Rattle.calc_refresh.specs.declared.definition.GroupDefParts.{GroupDefParts}
-use Rattle.calc_refresh.specs.Lists.{lists_of, total_length}
-use Rattle.calc_refresh.specs.Sheet.{grid_of}
+use Rattle.sheet_law.specs.{complete_windows}
+use Rattle.calc_refresh.specs.{GroupDefParts, lists_of, total_length, grid_of}
 use Rattle.calc_refresh.proofs.Applying.{limits_hold}
-use Rattle.group_book.specs.declared.history.GroupHistory.{GroupHistory}
-use Rattle.group_book.specs.declared.history.GroupOpening.{GroupOpening}
-use Rattle.group_book.specs.Openings.{StandsForGroup}
-use Rattle.group_book.specs.Tapes.{cut}
-use Rattle.group_book.specs.Told.{ToldBook as Book, versions_of}
-use Rattle.value_rows.specs.declared.asked.Query.{Query}
-use Rattle.value_rows.specs.declared.raw.RawRow.{RawRow}
+use Rattle.group_book.specs.{GroupHistory, GroupOpening, StandsForGroup, cut, ToldBook as Book, versions_of, lists_at}
+use Rattle.value_rows.specs.{Query, RawRow}
 use Rattle.plant_status.specs.declared.status.Status.{Status}
-use Rattle.session_audit.specs.declared.agenda.Item.{Item}
+use Rattle.session_audit.specs.{Item, IsFirstPart, tape_shows, ask_of, take_of, AreTapesBegun, AreTapesWhole, file_due, durable_in, IsCommittedCell, EndsInSave, IsRefreshedTo, durable_lists, durable_numbers, pulled as pulls_of, reached}
+use Rattle.session_audit.specs.{refreshes, row_ask_of, turns_for}
 use Rattle.session_audit.specs.declared.kind.Shown.{Shown as ShownBy}
 use Rattle.session_audit.specs.Agendas.{ask_item, phase_item, row_item, take_item}
-use Rattle.session_audit.specs.Found.{IsFirstPart, tape_shows}
-use Rattle.session_audit.specs.Tapes.{ask_of, take_of}
-use Rattle.session_audit.specs.Workers.{AreTapesBegun, AreTapesWhole, file_due}
-use Rattle.session_audit.specs.Durable.{durable_in}
-use Rattle.group_book.specs.InputLists.{lists_at}
-use Rattle.session_audit.specs.CellRefusals.{IsCommittedCell}
 use Rattle.session_audit.specs.Pulls.{ArePulled}
-use Rattle.session_audit.specs.Refreshing.{EndsInSave, IsRefreshedTo, durable_lists, durable_numbers}
-use Rattle.session_audit.specs.GroupTapes.{pulled as pulls_of, reached, refreshes, row_ask_of}
-use Rattle.session_audit.specs.GroupTurns.{turns_for}
 use Rattle.session_audit.proofs.DurableLaws.{all_durable, counted, pulls_durable}
-use Rattle.collector_pool.specs.declared.work.Refresh.{Refresh}
-use Rattle.tag_base.specs.declared.definition.Base.{Base}
-use Rattle.tag_base.specs.declared.definition.GroupDef.{GroupDef}
-use Rattle.tag_base.specs.declared.schedule.Refresher.{Refresher}
-use Rattle.archive_file.specs.TextHeads.{TextOpensAt}
-use Rattle.crash_recovery.specs.Opening.{OpensAt}
-use Rattle.group_layout.specs.Images.{IsUnsaved}
-use Rattle.tag_cell.specs.Devices.{device_name}
+use Rattle.collector_pool.specs.{Refresh}
+use Rattle.tag_base.specs.{Base, GroupDef, Refresher}
+use Rattle.archive_file.specs.{TextOpensAt}
+use Rattle.crash_recovery.specs.{OpensAt}
+use Rattle.group_layout.specs.{IsUnsaved}
 use Rattle.plant_store.specs.Tags.{IsOpened, tag_trace_of}
 use Rattle.plant_store.specs.CellClosings.{AreHistoriesAt, AreHistoriesOf, IsHistoryAt, IsHistoryOfCell}
-use Rattle.branded_disk.specs.Pasts.{told_of}
-use Rattle.plant_store.specs.CellNames.{device_names_of}
-use Rattle.plant_store.specs.CellOpenings.{AreCellsOpened, IsCellOpened, records_opened}
+use Rattle.branded_disk.specs.{told_of}
+use Rattle.plant_store.specs.{device_names_of, AreCellsOpened, IsCellOpened, records_opened, cell_records_in}
 use Rattle.plant_store.specs.Groups.{AreBooksOpened, DeviceTraces, IsBookOpened, group_parts_of, group_definition_text, group_trace_at, input_records_of}
-use Rattle.plant_store.specs.Openings.{cell_records_in}
 use Rattle.plant_files.specs.PlanRows.{IsGoodBase}
-use Rattle.session_report.specs.declared.session.Session.{Session}
-use Rattle.session_report.specs.Report.{report}
-use Rattle.run_command.specs.declared.work.Given.{Given}
-use Rattle.run_command.specs.Copies.{AsItCame, AsUncopied, IsChecked}
-use Rattle.run_command.specs.Headline.{CountsFaults, IsDoneSo, IsFaultCounted, IsMixed, IsUpToDate}
-use Rattle.run_command.specs.Units.{AreAsksBegun, AreGroupsSound, AreTakesBegun, AreUnitsOpened, IsBegun, HasMade, core_of, IsGroupOpened, IsAcknowledged, IsGroupRefreshed, IsOnTapes, IsRecorded, IsTagOpened, IsTagSound, tag_tape, grid, opening_records_of, tag_records_of, group_tape, turns_in}
+use Rattle.session_report.specs.{Session, report}
+use Rattle.run_command.specs.{Given, AsItCame, AsUncopied, IsChecked, CountsFaults, IsDoneSo, IsFaultCounted, IsMixed, IsUpToDate, AreAsksBegun, AreGroupsSound, AreTakesBegun, AreUnitsOpened, IsBegun, HasMade, core_of, IsGroupOpened}
+use Rattle.run_command.specs.{IsAcknowledged, IsGroupRefreshed, IsOnTapes, IsRecorded, IsTagOpened, IsTagSound, tag_tape, grid, opening_records_of, tag_records_of, group_tape, turns_in, AreCellAsksBegun, AreBegun, AreStepsMade}
+use Rattle.run_command.specs.{AreCellTakesBegun, AreTapesMade}
 use Rattle.run_command.specs.Refusals.{IsOfOpening}
 use Rattle.run_command.specs.Runs.{IsContinued, IsContinuedGroup, IsDone, IsRefusedSo, IsSessionHeld, IsUndone, IsOver, IsWorkIn}
 use Rattle.run_command.specs.Sessions.{planned_turn, turn_of}
-use Rattle.run_command.specs.Steps.{AreCellAsksBegun, AreBegun, AreStepsMade, AreCellTakesBegun, AreTapesMade}
 use Rattle.run_command.proofs.Zipped.{zip_at, zip_length}
 use Rattle.run_command.proofs.DeviceFaults.{faults_counted, none_counted}
 use Rattle.plant_status.proofs.Elements.{element}

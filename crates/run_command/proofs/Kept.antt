@@ -1,22 +1,12 @@
 -- Cells and books that keep what they were opened as, while entries are added to their tapes.
 use Rattle.std.proofs.Common.{◌∙◌, ◌<◌, List, All, ap, sym, subst, get_or}
-use Rattle.tag_cell.specs.declared.entry.Entry.{Entry}
-use Rattle.tag_cell.specs.Told.{ToldCell as Cell, takes_waiting}
-use Rattle.session_audit.specs.CellRefusals.{IsCommittedCell}
-use Rattle.session_audit.specs.Cells.{AreLonger}
-use Rattle.group_book.specs.Told.{ToldBook as Book}
-use Rattle.session_audit.specs.Each.{AreEach}
-use Rattle.session_audit.specs.Books.{IsAskedMore, IsRefreshedMore}
-use Rattle.session_audit.specs.Refreshing.{IsPulledMore}
+use Rattle.tag_cell.specs.{Entry, ToldCell as Cell, takes_waiting, TagOpening}
+use Rattle.session_audit.specs.{IsCommittedCell, AreLonger, AreEach, IsAskedMore, IsRefreshedMore, IsPulledMore, Kept, KeptGroup, IsCellAsKept}
+use Rattle.group_book.specs.{ToldBook as Book, GroupOpening}
 use Rattle.session_audit.proofs.Each.{each_trans}
-use Rattle.session_audit.specs.declared.cell_opening.Kept.{Kept}
-use Rattle.tag_cell.specs.declared.history.TagOpening.{TagOpening}
-use Rattle.group_book.specs.declared.history.GroupOpening.{GroupOpening}
-use Rattle.session_audit.specs.declared.book_opening.KeptGroup.{KeptGroup}
 use Rattle.session_audit.specs.BookOpenings.{IsSameOpening, IsBookAsKept}
 use Rattle.session_audit.specs.Openings.{AreAsKept}
-use Rattle.run_command.specs.Steps.{IsBookKept, IsCellKept}
-use Rattle.session_audit.specs.CellOpenings.{IsCellAsKept}
+use Rattle.run_command.specs.{IsBookKept, IsCellKept}
 
 -- what is related place by place is related so by what follows from it
 pub each_weaker : {C : Type 0} (R S : C → C → Type 0) → ((a b : C) → R a b → S a b) → (old new : List C) → AreEach R old new

@@ -1,30 +1,19 @@
 -- What the steps of a session ask of its work, its cells and its books.
 use Rattle.std.proofs.Common.{◌≡◌, ◌∙◌, ◌<◌, ◌^◌, ℕ, List, [], ◌∷◌, All, Vec, Option, arith, ap, sym, subst, length, get_or}
 use Rattle.std.specs.declared.alloc.Global.{Global}
-use Rattle.value_rows.specs.declared.asked.Query.{Query}
+use Rattle.value_rows.specs.{Query}
 use Rattle.value_rows.specs.declared.asked.Query.TheVariants.{Tag, Snap, Row}
-use Rattle.calc_refresh.specs.Lists.{lists_of}
-use Rattle.session_audit.specs.declared.agenda.Item.{Item}
+use Rattle.calc_refresh.specs.{lists_of}
+use Rattle.session_audit.specs.{Item, Reached, ask_of, take_of, AreOver, AreTapesFound, AreAllFound, IsKnownAsk, cell_tape, AreEach, IsKnownRowAsk, book_tape, AreInputs, KeptGroup, AreBooksRefreshed, refreshes, row_ask_of}
 use Rattle.session_audit.specs.Agendas.{ask_item, phase_item, row_item}
-use Rattle.session_audit.specs.Found.{Reached}
-use Rattle.session_audit.specs.Tapes.{ask_of, take_of}
 use Rattle.session_audit.proofs.Begun.{tapes_begun}
-use Rattle.session_audit.specs.Workers.{AreOver, AreTapesFound}
-use Rattle.collector_pool.specs.Work.{IsQueryOf}
-use Rattle.session_audit.specs.Cells.{AreAllFound, IsKnownAsk, cell_tape}
-use Rattle.tag_cell.specs.Told.{ToldCell as Cell}
-use Rattle.group_book.specs.Told.{ToldBook as Book}
-use Rattle.session_audit.specs.Each.{AreEach}
-use Rattle.session_audit.specs.Books.{IsKnownRowAsk, book_tape}
-use Rattle.session_audit.specs.Inputs.{AreInputs}
-use Rattle.session_audit.specs.declared.book_opening.KeptGroup.{KeptGroup}
+use Rattle.collector_pool.specs.{IsQueryOf}
+use Rattle.tag_cell.specs.{ToldCell as Cell}
+use Rattle.group_book.specs.{ToldBook as Book}
 use Rattle.session_audit.specs.Openings.{AreAsKept}
 use Rattle.session_audit.specs.BookOpenings.{IsBookAsKept}
-use Rattle.trend_num.specs.declared.archive.Rec.{Rec}
-use Rattle.session_audit.specs.Refreshing.{AreBooksRefreshed}
-use Rattle.session_audit.specs.GroupTapes.{refreshes, row_ask_of}
-use Rattle.run_command.specs.declared.work.Given.{Given}
-use Rattle.run_command.specs.Steps.{AreCellAsksBegun, AreBegun, AreGivenFor, AreInputsFor, AreCellTakesBegun, IsBookKept}
+use Rattle.trend_num.specs.{Rec}
+use Rattle.run_command.specs.{Given, AreCellAsksBegun, AreBegun, AreGivenFor, AreInputsFor, AreCellTakesBegun, IsBookKept}
 
 -- a query of a tag or a group is one of a tag, if it asks a tag
 known_ask : (tags groups : ℕ) (q : Query) → IsQueryOf tags groups q → IsKnownAsk tags q

@@ -1,10 +1,9 @@
 -- A refusal of an opening reports that it is one.
 use Rattle.std.proofs.Common.{◌≡◌, ℕ, List, ap, subst, sym}
 use Rattle.plant_status.specs.declared.mismatch.Place.TheVariants as place
-use Rattle.plant_status.specs.declared.mismatch.Seen.{Seen}
+use Rattle.plant_status.specs.{Seen, Unit}
 use Rattle.plant_status.specs.declared.status.Status.{Status}
 use Rattle.plant_status.specs.declared.status.Status.TheVariants.{Done, BadWords, BadText, BadRow, ReadFault, WriteFault, DeviceFault, Damaged, OtherTag, Limit, Mismatch, Halted, WantOfMemory, OtherPlant, BadName}
-use Rattle.plant_status.specs.declared.unit.Unit.{Unit}
 use Rattle.session_audit.specs.Openings.{IsMismatchOf, IsOpeningMismatch}
 use Rattle.run_command.specs.Refusals.{IsOpening}
 

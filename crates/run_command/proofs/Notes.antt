@@ -6,12 +6,11 @@ use Rattle.std.proofs.lemmas.List.Elements.{All-append}
 use Rattle.plant_status.specs.declared.status.Status.{Status}
 use Rattle.collector_pool.specs.declared.note.Ending.TheVariants.{Halted, WantOfMemory as NoMemory}
 use Rattle.std.specs.declared.alloc.Global.{Global}
-use Rattle.trend_num.specs.declared.refusal.WantOfMemory.{WantOfMemory}
-use Rattle.collector_pool.specs.declared.note.WorkerNote.{WorkerNote}
+use Rattle.trend_num.specs.{WantOfMemory}
+use Rattle.collector_pool.specs.{WorkerNote, AreNotesOf, stops_with}
 use Rattle.collector_pool.specs.declared.work.Work.{Work}
-use Rattle.collector_pool.specs.Notes.{AreNotesOf, stops_with}
 use Rattle.run_command.specs.Refusals.{AdmitsForeign, notes_of}
-use Rattle.run_command.specs.Endings.{HaveAllEnded}
+use Rattle.run_command.specs.{HaveAllEnded}
 use Rattle.run_command.specs.Sessions.{AreNotes, AreNotesOfAll, OfAll, OfNone}
 
 pub notes_are : (w : Work) (before now : ℕ) (r : Result (Vec WorkerNote Global) WantOfMemory)

@@ -2,25 +2,19 @@
 use Rattle.std.proofs.Common.{◌≡◌, ◌<◌, ℕ, List, Result, Ok, Err, IfErr, String, string_bytes, arith}
 use Rattle.std.specs.Prelude.{◌^◌}
 use Rattle.std.specs.declared.alloc.Global.{Global}
-use Rattle.disk_model.specs.Traces.{Device}
+use Rattle.disk_model.specs.{Device}
 use Rattle.plant_status.specs.declared.status.Status.{Status}
 use Rattle.plant_files.specs.PlanRows.{IsGoodBase, IsPlanned}
-use Rattle.plant_files.specs.RowFiles.{ToldFiles}
+use Rattle.plant_files.specs.{ToldFiles}
 use Rattle.plant_store.specs.Groups.{DeviceTraces}
-use Rattle.tag_base.specs.declared.definition.Base.{Base}
-use Rattle.tag_base.specs.declared.schedule.Plan.{Plan}
-use Rattle.tag_base.specs.declared.schedule.Refresher.{Refresher}
-use Rattle.value_rows.specs.declared.asked.Query.{Query}
-use Rattle.value_rows.specs.declared.raw.RawRow.{RawRow}
+use Rattle.tag_base.specs.{Base, Plan, Refresher}
+use Rattle.value_rows.specs.{Query, RawRow}
 use Rattle.session_audit.specs.Agendas.{phase_item}
-use Rattle.session_report.specs.declared.session.Session.{Session}
-use Rattle.run_command.specs.declared.work.Given.{Given}
+use Rattle.session_report.specs.{Session}
+use Rattle.run_command.specs.{Given, AreCopied, MayBeUncopied, IsPromised, AreUnitsOpened, AtEachGroup, turns_in}
 use Rattle.run_command.specs.Causes.{IsSessionCause}
-use Rattle.run_command.specs.Copies.{AreCopied, MayBeUncopied}
-use Rattle.run_command.specs.Headline.{IsPromised}
 use Rattle.run_command.specs.Refusals.{IsOfOpening, IsOpening}
 use Rattle.run_command.specs.Runs.{IsRefusedSo, IsRun, IsSessionHeld, IsWorkIn}
-use Rattle.run_command.specs.Units.{AreUnitsOpened, AtEachGroup, turns_in}
 use Rattle.run_command.proofs.Checks.{copied_so, opening_reported, reported}
 use Rattle.run_command.proofs.DeviceFaults.{none_counted}
 use Rattle.run_command.proofs.Causes.{refusal_cause}

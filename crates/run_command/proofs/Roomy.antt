@@ -1,7 +1,7 @@
 -- Room on the tapes of a session's tags, at their opening.
 use Rattle.std.proofs.Common.{◌≡◌, ℕ, List, [], ◌∷◌, arith, map, subst}
-use Rattle.tag_cell.specs.Told.{ToldCell as Cell}
-use Rattle.run_command.specs.Rooms.{AreRoomy}
+use Rattle.tag_cell.specs.{ToldCell as Cell}
+use Rattle.run_command.specs.{AreRoomy}
 
 module _ {D : Type 0} where
   own_room : (cells : List (Cell D)) → AreRoomy (map (λ c. c.room) cells) cells

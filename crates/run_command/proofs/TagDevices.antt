@@ -1,8 +1,8 @@
 -- Tag histories, and the devices that are back under the tags' names.
 use Rattle.std.proofs.Common.{List, [], ◌∷◌, ℕ, Option, subst}
-use Rattle.disk_model.specs.Traces.{Trace}
-use Rattle.branded_disk.specs.Pasts.{IsWholePast, Past, told_of}
-use Rattle.tag_cell.specs.declared.history.TagHistory.{TagHistory}
+use Rattle.disk_model.specs.{Trace}
+use Rattle.branded_disk.specs.{IsWholePast, Past, told_of}
+use Rattle.tag_cell.specs.{TagHistory}
 use Rattle.plant_store.specs.CellClosings.{AreHistoriesAt, IsHistoryAt}
 use Rattle.plant_store.specs.Groups.{DeviceTraces}
 

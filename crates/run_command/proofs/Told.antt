@@ -3,22 +3,19 @@ use Rattle.std.proofs.Common.{◌≡◌, ◌<◌, ℕ, List, Option, None, Some,
 use Rattle.std.specs.Prelude.{◌^◌, IfSome}
 use Rattle.std.specs.List.{AllZip}
 use Rattle.std.specs.declared.alloc.Global.{Global}
-use Rattle.disk_model.specs.Traces.{Device}
+use Rattle.disk_model.specs.{Device}
 use Rattle.plant_status.specs.declared.status.Status.{Status}
-use Rattle.tag_base.specs.declared.definition.Base.{Base}
-use Rattle.calc_refresh.specs.Lists.{lists_of}
-use Rattle.tag_cell.specs.Told.{ToldCell as Cell}
-use Rattle.group_book.specs.Told.{ToldBook as Book}
+use Rattle.tag_base.specs.{Base}
+use Rattle.calc_refresh.specs.{lists_of}
+use Rattle.tag_cell.specs.{ToldCell as Cell}
+use Rattle.group_book.specs.{ToldBook as Book}
 use Rattle.session_audit.specs.Pulls.{ArePulled}
 use Rattle.plant_store.specs.Groups.{DeviceTraces}
-use Rattle.plant_store.specs.Closings.{CountsClosed}
-use Rattle.session_report.specs.declared.session.Session.{Session}
-use Rattle.run_command.specs.declared.work.Given.{Given}
-use Rattle.run_command.specs.declared.phase.EndedPhase.{EndedPhase}
-use Rattle.run_command.specs.Endings.{HaveAllEnded}
+use Rattle.plant_store.specs.{CountsClosed}
+use Rattle.session_report.specs.{Session}
+use Rattle.run_command.specs.{Given, EndedPhase, HaveAllEnded, AreStepsMade}
 use Rattle.run_command.specs.Refusals.{AdmitsForeign, IsOfOpening}
 use Rattle.run_command.specs.Runs.{IsContinued, IsContinuedGroup, IsDone, IsSessionHeld, AreUnitsOpen, IsOver, IsRefusedSo, IsReported, IsUndone, OfNone}
-use Rattle.run_command.specs.Steps.{AreStepsMade}
 use Rattle.run_command.proofs.Checks.{foreign_checked, memory_checked, opening_checked}
 
 -- what follows of what is there

@@ -4,25 +4,19 @@ use Rattle.std.specs.Prelude.{◌≢◌, IfSome, IsSomeAnd, length, slice_get}
 use Rattle.plant_status.specs.declared.status.Status.{Status}
 use Rattle.plant_status.specs.declared.status.Status.TheVariants.{BadWords, Done, WantOfMemory, WriteFault}
 use Rattle.plant_files.specs.PlanRows as plan
-use Rattle.plant_files.specs.RowFiles.{ToldFiles}
+use Rattle.plant_files.specs.{ToldFiles}
 use Rattle.plant_store.specs.BookRefusals as group
 use Rattle.plant_store.specs.Groups.{DeviceTraces}
-use Rattle.plant_store.specs.Openings.{IsPlantRefusal, OfGroups, OfTags}
-use Rattle.tag_base.specs.declared.definition.Base.{Base}
-use Rattle.value_rows.specs.declared.asked.Query.{Query}
-use Rattle.value_rows.specs.declared.raw.RawRow.{RawRow}
-use Rattle.collector_pool.specs.declared.note.WorkerNote.{WorkerNote}
+use Rattle.plant_store.specs.{IsPlantRefusal, OfGroups, OfTags}
+use Rattle.tag_base.specs.{Base}
+use Rattle.value_rows.specs.{Query, RawRow}
+use Rattle.collector_pool.specs.{WorkerNote}
 use Rattle.collector_pool.specs.declared.work.Work.{Work}
-use Rattle.session_audit.specs.declared.agenda.Item.{Item}
-use Rattle.session_audit.specs.CellRefusals.{tag_rows, takes_mismatch}
-use Rattle.session_audit.specs.Tapes.{take_of}
-use Rattle.session_audit.specs.Workers.{LacksRow}
-use Rattle.tag_cell.specs.declared.history.TagHistory.{TagHistory}
-use Rattle.tag_cell.specs.Tapes.{taken}
-use Rattle.session_report.specs.declared.session.Session.{Session}
+use Rattle.session_audit.specs.{Item, tag_rows, takes_mismatch, take_of, LacksRow}
+use Rattle.tag_cell.specs.{TagHistory, taken}
+use Rattle.session_report.specs.{Session}
 use Rattle.run_command.specs.Causes.{IsRefusalCause, IsSessionCause, OfRefusal, OfCopies, OfDevice, OfLimit, OfMemory, OfCommit, OfOpening, OfPull, OfRefresh, OfRoom, OfStep, OfStop, OfTake, OfTape}
-use Rattle.run_command.specs.Drills.{InFirst, InPull, InReport, InSecond, IsDrillCause, IsDrilled, IsPhaseCause, drill_status}
-use Rattle.run_command.specs.Headline.{IsPromised}
+use Rattle.run_command.specs.{InFirst, InPull, InReport, InSecond, IsDrillCause, IsDrilled, IsPhaseCause, drill_status, IsPromised}
 use Rattle.run_command.specs.Runs as runs
 use Rattle.run_command.proofs.DrillUndone.{kept_or_fault}
 

@@ -5,11 +5,11 @@ use Rattle.std.specs.declared.alloc.Global.{Global}
 use Rattle.plant_status.specs.declared.status.Status.{Status}
 use Rattle.plant_status.specs.declared.status.Status.TheVariants.{ReadFault}
 use Rattle.plant_files.specs.Reading.{faults_after, faults_told}
-use Rattle.tag_base.specs.declared.definition.Base.{Base}
+use Rattle.tag_base.specs.{Base}
 use Rattle.plant_store.specs.TagRefusals as tags
 use Rattle.plant_store.specs.Groups.{DeviceTraces}
 use Rattle.plant_store.specs.BookRefusals.{OfDamage, OfFault, OfMemory, OfVersion, OfWindows}
-use Rattle.plant_store.specs.Openings.{OfGroups, OfTags}
+use Rattle.plant_store.specs.{OfGroups, OfTags}
 use Rattle.run_command.specs.Runs.{IsNoReadFault, IsUnopened, OfPlant, OfWant}
 
 -- no refusal of devices is a read fault

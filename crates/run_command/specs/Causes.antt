@@ -1,45 +1,28 @@
 -- Why a session has no report. A cause names histories, notes of workers, files, and devices as they were before.
 use Rattle.std.specs.Prelude.{◌≡◌, ℕ, ◌+◌, ◌*◌, ◌<◌, ◌≤◌, List, IsSomeAnd, Option, Some, length, map, slice_get, slice_index, slice_index_or}
 use Rattle.std.specs.List.{AllZip, sum_by}
-use Rattle.trend_num.specs.Limits.{most_records, most_stored}
-use Rattle.trend_num.specs.declared.archive.Rec.{Rec}
+use Rattle.trend_num.specs.{most_records, most_stored, Rec}
 use Rattle.trend_num.specs.declared.refusal.What.TheVariants.{Cells, Copies, Records}
-use Rattle.calc_refresh.specs.Lists.{lists_of, total_length}
-use Rattle.calc_refresh.specs.Refreshed.{most_cells, most_copies}
-use Rattle.sheet_law.specs.Touched.{longer}
-use Rattle.sheet_law.specs.Windows.{complete_windows}
-use Rattle.tag_cell.specs.declared.history.TagHistory.{TagHistory}
-use Rattle.tag_cell.specs.Tapes.{taken}
-use Rattle.group_book.specs.declared.history.GroupHistory.{GroupHistory}
-use Rattle.group_book.specs.Tapes.{uncut}
+use Rattle.calc_refresh.specs.{lists_of, total_length, most_cells, most_copies}
+use Rattle.sheet_law.specs.{longer, complete_windows}
+use Rattle.tag_cell.specs.{TagHistory, taken}
+use Rattle.group_book.specs.{GroupHistory, uncut}
 use Rattle.plant_status.specs.declared.mismatch.Place.TheVariants.{Ask, Opening, RowAsk, Take, Turns, Version}
-use Rattle.plant_status.specs.declared.mismatch.Seen.{Seen}
+use Rattle.plant_status.specs.{Seen}
 use Rattle.plant_status.specs.declared.mismatch.Seen.TheVariants.{Number}
 use Rattle.plant_status.specs.declared.status.Status.{Status}
 use Rattle.plant_status.specs.declared.status.Status.TheVariants.{DeviceFault, Limit, Mismatch, WantOfMemory}
 use Rattle.plant_status.specs.declared.unit.Unit.TheVariants.{Group, Tag}
 use Rattle.plant_store.specs.Groups.{DeviceTraces, group_trace_at, input_records_of}
 use Rattle.plant_store.specs.Tags.{tag_trace_of}
-use Rattle.tag_base.specs.declared.definition.Base.{Base}
-use Rattle.tag_base.specs.declared.definition.GroupDef.{GroupDef}
-use Rattle.value_rows.specs.declared.asked.Query.{Query}
-use Rattle.value_rows.specs.declared.raw.RawRow.{RawRow}
-use Rattle.collector_pool.specs.declared.note.WorkerNote.{WorkerNote}
-use Rattle.session_audit.specs.declared.agenda.Item.{Item}
-use Rattle.session_audit.specs.declared.book_opening.KeptGroup.{KeptGroup}
-use Rattle.session_audit.specs.declared.cell_opening.Kept.{Kept}
-use Rattle.session_audit.specs.declared.kind.Shown.{Shown}
+use Rattle.tag_base.specs.{Base, GroupDef}
+use Rattle.value_rows.specs.{Query, RawRow}
+use Rattle.collector_pool.specs.{WorkerNote}
+use Rattle.session_audit.specs.{Item, KeptGroup, Kept, Shown, IsTagAsKept, IsTagDifference, tag_rows, takes_mismatch, IsDifference, IsFirstPart, tape_shows, refreshes, row_ask_of, IsAboveTurns, ask_of, take_of, LacksRow, file_due}
 use Rattle.session_audit.specs.Agendas.{ask_item, row_item}
 use Rattle.session_audit.specs.BookOpenings.{IsGroupAsKept, IsGroupDifference}
-use Rattle.session_audit.specs.CellOpenings.{IsTagAsKept, IsTagDifference}
-use Rattle.session_audit.specs.CellRefusals.{tag_rows, takes_mismatch}
-use Rattle.session_audit.specs.Found.{IsDifference, IsFirstPart, tape_shows}
-use Rattle.session_audit.specs.GroupTapes.{refreshes, row_ask_of}
-use Rattle.session_audit.specs.GroupTurns.{IsAboveTurns}
 use Rattle.session_audit.specs.Pulls.{IsInputApart, IsInputPulled}
-use Rattle.session_audit.specs.Tapes.{ask_of, take_of}
-use Rattle.session_audit.specs.Workers.{LacksRow, file_due}
-use Rattle.session_report.specs.declared.session.Session.{Session}
+use Rattle.session_report.specs.{Session}
 use Rattle.run_command.specs.Copies.{IsGroupUncopied, MayBeUncopied}
 use Rattle.run_command.specs.Endings.{HaveAllEnded, IsStop}
 use Rattle.run_command.specs.Units.{AreAsksBegun, AreTakesBegun, AtEachGroup, IsAcknowledged, IsBegun, IsGroupOpened, IsGroupRefreshed, IsOnTapes, IsRecorded, IsTagOpened, grid, group_tape, tag_records_of, tag_tape}

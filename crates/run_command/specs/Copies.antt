@@ -1,16 +1,15 @@
 -- The records that groups have of their inputs, compared with those of the tags.
 use Rattle.std.specs.Prelude.{◌≡◌, ℕ, ◌<◌, List, [], Some, length, slice_get, slice_index, slice_index_or, take, ⊤}
-use Rattle.trend_num.specs.declared.archive.Rec.{Rec}
-use Rattle.calc_refresh.specs.Lists.{lists_of}
-use Rattle.group_book.specs.declared.history.GroupHistory.{GroupHistory}
+use Rattle.trend_num.specs.{Rec}
+use Rattle.calc_refresh.specs.{lists_of}
+use Rattle.group_book.specs.{GroupHistory}
 use Rattle.plant_status.specs.declared.mismatch.Place.TheVariants.{Version}
-use Rattle.plant_status.specs.declared.mismatch.Seen.{Seen}
+use Rattle.plant_status.specs.{Seen}
 use Rattle.plant_status.specs.declared.status.Status.{Status}
 use Rattle.plant_status.specs.declared.status.Status.TheVariants.{Mismatch, WantOfMemory}
-use Rattle.tag_base.specs.declared.definition.Base.{Base}
-use Rattle.tag_base.specs.declared.definition.GroupDef.{GroupDef}
-use Rattle.session_audit.specs.CellOpenings.{RecordsDiffer}
-use Rattle.session_report.specs.declared.session.Session.{Session}
+use Rattle.tag_base.specs.{Base, GroupDef}
+use Rattle.session_audit.specs.{RecordsDiffer}
+use Rattle.session_report.specs.{Session}
 use Rattle.run_command.specs.Units.{AtEachGroup, tag_records_of}
 
 -- the records that a group has of an input

@@ -3,12 +3,12 @@ use Rattle.std.specs.Prelude.{◌≡◌, ◌⊎◌, ℕ, List, [], ◌++◌}
 use Rattle.std.specs.List.{AllZip}
 use Rattle.plant_status.specs.declared.status.Status.{Status}
 use Rattle.plant_status.specs.declared.status.Status.TheVariants.{WantOfMemory}
-use Rattle.calc_refresh.specs.Lists.{lists_of}
-use Rattle.collector_pool.specs.declared.note.WorkerNote.{WorkerNote}
+use Rattle.calc_refresh.specs.{lists_of}
+use Rattle.collector_pool.specs.{WorkerNote}
 use Rattle.collector_pool.specs.declared.work.Work.{Work}
-use Rattle.group_book.specs.Told.{ToldBook as Book}
-use Rattle.tag_cell.specs.Told.{ToldCell as Cell}
-use Rattle.session_audit.specs.FirstPulls.{IsFirstPullMismatch}
+use Rattle.group_book.specs.{ToldBook as Book}
+use Rattle.tag_cell.specs.{ToldCell as Cell}
+use Rattle.session_audit.specs.{IsFirstPullMismatch}
 use Rattle.session_audit.specs.Pulls.{ArePulled}
 use Rattle.run_command.specs.declared.work.Given.{Given}
 use Rattle.run_command.specs.Runs.{IsContinued, IsContinuedGroup, IsUndone}

@@ -2,10 +2,8 @@
 use Rattle.std.specs.Prelude.{◌≡◌, ℕ, false, List, [], ◌∷◌, ◌++◌, map, codes}
 use Rattle.std.specs.Fmt.{decimal}
 use Rattle.std.specs.List.{range_with_len}
-use Rattle.trend_num.specs.declared.tag_def.TagDef.{TagDef}
-use Rattle.trend_num.specs.declared.tuning.Tuning.{Tuning}
-use Rattle.tag_base.specs.declared.definition.GroupDef.{GroupDef}
-use Rattle.tag_base.specs.Groups.{AreCalcs, CalcForm}
+use Rattle.trend_num.specs.{TagDef, Tuning}
+use Rattle.tag_base.specs.{GroupDef, AreCalcs, CalcForm}
 
 -- the tuning of each tag
 abbrev pub drill_tuning : Tuning

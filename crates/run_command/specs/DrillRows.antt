@@ -1,9 +1,9 @@
 -- What the collectors of a drill take.
 use Rattle.std.specs.Prelude.{ℕ, List, drop, map}
 use Rattle.std.specs.List.{range_with_len}
-use Rattle.trend_num.specs.declared.point.Point.{Point}
-use Rattle.trend_report.specs.Drill.{drill_points}
-use Rattle.value_rows.specs.declared.raw.RawRow.{RawRow}
+use Rattle.trend_num.specs.{Point}
+use Rattle.trend_report.specs.{drill_points}
+use Rattle.value_rows.specs.{RawRow}
 
 -- a point of the tag at a place
 abbrev pub row_of : ℕ → Point → RawRow

@@ -2,31 +2,24 @@
 use Rattle.std.specs.Prelude.{◌≡◌, ◌≢◌, ◌⊎◌, ℕ, ◌/◌, ◌<◌, List, [], ◌++◌, All, length, replicate, slice_get, slice_index_or, None, Some, Result, Ok, Err, IfErr, IfOk, OnOk, String, string_bytes, ⊤}
 use Rattle.std.specs.List.{AllZip}
 use Rattle.std.specs.declared.alloc.Global.{Global}
-use Rattle.trend_num.specs.declared.tag_def.TagDef.{TagDef}
+use Rattle.trend_num.specs.{TagDef}
 use Rattle.trend_model.specs.State.{Stands}
-use Rattle.disk_model.specs.Memory.{DiskState, handed_as}
-use Rattle.disk_model.specs.Stores.{empty_trace}
-use Rattle.disk_model.specs.Traces.{Device}
-use Rattle.branded_disk.specs.Pasts.{branded, told_of}
-use Rattle.tag_base.specs.declared.definition.Base.{Base}
-use Rattle.tag_base.specs.declared.definition.GroupDef.{GroupDef}
-use Rattle.tag_cell.specs.declared.history.TagHistory.{TagHistory}
-use Rattle.tag_cell.specs.Tapes.{opened as opened_state}
-use Rattle.tag_cell.specs.Told.{ToldCell as Cell}
+use Rattle.disk_model.specs.{DiskState, handed_as, empty_trace, Device}
+use Rattle.branded_disk.specs.{branded, told_of}
+use Rattle.tag_base.specs.{Base, GroupDef}
+use Rattle.tag_cell.specs.{TagHistory, opened as opened_state, ToldCell as Cell}
 use Rattle.plant_store.specs.Tags.{tag_trace_of}
-use Rattle.calc_refresh.specs.Lists.{lists_of}
-use Rattle.group_book.specs.declared.history.GroupHistory.{GroupHistory}
-use Rattle.group_book.specs.Told.{ToldBook as Book}
+use Rattle.calc_refresh.specs.{lists_of}
+use Rattle.group_book.specs.{GroupHistory, ToldBook as Book}
 use Rattle.plant_store.specs.Groups.{DeviceTraces, group_parts_of, group_definition_text}
 use Rattle.plant_status.specs.declared.status.Status.{Status}
 use Rattle.plant_status.specs.declared.status.Status.TheVariants.{DeviceFault, WantOfMemory}
-use Rattle.value_rows.specs.declared.raw.RawRow.{RawRow}
+use Rattle.value_rows.specs.{RawRow}
 use Rattle.session_audit.specs.Agendas.{phase_item}
-use Rattle.session_audit.specs.CellRefusals.{tag_rows, takes_mismatch}
-use Rattle.session_audit.specs.FirstPulls.{HaveFirstPulls, takes_at_pull}
-use Rattle.session_report.specs.declared.session.Session.{Session}
+use Rattle.session_audit.specs.{tag_rows, takes_mismatch, HaveFirstPulls, takes_at_pull}
+use Rattle.session_report.specs.{Session}
 use Rattle.run_command.specs.declared.work.Given.{Given}
-use Rattle.collector_pool.specs.declared.note.WorkerNote.{WorkerNote}
+use Rattle.collector_pool.specs.{WorkerNote}
 use Rattle.collector_pool.specs.declared.work.Work.{Work}
 use Rattle.run_command.specs.Causes.{IsSessionCause}
 use Rattle.run_command.specs.Copies.{AreCopied, IsChecked, MayBeUncopied}

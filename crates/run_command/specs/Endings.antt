@@ -4,7 +4,7 @@ use Rattle.std.specs.List.{AllWithin, HoldsAt}
 use Rattle.plant_status.specs.declared.status.Status.{Status}
 use Rattle.plant_status.specs.declared.status.Status.TheVariants as status
 use Rattle.collector_pool.specs.declared.note.Ending.TheVariants.{Halted, WantOfMemory}
-use Rattle.collector_pool.specs.declared.note.WorkerNote.{WorkerNote}
+use Rattle.collector_pool.specs.{WorkerNote}
 
 -- the status names the first worker that its pass stopped, or reports that a worker found no memory
 abbrev pub IsStop : List WorkerNote → Status → Type 0

@@ -2,28 +2,23 @@
 use Rattle.std.specs.Prelude.{◌≡◌, ℕ, None, ◌^◌, ◌<◌, ◌≤◌, List, length, map, slice_index, slice_index_or, Option, Result, Ok, Err, IfErr, IfOk, String, string_bytes}
 use Rattle.std.specs.List.{AllZip}
 use Rattle.std.specs.declared.alloc.Global.{Global}
-use Rattle.trend_num.specs.declared.tag_def.TagDef.{TagDef}
-use Rattle.tag_cell.specs.declared.history.TagHistory.{TagHistory}
-use Rattle.calc_refresh.specs.Lists.{lists_of}
-use Rattle.group_book.specs.declared.history.GroupHistory.{GroupHistory}
+use Rattle.trend_num.specs.{TagDef}
+use Rattle.tag_cell.specs.{TagHistory}
+use Rattle.calc_refresh.specs.{lists_of}
+use Rattle.group_book.specs.{GroupHistory}
 use Rattle.plant_store.specs.Groups.{DeviceTraces}
-use Rattle.tag_base.specs.declared.definition.Base.{Base}
-use Rattle.tag_base.specs.declared.definition.GroupDef.{GroupDef}
-use Rattle.tag_base.specs.declared.schedule.Plan.{Plan}
+use Rattle.tag_base.specs.{Base, GroupDef, Plan}
 use Rattle.plant_store.specs.Tags.{tag_trace_of}
-use Rattle.value_rows.specs.declared.asked.Query.{Query}
-use Rattle.value_rows.specs.declared.raw.RawRow.{RawRow}
+use Rattle.value_rows.specs.{Query, RawRow}
 use Rattle.plant_status.specs.declared.status.Status.{Status}
 use Rattle.plant_status.specs.declared.status.Status.TheVariants.{DeviceFault}
 use Rattle.plant_status.specs.declared.unit.Unit.{Unit as Device}
 use Rattle.plant_store.specs.CellClosings.{HasRisen}
-use Rattle.plant_files.specs.RowFiles.{ToldFiles}
-use Rattle.session_audit.specs.declared.agenda.Item.{Item}
+use Rattle.plant_files.specs.{ToldFiles}
+use Rattle.session_audit.specs.{Item, pulled, reached}
 use Rattle.session_audit.specs.Agendas.{take_item}
-use Rattle.session_audit.specs.GroupTapes.{pulled, reached}
 use Rattle.plant_files.specs.PlanRows.{IsPlanned}
-use Rattle.session_report.specs.declared.session.Session.{Session}
-use Rattle.session_report.specs.Report.{report}
+use Rattle.session_report.specs.{Session, report}
 use Rattle.run_command.specs.Copies.{AreCopied, MayBeUncopied}
 use Rattle.run_command.specs.Endings.{HaveAllEnded}
 use Rattle.run_command.specs.Refusals.{AdmitsForeign, IsOfOpening}
@@ -31,7 +26,7 @@ use Rattle.run_command.specs.Units.{AreGroupsSound, AreUnitsOpened, AtEachGroup,
 use Rattle.run_command.specs.Causes.{IsSessionCause}
 use Rattle.run_command.specs.Sessions.{AreNotes, AreNotesOfAll, IsPlannedWork}
 use Rattle.collector_pool.specs.declared.work.Work.{Work}
-use Rattle.plant_store.specs.Openings.{AreRestSame}
+use Rattle.plant_store.specs.{AreRestSame}
 
 -- ---- a session that is done
 

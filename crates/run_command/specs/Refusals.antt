@@ -6,26 +6,17 @@ use Rattle.plant_status.specs.declared.status.Status.{Status}
 use Rattle.plant_status.specs.declared.mismatch.Place.TheVariants.{Ask, Opening, RowAsk, Take}
 use Rattle.plant_status.specs.declared.status.Status.TheVariants.{Mismatch, WantOfMemory}
 use Rattle.session_audit.specs.Agendas.{ask_item, phase_item, row_item}
-use Rattle.session_audit.specs.Found.{Reached}
-use Rattle.calc_refresh.specs.Lists.{lists_of}
-use Rattle.tag_cell.specs.Told.{ToldCell as Cell}
-use Rattle.collector_pool.specs.declared.note.WorkerNote.{WorkerNote}
-use Rattle.session_audit.specs.declared.cell_opening.Kept.{Kept}
-use Rattle.session_audit.specs.Finding.{IsAskMismatch, IsRowAskMismatch, IsTakeMismatch}
-use Rattle.session_audit.specs.CellRefusals.{IsCellRefusal, IsCommittedCell, IsTakeRefusal}
-use Rattle.session_audit.specs.Starting.{AreUnfound}
-use Rattle.session_audit.specs.Workers.{AreOver}
-use Rattle.group_book.specs.Told.{ToldBook as Book}
-use Rattle.session_audit.specs.declared.book_opening.KeptGroup.{KeptGroup}
+use Rattle.session_audit.specs.{Reached, Kept, IsAskMismatch, IsRowAskMismatch, IsTakeMismatch, IsCellRefusal, IsCommittedCell, IsTakeRefusal, AreUnfound, AreOver, KeptGroup, durable_lists, IsRefreshRefusal, IsTurnsMismatch, IsWithinTurns}
+use Rattle.session_audit.specs.{IsCellAsKept, IsCellMismatch}
+use Rattle.calc_refresh.specs.{lists_of}
+use Rattle.tag_cell.specs.{ToldCell as Cell}
+use Rattle.collector_pool.specs.{WorkerNote}
+use Rattle.group_book.specs.{ToldBook as Book}
 use Rattle.session_audit.specs.BookOpenings.{IsBookMismatch}
 use Rattle.session_audit.specs.Pulls.{IsPullMismatch}
-use Rattle.session_audit.specs.Refreshing.{durable_lists}
-use Rattle.session_audit.specs.BookRefusals.{IsRefreshRefusal}
-use Rattle.session_audit.specs.GroupTurns.{IsTurnsMismatch, IsWithinTurns}
 use Rattle.run_command.specs.declared.work.Given.{Given}
 use Rattle.run_command.specs.Endings.{HaveAllEnded, IsStop}
 use Rattle.run_command.specs.Steps.{AreCellAsksBegun, AreBegun, AreStepsMade, AreCellTakesBegun, AreTapesMade}
-use Rattle.session_audit.specs.CellOpenings.{IsCellAsKept, IsCellMismatch}
 use Rattle.session_audit.specs.Openings.{AreAsKept}
 
 -- The tapes differ from what the workers have to do, in this order: a take is not its collector's next row there; a

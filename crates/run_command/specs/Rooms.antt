@@ -1,7 +1,7 @@
 -- Room for the cells and books of a session, and on the tapes of its tags.
 use Rattle.std.specs.Prelude.{◌≡◌, ℕ, ◌≤◌, List, [], vec_capacity}
 use Rattle.std.specs.List.{AllZip}
-use Rattle.tag_cell.specs.Told.{ToldCell as Cell}
+use Rattle.tag_cell.specs.{ToldCell as Cell}
 use Rattle.run_command.specs.declared.phase.Room.{Room}
 
 -- each list is empty, and has room for the number of cells or books

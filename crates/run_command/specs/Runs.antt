@@ -2,41 +2,29 @@
 use Rattle.std.specs.Prelude.{◌≡◌, ◌≢◌, ℕ, ◌^◌, ◌<◌, ◌≤◌, List, length, map, None, Some, Result, OnOk, IfErr, IfOk, IsErrAnd, String, string_bytes, slice_index_or}
 use Rattle.std.specs.List.{AllZip}
 use Rattle.std.specs.declared.alloc.Global.{Global}
-use Rattle.trend_num.specs.Limits.{most_stored}
-use Rattle.disk_model.specs.Traces.{Trace, moment, Device}
-use Rattle.tag_base.specs.declared.definition.Base.{Base}
-use Rattle.tag_base.specs.declared.definition.GroupDef.{GroupDef}
-use Rattle.tag_base.specs.declared.schedule.Plan.{Plan}
-use Rattle.tag_base.specs.declared.schedule.Refresher.{Refresher}
-use Rattle.value_rows.specs.declared.asked.Query.{Query}
-use Rattle.value_rows.specs.declared.raw.RawRow.{RawRow}
+use Rattle.trend_num.specs.{most_stored}
+use Rattle.disk_model.specs.{Trace, moment, Device}
+use Rattle.tag_base.specs.{Base, GroupDef, Plan, Refresher}
+use Rattle.value_rows.specs.{Query, RawRow}
 use Rattle.plant_status.specs.declared.status.Status.{Status}
-use Rattle.plant_status.specs.declared.file.FileId.{FileId}
+use Rattle.plant_status.specs.{FileId}
 use Rattle.plant_status.specs.declared.status.Status.TheVariants.{ReadFault, WantOfMemory}
-use Rattle.plant_files.specs.RowFiles.{ToldFiles}
+use Rattle.plant_files.specs.{ToldFiles}
 use Rattle.plant_files.specs.PlanRows.{IsPlanned, IsPlanningRefusal}
-use Rattle.calc_refresh.specs.Lists.{lists_of}
-use Rattle.tag_cell.specs.Told.{ToldCell as Cell}
-use Rattle.group_book.specs.declared.history.GroupHistory.{GroupHistory}
-use Rattle.branded_disk.specs.Pasts.{told_of}
-use Rattle.group_book.specs.Openings.{IsBookOpenedWell}
-use Rattle.group_book.specs.Told.{IsBookHistory as IsGroupHistory, ToldBook as Book}
-use Rattle.collector_pool.specs.declared.note.WorkerNote.{WorkerNote}
-use Rattle.session_audit.specs.declared.cell_opening.Kept.{Kept}
-use Rattle.session_audit.specs.declared.book_opening.KeptGroup.{KeptGroup}
+use Rattle.calc_refresh.specs.{lists_of}
+use Rattle.tag_cell.specs.{ToldCell as Cell}
+use Rattle.group_book.specs.{GroupHistory, IsBookOpenedWell, IsBookHistory as IsGroupHistory, ToldBook as Book}
+use Rattle.branded_disk.specs.{told_of}
+use Rattle.collector_pool.specs.{WorkerNote}
+use Rattle.session_audit.specs.{Kept, KeptGroup, IsCellCopied}
 use Rattle.session_audit.specs.Pulls.{ArePulled}
-use Rattle.plant_store.specs.CellOpenings.{AreCellsOpened, records_opened}
+use Rattle.plant_store.specs.{AreCellsOpened, records_opened, device_names_of, CountsClosed, AreRestSame, IsPlantRefusal, cell_records_in}
 use Rattle.plant_store.specs.CellClosings.{AreHistoriesAt, AreHistoriesOf}
-use Rattle.plant_store.specs.CellNames.{device_names_of}
 use Rattle.plant_store.specs.Tags.{AllStaySame}
 use Rattle.plant_store.specs.Groups.{AllStaySame as AllGroupsStaySame, AreBooksOpened, DeviceTraces, group_parts_of, group_definition_text, group_trace_at}
 use Rattle.plant_store.specs.BookEndings.{AreHistoriesOf as AreGroupHistoriesOf}
-use Rattle.plant_store.specs.Closings.{CountsClosed}
-use Rattle.plant_store.specs.Openings.{AreRestSame, IsPlantRefusal, cell_records_in}
-use Rattle.session_report.specs.declared.session.Session.{Session}
-use Rattle.session_report.specs.Report.{report}
+use Rattle.session_report.specs.{Session, report}
 use Rattle.run_command.specs.declared.work.Given.{Given}
-use Rattle.session_audit.specs.CellOpenings.{IsCellCopied}
 use Rattle.session_audit.specs.BookOpenings.{IsBookCopied}
 use Rattle.run_command.specs.Copies.{IsChecked}
 use Rattle.run_command.specs.Endings.{HaveAllEnded}

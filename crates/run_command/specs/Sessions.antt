@@ -1,13 +1,10 @@
 -- The work of a session's workers, and their notes.
 use Rattle.std.specs.Prelude.{◌≡◌, ℕ, List, [], map, ⊤}
-use Rattle.calc_refresh.specs.Lists.{lists_of}
-use Rattle.collector_pool.specs.declared.note.WorkerNote.{WorkerNote}
-use Rattle.collector_pool.specs.declared.work.Refresh.{Refresh}
+use Rattle.calc_refresh.specs.{lists_of}
+use Rattle.collector_pool.specs.{WorkerNote, Refresh, AreNotesOf, stops_with}
 use Rattle.collector_pool.specs.declared.work.Work.{Work}
-use Rattle.collector_pool.specs.Notes.{AreNotesOf, stops_with}
-use Rattle.tag_base.specs.declared.schedule.Refresher.{Refresher}
-use Rattle.value_rows.specs.declared.asked.Query.{Query}
-use Rattle.value_rows.specs.declared.raw.RawRow.{RawRow}
+use Rattle.tag_base.specs.{Refresher}
+use Rattle.value_rows.specs.{Query, RawRow}
 
 -- the group of a refresher and its turns, in a session and in a plan
 abbrev pub turn_of : Refresh → ℕ × ℕ

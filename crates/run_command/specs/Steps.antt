@@ -1,21 +1,12 @@
 -- A session after its workers have ended, and its cells and books once all is done.
 use Rattle.std.specs.Prelude.{◌≡◌, ℕ, ◌+◌, ◌^◌, ◌<◌, ◌≤◌, List, [], All, length, slice_index, slice_index_or}
 use Rattle.session_audit.specs.Agendas.{ask_item, phase_item, row_item}
-use Rattle.session_audit.specs.Found.{Reached}
-use Rattle.session_audit.specs.Tapes.{ask_of, take_of}
-use Rattle.tag_cell.specs.Told.{ToldCell as Cell}
-use Rattle.session_audit.specs.Cells.{AreAllBegun, AreAllFound, AreAllShown}
-use Rattle.session_audit.specs.CellRefusals.{IsCommittedCell, tag_rows}
-use Rattle.session_audit.specs.Workers.{AreOver, AreTapesBegun, AreTapesFound, AreTapesWhole}
-use Rattle.group_book.specs.Told.{ToldBook as Book}
-use Rattle.session_audit.specs.declared.book_opening.KeptGroup.{KeptGroup}
-use Rattle.session_audit.specs.Books.{book_tape}
-use Rattle.session_audit.specs.Inputs.{AreInputs}
-use Rattle.session_audit.specs.Refreshing.{AreBooksRefreshed, durable_lists}
-use Rattle.session_audit.specs.GroupTapes.{row_ask_of}
-use Rattle.session_audit.specs.GroupTurns.{IsWithinTurns, turns_for}
-use Rattle.calc_refresh.specs.Lists.{lists_of}
-use Rattle.collector_pool.specs.Work.{IsWorkOf}
+use Rattle.session_audit.specs.{Reached, ask_of, take_of, AreAllBegun, AreAllFound, AreAllShown, IsCommittedCell, tag_rows, AreOver, AreTapesBegun, AreTapesFound, AreTapesWhole, KeptGroup, book_tape, AreInputs, AreBooksRefreshed}
+use Rattle.session_audit.specs.{durable_lists, row_ask_of, IsWithinTurns, turns_for}
+use Rattle.tag_cell.specs.{ToldCell as Cell}
+use Rattle.group_book.specs.{ToldBook as Book}
+use Rattle.calc_refresh.specs.{lists_of}
+use Rattle.collector_pool.specs.{IsWorkOf}
 use Rattle.run_command.specs.declared.work.Given.{Given}
 
 -- ---- what a session is compared with

@@ -1,50 +1,23 @@
 -- The tags and groups of a session: how they were opened, what holds of each, and what was done with them.
 use Rattle.std.specs.Prelude.{◌≡◌, ℕ, ◌+◌, ◌*◌, ◌<◌, ◌≤◌, List, [], All, length, map, nat_eq, slice_index_or, Option, if◌then◌else◌}
 use Rattle.std.specs.List.{AllZip, sum_by}
-use Rattle.trend_num.specs.Limits.{most_stored}
-use Rattle.trend_num.specs.declared.archive.Rec.{Rec}
-use Rattle.trend_num.specs.declared.tag_def.TagDef.{TagDef}
-use Rattle.trend_model.specs.Bound.{IsBounded}
-use Rattle.trend_model.specs.History.{Event, Origin, Raw}
+use Rattle.trend_num.specs.{most_stored, Rec, TagDef}
+use Rattle.trend_model.specs.{IsBounded, Event, Origin, Raw}
 use Rattle.trend_model.specs.State.{Stands, followed}
-use Rattle.disk_model.specs.Moments.{LeftSince}
-use Rattle.disk_model.specs.Traces.{Trace, moment}
-use Rattle.tag_cell.specs.declared.entry.Entry.{Entry}
-use Rattle.tag_cell.specs.declared.history.TagHistory.{TagHistory}
-use Rattle.tag_cell.specs.Crashes.{IsOpenedWell, IsSafe}
-use Rattle.tag_cell.specs.Replays.{IsLegal, IsTapeReplayed}
-use Rattle.tag_cell.specs.Tapes.{cell_start, cell_walked, opened, taken}
-use Rattle.sheet_law.specs.declared.grid.Grid.{Grid}
-use Rattle.sheet_law.specs.Windows.{complete_windows}
-use Rattle.calc_refresh.specs.Lists.{lists_of, total_length}
-use Rattle.calc_refresh.specs.Refreshed.{most_cells, most_copies}
-use Rattle.calc_refresh.specs.Sheet.{IsGrid, IsGroup, grid_of}
-use Rattle.group_book.specs.declared.history.GroupHistory.{GroupHistory}
-use Rattle.group_book.specs.declared.turn.Turn.{Turn}
-use Rattle.group_book.specs.Crashes.{IsBookSafe as IsGroupSafe}
-use Rattle.group_book.specs.Histories.{AreRowsEvaluated, IsBookLegal as IsGroupLegal}
-use Rattle.group_book.specs.Openings.{IsBookOpenedWell}
-use Rattle.group_book.specs.Tapes.{book_start, book_walked}
+use Rattle.disk_model.specs.{LeftSince, Trace, moment}
+use Rattle.tag_cell.specs.{Entry, TagHistory, IsOpenedWell, IsSafe, IsLegal, IsTapeReplayed, cell_start, cell_walked, opened, taken, TagOpening}
+use Rattle.sheet_law.specs.{Grid, complete_windows}
+use Rattle.calc_refresh.specs.{lists_of, total_length, most_cells, most_copies, IsGrid, IsGroup, grid_of, GroupDefParts}
+use Rattle.group_book.specs.{GroupHistory, Turn, IsBookSafe as IsGroupSafe, AreRowsEvaluated, IsBookLegal as IsGroupLegal, IsBookOpenedWell, book_start, book_walked, GroupOpening}
 use Rattle.plant_store.specs.Groups.{DeviceTraces, IsGroupOpening, group_parts_of, group_definition_text, group_trace_at, input_records_of}
-use Rattle.tag_base.specs.declared.definition.Base.{Base}
-use Rattle.tag_base.specs.declared.definition.GroupDef.{GroupDef}
-use Rattle.tag_base.specs.declared.schedule.Refresher.{Refresher}
+use Rattle.tag_base.specs.{Base, GroupDef, Refresher}
 use Rattle.plant_store.specs.Tags.{IsOpened, tag_trace_of}
-use Rattle.crash_recovery.specs.Opening.{OpensAt}
+use Rattle.crash_recovery.specs.{OpensAt}
 use Rattle.tag_core.specs.Core.{Core}
-use Rattle.value_rows.specs.declared.asked.Query.{Query}
-use Rattle.value_rows.specs.declared.raw.RawRow.{RawRow}
-use Rattle.session_audit.specs.declared.agenda.Item.{Item}
+use Rattle.value_rows.specs.{Query, RawRow}
+use Rattle.session_audit.specs.{Item, ask_of, take_of, AreTapesBegun, AreTapesWhole, EndsInSave, ArePullsDurable, refreshes, row_ask_of}
 use Rattle.session_audit.specs.Agendas.{ask_item, row_item}
-use Rattle.session_audit.specs.Tapes.{ask_of, take_of}
-use Rattle.session_audit.specs.Workers.{AreTapesBegun, AreTapesWhole}
-use Rattle.session_audit.specs.Refreshing.{EndsInSave}
-use Rattle.session_audit.specs.Durable.{ArePullsDurable}
-use Rattle.session_audit.specs.GroupTapes.{refreshes, row_ask_of}
-use Rattle.session_report.specs.declared.session.Session.{Session}
-use Rattle.tag_cell.specs.declared.history.TagOpening.{TagOpening}
-use Rattle.group_book.specs.declared.history.GroupOpening.{GroupOpening}
-use Rattle.calc_refresh.specs.declared.definition.GroupDefParts.{GroupDefParts}
+use Rattle.session_report.specs.{Session}
 
 -- ---- a tag
 

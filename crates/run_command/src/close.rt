@@ -1,10 +1,8 @@
 // The end of a session: its devices are given back, and its report is made.
-ghost use Rattle.branded_disk.specs.Pasts.{IsWholePast, branded};
+ghost use Rattle.branded_disk.specs.{IsWholePast, branded};
 ghost use Rattle.plant_files.specs.PlanRows.{IsGoodBase};
-ghost use Rattle.plant_store.specs.Closings.{CountsClosed};
+ghost use Rattle.plant_store.specs.{CountsClosed, AreRestSame, HasPlacesOf, IsShelfFor};
 ghost use Rattle.plant_store.specs.Groups.{DeviceTraces};
-ghost use Rattle.plant_store.specs.Openings.{AreRestSame};
-ghost use Rattle.plant_store.specs.Shelves.{HasPlacesOf, IsShelfFor};
 ghost use Rattle.run_command.specs.Runs.{IsOver, IsReported};
 ghost use Rattle.std.specs.Prelude.{length, vec_len, ◌+◌, ◌<◌, ◌^◌, ◌≡◌};
 

@@ -1,6 +1,6 @@
 // Before a refusal is reported: the records that groups have of their inputs are compared with those of the tags.
 ghost use Rattle.std.specs.Prelude.{◌≡◌, ◌<◌, ◌≤◌, All, IfErr, OnOk, [], length, slice_index_or};
-ghost use Rattle.calc_refresh.specs.Lists.{lists_of};
+ghost use Rattle.calc_refresh.specs.{lists_of};
 ghost use Rattle.plant_files.specs.PlanRows.{IsGoodBase};
 ghost use Rattle.run_command.specs.Copies.{AreCopied, IsChecked, IsGroupUncopied, IsInputUncopied};
 ghost use Rattle.run_command.specs.Units.{AtEachGroup};

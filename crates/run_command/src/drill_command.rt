@@ -1,10 +1,9 @@
 // The command `drill`: a generated plant, run as a session of two phases.
-ghost use Rattle.branded_disk.specs.Pasts.{IsWholePast, branded};
-ghost use Rattle.calc_refresh.specs.Lists.{lists_of};
+ghost use Rattle.branded_disk.specs.{IsWholePast, branded};
+ghost use Rattle.calc_refresh.specs.{lists_of};
 ghost use Rattle.plant_files.specs.PlanRows.{IsGoodBase};
 ghost use Rattle.plant_store.specs.Groups.{DeviceTraces};
-ghost use Rattle.plant_store.specs.Openings.{AreRestSame};
-ghost use Rattle.plant_store.specs.Shelves.{HasPlacesOf, IsShelfFor};
+ghost use Rattle.plant_store.specs.{AreRestSame, HasPlacesOf, IsShelfFor};
 ghost use Rattle.run_command.specs.DrillRows.{drill_rows_of};
 ghost use Rattle.run_command.specs.Drills.{IsDrillBase, IsDrillUnopened, IsDrilled, IsRunInPhases, drill_answer, drill_status, fresh_devices, memory_device};
 ghost use Rattle.run_command.specs.Rooms.{AreRoomy};
@@ -12,7 +11,7 @@ ghost use Rattle.run_command.specs.Runs.{AreDefined, AreUnitsOpen, IsWorkIn};
 ghost use Rattle.run_command.specs.Steps.{AreGivenFor};
 ghost use Rattle.std.specs.Option.{IsSome};
 ghost use Rattle.std.specs.Prelude.{Err, IfErr, IfOk, IfSome, List, None, OnOk, [], length, map, vec_len, ℕ, ◌/◌, ◌<◌, ◌^◌, ◌≡◌, ◌≢◌, ◌≤◌};
-ghost use Rattle.value_rows.specs.declared.raw.RawRow.{RawRow};
+ghost use Rattle.value_rows.specs.{RawRow};
 
 use crate::close::close;
 use crate::drill_phases::hold_both;

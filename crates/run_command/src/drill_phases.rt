@@ -1,9 +1,8 @@
 // Two phases of a session over the same cells and books.
 ghost use Rattle.std.specs.Prelude.{◌≡◌, ◌⊎◌, ◌++◌, [], ◌<◌, ◌≤◌, ◌+◌, ◌^◌, Err, IfErr, OnOk, length, vec_capacity, vec_len};
 ghost use Rattle.std.specs.List.{AllZip};
-ghost use Rattle.calc_refresh.specs.Lists.{lists_of};
-ghost use Rattle.session_audit.specs.FirstPulls.{HaveFirstPulls, IsFirstPullMismatch};
-ghost use Rattle.session_audit.specs.Inputs.{AreInputs};
+ghost use Rattle.calc_refresh.specs.{lists_of};
+ghost use Rattle.session_audit.specs.{HaveFirstPulls, IsFirstPullMismatch, AreInputs};
 ghost use Rattle.session_audit.specs.Pulls.{ArePulled};
 ghost use Rattle.run_command.specs.Endings.{HaveAllEnded};
 ghost use Rattle.run_command.specs.Refusals.{AdmitsForeign, IsOfOpening};

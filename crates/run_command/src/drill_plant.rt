@@ -1,15 +1,14 @@
 // The plant of a drill: its base of tags and one group, and the rows of its collectors.
 ghost use Rattle.calc_check.specs.Group.{calculation, fault_of, group_of, is_among};
-ghost use Rattle.calc_parser.specs.Formulas.{IsFormula};
+ghost use Rattle.calc_parser.specs.{IsFormula};
 ghost use Rattle.calc_parser.specs.Tree.{Tree, tree_of};
 ghost use Rattle.run_command.specs.DrillPlant.{IsDrillGroup, drill_calcs, drill_tag, drill_tags};
 ghost use Rattle.run_command.specs.DrillRows.{drill_file, drill_rows_of, row_of};
 ghost use Rattle.std.specs.Fmt.{decimal};
 ghost use Rattle.std.specs.List.{range_with_len};
 ghost use Rattle.std.specs.Prelude.{All, AllPairs, IfOk, List, None, codes, drop, length, map, true, vec_len, ℕ, ◌++◌, ◌-◌, ◌<◌, ◌≡◌, ◌≢◌, ◌≤◌};
-ghost use Rattle.tag_base.specs.Groups.{AreCalcs, Define, IsSoundGroup};
-ghost use Rattle.trend_num.specs.Names.{IsName};
-ghost use Rattle.trend_num.specs.Ranges.{InRange, TuningInRange};
+ghost use Rattle.tag_base.specs.{AreCalcs, Define, IsSoundGroup};
+ghost use Rattle.trend_num.specs.{IsName, InRange, TuningInRange};
 
 use calc_check::{CalcDef, CheckNo, Checked, check};
 use calc_parser::{ParseNo, parse};

@@ -1,10 +1,9 @@
 // The beginning of a session: its board is made, and the devices of its base are opened.
-ghost use Rattle.branded_disk.specs.Pasts.{IsWholePast, branded};
+ghost use Rattle.branded_disk.specs.{IsWholePast, branded};
 ghost use Rattle.plant_files.specs.PlanRows.{IsGoodBase};
-ghost use Rattle.plant_store.specs.Openings.{AreRestSame, CountsPlant};
-ghost use Rattle.plant_store.specs.Shelves.{HasPlacesOf, IsShelfFor};
+ghost use Rattle.plant_store.specs.{AreRestSame, CountsPlant, HasPlacesOf, IsShelfFor};
 ghost use Rattle.run_command.specs.Runs.{AreDefined, AreUnitsOpen, IsUnopened};
-ghost use Rattle.snapshot_table.specs.Boards.{LooksAt, new_posters};
+ghost use Rattle.snapshot_table.specs.{LooksAt, new_posters};
 ghost use Rattle.std.specs.Arc.{arc_value};
 ghost use Rattle.std.specs.Prelude.{All, IfErr, IfOk, length, map, vec_len, ◌<◌, ◌^◌, ◌≡◌, ◌≤◌};
 

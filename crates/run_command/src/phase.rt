@@ -1,7 +1,6 @@
 // One phase of a session, over cells and books that are open.
-ghost use Rattle.calc_refresh.specs.Lists.{lists_of};
-ghost use Rattle.collector_pool.specs.Notes.{AreNotesOf, stops_with};
-ghost use Rattle.collector_pool.specs.Work.{IsWorkOf};
+ghost use Rattle.calc_refresh.specs.{lists_of};
+ghost use Rattle.collector_pool.specs.{AreNotesOf, stops_with, IsWorkOf};
 ghost use Rattle.run_command.specs.Endings.{HaveAllEnded};
 ghost use Rattle.run_command.specs.Refusals.{AdmitsForeign, IsOfOpening, IsSettlingRefusal, notes_of};
 ghost use Rattle.run_command.specs.Rooms.{HasRoomFor};
@@ -9,11 +8,10 @@ ghost use Rattle.run_command.specs.Runs.{IsContinued, IsContinuedGroup, IsUndone
 ghost use Rattle.run_command.specs.Sessions.{AreNotes, AreNotesOfAll};
 ghost use Rattle.run_command.specs.Steps.{AreBegun, AreGivenFor, AreInputsFor, AreStepsMade};
 ghost use Rattle.session_audit.specs.BookOpenings.{IsBookAsKept, IsBookCopied};
-ghost use Rattle.session_audit.specs.CellOpenings.{IsCellAsKept, IsCellCopied};
-ghost use Rattle.session_audit.specs.Inputs.{AreInputs};
+ghost use Rattle.session_audit.specs.{IsCellAsKept, IsCellCopied, AreInputs};
 ghost use Rattle.session_audit.specs.Openings.{AreAsKept};
 ghost use Rattle.session_audit.specs.Pulls.{ArePulled};
-ghost use Rattle.snapshot_table.specs.Boards.{LooksAt};
+ghost use Rattle.snapshot_table.specs.{LooksAt};
 ghost use Rattle.std.specs.List.{AllZip};
 ghost use Rattle.std.specs.Prelude.{All, Err, IfErr, IfOk, OnErr, OnOk, [], length, vec_capacity, vec_len, ⊤, ◌<◌, ◌^◌, ◌≡◌, ◌≤◌};
 

@@ -1,18 +1,16 @@
 // The command `run`: the plan of one file over the base of another, as a session of one phase.
-ghost use Rattle.branded_disk.specs.Pasts.{IsWholePast, branded};
-ghost use Rattle.calc_refresh.specs.Lists.{lists_of};
-ghost use Rattle.plant_files.specs.Faults.{IsFaultOfPlanned};
+ghost use Rattle.branded_disk.specs.{IsWholePast, branded};
+ghost use Rattle.calc_refresh.specs.{lists_of};
+ghost use Rattle.plant_files.specs.{IsFaultOfPlanned, ToldFiles};
 ghost use Rattle.plant_files.specs.PlanRows.{IsGoodBase, IsPlanned};
 ghost use Rattle.plant_files.specs.Reading.{faults_after};
-ghost use Rattle.plant_files.specs.RowFiles.{ToldFiles};
 ghost use Rattle.plant_store.specs.Groups.{DeviceTraces};
-ghost use Rattle.plant_store.specs.Openings.{AreRestSame, CountsPlant};
-ghost use Rattle.plant_store.specs.Shelves.{HasPlacesOf, IsShelfFor};
+ghost use Rattle.plant_store.specs.{AreRestSame, CountsPlant, HasPlacesOf, IsShelfFor};
 ghost use Rattle.run_command.specs.Headline.{IsPromised};
 ghost use Rattle.run_command.specs.Rooms.{AreRoomy};
 ghost use Rattle.run_command.specs.Runs.{AreDefined, IsNoReadFault, AreUnitsOpen, IsRun, IsUnheld, IsUnopened};
 ghost use Rattle.run_command.specs.Steps.{AreGivenFor};
-ghost use Rattle.snapshot_table.specs.Boards.{LooksAt};
+ghost use Rattle.snapshot_table.specs.{LooksAt};
 ghost use Rattle.std.specs.Arc.{arc_value};
 ghost use Rattle.std.specs.Option.{IsSome};
 ghost use Rattle.std.specs.Prelude.{All, Err, IfErr, IfSome, List, None, OnOk, length, map, vec_len, ℕ, ◌<◌, ◌^◌, ◌≡◌, ◌≢◌, ◌≤◌};

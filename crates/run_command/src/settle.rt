@@ -1,15 +1,13 @@
 // The end of a phase: after its workers have ended, what they left undone is done.
-ghost use Rattle.calc_refresh.specs.Lists.{lists_of};
+ghost use Rattle.calc_refresh.specs.{lists_of};
 ghost use Rattle.collector_pool.specs.declared.note.Ending.TheVariants.{WantOfMemory as NoMemory};
 ghost use Rattle.run_command.specs.Endings.{HaveAllEnded, IsStop};
 ghost use Rattle.run_command.specs.Refusals.{AdmitsForeign, IsFindingRefusal, IsMakingRefusal, IsOfOpening, IsRefused, IsSettlingRefusal, notes_of};
 ghost use Rattle.run_command.specs.Steps.{AreBegun, AreFoundAll, AreGivenFor, AreInputsFor, AreOverAll, AreReady, IsBookKept, IsCellKept, AreStepsMade};
 ghost use Rattle.session_audit.specs.BookOpenings.{IsBookAsKept};
-ghost use Rattle.session_audit.specs.CellOpenings.{IsCellAsKept};
-ghost use Rattle.session_audit.specs.Each.{AreEach};
+ghost use Rattle.session_audit.specs.{IsCellAsKept, AreEach, AreUnfound};
 ghost use Rattle.session_audit.specs.Openings.{AreAsKept};
 ghost use Rattle.session_audit.specs.Pulls.{ArePulled};
-ghost use Rattle.session_audit.specs.Starting.{AreUnfound};
 ghost use Rattle.std.specs.Prelude.{All, Any, IfErr, MatchBool, OnOk, is_ok, length, true, vec_len, ◌<◌, ◌^◌, ◌≡◌, ◌≢◌};
 
 use crate::work::Given;

@@ -1,5 +1,5 @@
 // What a session is compared with: the base and the plan of a plant, and the rows of their files.
-ghost use Rattle.calc_refresh.specs.Lists.{lists_of};
+ghost use Rattle.calc_refresh.specs.{lists_of};
 ghost use Rattle.run_command.specs.Sessions.{planned_turn, turn_of};
 ghost use Rattle.run_command.specs.Steps.{AreGivenFor};
 ghost use Rattle.std.specs.Prelude.{IfOk, OnOk, length, map, slice_index, ℕ, ◌+◌, ◌<◌, ◌^◌, ◌≡◌};

@@ -3,12 +3,8 @@ use Rattle.std.proofs.Common.{◌≡◌, ℕ, ◌+◌, ◌<◌, List, length, ge
 use Rattle.std.specs.Prelude.{IsSome}
 use Rattle.std.proofs.lemmas.List.{get_or-set_same, get_or_default, length-set}
 use Rattle.std.proofs.lemmas.Option.{slice_get-get_or}
-use Rattle.plant_status.specs.declared.mismatch.Seen.{Seen}
-use Rattle.session_audit.specs.declared.agenda.Item.{Item}
-use Rattle.session_audit.specs.declared.kind.Shown.{Shown}
-use Rattle.session_audit.specs.Adding.{IsAdded, IsLacking, IsStopped}
-use Rattle.session_audit.specs.Found.{Reached}
-use Rattle.session_audit.specs.Workers.{IsCaughtTo, IsOver}
+use Rattle.plant_status.specs.{Seen}
+use Rattle.session_audit.specs.{Item, Shown, IsAdded, IsLacking, IsStopped, Reached, IsCaughtTo, IsOver}
 use Rattle.session_audit.proofs.Numbers.{numbered_at}
 use Rattle.session_audit.proofs.RowTurns.{HasEntry, IsMissing, due_next, row_within}
 

@@ -6,11 +6,8 @@ use Rattle.std.proofs.lemmas.Bool.{cases_lt}
 use Rattle.std.proofs.lemmas.List.{take-append-drop}
 use Rattle.std.proofs.lemmas.List.Elements.{filter_map-append}
 use Rattle.std.proofs.lemmas.Option.{slice_get-get_or, slice_get_past}
-use Rattle.session_audit.specs.declared.agenda.Item.{Item}
-use Rattle.session_audit.specs.declared.kind.Shown.{Shown}
+use Rattle.session_audit.specs.{Item, Shown, IsFirstPart, Reached, due_of, found, found_of, place_at, tape_shows, AreOver, AreTapesBegun, AreTapesFound, AreTapesWhole, file_due}
 use Rattle.session_audit.specs.Agendas.{due, numbered, seen_at}
-use Rattle.session_audit.specs.Found.{IsFirstPart, Reached, due_of, found, found_of, place_at, tape_shows}
-use Rattle.session_audit.specs.Workers.{AreOver, AreTapesBegun, AreTapesFound, AreTapesWhole, file_due}
 
 -- of one worker
 pub found_first : (p : Reached) (unit : ℕ) → IsFirstPart (found p unit) (due unit p.items)

@@ -3,10 +3,9 @@ use Rattle.std.proofs.Common.{◌≡◌, ◌≢◌, ℕ, ◌<◌, ◌≤◌, inl
 use Rattle.std.proofs.lemmas.Bool.{cases_eq, cases_lt, false≢true}
 use Rattle.std.proofs.lemmas.Bool.Decides.{nat_tests}
 use Rattle.std.proofs.lemmas.List.{take_all}
-use Rattle.plant_status.specs.declared.mismatch.Seen.{Seen}
-use Rattle.session_audit.specs.declared.agenda.Item.{Item}
+use Rattle.plant_status.specs.{Seen}
+use Rattle.session_audit.specs.{Item, IsCaughtUp, Reached, found, lacks, next_due, place_at}
 use Rattle.session_audit.specs.Agendas.{IsNext, due, due_at, seen_at}
-use Rattle.session_audit.specs.Found.{IsCaughtUp, Reached, found, lacks, next_due, place_at}
 use Rattle.session_audit.proofs.Walking.{due_passed}
 
 -- whether a row lacks, by what it is

@@ -1,5 +1,6 @@
 -- How many takes a tape has, worker by worker, and how many rows a tag has.
-use Rattle.std.proofs.Common.{◌≡◌, ◌≢◌, ℕ, zero, suc, ◌+◌, ◌<◌, ◌≤◌, inl, inr, Bool, true, false, cond, nat_eq, List, [], ◌∷◌, ◌++◌, length, get_or, take, drop, length-append, Option, None, Some, IsSome, refl, sym, ap, ap₂, subst, ◌∙◌, arith}
+use Rattle.std.proofs.Common.{◌≡◌, ◌≢◌, ℕ, zero, suc, ◌+◌, ◌<◌, ◌≤◌, inl, inr, Bool, true, false, cond, nat_eq, List, [], ◌∷◌, ◌++◌, length, get_or, take, drop, length-append, Option, None, Some, IsSome, refl, sym, ap, ap₂, subst, ◌∙◌}
+use Rattle.std.proofs.Common.{arith}
 use Rattle.std.specs.Prelude.{slice_get}
 use Rattle.std.specs.List.{count_by}
 use Rattle.std.specs.Option.{option_map_or}
@@ -9,19 +10,14 @@ use Rattle.std.proofs.lemmas.List.{take-append-drop}
 use Rattle.std.proofs.lemmas.List.Elements.{filter_map-append}
 use Rattle.std.proofs.lemmas.List.Sums.{sum_by-cons}
 use Rattle.std.proofs.lemmas.Option.{slice_get-get_or, slice_get_past, slice_get_within}
-use Rattle.value_rows.specs.declared.raw.RawRow.{RawRow}
-use Rattle.plant_status.specs.declared.mismatch.Seen.{Seen}
+use Rattle.value_rows.specs.{RawRow}
+use Rattle.plant_status.specs.{Seen}
 use Rattle.plant_status.specs.declared.mismatch.Seen.TheVariants as seen
-use Rattle.tag_cell.specs.declared.entry.Entry.{Entry}
+use Rattle.tag_cell.specs.{Entry, taken}
 use Rattle.tag_cell.specs.declared.entry.Entry.TheVariants.{Take, Ask, Pull, Commit}
-use Rattle.tag_cell.specs.Tapes.{taken}
-use Rattle.session_audit.specs.declared.agenda.Item.{Item}
+use Rattle.session_audit.specs.{Item, AreFound, Reached, found, found_of, next_due, place_at, tape_shows, take_of, AreOver, file_due, tag_rows}
 use Rattle.session_audit.specs.Agendas.{due, numbered, seen_at, phase_item}
-use Rattle.session_audit.specs.Found.{AreFound, Reached, found, found_of, next_due, place_at, tape_shows}
-use Rattle.session_audit.specs.Tapes.{take_of}
 use Rattle.session_audit.proofs.Walking.{next_shown}
-use Rattle.session_audit.specs.Workers.{AreOver, file_due}
-use Rattle.session_audit.specs.CellRefusals.{tag_rows}
 
 -- ---- sums over workers
 

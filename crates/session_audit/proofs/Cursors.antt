@@ -2,9 +2,9 @@
 use Rattle.std.proofs.Common.{◌≡◌, ◌≢◌, ℕ, ◌+◌, List, take, drop, Option, None, Some, refl, sym, subst, ◌∙◌}
 use Rattle.std.specs.Prelude.{slice_get}
 use Rattle.std.specs.Option.{option_map}
-use Rattle.plant_status.specs.declared.mismatch.Seen.{Seen}
+use Rattle.plant_status.specs.{Seen}
 use Rattle.session_audit.specs.declared.group_pulls.Found.{Found}
-use Rattle.session_audit.specs.OpeningNumbers.{AreApart, seen_of}
+use Rattle.session_audit.specs.{AreApart, seen_of}
 use Rattle.session_audit.specs.Pulls.{IsNextOf}
 use Rattle.session_audit.proofs.PullNumbers.{apart_at, first_none, first_some, rest_more, rest_none, take_same_more}
 

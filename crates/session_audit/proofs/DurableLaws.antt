@@ -2,18 +2,13 @@
 use Rattle.std.proofs.Common.{◌≡◌, ℕ, zero, suc, ◌+◌, ◌-◌, ◌≤◌, Bool, List, [], ◌∷◌, length, map, take, Some, sym, ap, subst, ◌∙◌, arith}
 use Rattle.std.specs.Prelude.{slice_get}
 use Rattle.std.proofs.lemmas.List.{take_all}
-use Rattle.trend_num.specs.declared.point.Point.{Point}
-use Rattle.trend_num.specs.declared.tag_def.TagDef.{TagDef}
-use Rattle.trend_num.specs.declared.tuning.Tuning.{Tuning}
-use Rattle.trend_model.specs.History.{Raw}
+use Rattle.trend_num.specs.{Point, TagDef, Tuning}
+use Rattle.trend_model.specs.{Raw}
 use Rattle.trend_model.specs.State.{State, after, after_under, replay}
-use Rattle.tag_cell.specs.declared.entry.Entry.{Entry}
+use Rattle.tag_cell.specs.{Entry, TagOpening, FitAll, Fits, IsTapeReplayed, replayed, CellWalk, after_entry, done, opened, cell_start, state_after, taken, cell_walked}
 use Rattle.tag_cell.specs.declared.entry.Entry.TheVariants.{Pull}
-use Rattle.tag_cell.specs.declared.history.TagOpening.{TagOpening}
-use Rattle.tag_cell.specs.Replays.{FitAll, Fits, IsTapeReplayed, replayed}
-use Rattle.tag_cell.specs.Tapes.{CellWalk, after_entry, done, opened, cell_start, state_after, taken, cell_walked}
 use Rattle.tag_cell.proofs.Entries.{points-end}
-use Rattle.session_audit.specs.Durable.{ArePullsDurable, durable_in}
+use Rattle.session_audit.specs.{ArePullsDurable, durable_in}
 
 -- ---- all is acknowledged
 

@@ -3,7 +3,7 @@ use Rattle.std.proofs.Common.{◌≡◌, ℕ, ◌+◌, ◌<◌, inl, inr, List, 
 use Rattle.std.specs.List.{AllZip}
 use Rattle.std.proofs.lemmas.Bool.{cases_eq}
 use Rattle.std.proofs.lemmas.List.{get_or-set_same, get_or-set_other, get_or_default, length-set, take_more}
-use Rattle.session_audit.specs.Each.{AreEach}
+use Rattle.session_audit.specs.{AreEach}
 
 pub each_refl : {C : Type 0} (R : C → C → Type 0) → ((c : C) → R c c) → (all : List C) → AreEach R all all
 each_refl R same all = record { as_many = refl; each = λ i d. same (get_or all i d) }

@@ -1,14 +1,9 @@
 -- Entries of one kind show nothing of the work of another.
 use Rattle.std.proofs.Common.{◌≡◌, ℕ, List, [], ◌∷◌, ◌++◌, All, get_or, Option, None, refl, ap, ◌∙◌, arith, append-nil}
 use Rattle.std.proofs.lemmas.List.Elements.{All-head, All-tail, filter_map-append}
-use Rattle.tag_cell.specs.declared.entry.Entry.{Entry}
+use Rattle.tag_cell.specs.{Entry, ToldCell}
 use Rattle.tag_cell.specs.declared.entry.Entry.TheVariants.{Take, Ask, Pull, Commit}
-use Rattle.tag_cell.specs.Told.{ToldCell}
-use Rattle.session_audit.specs.declared.agenda.Item.{Item}
-use Rattle.session_audit.specs.declared.kind.Shown.{Shown}
-use Rattle.session_audit.specs.Found.{Reached, seen_by, tape_shows}
-use Rattle.session_audit.specs.Tapes.{ask_of, take_of}
-use Rattle.session_audit.specs.Cells.{AreAllFound, AreAllShown, AreLonger, IsAskEntry, IsCommitEntry, IsTakeEntry}
+use Rattle.session_audit.specs.{Item, Shown, Reached, seen_by, tape_shows, ask_of, take_of, AreAllFound, AreAllShown, AreLonger, IsAskEntry, IsCommitEntry, IsTakeEntry}
 
 -- ---- one entry
 

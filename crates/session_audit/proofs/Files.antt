@@ -7,20 +7,14 @@ use Rattle.std.proofs.lemmas.List.{map_more, get_or-map, get_or_default, length-
 use Rattle.std.proofs.lemmas.List.Elements.{All-get_or, All-map}
 use Rattle.std.proofs.lemmas.Option.{slice_get-get_or, slice_get_past}
 use Rattle.std.specs.List.{count_by}
-use Rattle.value_rows.specs.declared.raw.RawRow.{RawRow}
-use Rattle.session_audit.specs.CellRefusals.{tag_rows}
-use Rattle.value_rows.specs.declared.asked.Query.{Query}
+use Rattle.value_rows.specs.{RawRow, Query}
+use Rattle.session_audit.specs.{tag_rows, Item, Shown, IsCaughtUp, Reached, found, found_of, IsKnownAsk, AreOthersSame, AreOver, AreTapesFound, AreTapesWhole, IsCaughtTo, IsOver, file_due}
 use Rattle.value_rows.specs.declared.asked.Query.TheVariants as query
-use Rattle.calc_refresh.specs.Lists.{lists_of}
-use Rattle.collector_pool.specs.Work.{IsQueryOf}
-use Rattle.session_audit.specs.declared.agenda.Item.{Item}
-use Rattle.session_audit.specs.declared.kind.Shown.{Shown}
+use Rattle.calc_refresh.specs.{lists_of}
+use Rattle.collector_pool.specs.{IsQueryOf}
 use Rattle.session_audit.specs.Agendas.{due, numbered}
-use Rattle.session_audit.specs.Found.{IsCaughtUp, Reached, found, found_of}
 use Rattle.session_audit.proofs.Catching.{caught_whole}
 use Rattle.session_audit.proofs.Numbers.{length-numbered}
-use Rattle.session_audit.specs.Cells.{IsKnownAsk}
-use Rattle.session_audit.specs.Workers.{AreOthersSame, AreOver, AreTapesFound, AreTapesWhole, IsCaughtTo, IsOver, file_due}
 
 -- the rows of a file
 pub file_at : {A : Type 0} (files : List (Vec A Global)) (i : ℕ) (v : Vec A Global) (d : List A) → i < length files

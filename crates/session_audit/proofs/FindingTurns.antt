@@ -6,17 +6,12 @@ use Rattle.std.proofs.lemmas.Bool.{cases_eq}
 use Rattle.std.proofs.lemmas.List.{get_or_default}
 use Rattle.std.proofs.lemmas.List.Elements.{All-from_get_or, All-get_or}
 use Rattle.std.proofs.lemmas.Option.{slice_get-get_or}
-use Rattle.plant_status.specs.declared.mismatch.Seen.{Seen}
+use Rattle.plant_status.specs.{Seen}
 use Rattle.plant_status.specs.declared.mismatch.Seen.TheVariants.{Nothing}
-use Rattle.session_audit.specs.declared.agenda.Item.{Item}
-use Rattle.session_audit.specs.declared.kind.Shown.{Shown}
+use Rattle.session_audit.specs.{Item, Shown, AreFound, AreFurther, IsDifference, IsFirstPart, IsUnfound, Reached, due_of, found_of, place_at, tape_shows, AreOver, AreUnfound, AreSameRows, IsMismatchAt}
 use Rattle.session_audit.specs.Agendas.{IsNext}
-use Rattle.session_audit.specs.Found.{AreFound, AreFurther, IsDifference, IsFirstPart, IsUnfound, Reached, due_of, found_of, place_at, tape_shows}
 use Rattle.session_audit.proofs.Walking.{found_beside}
 use Rattle.session_audit.proofs.Begun.{due_same, found_of_first}
-use Rattle.session_audit.specs.Workers.{AreOver}
-use Rattle.session_audit.specs.Starting.{AreUnfound}
-use Rattle.session_audit.specs.Finding.{AreSameRows, IsMismatchAt}
 
 -- the tapes of the first tags were gone over, and those after them were not
 pub record AreFoundTo {C E : Type 0} (tape_of : C → List E) (work : E → Option Shown) (upto : ℕ) (cells : List C)

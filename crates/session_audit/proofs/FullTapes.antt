@@ -1,15 +1,10 @@
 -- A tag a row of which is not taken: its tape has fewer takes than the tag has rows.
 use Rattle.std.proofs.Common.{◌≡◌, ℕ, ◌<◌, List, length, get_or, IsSome, ap, arith}
 use Rattle.std.specs.Prelude.{slice_index}
-use Rattle.value_rows.specs.declared.raw.RawRow.{RawRow}
-use Rattle.tag_cell.specs.Tapes.{taken}
-use Rattle.tag_cell.specs.Told.{ToldCell}
+use Rattle.value_rows.specs.{RawRow}
+use Rattle.tag_cell.specs.{taken, ToldCell}
 use Rattle.session_audit.specs.Agendas.{phase_item}
-use Rattle.session_audit.specs.Found.{Reached, next_due}
-use Rattle.session_audit.specs.Tapes.{take_of}
-use Rattle.session_audit.specs.Cells.{AreAllFound}
-use Rattle.session_audit.specs.Workers.{AreOver, LacksRow}
-use Rattle.session_audit.specs.CellRefusals.{tag_rows}
+use Rattle.session_audit.specs.{Reached, next_due, take_of, AreAllFound, AreOver, LacksRow, tag_rows}
 use Rattle.session_audit.proofs.Counting.{found_fewer, takes_fewer}
 
 -- a collector's row is due at a tag, and was not found on its tape

@@ -2,12 +2,10 @@
 use Rattle.std.proofs.Common.{◌≡◌, ℕ, List, [], ◌∷◌, ◌++◌, length, length-append, Result, Ok, Err, IfErr, OnOk, Vec, refl, sym, ap, subst, ◌∙◌, arith}
 use Rattle.std.specs.declared.alloc.Global.{Global}
 use Rattle.std.proofs.lemmas.List.{length-map}
-use Rattle.trend_num.specs.declared.value.CalcValue.{CalcValue}
-use Rattle.calc_refresh.specs.Lists.{lists_of}
-use Rattle.group_book.specs.declared.history.GroupOpening.{GroupOpening}
-use Rattle.group_book.specs.Told.{ToldBook}
-use Rattle.session_audit.specs.declared.opening.Difference.{Difference}
-use Rattle.session_audit.specs.declared.book_opening.KeptGroup.{KeptGroup}
+use Rattle.trend_num.specs.{CalcValue}
+use Rattle.calc_refresh.specs.{lists_of}
+use Rattle.group_book.specs.{GroupOpening, ToldBook}
+use Rattle.session_audit.specs.{Difference, KeptGroup}
 use Rattle.session_audit.specs.BookOpenings.{DifferSo, IsBookAsKept, IsDefinedSo, IsBookDifference, IsSameOpening, items_of, windows_of}
 use Rattle.session_audit.specs.BookOpenings.IsGroupDifference.{OfOpening}
 

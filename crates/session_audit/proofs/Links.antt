@@ -3,9 +3,8 @@ use Rattle.std.proofs.Common.{◌≡◌, ◌≢◌, ℕ, ◌+◌, ◌<◌, inl, 
 use Rattle.std.proofs.lemmas.Bool.{cases_eq}
 use Rattle.std.proofs.lemmas.Bool.Decides.{nat_tests}
 use Rattle.std.proofs.lemmas.List.{get_or-replicate, get_or-set_same, get_or-set_other, get_or_past, length-replicate}
-use Rattle.session_audit.specs.declared.agenda.Item.{Item}
+use Rattle.session_audit.specs.{Item, AreLinked, IsChained}
 use Rattle.session_audit.specs.Agendas.{IsNext, due_at, seen_at}
-use Rattle.session_audit.specs.Found.{AreLinked, IsChained}
 
 -- ---- the next row of a unit
 

@@ -2,14 +2,10 @@
 use Rattle.std.proofs.Common.{◌≡◌, ◌⊎◌, ℕ, ◌<◌, inl, inr, List, length, get_or, set, Some, true, refl, sym, ap, subst, ◌∙◌, arith}
 use Rattle.std.proofs.lemmas.List.{get_or-set_other, get_or-set_same, length-set}
 use Rattle.std.proofs.lemmas.Option.{slice_get-get_or}
-use Rattle.tag_cell.specs.declared.entry.Entry.{Entry}
-use Rattle.tag_cell.specs.declared.entry.CommitNo.{CommitNo}
+use Rattle.tag_cell.specs.{Entry, CommitNo, ToldCell}
 use Rattle.tag_cell.specs.declared.entry.CommitNo.TheVariants as commit
-use Rattle.tag_cell.specs.Told.{ToldCell}
-use Rattle.session_audit.specs.Cells.{AreLonger, IsLonger}
-use Rattle.session_audit.specs.Gains.{longer_trans}
+use Rattle.session_audit.specs.{AreLonger, IsLonger, longer_trans, IsCellRefusal, IsCommittedCell, IsSo, OfFault, OfMemory, commit_status}
 use Rattle.session_audit.proofs.Each.{each_set}
-use Rattle.session_audit.specs.CellRefusals.{IsCellRefusal, IsCommittedCell, IsSo, OfFault, OfMemory, commit_status}
 
 -- one of the cells gained entries
 pub longer_set : {D : Type 0} (IsOf : Entry → Type 0) (first now : List (ToldCell D)) (tag : ℕ) (c d : ToldCell D)

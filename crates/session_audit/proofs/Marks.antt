@@ -6,8 +6,8 @@ use Rattle.std.proofs.lemmas.Bool.{cases_eq}
 use Rattle.std.proofs.lemmas.List.{get_or_append_left, get_or_push, length_push, same_lists}
 use Rattle.std.proofs.lemmas.List.Sums.{count_by-le-length, sum_by-cons}
 use Rattle.std.proofs.lemmas.Option.{get_or_from_slice_get, slice_get-get_or}
-use Rattle.calc_refresh.specs.declared.definition.GroupDefParts.{GroupDefParts}
-use Rattle.session_audit.specs.declared.book_opening.KeptGroup.{KeptGroup}
+use Rattle.calc_refresh.specs.{GroupDefParts}
+use Rattle.session_audit.specs.{KeptGroup}
 use Rattle.session_audit.specs.BookOpenings.{AgreeIn, ArePartsOf, IsDefinedSo}
 
 -- how many there are with one more in front

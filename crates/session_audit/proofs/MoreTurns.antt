@@ -1,24 +1,15 @@
 -- Turns of a group, one more.
 use Rattle.std.proofs.Common.{◌≡◌, ℕ, zero, suc, ◌+◌, ◌<◌, List, [], ◌∷◌, ◌++◌, All, length, map, get_or, None, refl, sym, ap, subst, ◌∙◌, arith, append-nil, append_assoc, length-append}
 use Rattle.std.proofs.lemmas.List.Elements.{All-append, filter_map-append}
-use Rattle.trend_num.specs.declared.archive.Rec.{Rec}
-use Rattle.tag_cell.specs.declared.entry.PullNo.{PullNo}
+use Rattle.trend_num.specs.{Rec}
+use Rattle.tag_cell.specs.{PullNo}
 use Rattle.tag_cell.specs.declared.entry.PullNo.TheVariants as pull
-use Rattle.value_rows.specs.declared.asked.Query.{Query}
+use Rattle.value_rows.specs.{Query}
 use Rattle.session_audit.specs.Agendas.{row_item}
-use Rattle.session_audit.specs.Workers.{AreTapesWhole}
+use Rattle.session_audit.specs.{AreTapesWhole, AreEach, IsNoAsk, IsRefreshedMore, book_tape, IsInputsOf, durable_numbers, pull_refusal, refreshes, row_ask_of, reached_by}
 use Rattle.session_audit.proofs.EntryKinds.{same_shown}
-use Rattle.group_book.specs.declared.refusal.RefreshNo.{RefreshNo}
-use Rattle.group_book.specs.declared.turn.Turn.{Turn}
+use Rattle.group_book.specs.{RefreshNo, Turn, IsPublished, ToldBook as Book, IsListsRefusal, IsPullRefusal, lists_at}
 use Rattle.group_book.specs.declared.turn.Turn.TheVariants.{Refresh, Ask, Save}
-use Rattle.group_book.specs.Told.{IsPublished, ToldBook as Book}
-use Rattle.session_audit.specs.Each.{AreEach}
-use Rattle.session_audit.specs.Books.{IsNoAsk, IsRefreshedMore, book_tape}
-use Rattle.session_audit.specs.Inputs.{IsInputsOf}
-use Rattle.group_book.specs.InputLists.{IsListsRefusal, IsPullRefusal, lists_at}
-use Rattle.session_audit.specs.Refreshing.{durable_numbers}
-use Rattle.session_audit.specs.BookRefusals.{pull_refusal}
-use Rattle.session_audit.specs.GroupTapes.{refreshes, row_ask_of, reached_by}
 
 -- ---- numbers of durable records
 

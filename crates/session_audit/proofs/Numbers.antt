@@ -1,9 +1,8 @@
 -- Rows of a worker: how many there are, and one of them.
 use Rattle.std.proofs.Common.{◌≡◌, ℕ, zero, suc, ◌+◌, ◌-◌, ◌<◌, ◌≤◌, true, false, nat_le, List, [], ◌∷◌, length, get_or, None, refl, sym, ap, ◌∙◌, arith, Bor}
 use Rattle.std.proofs.lemmas.Bool.Decides.{nat_tests}
-use Rattle.value_rows.specs.declared.asked.Query.{Query}
-use Rattle.value_rows.specs.declared.raw.RawRow.{RawRow}
-use Rattle.session_audit.specs.declared.agenda.Agenda.{Agenda}
+use Rattle.value_rows.specs.{Query, RawRow}
+use Rattle.session_audit.specs.{Agenda}
 use Rattle.session_audit.specs.declared.agenda.Rows.TheVariants.{Takes, Asks, RowAsks}
 use Rattle.session_audit.specs.Agendas.{ask_item, items_in, items_of, number_in, numbered, phase_item, row_item}
 

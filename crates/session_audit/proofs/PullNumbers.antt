@@ -3,7 +3,7 @@ use Rattle.std.proofs.Common.{◌≡◌, ◌≢◌, ℕ, zero, suc, ◌+◌, ◌
 use Rattle.std.specs.Prelude.{slice_get}
 use Rattle.std.proofs.lemmas.List.{length-take, take_all, take_more, take-append-drop}
 use Rattle.std.proofs.lemmas.Option.{get_or_from_slice_get, none-some, slice_get_cases, slice_get_past, slice_get_within}
-use Rattle.session_audit.specs.OpeningNumbers.{AreApart, seen_of}
+use Rattle.session_audit.specs.{AreApart, seen_of}
 
 -- different numbers are shown differently
 pub seen_apart : (a b : Option ℕ) → a ≢ b → seen_of a ≢ seen_of b

@@ -2,18 +2,12 @@
 use Rattle.std.proofs.Common.{◌≡◌, ℕ, zero, suc, ◌<◌, List, [], ◌∷◌, ◌++◌, All, length, get_or, None, refl, sym, ap, ◌∙◌, arith, append-nil, append_assoc}
 use Rattle.std.proofs.lemmas.List.{get_or-map, length-map, same_lists}
 use Rattle.std.proofs.lemmas.List.Elements.{All-append, All-head, All-tail}
-use Rattle.tag_cell.specs.declared.entry.Entry.{Entry}
+use Rattle.tag_cell.specs.{Entry, CellWalk, after_entry, done, cell_start, state_after, cell_walked, ToldCell as Cell, durable_records}
 use Rattle.tag_cell.specs.declared.entry.Entry.TheVariants as entry
-use Rattle.tag_cell.specs.Tapes.{CellWalk, after_entry, done, cell_start, state_after, cell_walked}
-use Rattle.tag_cell.specs.Told.{ToldCell as Cell, durable_records}
 use Rattle.session_audit.specs.Agendas.{ask_item, phase_item}
-use Rattle.session_audit.specs.Tapes.{ask_of, take_of}
-use Rattle.value_rows.specs.declared.asked.Query.{Query}
-use Rattle.value_rows.specs.declared.raw.RawRow.{RawRow}
-use Rattle.session_audit.specs.Cells.{AreAllShown, AreLonger}
+use Rattle.session_audit.specs.{ask_of, take_of, AreAllShown, AreLonger, AreEach, IsPull, IsPulledMore, durable_lists}
+use Rattle.value_rows.specs.{Query, RawRow}
 use Rattle.session_audit.proofs.EntryKinds.{longer_shown}
-use Rattle.session_audit.specs.Each.{AreEach}
-use Rattle.session_audit.specs.Refreshing.{IsPull, IsPulledMore, durable_lists}
 
 pub pulled_refl : {C : Type 0} (c : Cell C) → IsPulledMore c c
 pulled_refl c = record {

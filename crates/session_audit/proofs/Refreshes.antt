@@ -4,13 +4,9 @@ use Rattle.std.specs.List.{count_by}
 use Rattle.std.specs.Prelude.{slice_index}
 use Rattle.std.proofs.lemmas.List.Recursion.{is_count_by}
 use Rattle.std.proofs.lemmas.List.Elements.{All-head, All-tail, filter_map-append}
-use Rattle.group_book.specs.declared.turn.Turn.{Turn}
+use Rattle.group_book.specs.{Turn, ToldBook}
 use Rattle.group_book.specs.declared.turn.Turn.TheVariants.{Refresh, Ask, Save}
-use Rattle.group_book.specs.Told.{ToldBook}
-use Rattle.session_audit.specs.Each.{AreEach}
-use Rattle.session_audit.specs.Books.{IsAsk, IsAskedMore}
-use Rattle.session_audit.specs.GroupTapes.{refreshes, reached_by}
-use Rattle.session_audit.specs.GroupTurns.{IsWithinTurns}
+use Rattle.session_audit.specs.{AreEach, IsAsk, IsAskedMore, refreshes, reached_by, IsWithinTurns}
 
 -- ---- how many refreshes there are
 

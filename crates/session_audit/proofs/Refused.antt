@@ -3,16 +3,11 @@ use Rattle.std.proofs.Common.{◌≡◌, ◌⊎◌, ℕ, ◌+◌, ◌<◌, ◌�
 use Rattle.std.specs.Prelude.{slice_get, if◌then◌else◌}
 use Rattle.std.proofs.lemmas.Bool.Decides.{nat_tests}
 use Rattle.std.proofs.lemmas.Option.{none-some}
-use Rattle.trend_num.specs.Limits.{most_records}
-use Rattle.value_rows.specs.declared.raw.RawRow.{RawRow}
-use Rattle.tag_cell.specs.declared.entry.TakeNo.{TakeNo}
+use Rattle.trend_num.specs.{most_records}
+use Rattle.value_rows.specs.{RawRow}
+use Rattle.tag_cell.specs.{TakeNo, taken, ToldCell, take_refusal}
 use Rattle.tag_cell.specs.declared.entry.TakeNo.TheVariants.{Broken, RoomFull, Full}
-use Rattle.tag_cell.specs.Tapes.{taken}
-use Rattle.tag_cell.specs.Told.{ToldCell, take_refusal}
-use Rattle.session_audit.specs.declared.agenda.Item.{Item}
-use Rattle.session_audit.specs.Tapes.{take_of}
-use Rattle.session_audit.specs.Workers.{LacksRow}
-use Rattle.session_audit.specs.CellRefusals.{IsTakeRefusal, OfBroken, OfLimit, OfRoom, tag_rows, take_status}
+use Rattle.session_audit.specs.{Item, take_of, LacksRow, IsTakeRefusal, OfBroken, OfLimit, OfRoom, tag_rows, take_status}
 
 -- the first of three tests that holds
 first_of : (a b c : Bool) (x y why : TakeNo)

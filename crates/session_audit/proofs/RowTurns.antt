@@ -5,15 +5,12 @@ use Rattle.std.proofs.lemmas.Bool.{cases_eq}
 use Rattle.std.proofs.lemmas.List.{get_or-set_same, get_or-set_other, length-set}
 use Rattle.std.proofs.lemmas.List.Elements.{All-from_get_or}
 use Rattle.std.proofs.lemmas.Option.{get_or_from_slice_get, slice_get_within}
-use Rattle.plant_status.specs.declared.mismatch.Seen.{Seen}
-use Rattle.session_audit.specs.declared.agenda.Item.{Item}
-use Rattle.session_audit.specs.declared.kind.Shown.{Shown}
+use Rattle.plant_status.specs.{Seen}
+use Rattle.session_audit.specs.{Item, Shown, AreFound, IsAdvanced, IsCaughtUp, IsFollowed, Reached, lacks, next_due, place_at, AreOthersSame, AreTapesFound, IsOver}
 use Rattle.session_audit.specs.Agendas.{IsNext}
-use Rattle.session_audit.specs.Found.{AreFound, IsAdvanced, IsCaughtUp, IsFollowed, Reached, lacks, next_due, place_at}
 use Rattle.session_audit.proofs.Catching.{caught_due, caught_here}
 use Rattle.session_audit.proofs.Numbers.{length-numbered}
 use Rattle.session_audit.proofs.Walking.{all_further, all_further_step, followed_here, found_beside, found_step}
-use Rattle.session_audit.specs.Workers.{AreOthersSame, AreTapesFound, IsOver}
 
 -- a unit has one entry more on its tape; `tape_of` has the tape
 pub record HasEntry {C E : Type 0} (tape_of : C → List E) (tag : ℕ) (e : E) (old new : List C) : Type 0 where

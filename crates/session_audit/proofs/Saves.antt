@@ -2,20 +2,15 @@
 use Rattle.std.proofs.Common.{◌≡◌, ◌∙◌, ℕ, Bool, zero, suc, ◌+◌, List, [], ◌∷◌, All, length, map, Result, Ok, Err, IfErr, OnOk, true, false, Option, None, Some, IsSome, refl, sym, ap, subst, arith, append-nil}
 use Rattle.std.proofs.lemmas.Bool.{false≢true}
 use Rattle.std.proofs.lemmas.List.Elements.{filter_map-append}
-use Rattle.disk_model.specs.Traces.{Device, moment}
-use Rattle.calc_refresh.specs.Refreshed.{fault_of}
-use Rattle.group_book.specs.declared.refusal.SaveNo.{SaveNo}
+use Rattle.disk_model.specs.{Device, moment}
+use Rattle.calc_refresh.specs.{fault_of}
+use Rattle.group_book.specs.{SaveNo, IsBookFaulted, IsSaved, ToldBook as Book, versions_of}
 use Rattle.group_book.specs.declared.refusal.SaveNo.TheVariants.{Broken, DeviceFault, WantOfMemory}
 use Rattle.group_book.specs.declared.turn.Turn.TheVariants.{Save}
-use Rattle.group_book.specs.Saves.{IsBookFaulted, IsSaved}
-use Rattle.trend_num.specs.declared.archive.Rec.{Rec}
+use Rattle.trend_num.specs.{Rec}
 use Rattle.plant_status.specs.declared.status.Status.{Status}
-use Rattle.group_book.specs.Told.{ToldBook as Book, versions_of}
-use Rattle.session_audit.specs.Books.{IsNoAsk, IsRefreshedMore}
-use Rattle.session_audit.specs.Refreshing.{IsRefreshedTo, IsSavedOn, durable_numbers}
-use Rattle.session_audit.specs.BookRefusals.{IsBookRefusal, IsSaveCause, IsSaveRefusal}
+use Rattle.session_audit.specs.{IsNoAsk, IsRefreshedMore, IsRefreshedTo, IsSavedOn, durable_numbers, IsBookRefusal, IsSaveCause, IsSaveRefusal, refreshes, reached_by}
 use Rattle.session_audit.specs.BookRefusals.IsBookRefusal.{OfSave}
-use Rattle.session_audit.specs.GroupTapes.{refreshes, reached_by}
 use Rattle.session_audit.proofs.MoreTurns.{refreshed_refl}
 
 -- what does not hold is false

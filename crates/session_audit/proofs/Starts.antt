@@ -4,17 +4,12 @@ use Rattle.std.proofs.lemmas.Bool.{cases_eq, cases_lt}
 use Rattle.std.proofs.lemmas.List.{get_or_append_left, get_or_default, get_or_past, get_or_push, length_push}
 use Rattle.std.proofs.lemmas.List.Elements.{All-get_or}
 use Rattle.std.specs.declared.alloc.Global.{Global}
-use Rattle.value_rows.specs.declared.asked.Query.{Query}
+use Rattle.value_rows.specs.{Query, RawRow}
 use Rattle.value_rows.specs.declared.asked.Query.TheVariants as query
-use Rattle.value_rows.specs.declared.raw.RawRow.{RawRow}
-use Rattle.session_audit.specs.declared.agenda.Item.{Item}
+use Rattle.session_audit.specs.{Item, IsUnfound, Reached, IsKnownRowAsk, IsKnownAsk, IsDueWithin}
 use Rattle.session_audit.specs.Agendas.{ask_item, numbered, phase_item, row_item}
-use Rattle.session_audit.specs.Found.{IsUnfound, Reached}
 use Rattle.session_audit.proofs.Numbers.{length-numbered, numbered_at}
-use Rattle.collector_pool.specs.Work.{IsRowOf}
-use Rattle.session_audit.specs.Books.{IsKnownRowAsk}
-use Rattle.session_audit.specs.Cells.{IsKnownAsk}
-use Rattle.session_audit.specs.Starting.{IsDueWithin}
+use Rattle.collector_pool.specs.{IsRowOf}
 
 -- the first workers are started over the rows of their files
 pub record AreStarted {A : Type 0} (item_of : ℕ → ℕ → A → Option Item) (tags upto : ℕ) (files : List (List A))

@@ -3,10 +3,9 @@ use Rattle.std.proofs.Common.{◌≡◌, ◌∙◌, ℕ, ◌+◌, ◌<◌, Bool,
 use Rattle.std.specs.List.{count_by}
 use Rattle.std.proofs.lemmas.List.{at_drop_more}
 use Rattle.std.proofs.lemmas.List.Recursion.{is_count_by}
-use Rattle.tag_cell.specs.declared.entry.Entry.{Entry}
+use Rattle.tag_cell.specs.{Entry, taken}
 use Rattle.tag_cell.specs.declared.entry.Entry.TheVariants.{Take, Ask, Pull, Commit}
-use Rattle.tag_cell.specs.Tapes.{taken}
-use Rattle.session_audit.specs.FirstPulls.{acked_at_pull}
+use Rattle.session_audit.specs.{acked_at_pull}
 
 module _ (tape : List Entry) (i : ℕ) (e : Entry) (within : i < length tape) (is : e ≡ get_or tape i e) where
   -- what a count of the rest is, by its first entry

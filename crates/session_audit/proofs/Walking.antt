@@ -1,20 +1,17 @@
 -- A walk over a tape, one entry further.
-use Rattle.std.proofs.Common.{◌≡◌, ◌≢◌, ℕ, zero, suc, ◌+◌, ◌-◌, ◌<◌, ◌≤◌, inl, inr, true, false, nat_eq, List, [], ◌∷◌, ◌++◌, length, get_or, set, take, Option, None, Some, IsSome, IsSomeAnd, MatchOption, All, slice_get, refl, sym, ap, subst, ◌∙◌, arith, append-nil}
-use Rattle.std.specs.Prelude.{filter_map}
+use Rattle.std.proofs.Common.{◌≡◌, ◌≢◌, ℕ, zero, suc, ◌+◌, ◌-◌, ◌<◌, ◌≤◌, inl, inr, true, false, nat_eq, List, [], ◌∷◌, ◌++◌, length, get_or, set, take, Option, None, Some, IsSome, IsSomeAnd, MatchOption, All, slice_get, refl, sym, ap}
+use Rattle.std.proofs.Common.{subst, ◌∙◌, arith, append-nil}
+use Rattle.std.specs.Prelude.{filter_map, option_and_then}
 use Rattle.std.specs.Option.{option_map_or, unwrap_or}
-use Rattle.std.specs.Prelude.{option_and_then}
 use Rattle.std.proofs.lemmas.Bool.{cases_eq, cases_lt, false≢true}
 use Rattle.std.proofs.lemmas.Bool.Decides.{nat_tests}
-use Rattle.std.proofs.lemmas.List.{get_or-set_same, get_or-set_other, get_or_past, take_more}
-use Rattle.std.proofs.lemmas.List.{length-set}
+use Rattle.std.proofs.lemmas.List.{get_or-set_same, get_or-set_other, get_or_past, take_more, length-set}
 use Rattle.std.proofs.lemmas.List.Elements.{All-from_get_or, All-get_or, filter_map-append}
 use Rattle.std.proofs.lemmas.Option.{none-some, get_or_from_slice_get, slice_get_cases, slice_get_past, slice_get_within, slice_get-get_or}
-use Rattle.plant_status.specs.declared.mismatch.Seen.{Seen}
+use Rattle.plant_status.specs.{Seen}
 use Rattle.plant_status.specs.declared.mismatch.Seen.TheVariants.{Nothing}
-use Rattle.session_audit.specs.declared.agenda.Item.{Item}
-use Rattle.session_audit.specs.declared.kind.Shown.{Shown}
+use Rattle.session_audit.specs.{Item, Shown, AreFound, AreFurther, IsAdvanced, IsDifference, IsFirstPart, IsFollowed, IsFurther, IsOtherDue, IsUnfound, Reached, due_of, found, found_of, next_due, place_at, seen_by, tape_shows}
 use Rattle.session_audit.specs.Agendas.{IsNext, due, due_at, seen_at}
-use Rattle.session_audit.specs.Found.{AreFound, AreFurther, IsAdvanced, IsDifference, IsFirstPart, IsFollowed, IsFurther, IsOtherDue, IsUnfound, Reached, due_of, found, found_of, next_due, place_at, seen_by, tape_shows}
 use Rattle.session_audit.proofs.Begun.{due_same, found_of_first}
 
 -- ---- rows that were passed

@@ -1,6 +1,6 @@
 -- Rows that a tape lacks, and the entries that are added for them.
 use Rattle.std.specs.Prelude.{◌≡◌, ℕ, ◌<◌, List, [], ◌∷◌, ◌++◌, length, slice_get, slice_index_or, Option, None, Some, IfSome, IsSome, true}
-use Rattle.plant_status.specs.declared.mismatch.Seen.{Seen}
+use Rattle.plant_status.specs.{Seen}
 use Rattle.session_audit.specs.declared.agenda.Item.{Item}
 use Rattle.session_audit.specs.declared.kind.Shown.{Shown}
 use Rattle.session_audit.specs.Agendas.{IsNext}

@@ -1,9 +1,8 @@
 -- What the rows of a worker leave on tapes, and where they are due.
 use Rattle.std.specs.Prelude.{◌≡◌, ℕ, zero, suc, ◌+◌, ◌-◌, ◌<◌, ◌≤◌, List, [], ◌∷◌, length, filter_map, slice_index_or, Option, None, Some, IsSome, nat_eq, nat_le, if◌then◌else◌}
-use Rattle.value_rows.specs.declared.asked.Query.{Query}
+use Rattle.value_rows.specs.{Query, RawRow}
 use Rattle.value_rows.specs.declared.asked.Query.TheVariants as query
-use Rattle.value_rows.specs.declared.raw.RawRow.{RawRow}
-use Rattle.plant_status.specs.declared.mismatch.Seen.{Seen}
+use Rattle.plant_status.specs.{Seen}
 use Rattle.plant_status.specs.declared.mismatch.Seen.TheVariants.{Take, Ask, Row}
 use Rattle.session_audit.specs.declared.agenda.Agenda.{Agenda}
 use Rattle.session_audit.specs.declared.agenda.Item.{Item}

@@ -1,20 +1,17 @@
 -- Why a group is not refreshed.
 use Rattle.std.specs.Prelude.{◌≡◌, ℕ, ◌<◌, List, [], slice_get, slice_index, slice_index_or, Some, true, ⊤}
-use Rattle.trend_num.specs.declared.archive.Rec.{Rec}
+use Rattle.trend_num.specs.{Rec}
 use Rattle.trend_num.specs.declared.refusal.What.TheVariants.{Cells, Copies}
 use Rattle.plant_status.specs.declared.unit.Unit.TheVariants.{Group}
 use Rattle.plant_status.specs.declared.mismatch.Place.TheVariants.{Version}
 use Rattle.plant_status.specs.declared.mismatch.Seen.TheVariants.{Number}
 use Rattle.plant_status.specs.declared.status.Status.{Status}
 use Rattle.plant_status.specs.declared.status.Status.TheVariants as status
-use Rattle.tag_cell.specs.declared.entry.PullNo.{PullNo}
+use Rattle.tag_cell.specs.{PullNo}
 use Rattle.tag_cell.specs.declared.entry.PullNo.TheVariants as pull
-use Rattle.group_book.specs.declared.refusal.RefreshNo.{RefreshNo}
+use Rattle.group_book.specs.{RefreshNo, SaveNo, IsListsRefusal, lists_at, ToldBook as Book}
 use Rattle.group_book.specs.declared.refusal.RefreshNo.TheVariants.{Ahead, CellLimit, CopyLimit, WantOfMemory}
-use Rattle.group_book.specs.declared.refusal.SaveNo.{SaveNo}
 use Rattle.group_book.specs.declared.refusal.SaveNo.TheVariants as save
-use Rattle.group_book.specs.InputLists.{IsListsRefusal, lists_at}
-use Rattle.group_book.specs.Told.{ToldBook as Book}
 use Rattle.session_audit.specs.Refreshing.{IsRefreshedTo}
 
 -- the refusal of a refresh whose pull of an input was refused

@@ -1,10 +1,9 @@
 -- Books that have gained turns.
 use Rattle.std.specs.Prelude.{◌≡◌, ℕ, ◌<◌, List, ◌++◌, All, ⊤}
-use Rattle.value_rows.specs.declared.asked.Query.{Query}
+use Rattle.value_rows.specs.{Query}
 use Rattle.value_rows.specs.declared.asked.Query.TheVariants as query
-use Rattle.group_book.specs.declared.turn.Turn.{Turn}
+use Rattle.group_book.specs.{Turn, ToldBook}
 use Rattle.group_book.specs.declared.turn.Turn.TheVariants.{Ask}
-use Rattle.group_book.specs.Told.{ToldBook}
 
 -- the tape of a book
 abbrev pub book_tape : {D : Type 0} → ToldBook D → List Turn

@@ -1,13 +1,11 @@
 -- The copy of a cell's opening, and where the cell differs from it.
 use Rattle.std.specs.Prelude.{◌≡◌, ◌≢◌, ℕ, ◌<◌, List, [], ◌∷◌, length, take, slice_get, Some, ⊤}
-use Rattle.trend_num.specs.declared.archive.Rec.{Rec}
-use Rattle.trend_num.specs.declared.tag_def.TagDef.{TagDef}
-use Rattle.plant_status.specs.declared.mismatch.Seen.{Seen}
+use Rattle.trend_num.specs.{Rec, TagDef}
+use Rattle.plant_status.specs.{Seen}
 use Rattle.plant_status.specs.declared.mismatch.Seen.TheVariants.{Def, Number, Summary}
 use Rattle.plant_status.specs.declared.status.Status.{Status}
 use Rattle.plant_status.specs.declared.unit.Unit.TheVariants.{Tag}
-use Rattle.tag_cell.specs.declared.history.TagOpening.{TagOpening}
-use Rattle.tag_cell.specs.Told.{ToldCell}
+use Rattle.tag_cell.specs.{TagOpening, ToldCell}
 use Rattle.session_audit.specs.declared.cell_opening.Kept.{Kept}
 use Rattle.session_audit.specs.Openings.{IsOpeningMismatch}
 

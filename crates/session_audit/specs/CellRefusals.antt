@@ -1,20 +1,17 @@
 -- Why a step of a session is refused.
 use Rattle.std.specs.Prelude.{◌≡◌, ℕ, ◌+◌, ◌<◌, ◌≤◌, List, [], ◌∷◌, length, slice_get, slice_index_or, Option, Some, true, false, nat_eq}
-use Rattle.trend_num.specs.Limits.{most_records}
+use Rattle.trend_num.specs.{most_records}
 use Rattle.trend_num.specs.declared.refusal.What.TheVariants.{Records}
 use Rattle.std.specs.List.{count_by}
-use Rattle.value_rows.specs.declared.raw.RawRow.{RawRow}
+use Rattle.value_rows.specs.{RawRow}
 use Rattle.plant_status.specs.declared.mismatch.Place.TheVariants.{Takes}
 use Rattle.plant_status.specs.declared.mismatch.Seen.TheVariants.{Number}
 use Rattle.plant_status.specs.declared.unit.Unit.TheVariants.{Tag}
 use Rattle.plant_status.specs.declared.status.Status.{Status}
 use Rattle.plant_status.specs.declared.status.Status.TheVariants.{DeviceFault, Limit, Mismatch, WantOfMemory}
-use Rattle.tag_cell.specs.declared.entry.CommitNo.{CommitNo}
+use Rattle.tag_cell.specs.{CommitNo, TakeNo, taken, ToldCell, takes_waiting}
 use Rattle.tag_cell.specs.declared.entry.CommitNo.TheVariants as commit
-use Rattle.tag_cell.specs.declared.entry.TakeNo.{TakeNo}
 use Rattle.tag_cell.specs.declared.entry.TakeNo.TheVariants as take_no
-use Rattle.tag_cell.specs.Tapes.{taken}
-use Rattle.tag_cell.specs.Told.{ToldCell, takes_waiting}
 use Rattle.session_audit.specs.declared.agenda.Item.{Item}
 use Rattle.session_audit.specs.Tapes.{take_of}
 use Rattle.session_audit.specs.Workers.{LacksRow}

@@ -1,11 +1,10 @@
 -- Cells that have gained entries.
 use Rattle.std.specs.Prelude.{◌≡◌, ℕ, ◌<◌, List, ◌++◌, All, Option, ⊤}
-use Rattle.trend_num.specs.Queries.{IsTagQuery}
-use Rattle.value_rows.specs.declared.asked.Query.{Query}
+use Rattle.trend_num.specs.{IsTagQuery}
+use Rattle.value_rows.specs.{Query}
 use Rattle.value_rows.specs.declared.asked.Query.TheVariants as query
-use Rattle.tag_cell.specs.declared.entry.Entry.{Entry}
+use Rattle.tag_cell.specs.{Entry, ToldCell}
 use Rattle.tag_cell.specs.declared.entry.Entry.TheVariants.{Take, Ask, Commit}
-use Rattle.tag_cell.specs.Told.{ToldCell}
 use Rattle.session_audit.specs.declared.agenda.Item.{Item}
 use Rattle.session_audit.specs.declared.kind.Shown.{Shown}
 use Rattle.session_audit.specs.Found.{Reached}

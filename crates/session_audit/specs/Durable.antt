@@ -1,11 +1,8 @@
 -- Records of a tag that no crash takes away.
 use Rattle.std.specs.Prelude.{◌≡◌, ℕ, List, length, slice_get, Some, take}
-use Rattle.trend_num.specs.declared.archive.Rec.{Rec}
-use Rattle.trend_num.specs.declared.tag_def.TagDef.{TagDef}
-use Rattle.tag_cell.specs.declared.entry.Entry.{Entry}
+use Rattle.trend_num.specs.{Rec, TagDef}
+use Rattle.tag_cell.specs.{Entry, TagOpening, done, cell_start, state_after, cell_walked}
 use Rattle.tag_cell.specs.declared.entry.Entry.TheVariants.{Pull}
-use Rattle.tag_cell.specs.declared.history.TagOpening.{TagOpening}
-use Rattle.tag_cell.specs.Tapes.{done, cell_start, state_after, cell_walked}
 
 -- the records of the opening, and of the takes that a tape's commits acknowledge
 abbrev pub durable_in : TagDef → TagOpening → List Entry → List Rec

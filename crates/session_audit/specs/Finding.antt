@@ -1,11 +1,11 @@
 -- Entries on the tapes of all cells and books that are not the next rows of their workers.
 use Rattle.std.specs.Prelude.{◌≡◌, ℕ, ◌<◌, List, length, slice_get, slice_index_or, Option, Some}
 use Rattle.plant_status.specs.declared.mismatch.Place.TheVariants.{Take, Ask, RowAsk}
-use Rattle.plant_status.specs.declared.mismatch.Seen.{Seen}
+use Rattle.plant_status.specs.{Seen}
 use Rattle.plant_status.specs.declared.status.Status.{Status}
 use Rattle.plant_status.specs.declared.status.Status.TheVariants.{Mismatch}
-use Rattle.tag_cell.specs.Told.{ToldCell as Cell}
-use Rattle.group_book.specs.Told.{ToldBook as Book}
+use Rattle.tag_cell.specs.{ToldCell as Cell}
+use Rattle.group_book.specs.{ToldBook as Book}
 use Rattle.session_audit.specs.declared.kind.Shown.{Shown}
 use Rattle.session_audit.specs.Found.{IsDifference, IsFirstPart, Reached, due_of, tape_shows}
 use Rattle.session_audit.specs.Tapes.{ask_of, take_of}

@@ -1,10 +1,8 @@
 -- How many values a tag had acknowledged when a group first pulled from it.
 use Rattle.std.specs.Prelude.{◌≡◌, ◌≢◌, ℕ, ◌-◌, ◌<◌, List, [], ◌∷◌, length, slice_get, slice_index, slice_index_or, Some}
 use Rattle.plant_status.specs.declared.status.Status.{Status}
-use Rattle.tag_cell.specs.declared.entry.Entry.{Entry}
+use Rattle.tag_cell.specs.{Entry, TagOpening, ToldCell}
 use Rattle.tag_cell.specs.declared.entry.Entry.TheVariants.{Take, Ask, Pull, Commit}
-use Rattle.tag_cell.specs.declared.history.TagOpening.{TagOpening}
-use Rattle.tag_cell.specs.Told.{ToldCell}
 use Rattle.session_audit.specs.CellRefusals.{takes_mismatch}
 
 -- how many events the last commit before the first pull acknowledges, or n if there is none; without a pull, the last commit

@@ -1,7 +1,7 @@
 -- How many rows of workers were found on tapes.
 use Rattle.std.specs.Prelude.{◌≡◌, ◌≢◌, ℕ, Bool, false, nat_le, ◌+◌, ◌^◌, ◌<◌, ◌≤◌, List, [], ◌++◌, length, take, filter_map, slice_get, slice_index_or, slice_set, Option, None, Some, IfSome, option_and_then, nat_eq, ⊤, if◌then◌else◌}
 use Rattle.std.specs.Option.{option_map_or, unwrap_or}
-use Rattle.plant_status.specs.declared.mismatch.Seen.{Seen}
+use Rattle.plant_status.specs.{Seen}
 use Rattle.plant_status.specs.declared.mismatch.Seen.TheVariants.{Nothing, Take, Ask, Row}
 use Rattle.session_audit.specs.declared.agenda.Item.{Item}
 use Rattle.session_audit.specs.declared.kind.Shown.{Shown}

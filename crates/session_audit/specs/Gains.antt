@@ -2,10 +2,8 @@
 -- here.
 use Rattle.std.proofs.Common.{◌++◌, List, [], refl, sym, ap, ◌∙◌, append-nil, append_assoc}
 use Rattle.std.proofs.lemmas.List.Elements.{All-append, All-nil}
-use Rattle.tag_cell.specs.declared.entry.Entry.{Entry}
-use Rattle.tag_cell.specs.Told.{ToldCell as Cell}
-use Rattle.group_book.specs.declared.turn.Turn.{Turn}
-use Rattle.group_book.specs.Told.{ToldBook as Book}
+use Rattle.tag_cell.specs.{Entry, ToldCell as Cell}
+use Rattle.group_book.specs.{Turn, ToldBook as Book}
 use Rattle.session_audit.specs.Books.{IsAsk, IsAskedMore}
 use Rattle.session_audit.specs.Cells.{IsLonger}
 

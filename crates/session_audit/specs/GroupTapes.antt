@@ -3,9 +3,9 @@
 use Rattle.std.specs.Prelude.{ℕ, List, Option, None, Some, filter_map, map, nat_eq, slice_index, if◌then◌else◌}
 use Rattle.plant_status.specs.declared.mismatch.Seen.TheVariants as seen
 use Rattle.session_audit.specs.declared.kind.Shown.{Shown}
-use Rattle.tag_cell.specs.declared.entry.Entry.{Entry}
+use Rattle.tag_cell.specs.{Entry}
 use Rattle.tag_cell.specs.declared.entry.Entry.TheVariants.{Pull}
-use Rattle.group_book.specs.declared.turn.Turn.{Turn}
+use Rattle.group_book.specs.{Turn}
 use Rattle.group_book.specs.declared.turn.Turn.TheVariants.{Refresh, Ask}
 
 -- the reader of a question, and what the question shows

@@ -2,13 +2,12 @@
 use Rattle.std.specs.Prelude.{◌≡◌, ℕ, ◌<◌, ◌≤◌, List, length, nat_eq, slice_get, slice_index, slice_index_or, Some, if◌then◌else◌}
 use Rattle.std.specs.List.{sum_by}
 use Rattle.plant_status.specs.declared.mismatch.Place.TheVariants.{Turns}
-use Rattle.plant_status.specs.declared.mismatch.Seen.{Seen}
+use Rattle.plant_status.specs.{Seen}
 use Rattle.plant_status.specs.declared.mismatch.Seen.TheVariants.{Number}
 use Rattle.plant_status.specs.declared.status.Status.{Status}
 use Rattle.plant_status.specs.declared.status.Status.TheVariants.{Mismatch}
-use Rattle.collector_pool.specs.declared.work.Refresh.{Refresh}
-use Rattle.group_book.specs.declared.turn.Turn.{Turn}
-use Rattle.group_book.specs.Told.{ToldBook}
+use Rattle.collector_pool.specs.{Refresh}
+use Rattle.group_book.specs.{Turn, ToldBook}
 use Rattle.session_audit.specs.GroupTapes.{refreshes}
 
 -- how many turns the refreshers of a group make together

@@ -1,6 +1,6 @@
 -- The tags of the groups' inputs.
 use Rattle.std.specs.Prelude.{◌≡◌, ℕ, ◌<◌, ◌≤◌, List, [], All, length, slice_index_or}
-use Rattle.group_book.specs.Told.{ToldBook as Book}
+use Rattle.group_book.specs.{ToldBook as Book}
 
 -- a book has one tag for each of its inputs, at most 64, and all these tags exist
 pub record IsInputsOf {D : Type 0} (many : ℕ) (tags : List ℕ) (book : Book D) : Type 0 where

@@ -1,7 +1,7 @@
 -- Where two lists of numbers differ.
 use Rattle.std.specs.Prelude.{◌≡◌, ◌≢◌, ℕ, List, Option, take, slice_get}
 use Rattle.std.specs.Option.{option_map_or}
-use Rattle.plant_status.specs.declared.mismatch.Seen.{Seen}
+use Rattle.plant_status.specs.{Seen}
 use Rattle.plant_status.specs.declared.mismatch.Seen.TheVariants.{Nothing, Number}
 
 -- a number, or nothing

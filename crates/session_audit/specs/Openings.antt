@@ -1,8 +1,7 @@
 -- Cells and books compared with the copies of their openings.
 use Rattle.std.specs.Prelude.{◌≡◌, ℕ, ◌<◌, List, length, slice_get, slice_index_or, Some}
-use Rattle.plant_status.specs.declared.unit.Unit.{Unit}
+use Rattle.plant_status.specs.{Unit, Seen}
 use Rattle.plant_status.specs.declared.mismatch.Place.TheVariants.{Opening}
-use Rattle.plant_status.specs.declared.mismatch.Seen.{Seen}
 use Rattle.plant_status.specs.declared.status.Status.{Status}
 use Rattle.plant_status.specs.declared.status.Status.TheVariants.{Mismatch}
 

@@ -3,12 +3,10 @@ use Rattle.std.specs.Prelude.{◌≡◌, ℕ, ◌<◌, ◌≤◌, List, [], ◌�
 use Rattle.plant_status.specs.declared.mismatch.Place.TheVariants.{Pull, Version}
 use Rattle.plant_status.specs.declared.status.Status.{Status}
 use Rattle.plant_status.specs.declared.status.Status.TheVariants.{Mismatch}
-use Rattle.trend_num.specs.declared.archive.Rec.{Rec}
-use Rattle.tag_cell.specs.declared.entry.Entry.{Entry}
-use Rattle.tag_cell.specs.Told.{ToldCell as Cell}
+use Rattle.trend_num.specs.{Rec}
+use Rattle.tag_cell.specs.{Entry, ToldCell as Cell}
 use Rattle.session_audit.specs.CellOpenings.{RecordsDiffer}
-use Rattle.group_book.specs.declared.turn.Turn.{Turn}
-use Rattle.group_book.specs.Told.{ToldBook as Book}
+use Rattle.group_book.specs.{Turn, ToldBook as Book}
 use Rattle.session_audit.specs.declared.group_pulls.Found.{Found}
 use Rattle.session_audit.specs.OpeningNumbers.{AreApart}
 use Rattle.session_audit.specs.GroupTapes.{pulled, reached}

@@ -1,13 +1,11 @@
 -- Groups that are refreshed from the cells of their inputs.
 use Rattle.std.specs.Prelude.{◌≡◌, ℕ, ◌+◌, ◌<◌, List, [], ◌∷◌, ◌++◌, All, IsSome, None, false, length, map, slice_index, slice_index_or, ⊤}
-use Rattle.trend_num.specs.declared.archive.Rec.{Rec}
-use Rattle.calc_refresh.specs.Refreshed.{fault_of}
-use Rattle.tag_cell.specs.declared.entry.Entry.{Entry}
+use Rattle.trend_num.specs.{Rec}
+use Rattle.calc_refresh.specs.{fault_of}
+use Rattle.tag_cell.specs.{Entry, ToldCell as Cell, durable_records}
 use Rattle.tag_cell.specs.declared.entry.Entry.TheVariants.{Pull}
-use Rattle.tag_cell.specs.Told.{ToldCell as Cell, durable_records}
-use Rattle.group_book.specs.declared.turn.Turn.{Turn}
+use Rattle.group_book.specs.{Turn, ToldBook as Book, versions_of}
 use Rattle.group_book.specs.declared.turn.Turn.TheVariants.{Save}
-use Rattle.group_book.specs.Told.{ToldBook as Book, versions_of}
 use Rattle.session_audit.specs.GroupTapes.{refreshes}
 
 -- ---- records that no crash takes away

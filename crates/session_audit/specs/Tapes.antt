@@ -2,7 +2,7 @@
 use Rattle.std.specs.Prelude.{Option, None, Some}
 use Rattle.plant_status.specs.declared.mismatch.Seen.TheVariants as seen
 use Rattle.session_audit.specs.declared.kind.Shown.{Shown}
-use Rattle.tag_cell.specs.declared.entry.Entry.{Entry}
+use Rattle.tag_cell.specs.{Entry}
 use Rattle.tag_cell.specs.declared.entry.Entry.TheVariants.{Take, Ask}
 
 -- the collector of a take, and what the take shows

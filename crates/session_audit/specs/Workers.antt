@@ -1,7 +1,7 @@
 -- What the tapes of all units (tags or groups) show of workers, and how many rows of these were found.
 use Rattle.std.specs.Prelude.{◌≡◌, ◌≢◌, ℕ, ◌^◌, ◌<◌, List, [], length, slice_get, slice_index_or, Option}
 use Rattle.std.specs.Option.{option_map_or}
-use Rattle.plant_status.specs.declared.mismatch.Seen.{Seen}
+use Rattle.plant_status.specs.{Seen}
 use Rattle.session_audit.specs.declared.agenda.Item.{Item}
 use Rattle.session_audit.specs.declared.kind.Shown.{Shown}
 use Rattle.session_audit.specs.Agendas.{due, numbered}

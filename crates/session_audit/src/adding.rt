@@ -1,6 +1,6 @@
 // Adds to tapes the entries of the rows that they lack.
 ghost use Rattle.std.specs.Prelude.{◌≡◌, ℕ, ◌+◌, ◌^◌, ◌<◌, All, IfErr, IsSome, OnErr, OnOk, length};
-ghost use Rattle.calc_refresh.specs.Lists.{lists_of};
+ghost use Rattle.calc_refresh.specs.{lists_of};
 ghost use Rattle.session_audit.specs.Adding.{IsAdded, IsStopped};
 ghost use Rattle.session_audit.specs.Each.{AreEach};
 ghost use Rattle.session_audit.specs.Workers.{AreOthersSame, AreOver, AreTapesFound, AreTapesWhole, IsCaughtTo, IsOver};

@@ -1,7 +1,7 @@
 // Asks the questions of readers that tapes lack.
 ghost use Rattle.std.specs.Prelude.{ℕ, List, All, OnOk, length};
-ghost use Rattle.value_rows.specs.declared.raw.RawRow.{RawRow};
-ghost use Rattle.calc_refresh.specs.Lists.{lists_of};
+ghost use Rattle.value_rows.specs.{RawRow};
+ghost use Rattle.calc_refresh.specs.{lists_of};
 ghost use Rattle.session_audit.specs.Agendas.{ask_item, phase_item, row_item};
 ghost use Rattle.session_audit.specs.Books.{IsAskedMore, IsKnownRowAsk, book_tape};
 ghost use Rattle.session_audit.specs.Cells.{AreAllBegun, AreAllFound, AreAllShown, AreLonger, IsAskEntry, IsKnownAsk};

@@ -1,7 +1,7 @@
 // The copy of a book's opening, and the comparison of the book with it.
 ghost use Rattle.std.specs.Prelude.{◌≡◌, ◌↔◌, ℕ, ◌≤◌, IfErr, IfOk, IsTrue, OnOk, length, slice_get};
 ghost use Rattle.std.specs.List.{count_by};
-ghost use Rattle.calc_refresh.specs.Lists.{lists_of};
+ghost use Rattle.calc_refresh.specs.{lists_of};
 ghost use Rattle.session_audit.specs.BookOpenings.{AgreeIn, ArePartsOf, DifferSo, IsBookAsKept, IsBookDifference, IsSameOpening, RowsDiffer, items_of, windows_of};
 ghost use Rattle.session_audit.specs.OpeningNumbers.{AreApart, seen_of};
 

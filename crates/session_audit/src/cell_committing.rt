@@ -1,7 +1,6 @@
 // Commits the values that wait on cells.
 ghost use Rattle.std.specs.Prelude.{ℕ, ◌≡◌, ◌⊎◌, ◌^◌, ◌<◌, List, All, IfErr, OnOk, length, true};
-ghost use Rattle.value_rows.specs.declared.asked.Query.{Query};
-ghost use Rattle.value_rows.specs.declared.raw.RawRow.{RawRow};
+ghost use Rattle.value_rows.specs.{Query, RawRow};
 ghost use Rattle.session_audit.specs.Agendas.{ask_item, phase_item};
 ghost use Rattle.session_audit.specs.Tapes.{ask_of, take_of};
 ghost use Rattle.tag_cell.specs.declared.entry.CommitNo.TheVariants.{WantOfMemory as NoMemory};

@@ -1,10 +1,8 @@
 // What the history of a tag says of the records that groups pulled of it.
 ghost use Rattle.std.specs.Prelude.{◌≡◌, ℕ, ◌≤◌, List};
-ghost use Rattle.trend_num.specs.declared.tag_def.TagDef.{TagDef};
+ghost use Rattle.trend_num.specs.{TagDef};
 ghost use Rattle.trend_model.specs.State.{State};
-ghost use Rattle.tag_cell.specs.declared.entry.Entry.{Entry};
-ghost use Rattle.tag_cell.specs.declared.history.TagOpening.{TagOpening};
-ghost use Rattle.tag_cell.specs.Replays.{IsTapeReplayed};
+ghost use Rattle.tag_cell.specs.{Entry, TagOpening, IsTapeReplayed};
 ghost use Rattle.session_audit.specs.Durable.{ArePullsDurable, durable_in};
 
 /// After all events of a tag are acknowledged, no crash takes away any of its records.

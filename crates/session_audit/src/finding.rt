@@ -1,7 +1,6 @@
 // Finds the rows of workers on the tapes of all cells and books.
 ghost use Rattle.std.specs.Prelude.{◌^◌, ◌<◌, ℕ, List, IfErr, OnOk, length};
-ghost use Rattle.value_rows.specs.declared.asked.Query.{Query};
-ghost use Rattle.value_rows.specs.declared.raw.RawRow.{RawRow};
+ghost use Rattle.value_rows.specs.{Query, RawRow};
 ghost use Rattle.session_audit.specs.Agendas.{ask_item, phase_item, row_item};
 ghost use Rattle.session_audit.specs.Tapes.{ask_of, take_of};
 ghost use Rattle.session_audit.specs.Books.{book_tape};

@@ -1,7 +1,7 @@
 // Compares what groups have of their inputs with what they pulled of the tags.
 ghost use Rattle.std.specs.Prelude.{◌≡◌, ◌^◌, ◌<◌, ◌≤◌, All, IfErr, OnOk, length, slice_index};
 ghost use Rattle.std.specs.Option.{option_map};
-ghost use Rattle.calc_refresh.specs.Lists.{lists_of};
+ghost use Rattle.calc_refresh.specs.{lists_of};
 ghost use Rattle.session_audit.specs.Inputs.{AreInputs, IsInputsOf};
 ghost use Rattle.session_audit.specs.OpeningNumbers.{AreApart};
 ghost use Rattle.session_audit.specs.Pulls.{AreInputsPulled, ArePulled, IsInputMismatch, IsMismatchOf, IsNextOf, IsPullMismatch, IsPulledFrom};

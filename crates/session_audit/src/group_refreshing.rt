@@ -1,15 +1,12 @@
 // Makes the refreshes that groups lack, then one more and a save.
 ghost use Rattle.std.specs.Prelude.{ℕ, ◌≡◌, ◌^◌, ◌<◌, ◌≤◌, List, [], IfErr, IfOk, OnErr, OnOk, length, slice_index_or};
-ghost use Rattle.value_rows.specs.declared.asked.Query.{Query};
-ghost use Rattle.value_rows.specs.declared.raw.RawRow.{RawRow};
-ghost use Rattle.calc_refresh.specs.Lists.{lists_of};
+ghost use Rattle.value_rows.specs.{Query, RawRow};
+ghost use Rattle.calc_refresh.specs.{lists_of};
 ghost use Rattle.session_audit.specs.Agendas.{ask_item, row_item, phase_item};
 ghost use Rattle.session_audit.specs.Tapes.{ask_of, take_of};
 ghost use Rattle.session_audit.specs.Cells.{AreAllShown};
 ghost use Rattle.session_audit.specs.Workers.{AreTapesWhole};
-ghost use Rattle.group_book.specs.InputLists.{ArePullsOf, IsListsRefusal, IsPullAhead, IsPullOf, IsPullRefusal, lists_at};
-ghost use Rattle.group_book.specs.Tapes.{uncut};
-ghost use Rattle.group_book.specs.Told.{IsPublished, versions_of};
+ghost use Rattle.group_book.specs.{ArePullsOf, IsListsRefusal, IsPullAhead, IsPullOf, IsPullRefusal, lists_at, uncut, IsPublished, versions_of};
 ghost use Rattle.session_audit.specs.Each.{AreEach};
 ghost use Rattle.session_audit.specs.Books.{IsRefreshedMore, book_tape};
 ghost use Rattle.session_audit.specs.Inputs.{AreInputs, IsInputsOf};

@@ -19,8 +19,7 @@ pub struct Difference {
 /// The cell of a tag or the book of a group, whose opening can be compared with a copy.
 pub trait Opened {
     ghost use Rattle.std.specs.Prelude.{ℕ};
-    ghost use Rattle.plant_status.specs.declared.mismatch.Seen.{Seen};
-    ghost use Rattle.plant_status.specs.declared.unit.Unit.{Unit};
+    ghost use Rattle.plant_status.specs.{Seen, Unit};
 
     /// The copy of an opening.
     type Kept: Drop;

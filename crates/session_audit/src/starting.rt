@@ -1,9 +1,9 @@
 // The progress of workers before any row is found.
 ghost use Rattle.std.specs.Prelude.{◌≡◌, ◌↔◌, ℕ, ◌+◌, ◌^◌, ◌<◌, All, IfOk, IsTrue, OnOk, length, nat_eq, slice_index};
 ghost use Rattle.std.specs.List.{count_by};
-ghost use Rattle.calc_refresh.specs.Lists.{lists_of};
+ghost use Rattle.calc_refresh.specs.{lists_of};
 ghost use Rattle.session_audit.specs.Agendas.{ask_item, phase_item, row_item};
-ghost use Rattle.collector_pool.specs.Work.{IsRowOf};
+ghost use Rattle.collector_pool.specs.{IsRowOf};
 ghost use Rattle.session_audit.specs.Books.{IsKnownRowAsk};
 ghost use Rattle.session_audit.specs.Cells.{IsKnownAsk};
 ghost use Rattle.session_audit.specs.Workers.{AreOver};

@@ -1,15 +1,14 @@
 // Takes the rows of collectors that tapes lack.
 ghost use Rattle.std.specs.Prelude.{◌≡◌, ℕ, ◌<◌, ◌≤◌, List, All, IfErr, OnOk, length, slice_index, slice_index_or};
-ghost use Rattle.calc_refresh.specs.Lists.{lists_of};
+ghost use Rattle.calc_refresh.specs.{lists_of};
 ghost use Rattle.session_audit.specs.Agendas.{phase_item};
 ghost use Rattle.session_audit.specs.Found.{Reached};
 ghost use Rattle.session_audit.specs.Tapes.{ask_of, take_of};
-ghost use Rattle.collector_pool.specs.Work.{IsRowOf};
+ghost use Rattle.collector_pool.specs.{IsRowOf};
 ghost use Rattle.session_audit.specs.Cells.{AreAllBegun, AreAllFound, AreAllShown, AreLonger, IsTakeEntry};
 ghost use Rattle.session_audit.specs.Workers.{AreOver};
 ghost use Rattle.session_audit.specs.CellRefusals.{IsTakeRefusal, tag_rows, take_status, takes_mismatch};
-ghost use Rattle.tag_cell.specs.Tapes.{taken};
-ghost use Rattle.tag_cell.specs.Told.{ToldCell};
+ghost use Rattle.tag_cell.specs.{taken, ToldCell};
 
 use crate::adding::{Adding, add_missing};
 use crate::agenda::number_in;
@@ -68,8 +67,8 @@ struct Takings<'a, D: Disk, R: Wait> {
 
 impl<'a, D: Disk, R: Wait> Adding for Takings<'a, D, R> {
     ghost use Rattle.std.specs.Prelude.{◌≡◌, Some};
-    ghost use Rattle.trend_num.specs.Ranges.{InRange};
-    ghost use Rattle.tag_cell.specs.Told.{take_refusal};
+    ghost use Rattle.trend_num.specs.{InRange};
+    ghost use Rattle.tag_cell.specs.{take_refusal};
     ghost use Rattle.session_audit.specs.Agendas.{phase_item};
     ghost use Rattle.session_audit.specs.Cells.{IsLonger, IsTakeEntry};
     ghost use Rattle.session_audit.specs.Tapes.{take_of};

@@ -1,11 +1,11 @@
 -- Entries that answer nothing.
 use Rattle.std.proofs.Common.{◌≡◌, None, Some, refl}
-use Rattle.tag_cell.specs.declared.entry.Entry.{Entry}
+use Rattle.tag_cell.specs.{Entry}
 use Rattle.tag_cell.specs.declared.entry.Entry.TheVariants as entry
-use Rattle.group_book.specs.declared.turn.Turn.{Turn}
+use Rattle.group_book.specs.{Turn}
 use Rattle.group_book.specs.declared.turn.Turn.TheVariants as turn
 use Rattle.trend_report.specs.declared.reply_line.ReplyText.TheVariants.{Row}
-use Rattle.session_report.specs.Report.{answer_of_group, answer_of_tag}
+use Rattle.session_report.specs.{answer_of_group, answer_of_tag}
 
 -- an entry of a tag's tape
 pub no_tag_answer : (e : Entry) → ((reader : _) (row : _) (query : _) (reply : _) → e ≡ entry.Ask reader row query reply → ⊥)

@@ -1,6 +1,5 @@
 -- Places of answers on tapes, found entry by entry and tape by tape.
-use Rattle.std.proofs.Common.{◌≡◌, ℕ, ◌+◌, ◌<◌, List, [], ◌∷◌, ◌++◌, length, take, get_or, refl, suc, zero, sym, ap, ◌∙◌, arith}
-use Rattle.std.proofs.Common.{Option, None, Some, Bool, true, false, cond, nat_eq, nat_lt}
+use Rattle.std.proofs.Common.{◌≡◌, ℕ, ◌+◌, ◌<◌, List, [], ◌∷◌, ◌++◌, length, take, get_or, refl, suc, zero, sym, ap, ◌∙◌, arith, Option, None, Some, Bool, true, false, cond, nat_eq, nat_lt}
 use Rattle.std.specs.Prelude.{◌≢◌}
 use Rattle.std.specs.List.{find, position, position_from, position_or_len, slice_get}
 use Rattle.std.specs.Option.{option_and_then, option_map_or, option_or}
@@ -12,13 +11,11 @@ use Rattle.std.proofs.lemmas.Option.{slice_get-get_or, slice_get_past}
 use Rattle.std.proofs.lemmas.List.Quantifiers.{position-Some}
 use Rattle.plant_status.specs.declared.unit.Unit.{Unit as UnitOf}
 use Rattle.plant_status.specs.declared.unit.Unit.TheVariants as unit
-use Rattle.value_rows.specs.declared.asked.Query.{Query}
+use Rattle.value_rows.specs.{Query}
 use Rattle.value_rows.specs.declared.asked.Query.TheVariants.{Tag, Snap, Row}
-use Rattle.tag_cell.specs.declared.history.TagHistory.{TagHistory}
-use Rattle.group_book.specs.declared.history.GroupHistory.{GroupHistory}
-use Rattle.session_report.specs.declared.asker.Asker.{Asker}
-use Rattle.session_report.specs.Askers.{first_by, group_asker, is_by, tag_asker}
-use Rattle.session_report.specs.Places.{ArePlaces, ArePlacesFilled, Table, is_about, kept_first, place_by, place_in, answer_place_of, query_in}
+use Rattle.tag_cell.specs.{TagHistory}
+use Rattle.group_book.specs.{GroupHistory}
+use Rattle.session_report.specs.{Asker, first_by, group_asker, is_by, tag_asker, ArePlaces, ArePlacesFilled, Table, is_about, kept_first, place_by, place_in, answer_place_of, query_in}
 
 -- ---- the first place of a list at which a test passes
 

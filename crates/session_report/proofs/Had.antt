@@ -1,14 +1,12 @@
 -- Whether a tag had a snapshot, by how many events were taken since it was opened.
-use Rattle.std.proofs.Common.{◌≡◌, ℕ, ◌-◌, ◌<◌, ◌≤◌, List, length, map, get_or, suc, sym, ap, ◌∙◌, arith}
-use Rattle.std.proofs.Common.{false, ◌&&◌, None, Some}
+use Rattle.std.proofs.Common.{◌≡◌, ℕ, ◌-◌, ◌<◌, ◌≤◌, List, length, map, get_or, suc, sym, ap, ◌∙◌, arith, false, ◌&&◌, None, Some}
 use Rattle.std.specs.List.{slice_get}
 use Rattle.std.specs.Option.{option_map, option_map_or}
 use Rattle.std.proofs.lemmas.Bool.{le-leb}
 use Rattle.std.proofs.lemmas.Option.{slice_get-get_or, slice_get-map, slice_get_past}
-use Rattle.trend_num.specs.declared.point.Point.{Point}
-use Rattle.trend_num.specs.declared.archive.Snap.{Snap}
-use Rattle.tag_cell.specs.declared.history.TagHistory.{TagHistory}
-use Rattle.session_report.specs.Snaps.{closing, had, held_points, same_held}
+use Rattle.trend_num.specs.{Point, Snap}
+use Rattle.tag_cell.specs.{TagHistory}
+use Rattle.session_report.specs.{closing, had, held_points, same_held}
 
 module _ (h : TagHistory) (s : Snap) where
   -- if it is not before the opening, the point that closed the line then decides

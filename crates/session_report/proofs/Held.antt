@@ -1,12 +1,11 @@
 -- The points that closed a line after the takes of a tape, entry by entry.
-use Rattle.std.proofs.Common.{◌≡◌, ℕ, ◌+◌, ◌<◌, List, [], ◌∷◌, ◌++◌, length, take, get_or, sym, ap, ◌∙◌, append-nil}
-use Rattle.std.proofs.Common.{None, Some}
+use Rattle.std.proofs.Common.{◌≡◌, ℕ, ◌+◌, ◌<◌, List, [], ◌∷◌, ◌++◌, length, take, get_or, sym, ap, ◌∙◌, append-nil, None, Some}
 use Rattle.std.specs.List.{cons_option}
 use Rattle.std.proofs.lemmas.List.{take_more}
 use Rattle.std.proofs.lemmas.List.Elements.{filter_map-append}
-use Rattle.trend_num.specs.declared.point.Point.{Point}
-use Rattle.tag_cell.specs.declared.entry.Entry.{Entry}
-use Rattle.session_report.specs.Snaps.{held_after, held_points}
+use Rattle.trend_num.specs.{Point}
+use Rattle.tag_cell.specs.{Entry}
+use Rattle.session_report.specs.{held_after, held_points}
 
 module _ (tape : List Entry) (i : ℕ) (e : Entry) (there : i < length tape) (is : e ≡ get_or tape i e) where
   -- with an entry more there is the point after that, if it is a take

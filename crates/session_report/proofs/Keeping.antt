@@ -1,6 +1,5 @@
 -- Places that are kept in a table, one at a time.
-use Rattle.std.proofs.Common.{◌≡◌, ℕ, ◌+◌, ◌<◌, List, [], length, get_or, set, refl, sym, ap, subst, ◌∙◌, arith, Vec}
-use Rattle.std.proofs.Common.{Option, None, Some, Bool, true, false, cond, ◌&&◌, nat_eq}
+use Rattle.std.proofs.Common.{◌≡◌, ℕ, ◌+◌, ◌<◌, List, [], length, get_or, set, refl, sym, ap, subst, ◌∙◌, arith, Vec, Option, None, Some, Bool, true, false, cond, ◌&&◌, nat_eq}
 use Rattle.std.specs.Prelude.{◌≢◌}
 use Rattle.std.specs.List.{slice_get}
 use Rattle.std.specs.Option.{option_or}
@@ -8,12 +7,11 @@ use Rattle.std.specs.declared.alloc.Global.{Global}
 use Rattle.std.proofs.lemmas.Bool.{eqb-false, eqb-true}
 use Rattle.std.proofs.lemmas.List.{get_or-map, length-map, map-set}
 use Rattle.plant_status.specs.declared.unit.Unit.{Unit as UnitOf}
-use Rattle.value_rows.specs.declared.asked.Query.{Query}
-use Rattle.tag_cell.specs.declared.history.TagHistory.{TagHistory}
-use Rattle.group_book.specs.declared.history.GroupHistory.{GroupHistory}
-use Rattle.calc_refresh.specs.Lists.{lists_of}
-use Rattle.session_report.specs.declared.asker.Asker.{Asker}
-use Rattle.session_report.specs.Places.{ArePlaces, HasPlaceOfEach, IsAboutOther, IsQueryAbout, Table, is_about, kept_first, place_in, answer_place_of, query_in}
+use Rattle.value_rows.specs.{Query}
+use Rattle.tag_cell.specs.{TagHistory}
+use Rattle.group_book.specs.{GroupHistory}
+use Rattle.calc_refresh.specs.{lists_of}
+use Rattle.session_report.specs.{Asker, ArePlaces, HasPlaceOfEach, IsAboutOther, IsQueryAbout, Table, is_about, kept_first, place_in, answer_place_of, query_in}
 use Rattle.session_report.proofs.Filling.{kept_nothing}
 use Rattle.session_report.proofs.Tables.{set_place, place_set, other_query, other_reader}
 

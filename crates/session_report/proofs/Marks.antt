@@ -5,9 +5,9 @@ use Rattle.std.specs.List.{list_any}
 use Rattle.std.proofs.Math.Bool.{or-false, or_assoc}
 use Rattle.std.proofs.lemmas.List.{map_push, take_more}
 use Rattle.std.proofs.lemmas.List.Folds.{list_any-append}
-use Rattle.value_rows.specs.declared.asked.Query.{Query}
-use Rattle.calc_refresh.specs.Lists.{lists_of}
-use Rattle.session_report.specs.Places.{AreMarked, is_snap, is_snapped}
+use Rattle.value_rows.specs.{Query}
+use Rattle.calc_refresh.specs.{lists_of}
+use Rattle.session_report.specs.{AreMarked, is_snap, is_snapped}
 
 pub none_marked : (marks : List Bool) → AreMarked (λ tag. false) marks marks
 none_marked marks = record { as_many = refl; each = λ t within. sym (or-false (get_or marks t false)) }

@@ -1,11 +1,10 @@
 -- Elements by their places, one more at the end.
-use Rattle.std.proofs.Common.{◌≡◌, ℕ, ◌+◌, ◌<◌, List, [], ◌∷◌, ◌++◌, length, take, get_or, sym, ap, ◌∙◌, arith}
-use Rattle.std.proofs.Common.{append-nil, append_assoc, Some, refl, suc, zero}
+use Rattle.std.proofs.Common.{◌≡◌, ℕ, ◌+◌, ◌<◌, List, [], ◌∷◌, ◌++◌, length, take, get_or, sym, ap, ◌∙◌, arith, append-nil, append_assoc, Some, refl, suc, zero}
 use Rattle.std.specs.List.{concat, slice_get}
 use Rattle.std.specs.Option.{option_map}
 use Rattle.std.proofs.lemmas.List.{length-take-le, take_more}
 use Rattle.std.proofs.lemmas.List.Folds.{concat-append}
-use Rattle.session_report.specs.Report.{placed_answers, texts}
+use Rattle.session_report.specs.{placed_answers, texts}
 
 -- what is made of one element more
 pub placed_push : {A B : Type 0} (f : ℕ → A → B) (n : ℕ) (xs : List A) (x : A)

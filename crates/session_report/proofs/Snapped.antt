@@ -1,6 +1,5 @@
 -- The points of the tags whose snapshots are asked.
-use Rattle.std.proofs.Common.{◌≡◌, ℕ, ◌+◌, ◌<◌, List, [], length, get_or, refl, sym, ap, ◌∙◌, arith}
-use Rattle.std.proofs.Common.{Option, None, Some, true, cond, Vec, ◌∷◌, suc}
+use Rattle.std.proofs.Common.{◌≡◌, ℕ, ◌+◌, ◌<◌, List, [], length, get_or, refl, sym, ap, ◌∙◌, arith, Option, None, Some, true, cond, Vec, ◌∷◌, suc}
 use Rattle.std.specs.declared.alloc.Global.{Global}
 use Rattle.std.proofs.lemmas.List.{length-map}
 use Rattle.std.specs.List.{list_any, slice_get}
@@ -8,14 +7,12 @@ use Rattle.std.specs.Option.{option_map, option_map_or, unwrap_or}
 use Rattle.std.proofs.lemmas.Bool.{eq-eqb}
 use Rattle.std.proofs.lemmas.List.Folds.{list_any_at}
 use Rattle.std.proofs.lemmas.Option.{unwrap_or-slice_get}
-use Rattle.trend_num.specs.declared.point.Point.{Point}
-use Rattle.value_rows.specs.declared.asked.Query.{Query}
+use Rattle.trend_num.specs.{Point}
+use Rattle.value_rows.specs.{Query}
 use Rattle.value_rows.specs.declared.asked.Query.TheVariants.{Snap}
-use Rattle.tag_cell.specs.declared.history.TagHistory.{TagHistory}
-use Rattle.session_report.specs.Places.{IsHeldFor, held_lists, is_snap, is_snapped}
-use Rattle.session_report.specs.Report.{placed_answers}
-use Rattle.session_report.specs.Snaps.{held_points}
-use Rattle.calc_refresh.specs.Lists.{lists_of}
+use Rattle.tag_cell.specs.{TagHistory}
+use Rattle.session_report.specs.{IsHeldFor, held_lists, is_snap, is_snapped, placed_answers, held_points}
+use Rattle.calc_refresh.specs.{lists_of}
 use Rattle.session_report.proofs.Placed.{placed_get}
 
 -- the query at a place of a reader asks a snapshot, so that is asked

@@ -1,10 +1,9 @@
 -- Tables of places.
-use Rattle.std.proofs.Common.{◌≡◌, ℕ, ◌<◌, List, [], ◌∷◌, length, get_or, set, refl, suc, zero, ap, ◌∙◌}
-use Rattle.std.proofs.Common.{Option, None}
+use Rattle.std.proofs.Common.{◌≡◌, ℕ, ◌<◌, List, [], ◌∷◌, length, get_or, set, refl, suc, zero, ap, ◌∙◌, Option, None}
 use Rattle.std.specs.Prelude.{◌≢◌}
 use Rattle.std.proofs.lemmas.List.{get_or-set_same, get_or-set_other, length-set}
-use Rattle.value_rows.specs.declared.asked.Query.{Query}
-use Rattle.session_report.specs.Places.{HasPlaceOfEach, Table, place_in}
+use Rattle.value_rows.specs.{Query}
+use Rattle.session_report.specs.{HasPlaceOfEach, Table, place_in}
 
 module _ (table : Table) (reader k : ℕ) (place : Option ℕ) where
   -- the table with another place for a query

@@ -1,8 +1,8 @@
 -- Who asked the questions that the entries of tapes answer.
 use Rattle.std.specs.Prelude.{ℕ, Bool, ◌&&◌, false, List, Option, None, Some, find, nat_eq}
-use Rattle.tag_cell.specs.declared.entry.Entry.{Entry}
+use Rattle.tag_cell.specs.{Entry}
 use Rattle.tag_cell.specs.declared.entry.Entry.TheVariants as entry
-use Rattle.group_book.specs.declared.turn.Turn.{Turn}
+use Rattle.group_book.specs.{Turn}
 use Rattle.group_book.specs.declared.turn.Turn.TheVariants as turn
 use Rattle.session_report.specs.declared.asker.Asker.{Asker}
 

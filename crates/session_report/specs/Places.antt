@@ -1,16 +1,15 @@
 -- What the code looks up for the queries of readers: the places of answers on tapes, and the points that closed the
 -- lines of tags. These definitions are for private functions: no contract of a public function cites them.
-use Rattle.std.specs.Prelude.{◌≡◌, ℕ, ◌+◌, ◌<◌, Bool, true, false, ◌||◌, List, [], length, nat_eq, position, slice_get, slice_index_or, if◌then◌else◌}
-use Rattle.std.specs.Prelude.{Option, None, Some}
+use Rattle.std.specs.Prelude.{◌≡◌, ℕ, ◌+◌, ◌<◌, Bool, true, false, ◌||◌, List, [], length, nat_eq, position, slice_get, slice_index_or, if◌then◌else◌, Option, None, Some}
 use Rattle.std.specs.List.{list_any}
 use Rattle.std.specs.Option.{option_or}
-use Rattle.trend_num.specs.declared.point.Point.{Point}
+use Rattle.trend_num.specs.{Point}
 use Rattle.plant_status.specs.declared.unit.Unit.{Unit as UnitOf}
 use Rattle.plant_status.specs.declared.unit.Unit.TheVariants as unit
-use Rattle.value_rows.specs.declared.asked.Query.{Query}
+use Rattle.value_rows.specs.{Query}
 use Rattle.value_rows.specs.declared.asked.Query.TheVariants.{Tag, Snap, Row}
-use Rattle.tag_cell.specs.declared.history.TagHistory.{TagHistory}
-use Rattle.group_book.specs.declared.history.GroupHistory.{GroupHistory}
+use Rattle.tag_cell.specs.{TagHistory}
+use Rattle.group_book.specs.{GroupHistory}
 use Rattle.session_report.specs.declared.asker.Asker.{Asker}
 use Rattle.session_report.specs.Askers.{group_asker, is_by, tag_asker}
 use Rattle.session_report.specs.Report.{group_tape, placed_answers, tag_tape}

@@ -2,24 +2,18 @@
 use Rattle.std.specs.Prelude.{ℕ, ◌+◌, ◌-◌, Bool, true, false, List, [], ◌∷◌, ◌++◌, count_by, length, slice_get, slice_index_or, Option, None, Some}
 use Rattle.std.specs.List.{concat}
 use Rattle.std.specs.Option.{option_map_or}
-use Rattle.trend_num.specs.declared.tag_def.TagDef.{TagDef}
-use Rattle.trend_num.specs.declared.value.CalcValue.{CalcValue}
+use Rattle.trend_num.specs.{TagDef, CalcValue}
 use Rattle.calc_check.specs.Group.{Calculation}
-use Rattle.tag_base.specs.declared.definition.Base.{Base}
-use Rattle.tag_base.specs.declared.definition.GroupDef.{GroupDef}
-use Rattle.value_rows.specs.declared.asked.Query.{Query}
+use Rattle.tag_base.specs.{Base, GroupDef}
+use Rattle.value_rows.specs.{Query}
 use Rattle.value_rows.specs.declared.asked.Query.TheVariants as query
-use Rattle.tag_cell.specs.declared.entry.Entry.{Entry}
+use Rattle.tag_cell.specs.{Entry, TagHistory}
 use Rattle.tag_cell.specs.declared.entry.Entry.TheVariants as entry
-use Rattle.tag_cell.specs.declared.history.TagHistory.{TagHistory}
-use Rattle.calc_refresh.specs.Lists.{lists_of}
-use Rattle.group_book.specs.declared.turn.Turn.{Turn}
+use Rattle.calc_refresh.specs.{lists_of}
+use Rattle.group_book.specs.{Turn, GroupHistory}
 use Rattle.group_book.specs.declared.turn.Turn.TheVariants as turn
-use Rattle.group_book.specs.declared.history.GroupHistory.{GroupHistory}
-use Rattle.trend_report.specs.declared.group_line.LastRow.{LastRow}
-use Rattle.trend_report.specs.declared.reply_line.ReplyText.{ReplyText}
+use Rattle.trend_report.specs.{LastRow, ReplyText, group_lines, tag_line_of, reply_text, tag_text}
 use Rattle.trend_report.specs.declared.reply_line.ReplyText.TheVariants.{Tag, Snap, Row}
-use Rattle.trend_report.specs.Lines.{group_lines, tag_line_of, reply_text, tag_text}
 use Rattle.session_report.specs.declared.session.Session.{Session}
 use Rattle.session_report.specs.Askers.{first_by, group_asker, tag_asker}
 use Rattle.session_report.specs.Snaps.{snap_of, told_at}

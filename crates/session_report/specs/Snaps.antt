@@ -1,14 +1,11 @@
 -- The snapshots that a tag had, and the one in the reply to a reader.
-use Rattle.std.specs.Prelude.{ℕ, ◌-◌, Bool, ◌&&◌, true, false, List, ◌∷◌, filter_map, map, nat_eq, nat_le, slice_get, if◌then◌else◌}
-use Rattle.std.specs.Prelude.{Option, None, Some, option_and_then}
+use Rattle.std.specs.Prelude.{ℕ, ◌-◌, Bool, ◌&&◌, true, false, List, ◌∷◌, filter_map, map, nat_eq, nat_le, slice_get, if◌then◌else◌, Option, None, Some, option_and_then}
 use Rattle.std.specs.Option.{option_map_or}
 use Rattle.std.specs.Ordering.{int_eq}
-use Rattle.trend_num.specs.declared.point.Point.{Point}
-use Rattle.trend_num.specs.declared.archive.Snap.{Snap}
-use Rattle.tag_cell.specs.declared.entry.Entry.{Entry}
+use Rattle.trend_num.specs.{Point, Snap}
+use Rattle.tag_cell.specs.{Entry, TagHistory}
 use Rattle.tag_cell.specs.declared.entry.Entry.TheVariants.{Take}
-use Rattle.tag_cell.specs.declared.history.TagHistory.{TagHistory}
-use Rattle.collector_pool.specs.declared.note.WorkerNote.{WorkerNote}
+use Rattle.collector_pool.specs.{WorkerNote}
 
 -- ---- what a tag had
 

@@ -1,7 +1,7 @@
 // The lines of answers about tags and groups.
 ghost use Rattle.std.specs.Prelude.{◌≡◌, ◌+◌, ◌<◌, ◌^◌, IfOk, string_bytes};
 ghost use Rattle.trend_report.specs.declared.reply_line.ReplyText.TheVariants.{Row};
-ghost use Rattle.trend_report.specs.Lines.{reply_text};
+ghost use Rattle.trend_report.specs.{reply_text};
 ghost use Rattle.session_report.specs.Askers.{first_by, group_asker, tag_asker};
 ghost use Rattle.session_report.specs.Places.{place_by};
 ghost use Rattle.session_report.specs.Report.{answer_of_group, answer_of_tag, group_tape, tag_tape};

@@ -1,8 +1,8 @@
 // The lines of groups.
 ghost use Rattle.std.specs.Prelude.{◌≡◌, [], IfOk, count_by, map, slice_index_or};
 ghost use Rattle.calc_check.specs.Group.{calculation};
-ghost use Rattle.calc_refresh.specs.Lists.{lists_of};
-ghost use Rattle.trend_report.specs.Lines.{group_line_text};
+ghost use Rattle.calc_refresh.specs.{lists_of};
+ghost use Rattle.trend_report.specs.{group_line_text};
 ghost use Rattle.session_report.specs.Report.{is_refresh, last_rows, last_value, lines_of_group, windows_in};
 
 use crate::reported::Reported;

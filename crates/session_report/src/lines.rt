@@ -1,6 +1,6 @@
 // The lines of the report.
 ghost use Rattle.std.specs.Prelude.{◌≡◌, ◌+◌, ◌<◌, ◌^◌, IfOk, length, string_bytes};
-ghost use Rattle.calc_refresh.specs.Lists.{lists_of};
+ghost use Rattle.calc_refresh.specs.{lists_of};
 ghost use Rattle.session_report.specs.Report.{report};
 
 use crate::replies::put_replies;

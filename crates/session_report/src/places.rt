@@ -1,9 +1,9 @@
 // The places on tapes of the answers to queries.
 ghost use Rattle.std.specs.Prelude.{◌≡◌, ℕ, ◌+◌, ◌<◌, ◌^◌, List, [], IfOk, IfSome, None, Some, if◌then◌else◌, length, slice_index_or, slice_set};
 ghost use Rattle.std.specs.Option.{option_or};
-ghost use Rattle.calc_refresh.specs.Lists.{lists_of};
+ghost use Rattle.calc_refresh.specs.{lists_of};
 ghost use Rattle.plant_status.specs.declared.unit.Unit.TheVariants.{Group, Tag};
-ghost use Rattle.tag_cell.specs.declared.history.TagHistory.{TagHistory};
+ghost use Rattle.tag_cell.specs.{TagHistory};
 ghost use Rattle.session_report.specs.Askers.{is_by};
 ghost use Rattle.session_report.specs.Places.{ArePlaces, HasPlaceOfEach, IsAboutOther, ArePlacesFilled, IsQueryAbout, is_about, kept_first, place_in, query_in};
 

@@ -1,7 +1,7 @@
 // The lines of replies.
 ghost use Rattle.std.specs.Prelude.{◌≡◌, ℕ, ◌++◌, ◌+◌, ◌<◌, ◌^◌, All, IfOk, OnOk, Some, None, length, slice_get, slice_index_or, string_bytes};
-ghost use Rattle.calc_refresh.specs.Lists.{lists_of};
-ghost use Rattle.trend_report.specs.Lines.{reply_text};
+ghost use Rattle.calc_refresh.specs.{lists_of};
+ghost use Rattle.trend_report.specs.{reply_text};
 ghost use Rattle.session_report.specs.Places.{IsHeldFor, answer_place_of};
 ghost use Rattle.session_report.specs.Report.{replies_to, reply_lines, reply_to};
 

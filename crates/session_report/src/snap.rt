@@ -1,7 +1,7 @@
 // The snapshots in the replies to readers.
 ghost use Rattle.std.specs.Prelude.{◌≡◌, ◌<◌, ◌^◌, [], IfOk, if◌then◌else◌, length, slice_index_or};
 ghost use Rattle.std.specs.List.{list_any};
-ghost use Rattle.calc_refresh.specs.Lists.{lists_of};
+ghost use Rattle.calc_refresh.specs.{lists_of};
 ghost use Rattle.session_report.specs.Places.{AreMarked, AreSnapped, held_lists, is_snap, is_snapped};
 ghost use Rattle.session_report.specs.Report.{tag_tape};
 ghost use Rattle.session_report.specs.Snaps.{checked, had, held_after, held_points, same_held, snap_of, told_at};

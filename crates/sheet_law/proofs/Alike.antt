@@ -4,14 +4,10 @@ use Rattle.std.specs.Prelude.{◌&&◌, filter}
 use Rattle.std.proofs.lemmas.Bool.{cases_lt, eq-eqb, lt-ltb, le-ltb}
 use Rattle.std.proofs.lemmas.Bool.Decides.{nat_tests}
 use Rattle.std.proofs.lemmas.List.Elements.{filter-append}
-use Rattle.trend_num.specs.declared.measure.Measure.{Measure}
+use Rattle.trend_num.specs.{Measure, Point}
 use Rattle.trend_num.specs.declared.measure.Measure.TheVariants.{Area, Avg, Total, Low, High, Count, First, Last}
-use Rattle.trend_num.specs.declared.point.Point.{Point}
 use Rattle.trend_num.specs.declared.reading.Reading.TheVariants.{Exact, Nothing}
-use Rattle.trend_model.specs.Lists.{IsAmong}
-use Rattle.trend_model.specs.Parts.{PointsRise, RisesAfter}
-use Rattle.trend_model.specs.Reads.{between, read_at, read_from}
-use Rattle.trend_model.specs.Windows.{is_covered, last_time_from, measured, shape, window_value}
+use Rattle.trend_model.specs.{IsAmong, PointsRise, RisesAfter, between, read_at, read_from, is_covered, last_time_from, measured, shape, window_value}
 use Rattle.trend_model.proofs.ReadLaw.{among_after, among_middle, read_at-append}
 use Rattle.trend_model.proofs.WindowLaw.{after_middle, before_middle, inside}
 

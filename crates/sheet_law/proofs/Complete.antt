@@ -5,11 +5,9 @@ use Rattle.std.specs.List.{list_all}
 use Rattle.std.proofs.Math.Nat.{le-div_iff_mul-le}
 use Rattle.std.proofs.lemmas.Bool.{and_parts, and_from, cases_lt, lt-ltb, le-ltb}
 use Rattle.std.proofs.lemmas.Bool.Decides.{nat_tests}
-use Rattle.trend_num.specs.declared.archive.Rec.{Rec}
-use Rattle.trend_model.specs.Content.{is_late_record}
-use Rattle.sheet_law.specs.declared.grid.Grid.{Grid}
-use Rattle.sheet_law.specs.Windows.{complete_windows, is_complete, kept_end, least, reaches, window_to, windows_before}
-use Rattle.sheet_law.specs.Touched.{longer}
+use Rattle.trend_num.specs.{Rec}
+use Rattle.trend_model.specs.{is_late_record}
+use Rattle.sheet_law.specs.{Grid, complete_windows, is_complete, kept_end, least, reaches, window_to, windows_before, longer}
 use Rattle.sheet_law.proofs.Stay.{reaches_on}
 
 -- Kept records reach what is before their end

@@ -4,16 +4,11 @@ use Rattle.std.specs.Prelude.{position, slice_get, option_and_then}
 use Rattle.std.specs.List.{list_all}
 use Rattle.std.specs.Str.{bytes_eq}
 use Rattle.std.proofs.lemmas.Bool.{and_parts}
-use Rattle.trend_num.specs.declared.archive.Rec.{Rec}
-use Rattle.trend_num.specs.declared.measure.Measure.{Measure}
-use Rattle.trend_num.specs.declared.point.Point.{Point}
-use Rattle.trend_model.specs.Windows.{window_value}
+use Rattle.trend_num.specs.{Rec, Measure, Point}
+use Rattle.trend_model.specs.{window_value}
 use Rattle.calc_check.specs.Group.{Group}
 use Rattle.sheet_law.proofs.Window.{window_decides}
-use Rattle.sheet_law.specs.declared.grid.Grid.{Grid}
-use Rattle.sheet_law.specs.Windows.{is_complete, reaches, window_from, window_to}
-use Rattle.sheet_law.specs.Touched.{any_touched, is_touched, longer}
-use Rattle.sheet_law.specs.Scratch.{points_by, values_at}
+use Rattle.sheet_law.specs.{Grid, is_complete, reaches, window_from, window_to, any_touched, is_touched, longer, points_by, values_at}
 use Rattle.sheet_law.proofs.Stay.{both_false, windows_stay}
 
 -- what an input at a place measures

@@ -5,16 +5,11 @@ use Rattle.std.proofs.lemmas.Bool.{and_parts}
 use Rattle.std.proofs.lemmas.Bool.Decides.{nat_tests}
 use Rattle.std.proofs.lemmas.List.Folds.{list_any-append}
 use Rattle.std.proofs.lemmas.List.Sums.{fold-append}
-use Rattle.trend_num.specs.declared.archive.Rec.{Rec}
-use Rattle.trend_num.specs.declared.measure.Measure.{Measure}
-use Rattle.trend_model.specs.Content.{is_late_record}
-use Rattle.trend_model.specs.Contents.{IsRising, listed, placed, points_of}
-use Rattle.trend_model.specs.Lists.{IsAmong}
-use Rattle.trend_model.specs.Windows.{window_value}
+use Rattle.trend_num.specs.{Rec, Measure}
+use Rattle.trend_model.specs.{is_late_record, IsRising, listed, placed, points_of, IsAmong, window_value}
 use Rattle.trend_model.proofs.ContentList.{content_listed}
 use Rattle.trend_model.proofs.Placing.{placed_by, time, time_of_over}
-use Rattle.sheet_law.specs.Windows.{reaches}
-use Rattle.sheet_law.specs.Touched.{is_newest, is_touched, meets, stretch_from, stretch_to, times_of, touches}
+use Rattle.sheet_law.specs.{reaches, is_newest, is_touched, meets, stretch_from, stretch_to, times_of, touches}
 use Rattle.sheet_law.proofs.Stretch.{keeps_after, keeps_before, starts_from}
 
 -- one of two tests fails where both together do

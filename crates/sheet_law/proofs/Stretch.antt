@@ -5,15 +5,11 @@ use Rattle.std.proofs.lemmas.Bool.{cases_lt, lt-ltb, le-ltb}
 use Rattle.std.proofs.lemmas.Bool.Decides.{nat_tests}
 use Rattle.std.proofs.lemmas.List.{map-append}
 use Rattle.std.proofs.lemmas.List.Elements.{All-nil, All-cons, All-head, All-tail}
-use Rattle.trend_num.specs.declared.archive.Rec.{Rec}
-use Rattle.trend_num.specs.declared.measure.Measure.{Measure}
-use Rattle.trend_model.specs.Contents.{IsRising, placed, points_of}
-use Rattle.trend_model.specs.Lists.{IsAmong}
-use Rattle.trend_model.specs.Parts.{PointsRise}
-use Rattle.trend_model.specs.Windows.{is_covered, last_time_from, window_value}
+use Rattle.trend_num.specs.{Rec, Measure}
+use Rattle.trend_model.specs.{IsRising, placed, points_of, IsAmong, PointsRise, is_covered, last_time_from, window_value}
 use Rattle.trend_model.proofs.Placing.{time, AllBefore, AllAfter, all_placed, placed_behind, placed_before, rising_head, rising_placed, rising_tail}
 use Rattle.trend_model.proofs.ReadLaw.{points_rise}
-use Rattle.sheet_law.specs.Touched.{first_or, last_or, stretch_from, stretch_to, times_of}
+use Rattle.sheet_law.specs.{first_or, last_or, stretch_from, stretch_to, times_of}
 use Rattle.sheet_law.proofs.Alike.{alike_on, alike_upto, uncovered, window_alike}
 
 -- each of these records is at t or after it

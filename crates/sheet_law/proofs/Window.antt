@@ -2,20 +2,16 @@
 use Rattle.std.proofs.Common.{◌≡◌, ℕ, pos, false, cond, List, [], ◌∷◌, ◌++◌, refl, ap, ◌∙◌}
 use Rattle.std.specs.Prelude.{neg_ℤ, fold, unwrap_or, option_and_then, unsigned_abs}
 use Rattle.std.specs.Ordering.{int_eq}
-use Rattle.trend_num.specs.declared.measure.Measure.{Measure}
-use Rattle.trend_num.specs.declared.point.Point.{Point}
-use Rattle.trend_model.specs.Windows.{window_value}
-use Rattle.calc_parser.specs.Canonical.{text_of}
-use Rattle.calc_parser.specs.Formulas.{IsFormula, IsTree}
+use Rattle.trend_num.specs.{Measure, Point, CalcValue}
+use Rattle.trend_model.specs.{window_value}
+use Rattle.calc_parser.specs.{text_of, IsFormula, IsTree}
 use Rattle.calc_parser.specs.Tree.{Tree, num, window, calc, neg, abs, two, compare, choose}
 use Rattle.calc_parser.proofs.Builds.{one_tree}
 use Rattle.calc_parser.proofs.RoundTrip.{round_trip}
 use Rattle.trend_num.specs.declared.value.Bad.TheVariants.{NoData}
-use Rattle.trend_num.specs.declared.value.CalcValue.{CalcValue}
 use Rattle.trend_num.specs.declared.value.CalcValue.TheVariants.{Bad}
-use Rattle.sheet_law.specs.Number.{bounded, measured_value, after_operation, operated, compared}
+use Rattle.sheet_law.specs.{bounded, measured_value, after_operation, operated, compared, Scope, measure_of, scope, value, values}
 use Rattle.calc_check.specs.Group.{Group, Calculation}
-use Rattle.sheet_law.specs.Value.{Scope, measure_of, scope, value, values}
 
 -- two scopes in which each input measures the same, with the same earlier values
 record AgreesIn (s u : Scope) (from to : ℕ) : Type 0 where

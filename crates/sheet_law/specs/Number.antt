@@ -2,14 +2,12 @@
 use Rattle.std.specs.Prelude.{◌≤◌, ◌≡◌, ℤ, pos, neg_ℤ, ◌+ℤ◌, ◌-ℤ◌, ◌*ℤ◌, ◌≤ℤ◌, ◌<ℤ◌, Bool, not, Option, None, Some, int_le, int_lt, nat_le, unsigned_abs, if◌then◌else◌}
 use Rattle.std.specs.Int.{int_div_euclid}
 use Rattle.std.specs.Ordering.{int_eq}
-use Rattle.calc_parser.specs.declared.tree.Op.{Op}
+use Rattle.calc_parser.specs.{Op, Cmp, largest_number}
 use Rattle.calc_parser.specs.declared.tree.Op.TheVariants.{Add, Sub, Mul, Div, Rem, Min, Max}
-use Rattle.calc_parser.specs.declared.tree.Cmp.{Cmp}
 use Rattle.calc_parser.specs.declared.tree.Cmp.TheVariants.{Le, Ge, Ne, Lt, Gt, Eq}
-use Rattle.calc_parser.specs.Tokens.{largest_number}
-use Rattle.trend_model.specs.Windows.{lesser, greater}
+use Rattle.trend_model.specs.{lesser, greater}
 use Rattle.trend_num.specs.declared.value.Bad.TheVariants.{NoData, DivZero, Range}
-use Rattle.trend_num.specs.declared.value.CalcValue.{CalcValue}
+use Rattle.trend_num.specs.{CalcValue}
 use Rattle.trend_num.specs.declared.value.CalcValue.TheVariants.{Num, Bad}
 
 -- a number as a value. A number outside the range is Bad

@@ -1,10 +1,8 @@
 -- The rows of a group from scratch, and the windows that records make due.
 use Rattle.std.specs.Prelude.{◌≡◌, ℕ, ◌<◌, Bool, ◌||◌, List, length, map, All, Option, Some, slice_get, count_by, nat_le}
 use Rattle.std.specs.List.{range_with_len}
-use Rattle.trend_num.specs.declared.archive.Rec.{Rec}
-use Rattle.trend_num.specs.declared.point.Point.{Point}
-use Rattle.trend_model.specs.Contents.{listed, points_of}
-use Rattle.trend_num.specs.declared.value.CalcValue.{CalcValue}
+use Rattle.trend_num.specs.{Rec, Point, CalcValue}
+use Rattle.trend_model.specs.{listed, points_of}
 use Rattle.calc_check.specs.Group.{Group}
 use Rattle.sheet_law.specs.Value.{values}
 use Rattle.sheet_law.specs.declared.grid.Grid.{Grid}

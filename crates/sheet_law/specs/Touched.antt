@@ -1,9 +1,8 @@
 -- Which windows a record touches when it comes, and which windows the records of a list touch in turn.
 use Rattle.std.specs.Prelude.{ℕ, Bool, false, not, ◌&&◌, ◌||◌, if◌then◌else◌, List, [], ◌∷◌, ◌++◌, map, filter, nat_le, nat_lt}
 use Rattle.std.specs.List.{list_all}
-use Rattle.trend_num.specs.declared.archive.Rec.{Rec}
-use Rattle.trend_model.specs.Content.{is_late_record}
-use Rattle.trend_model.specs.Contents.{listed}
+use Rattle.trend_num.specs.{Rec}
+use Rattle.trend_model.specs.{is_late_record, listed}
 
 abbrev pub times_of : List Rec → List ℕ
 times_of l = map (λ r. r.point.t) l

@@ -2,13 +2,10 @@
 use Rattle.std.specs.Prelude.{ℕ, ℤ, pos, neg_ℤ, false, List, [], ◌∷◌, ◌++◌, map, fold, position, slice_get, Option, unwrap_or, option_and_then, unsigned_abs, if◌then◌else◌}
 use Rattle.std.specs.Ordering.{int_eq}
 use Rattle.std.specs.Str.{bytes_eq}
-use Rattle.trend_num.specs.declared.measure.Measure.{Measure}
-use Rattle.trend_num.specs.declared.point.Point.{Point}
-use Rattle.trend_model.specs.Contents.{ContentState, points_of}
-use Rattle.trend_model.specs.Windows.{window_value}
+use Rattle.trend_num.specs.{Measure, Point, CalcValue}
+use Rattle.trend_model.specs.{ContentState, points_of, window_value}
 use Rattle.calc_parser.specs.Tree.{Tree, num, window, calc, neg, abs, two, compare, choose}
 use Rattle.trend_num.specs.declared.value.Bad.TheVariants.{NoData}
-use Rattle.trend_num.specs.declared.value.CalcValue.{CalcValue}
 use Rattle.trend_num.specs.declared.value.CalcValue.TheVariants.{Bad}
 use Rattle.calc_check.specs.Group.{Group, names_of}
 use Rattle.sheet_law.specs.Number.{bounded, measured_value, after_operation, operated, compared}

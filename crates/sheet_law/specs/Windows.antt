@@ -1,8 +1,8 @@
 -- The windows of a grid, and which of them the records of its inputs complete.
 use Rattle.std.specs.Prelude.{ℕ, ◌+◌, ◌-◌, ◌*◌, ◌/◌, max, min, Bool, not, ◌&&◌, if◌then◌else◌, List, [], ◌∷◌, map, nat_le}
 use Rattle.std.specs.List.{list_all, list_any}
-use Rattle.trend_num.specs.declared.archive.Rec.{Rec}
-use Rattle.trend_model.specs.Content.{is_late_record}
+use Rattle.trend_num.specs.{Rec}
+use Rattle.trend_model.specs.{is_late_record}
 use Rattle.sheet_law.specs.declared.grid.Grid.{Grid}
 
 -- when the window k begins, and when it ends

@@ -1,10 +1,7 @@
 // Which windows keep their values when records come. The bodies are empty: each law is a contract.
 ghost use Rattle.std.specs.Prelude.{◌≡◌, ◌↔◌, ℕ, ◌<◌, Bool, true, false, List, [], ◌∷◌, ◌++◌};
-ghost use Rattle.trend_num.specs.declared.archive.Rec.{Rec};
-ghost use Rattle.trend_num.specs.declared.measure.Measure.{Measure};
-ghost use Rattle.trend_model.specs.Content.{is_late_record};
-ghost use Rattle.trend_model.specs.Contents.{listed, points_of};
-ghost use Rattle.trend_model.specs.Windows.{window_value};
+ghost use Rattle.trend_num.specs.{Rec, Measure};
+ghost use Rattle.trend_model.specs.{is_late_record, listed, points_of, window_value};
 ghost use Rattle.calc_check.specs.Group.{Group};
 ghost use Rattle.sheet_law.specs.declared.grid.Grid.{Grid};
 ghost use Rattle.sheet_law.specs.Windows.{complete_windows, is_complete, reaches, window_from, window_to};

@@ -1,7 +1,7 @@
 -- Day numbers that go through the bits of their type.
 use Rattle.std.proofs.Common.{◌≡◌, ◌∙◌, ℕ, ◌<◌, ℤ, pos, ◌+ℤ◌, sym, ap, arith, FitsSigned, w32, to_z, of_z, to_z-of_z}
 use Rattle.std.proofs.lemmas.Int.{ints}
-use Rattle.shift_calendar.specs.Days.{IsFirstDay, IsWindowDay}
+use Rattle.shift_calendar.specs.{IsFirstDay, IsWindowDay}
 
 -- the day after a day
 pub day_after : (day : ℤ) → FitsSigned w32 day → IsWindowDay day → to_z w32 (of_z w32 (to_z w32 (of_z w32 day) +ℤ pos 1)) ≡ day +ℤ pos 1

@@ -6,7 +6,7 @@ use Rattle.jiff.proofs.Family.{parse_date-date_text}
 use Rattle.jiff_core.specs.Calendar.{days_from_civil}
 use Rattle.jiff_fmt.specs.Temporal.{DateParts, date_parts}
 use Rattle.jiff_fmt.specs.Text.{year_text, pad2}
-use Rattle.shift_calendar.specs.Days.{IsDayWord, IsFirstDay}
+use Rattle.shift_calendar.specs.{IsDayWord, IsFirstDay}
 
 -- what a date is asked for
 abbrev pub IsAsked : Date → List ℕ → Option ℤ → Type 0

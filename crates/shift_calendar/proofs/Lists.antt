@@ -5,9 +5,7 @@ use Rattle.std.proofs.lemmas.Bool.Decides.{nat_tests}
 use Rattle.std.proofs.lemmas.List.{append-nil, map_push}
 use Rattle.std.proofs.lemmas.Grind.{flat_map-append}
 use Rattle.jiff.specs.Types.{TimeZone}
-use Rattle.shift_calendar.specs.declared.window.ShiftWindow.{ShiftWindow}
-use Rattle.shift_calendar.specs.Instants.{IsInstant}
-use Rattle.shift_calendar.specs.Windows.{Shift, shift_at, below, shifts_of, shifts_over, IsWindow, AreWindows}
+use Rattle.shift_calendar.specs.{ShiftWindow, IsInstant, Shift, shift_at, below, shifts_of, shifts_over, IsWindow, AreWindows}
 
 -- a window more for a shift more
 pub AreWindows-push : (zone : TimeZone) (ss : List Shift) (ws : List ShiftWindow) (s : Shift) (w : ShiftWindow) → AreWindows zone ss ws

@@ -8,8 +8,7 @@ use Rattle.jiff.specs.Types.{DateTime, TimeZone, Timestamp}
 use Rattle.jiff.specs.Words.{Error, IsOffsetSeconds, IsTimestampNanos, time_nanos, civil_nanos, picked_instant, compatible_offset, ambiguous_at}
 use Rattle.jiff.proofs.Family.{civil_nanos-parts}
 use Rattle.jiff.proofs.SpanFacts.{signed_arith}
-use Rattle.shift_calendar.specs.Days.{IsShiftDay}
-use Rattle.shift_calendar.specs.Instants.{IsLocalTime}
+use Rattle.shift_calendar.specs.{IsShiftDay, IsLocalTime}
 
 -- nanoseconds that are whole milliseconds, before the year 9994
 pub record IsMoment (nanos : ℤ) : Type 0 where

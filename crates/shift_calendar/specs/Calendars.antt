@@ -6,12 +6,12 @@ use Rattle.toml.specs.Data.{Items, Members, no_items, item, as_str}
 use Rattle.jiff.specs.Types.{TimeZone, Posix}
 use Rattle.jiff_tz.specs.PosixReader.{read_whole}
 use Rattle.jiff_tz.specs.PosixText.{TzText, tz_view}
-use Rattle.trend_num.specs.declared.measure.Measure.{Measure}
+use Rattle.trend_num.specs.{Measure}
 use Rattle.trend_num.specs.declared.measure.Measure.TheVariants.{Area, Avg, Total, Low, High, Count, First, Last}
 use Rattle.shift_calendar.specs.declared.refusal.CalNo.{CalNo}
 use Rattle.shift_calendar.specs.declared.refusal.CalNo.TheVariants.{BadText}
 use Rattle.shift_calendar.specs.Answers.{when, given}
-use Rattle.toml_tables.specs.Tables.{document, has_keys, places_at, string_at, array_at, is_count}
+use Rattle.toml_tables.specs.{document, has_keys, places_at, string_at, array_at, is_count}
 
 -- how many shifts a day may have, and how many tags a calendar
 abbrev pub most_starts : ℕ

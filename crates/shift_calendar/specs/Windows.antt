@@ -2,7 +2,7 @@
 use Rattle.std.specs.Prelude.{◌≡◌, ◌≤◌, ℕ, zero, suc, ◌+◌, ℤ, pos, ◌+ℤ◌, List, [], ◌∷◌, ◌++◌, length, map, slice_index, nat_lt, if◌then◌else◌}
 use Rattle.std.specs.List.{flat_map}
 use Rattle.jiff.specs.Types.{TimeZone}
-use Rattle.trend_num.specs.Ranges.{last_time}
+use Rattle.trend_num.specs.{last_time}
 use Rattle.shift_calendar.specs.declared.window.ShiftWindow.{ShiftWindow}
 use Rattle.shift_calendar.specs.Days.{IsDay}
 use Rattle.shift_calendar.specs.Instants.{IsInstant}

@@ -3,7 +3,7 @@ ghost use Rattle.std.specs.Prelude.{◌≡◌, ◌≤◌, ◌<◌, ◌^◌, fals
 ghost use Rattle.std.specs.Str.{is_utf8};
 ghost use Rattle.toml.specs.View.{table_view};
 ghost use Rattle.jiff.specs.Words.{plain_zone};
-ghost use Rattle.trend_num.specs.Ranges.{last_time};
+ghost use Rattle.trend_num.specs.{last_time};
 ghost use Rattle.shift_calendar.specs.Answers.{AnswersShift};
 ghost use Rattle.shift_calendar.specs.Calendars.{calendar, calendar_form_of, zone_at, zone_rule, IsSized};
 ghost use Rattle.shift_calendar.specs.Days.{IsShiftDay};

@@ -1,7 +1,7 @@
 // From days and times of day to instants.
 ghost use Rattle.std.specs.Prelude.{◌≡◌, ◌≤◌};
 ghost use Rattle.jiff.specs.Words.{epoch_day, plain_zone};
-ghost use Rattle.trend_num.specs.Ranges.{last_time};
+ghost use Rattle.trend_num.specs.{last_time};
 ghost use Rattle.shift_calendar.specs.Days.{IsDay, IsShiftDay};
 ghost use Rattle.shift_calendar.specs.Instants.{IsInstant, IsLocalTime};
 

@@ -1,6 +1,6 @@
 // The windows of shifts.
 ghost use Rattle.std.specs.Prelude.{◌≤◌, ◌<◌, ◌++◌, length, All, List, IfOk, OnOk};
-ghost use Rattle.trend_num.specs.Ranges.{last_time};
+ghost use Rattle.trend_num.specs.{last_time};
 ghost use Rattle.shift_calendar.specs.Days.{IsFirstDay, IsWindowDay};
 ghost use Rattle.shift_calendar.specs.Instants.{IsInstant};
 ghost use Rattle.shift_calendar.specs.Windows.{Shift, shift_at, shifts_of, shifts_over, IsWindow, AreWindows, IsWindowTimed};

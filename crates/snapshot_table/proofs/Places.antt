@@ -4,7 +4,7 @@ use Rattle.std.proofs.lemmas.List.{take_more}
 use Rattle.std.proofs.Math.ListN.{get_or-map}
 use Rattle.std.proofs.lemmas.Option.{get_or_from_slice_get, slice_get-get_or, slice_get_within}
 use Rattle.atomic_table.specs.Seated.{TableId}
-use Rattle.snapshot_table.specs.Boards.{Posting, new_poster, new_posters}
+use Rattle.snapshot_table.specs.{Posting, new_poster, new_posters}
 
 -- the model of the element at a place is at the same place in the list of all models
 pub seen_at : {A B : Type 0} (f : A → B) (xs : List A) (i : ℕ) (a : A) (b : B) → a ≡ get_or xs i a

@@ -4,11 +4,8 @@ use mathlib.Core.Option.{some, some-injective, some-ne-none}
 use lib.ListN.{get_elem?}
 use Rattle.crossbeam_utils.specs.Register.{Turns, Forks}
 use Rattle.atomic_table.proofs.Lists.{at_set, at_snoc, set_again}
-use Rattle.trend_num.specs.declared.archive.Snap.{Snap}
-use Rattle.snapshot_table.specs.declared.words.Shown.{Shown}
-use Rattle.snapshot_table.specs.declared.rule.View.{View}
-use Rattle.snapshot_table.specs.Snaps.{nothing, snap_of}
-use Rattle.snapshot_table.specs.Rules.{FitsPost, IsKept, Looks, Posts, looking, posting}
+use Rattle.trend_num.specs.{Snap}
+use Rattle.snapshot_table.specs.{Shown, View, nothing, snap_of, FitsPost, IsKept, Looks, Posts, looking, posting}
 
 -- one who looks fits all words that count no fewer events
 looks_fit : (words : Shown) (by : ℕ) (snap : Snap) → snap.taken ≤ words.taken → FitsPost words by (looking snap)

@@ -1,7 +1,7 @@
 -- The models of a board, its posters and its lookers.
 use Rattle.std.specs.Prelude.{◌≡◌, ℕ, suc, List, [], ◌∷◌, length, replicate, slice_get, Some}
 use Rattle.atomic_table.specs.Seated.{TableId}
-use Rattle.trend_num.specs.declared.archive.Snap.{Snap}
+use Rattle.trend_num.specs.{Snap}
 use Rattle.snapshot_table.specs.Snaps.{nothing}
 
 -- the poster of a tag: the cell that it writes, and the snapshot that it posted last

@@ -2,7 +2,7 @@
 use Rattle.std.specs.Prelude.{◌≡◌, ℕ, ◌^◌, ◌<◌, ◌≤◌, true, false, List}
 use mathlib.Core.Option.{some}
 use lib.ListN.{get_elem?}
-use Rattle.trend_num.specs.declared.archive.Snap.{Snap}
+use Rattle.trend_num.specs.{Snap}
 use Rattle.snapshot_table.specs.declared.words.Shown.{Shown}
 use Rattle.snapshot_table.specs.declared.rule.View.{View}
 use Rattle.snapshot_table.specs.Snaps.{snap_of}

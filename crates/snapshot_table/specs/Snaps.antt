@@ -1,7 +1,6 @@
 -- The snapshot that the words of a cell hold.
 use Rattle.std.specs.Prelude.{ℕ, ℤ, pos, negsuc, if◌then◌else◌, nat_eq, Option, None, Some}
-use Rattle.trend_num.specs.declared.archive.Snap.{Snap}
-use Rattle.trend_num.specs.declared.point.Point.{Point}
+use Rattle.trend_num.specs.{Snap, Point}
 use Rattle.snapshot_table.specs.declared.words.Shown.{Shown}
 use Rattle.snapshot_table.specs.declared.words.TheConstants.{NO_POINT, NOT_NEGATIVE}
 

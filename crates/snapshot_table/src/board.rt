@@ -1,6 +1,6 @@
 // A board: the cells of all tags.
 ghost use Rattle.std.specs.Prelude.{◌≡◌, ◌<◌, ◌≤◌, [], ◌∷◌, ◌++◌, IfOk, IfSome, OnOk, Some, length, replicate, slice_get, slice_set};
-ghost use Rattle.trend_num.specs.declared.archive.Snap.{Snap};
+ghost use Rattle.trend_num.specs.{Snap};
 ghost use Rattle.crossbeam_utils.specs.Seq.{cell_view};
 ghost use Rattle.snapshot_table.specs.Rules.{looking};
 ghost use Rattle.snapshot_table.specs.Boards.{LooksAt, PostsTo, new_looker, new_poster, new_posters};

@@ -1,6 +1,6 @@
 // The poster of a tag.
 ghost use Rattle.std.specs.Prelude.{◌≡◌};
-ghost use Rattle.trend_num.specs.declared.archive.Snap.{Snap};
+ghost use Rattle.trend_num.specs.{Snap};
 
 use crate::rule::View;
 use crate::words::Shown;

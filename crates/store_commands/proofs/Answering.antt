@@ -5,20 +5,18 @@ use Rattle.std.specs.Option.{option_map_or}
 use Rattle.std.proofs.lemmas.Bool.Decides.{nat_tests}
 use Rattle.std.proofs.lemmas.List.{get_or-map, length-map}
 use Rattle.std.proofs.lemmas.Option.{slice_get_read}
-use Rattle.trend_num.specs.Limits.{most_listed}
-use Rattle.trend_num.specs.declared.query.TagQuery.{TagQuery}
+use Rattle.trend_num.specs.{most_listed, TagQuery}
 use Rattle.trend_num.specs.declared.query.TagQuery.TheVariants as ask
-use Rattle.trend_model.specs.Reads.{points_from_to}
-use Rattle.interp_read.specs.declared.query.Reply.{Reply}
+use Rattle.trend_model.specs.{points_from_to}
+use Rattle.interp_read.specs.{Reply, Answers}
 use Rattle.interp_read.specs.declared.query.Reply.TheVariants.{At, Points, Window}
-use Rattle.interp_read.specs.Replies.{Answers}
 use Rattle.value_rows.specs.declared.asked.Query.TheVariants.{Tag, Snap, Row}
 use Rattle.tag_core.specs.Core.{Core}
-use Rattle.calc_refresh.specs.Lists.{lists_of}
-use Rattle.group_book.specs.declared.history.GroupHistory.{GroupHistory}
-use Rattle.trend_report.specs.Lines.{answer_text, number_text, points_text, reading_text}
-use Rattle.store_commands.specs.Replies.{Rows, answer_in, rows_in, snapshot_in, told, value_in}
-use Rattle.plant_store.specs.OpenedBases.{points_recovered}
+use Rattle.calc_refresh.specs.{lists_of}
+use Rattle.group_book.specs.{GroupHistory}
+use Rattle.trend_report.specs.{answer_text, number_text, points_text, reading_text}
+use Rattle.store_commands.specs.{Rows, answer_in, rows_in, snapshot_in, told, value_in}
+use Rattle.plant_store.specs.{points_recovered}
 
 -- an answer is printed as what a tag answers
 pub answer_told : (core : Core) (query : TagQuery) (reply : Reply) → Answers core.step (points_recovered core) query reply

@@ -4,34 +4,23 @@ use Rattle.std.specs.Prelude.{IfErr, IfOk, IfSome, OnOk, String}
 use Rattle.std.specs.Result.{result_and}
 use Rattle.std.specs.declared.alloc.Global.{Global}
 use Rattle.std.proofs.lemmas.List.{get_or-map, get_or_default, length-map}
-use Rattle.trend_num.specs.declared.archive.Rec.{Rec}
-use Rattle.disk_model.specs.Moments.{During}
-use Rattle.disk_model.specs.Traces.{Trace, Device}
-use Rattle.calc_refresh.specs.declared.definition.GroupDefParts.{GroupDefParts}
-use Rattle.calc_refresh.specs.Lists.{lists_of}
-use Rattle.calc_refresh.specs.Sheet.{grid_of}
-use Rattle.sheet_law.specs.Scratch.{IsScratch}
-use Rattle.tag_base.specs.declared.definition.GroupDef.{GroupDef}
-use Rattle.group_layout.specs.Readings.{GainsGroupSync}
+use Rattle.trend_num.specs.{Rec}
+use Rattle.disk_model.specs.{During, Trace, Device}
+use Rattle.calc_refresh.specs.{GroupDefParts, lists_of, grid_of}
+use Rattle.sheet_law.specs.{IsScratch}
+use Rattle.tag_base.specs.{GroupDef}
+use Rattle.group_layout.specs.{GainsGroupSync}
 use Rattle.plant_status.specs.declared.status.Status.{Status}
-use Rattle.group_book.specs.declared.history.GroupHistory.{GroupHistory}
-use Rattle.group_book.specs.declared.history.GroupOpening.{GroupOpening}
-use Rattle.group_book.specs.declared.refusal.RefreshNo.{RefreshNo}
+use Rattle.group_book.specs.{GroupHistory, GroupOpening, RefreshNo, AreRowsOver, IsRight, BookStaysSame, ToldBook, device_name_of, faults_of, lists_at, cut}
 use Rattle.group_book.specs.declared.refusal.RefreshNo.TheVariants.{Ahead, CellLimit, CopyLimit, WantOfMemory}
-use Rattle.group_book.specs.Histories.{AreRowsOver, IsRight}
-use Rattle.group_book.specs.Openings.{BookStaysSame}
-use Rattle.group_book.specs.Told.{ToldBook, device_name_of, faults_of}
-use Rattle.group_book.specs.InputLists.{lists_at}
-use Rattle.group_book.specs.Tapes.{cut}
 use Rattle.plant_store.specs.BookEndings.{AreGivenBack, AreHistoriesOf, IsHistoryOfBook, trace_after}
 use Rattle.plant_store.specs.Groups.{AllStaySame, AreBooksOpened, AreNamesOf, DeviceTraces, IsBookOpened, group_parts_of, input_records_of, group_definition_text, group_trace_at}
 use Rattle.plant_store.specs.BookRefusals.{CountsStore}
 use Rattle.plant_store.proofs.BookCauses.{back_is, front_of}
 use Rattle.plant_store.proofs.BookNames.{as_many, named_at}
 use Rattle.plant_status.proofs.Elements.{element}
-use Rattle.store_commands.specs.Replies.{Rows, rows_in}
+use Rattle.store_commands.specs.{Rows, rows_in, AreCutBooks, AreRefreshedOnce, AreWithinLimits, HaveDevicesOf, IsOverIn, IsOverSome, IsRefreshedOnce, book_cells, refresh_status}
 use Rattle.store_commands.specs.GroupRows.{AllGainSync, AreGroupsTold, AreRowsTold, cells_of, IsGroupTold, IsGroupRowsRefusal, IsTooMuchAt, OfCells, OfCopies, OfWant}
-use Rattle.store_commands.specs.Refreshing.{AreCutBooks, AreRefreshedOnce, AreWithinLimits, HaveDevicesOf, IsOverIn, IsOverSome, IsRefreshedOnce, book_cells, refresh_status}
 
 -- books that were opened have the first records of their tags
 pub cut_books : {D : Type 0} (device : D → Device) (groups : List GroupDef) (records : List (List Rec))

@@ -5,9 +5,8 @@ use Rattle.std.proofs.lemmas.Bool.{cases_eq, cases_lt}
 use Rattle.std.proofs.lemmas.List.{append-nil, drop_all, drop_more, get_or_append_left, get_or_push, length-take-le, length_push, set_at, take_more}
 use Rattle.std.proofs.lemmas.List.Sums.{fold-append}
 use Rattle.std.proofs.lemmas.Option.{get_or_from_slice_get, slice_get_within}
-use Rattle.trend_num.specs.declared.value.CalcValue.{CalcValue}
-use Rattle.event_frames.specs.declared.frame.Change.{Change}
-use Rattle.event_frames.specs.Row.{IsChangeList, put_at, row_with}
+use Rattle.trend_num.specs.{CalcValue}
+use Rattle.event_frames.specs.{Change, IsChangeList, put_at, row_with}
 use Rattle.event_frames.proofs.Putting.{put_at-behind, put_at-within}
 
 -- these changes make the first windows of one row those of another

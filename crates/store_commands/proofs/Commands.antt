@@ -1,16 +1,14 @@
 -- What the commands over stored archives need of a base and of its queries.
-use Rattle.std.proofs.Common.{◌≡◌, ℕ, List, [], length, refl, arith, ap}
-use Rattle.trend_num.specs.declared.archive.Rec.{Rec}
-use Rattle.tag_base.specs.declared.definition.GroupDef.{GroupDef}
-use Rattle.value_rows.specs.declared.asked.Query.{Query}
-use Rattle.plant_files.specs.Asked.{ToldFiles, AreReaderFiles}
-use Rattle.value_rows.specs.declared.asked.GroupNames.{GroupNames}
+use Rattle.std.proofs.Common.{◌≡◌, ℕ, List, [], length, refl, arith, ap, ◌∷◌}
+use Rattle.trend_num.specs.{Rec}
+use Rattle.tag_base.specs.{GroupDef}
+use Rattle.value_rows.specs.{Query, GroupNames}
+use Rattle.plant_files.specs.{ToldFiles, AreReaderFiles}
 use Rattle.plant_status.specs.declared.status.Status.{Status}
 use Rattle.plant_files.specs.Reading.{faults_told}
-use Rattle.disk_model.specs.Traces.{Trace}
+use Rattle.disk_model.specs.{Trace}
 use Rattle.plant_store.specs.BookRefusals.{OfDamage, OfFault, OfMemory, OfVersion, OfWindows}
 use Rattle.store_commands.specs.GroupRows.{IsGroupRowsRefusal, OfCells, OfCopies, OfOpening, OfWant}
-use Rattle.std.proofs.Common.{◌∷◌}
 
 -- the refusal of a group is no fault of a file
 pub rows_no_fault : (groups : List GroupDef) (records : List (List Rec)) (old new : List ℕ → Trace) (before now : ℕ) (why : Status)

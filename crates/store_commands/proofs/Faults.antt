@@ -1,10 +1,10 @@
 -- The refusal of a device is no read fault.
 use Rattle.std.proofs.Common.{ℕ, List}
 use Rattle.std.specs.Prelude.{◌≢◌}
-use Rattle.trend_num.specs.declared.archive.Rec.{Rec}
-use Rattle.disk_model.specs.Traces.{Trace}
-use Rattle.tag_base.specs.declared.definition.GroupDef.{GroupDef}
-use Rattle.plant_status.specs.declared.file.FileId.{FileId}
+use Rattle.trend_num.specs.{Rec}
+use Rattle.disk_model.specs.{Trace}
+use Rattle.tag_base.specs.{GroupDef}
+use Rattle.plant_status.specs.{FileId}
 use Rattle.plant_status.specs.declared.status.Status.{Status}
 use Rattle.plant_status.specs.declared.status.Status.TheVariants.{ReadFault}
 use Rattle.plant_store.specs.BookRefusals.{OfDamage, OfFault, OfMemory, OfVersion, OfWindows}

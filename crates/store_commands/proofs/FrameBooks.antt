@@ -5,36 +5,24 @@ use Rattle.std.proofs.lemmas.Bool.{cases_lt}
 use Rattle.std.proofs.lemmas.List.{get_or_past, length-map}
 use Rattle.std.proofs.lemmas.List.Elements.{All-map, All-nil}
 use Rattle.std.proofs.lemmas.Option.{get_or_from_slice_get, slice_get_within}
-use Rattle.trend_num.specs.Ranges.{InRange}
-use Rattle.trend_num.specs.declared.archive.Rec.{Rec}
-use Rattle.trend_num.specs.declared.value.CalcValue.{CalcValue}
-use Rattle.disk_model.specs.Calls.{Rose}
-use Rattle.disk_model.specs.Traces.{Trace, Device}
-use Rattle.sheet_law.specs.Windows.{complete_windows}
-use Rattle.calc_refresh.specs.declared.definition.GroupDefParts.{GroupDefParts}
-use Rattle.calc_refresh.specs.Lists.{lists_of}
-use Rattle.calc_refresh.specs.Sheet.{IsCopy, grid_of}
+use Rattle.trend_num.specs.{InRange, Rec, CalcValue}
+use Rattle.disk_model.specs.{Rose, Trace, Device}
+use Rattle.sheet_law.specs.{complete_windows}
+use Rattle.calc_refresh.specs.{GroupDefParts, lists_of, IsCopy, grid_of}
 use Rattle.calc_refresh.proofs.Refreshing.{complete_is_time}
-use Rattle.group_layout.specs.Readings.{GainsGroupSync}
-use Rattle.tag_base.specs.declared.definition.GroupDef.{GroupDef}
-use Rattle.group_book.specs.declared.history.GroupHistory.{GroupHistory}
-use Rattle.group_book.specs.declared.refusal.LoadNo.{LoadNo}
+use Rattle.group_layout.specs.{GainsGroupSync}
+use Rattle.tag_base.specs.{GroupDef}
+use Rattle.group_book.specs.{GroupHistory, LoadNo, RefreshNo, lists_at, IsBookCause, cut, ToldBook, device_name_of}
 use Rattle.group_book.specs.declared.refusal.LoadNo.TheVariants as no
-use Rattle.group_book.specs.declared.refusal.RefreshNo.{RefreshNo}
 use Rattle.group_book.specs.declared.refusal.RefreshNo.TheVariants.{Ahead, CellLimit, CopyLimit, WantOfMemory}
-use Rattle.group_book.specs.InputLists.{lists_at}
-use Rattle.group_book.specs.Openings.{IsBookCause}
-use Rattle.group_book.specs.Tapes.{cut}
-use Rattle.group_book.specs.Told.{ToldBook, device_name_of}
 use Rattle.group_book.proofs.Evaluations.{cut_windows}
 use Rattle.plant_store.specs.BookEndings.{IsHistoryOfBook, trace_after}
 use Rattle.plant_store.specs.BookRefusals.{status_of}
 use Rattle.plant_store.specs.Groups.{IsBookOpened, device_name, group_parts_of, input_records_of, group_definition_text}
 use Rattle.plant_store.proofs.BookCauses.{back_is}
-use Rattle.store_commands.specs.FrameLines.{AreTimes}
+use Rattle.store_commands.specs.{AreTimes, AreWithinLimits, IsOverIn, IsRefreshedOnce, book_cells, refresh_status}
 use Rattle.store_commands.specs.FrameRows.{AreFrameRows, HasStood, IsFrameRowsRefusal, OfCells, OfCopies, OfDamage, OfFault, OfMemory, OfVersion, OfWindows}
 use Rattle.store_commands.specs.GroupRows.{AreRowsTold, cells_of}
-use Rattle.store_commands.specs.Refreshing.{AreWithinLimits, IsOverIn, IsRefreshedOnce, book_cells, refresh_status}
 use Rattle.store_commands.proofs.Books.{rows_told}
 
 -- ---- a group that is not opened

@@ -1,29 +1,24 @@
 -- How `frames` ends: what its steps leave of the devices, and which faults were counted.
 use Rattle.std.proofs.Common.{◌≡◌, ◌≢◌, inl, inr, ℕ, ◌^◌, ◌<◌, List, Result, Ok, Err, get_or, sym, subst, ◌∙◌}
-use Rattle.trend_num.specs.declared.archive.Rec.{Rec}
-use Rattle.trend_num.specs.declared.value.CalcValue.{CalcValue}
-use Rattle.disk_model.specs.Calls.{Rose}
-use Rattle.disk_model.specs.Moments.{During}
-use Rattle.disk_model.specs.Traces.{Trace}
-use Rattle.tag_base.specs.declared.definition.Base.{Base}
-use Rattle.tag_base.specs.declared.definition.GroupDef.{GroupDef}
-use Rattle.plant_status.specs.declared.file.FileId.{FileId}
+use Rattle.trend_num.specs.{Rec, CalcValue}
+use Rattle.disk_model.specs.{Rose, During, Trace}
+use Rattle.tag_base.specs.{Base, GroupDef}
+use Rattle.plant_status.specs.{FileId}
 use Rattle.plant_status.specs.declared.status.Status.{Status}
 use Rattle.plant_status.specs.declared.status.Status.TheVariants.{ReadFault}
 use Rattle.plant_status.specs.declared.unit.Unit.TheVariants.{Group}
-use Rattle.plant_files.specs.Asked.{ToldFiles}
-use Rattle.plant_files.specs.Texts.{IsBaseFile}
+use Rattle.plant_files.specs.{ToldFiles, IsBaseFile}
 use Rattle.plant_store.specs.Tags.{AllStaySame, AreOtherTagsSame}
 use Rattle.plant_store.specs.Tags as tag
-use Rattle.tag_cell.specs.Devices.{device_name}
-use Rattle.group_book.specs.Openings.{BookStaysSame}
+use Rattle.tag_cell.specs.{device_name}
+use Rattle.group_book.specs.{BookStaysSame}
 use Rattle.plant_store.specs.Groups.{DeviceTraces, group_parts_of, group_definition_text, group_trace_at}
 use Rattle.plant_store.specs.Groups as group
 use Rattle.plant_store.specs.BookRefusals as groups
-use Rattle.plant_store.specs.OpenedBases.{CountsDevices}
+use Rattle.plant_store.specs.{CountsDevices}
 use Rattle.store_commands.proofs.Stores.{groups_same, kept_after, names_apart}
 use Rattle.store_commands.specs.FrameCommands.{HaveStayed}
-use Rattle.store_commands.specs.FrameNames.{IsNamed, IsPlaced}
+use Rattle.store_commands.specs.{IsNamed, IsPlaced}
 use Rattle.store_commands.specs.FrameRows.{AreFrameRows, IsFrameRowsRefusal, OfCells, OfCopies, OfDamage, OfFault, OfMemory, OfVersion, OfWindows}
 use Rattle.store_commands.proofs.FramePlaces.{named_group}
 

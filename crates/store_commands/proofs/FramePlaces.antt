@@ -5,9 +5,9 @@ use Rattle.std.proofs.lemmas.List.{get_or-map, length-map}
 use Rattle.std.proofs.lemmas.List.Elements.{All-map}
 use Rattle.std.proofs.lemmas.Option.{get_or_from_slice_get, slice_get-get_or}
 use Rattle.calc_check.specs.Group.{Calculation, calculation, names_of}
-use Rattle.calc_check.specs.declared.definition.CalcDef.{CalcDef}
-use Rattle.tag_base.specs.declared.definition.GroupDef.{GroupDef}
-use Rattle.store_commands.specs.FrameNames.{IsNamed, IsPlaced}
+use Rattle.calc_check.specs.{CalcDef}
+use Rattle.tag_base.specs.{GroupDef}
+use Rattle.store_commands.specs.{IsNamed, IsPlaced}
 
 -- the name of the definition at a place is that of the calculation there
 pub calc_named : (defs : List CalcDef) (k : ℕ) (name : List ℕ) → k < length defs → ((d : CalcDef) → (get_or defs k d).name ≡ name)

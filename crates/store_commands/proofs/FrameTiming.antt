@@ -4,13 +4,10 @@ use Rattle.std.proofs.lemmas.Bool.{cases_lt}
 use Rattle.std.proofs.lemmas.List.{get_or_past}
 use Rattle.std.proofs.lemmas.List.Elements.{All-append, All-map, All-weaker}
 use Rattle.std.proofs.lemmas.Nat.{mul-le}
-use Rattle.tag_base.specs.declared.definition.GroupDef.{GroupDef}
-use Rattle.event_frames.specs.declared.frame.Edit.{Edit}
+use Rattle.tag_base.specs.{GroupDef}
+use Rattle.event_frames.specs.{Edit, Frame, AreEdits, AreFrames, IsFrame}
 use Rattle.event_frames.specs.declared.frame.Edit.TheVariants.{Gone, New}
-use Rattle.event_frames.specs.declared.frame.Frame.{Frame}
-use Rattle.event_frames.specs.Edits.{AreEdits}
-use Rattle.event_frames.specs.Frames.{AreFrames, IsFrame}
-use Rattle.store_commands.specs.FrameLines.{AreTimes, IsFrameTimed, frame_of}
+use Rattle.store_commands.specs.{AreTimes, IsFrameTimed, frame_of}
 
 -- the last window of a frame is one of its row
 within_row : (truths : List Bool) (least : ℕ) (f : Frame) → IsFrame truths least f → f.upto < length truths

@@ -1,10 +1,10 @@
 -- The content of a tag, by its place.
 use Rattle.std.proofs.Common.{◌≡◌, ℕ, ◌<◌, List, [], length, get_or, sym, ap, ◌∙◌, arith}
 use Rattle.std.proofs.lemmas.List.{get_or-map, length-map}
-use Rattle.trend_num.specs.declared.archive.Rec.{Rec}
-use Rattle.trend_model.specs.Contents.{ContentState, listed}
+use Rattle.trend_num.specs.{Rec}
+use Rattle.trend_model.specs.{ContentState, listed}
 use Rattle.tag_core.specs.Core.{Core}
-use Rattle.store_commands.specs.TagContents.{AreContentsOf}
+use Rattle.store_commands.specs.{AreContentsOf}
 
 -- there are as many
 as_many : (cores : List Core) (contents : List ContentState) → AreContentsOf cores contents

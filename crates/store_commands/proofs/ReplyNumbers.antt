@@ -1,13 +1,11 @@
 -- Replies and readers, one more at the end.
-use Rattle.std.proofs.Common.{◌≡◌, ℕ, ◌+◌, ◌<◌, List, [], ◌∷◌, ◌++◌, length, map, take, get_or}
-use Rattle.std.proofs.Common.{codes, sym, ap, ◌∙◌, arith, append-nil, append_assoc}
+use Rattle.std.proofs.Common.{◌≡◌, ℕ, ◌+◌, ◌<◌, List, [], ◌∷◌, ◌++◌, length, map, take, get_or, codes, sym, ap, ◌∙◌, arith, append-nil, append_assoc}
 use Rattle.std.specs.Fmt.{decimal}
 use Rattle.std.proofs.lemmas.List.{length-map, length-take, map_more, take_more}
-use Rattle.value_rows.specs.declared.asked.Query.{Query}
+use Rattle.value_rows.specs.{Query}
 use Rattle.tag_core.specs.Core.{Core}
-use Rattle.trend_report.specs.declared.reply_line.ReplyText.{ReplyText}
-use Rattle.trend_report.specs.Lines.{reply_text, told_text}
-use Rattle.store_commands.specs.Replies.{Rows, replies_from, reply_line, told, told_from}
+use Rattle.trend_report.specs.{ReplyText, reply_text, told_text}
+use Rattle.store_commands.specs.{Rows, replies_from, reply_line, told, told_from}
 
 -- the reply to one query more
 replies_push : (cores : List Core) (groups : List Rows) (reader row : ℕ) (qs : List Query) (q : Query)

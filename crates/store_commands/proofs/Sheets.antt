@@ -2,25 +2,16 @@
 use Rattle.std.proofs.Common.{◌≡◌, ℕ, zero, suc, ◌<◌, ◌≤◌, Bool, true, false, List, [], ◌∷◌, length, get_or, Option, Some, None, refl, sym, ap, ap₂, subst, ltb-true, ltb-false, ◌∙◌, arith}
 use Rattle.std.specs.Prelude.{◌*◌, nat_lt, if◌then◌else◌}
 use Rattle.std.proofs.lemmas.List.{get_or-map, length-map, length-take}
-use Rattle.trend_num.specs.declared.archive.Rec.{Rec}
+use Rattle.trend_num.specs.{Rec}
 use Rattle.calc_check.specs.Group.{Group}
-use Rattle.calc_refresh.specs.declared.refusal.SheetNo.{SheetNo}
+use Rattle.calc_refresh.specs.{SheetNo, total_length, fault_after, limit_fault, most_cells, most_copies, grid_of}
 use Rattle.calc_refresh.specs.declared.refusal.SheetNo.TheVariants as sheet
-use Rattle.calc_refresh.specs.Lists.{total_length}
-use Rattle.calc_refresh.specs.Refreshed.{fault_after, limit_fault, most_cells, most_copies}
-use Rattle.calc_refresh.specs.Sheet.{grid_of}
 use Rattle.calc_refresh.proofs.Applying.{limits_hold}
-use Rattle.sheet_law.specs.Touched.{longer}
-use Rattle.sheet_law.specs.Windows.{complete_windows}
-use Rattle.group_book.specs.declared.refusal.RefreshNo.{RefreshNo}
+use Rattle.sheet_law.specs.{longer, complete_windows}
+use Rattle.group_book.specs.{RefreshNo, Turn, IsListsRefusal, lists_at, IsBookToldOf, cut, uncut, IsPublished, ToldBook, versions_of}
 use Rattle.group_book.specs.declared.refusal.RefreshNo.TheVariants.{Ahead, CellLimit, CopyLimit, WantOfMemory}
-use Rattle.group_book.specs.declared.turn.Turn.{Turn}
-use Rattle.group_book.specs.InputLists.{IsListsRefusal, lists_at}
-use Rattle.group_book.specs.Refusals.{IsBookToldOf}
-use Rattle.group_book.specs.Tapes.{cut, uncut}
-use Rattle.group_book.specs.Told.{IsPublished, ToldBook, versions_of}
 use Rattle.group_book.proofs.InputLists.{longer-uncut}
-use Rattle.store_commands.specs.Refreshing.{IsCutBook, IsOverIn, IsRefreshedOnce, book_cells}
+use Rattle.store_commands.specs.{IsCutBook, IsOverIn, IsRefreshedOnce, book_cells}
 
 -- the first records of lists, and those after them, are the lists
 whole_book : {D : Type 0} (records : List (List Rec)) (b : ToldBook D) → IsCutBook records b → length b.tags ≡ length b.sheet.copies

@@ -1,24 +1,21 @@
 -- The devices of tags and of groups, which are opened one after the other.
 use Rattle.std.proofs.Common.{◌≡◌, ◌≢◌, inr, ℕ, ◌+◌, ◌^◌, ◌<◌, List, [], ◌∷◌, ◌++◌, length, length-append, get_or, codes, refl, sym, ap, subst, ◌∙◌, arith}
 use Rattle.std.proofs.lemmas.List.{get_or-append-add}
-use Rattle.trend_num.specs.declared.archive.Rec.{Rec}
-use Rattle.trend_num.specs.declared.tag_def.TagDef.{TagDef}
+use Rattle.trend_num.specs.{Rec, TagDef}
 use Rattle.tag_core.specs.Core.{Core}
-use Rattle.disk_model.specs.Calls.{Rose}
-use Rattle.group_layout.specs.Readings.{GainsGroupSync}
-use Rattle.crash_recovery.specs.Opening.{StaysSame as TagStaysSame}
+use Rattle.disk_model.specs.{Rose}
+use Rattle.group_layout.specs.{GainsGroupSync}
+use Rattle.crash_recovery.specs.{StaysSame as TagStaysSame}
 use Rattle.plant_status.specs.declared.status.Status.{Status}
-use Rattle.tag_base.specs.declared.definition.Base.{Base}
-use Rattle.tag_base.specs.declared.definition.GroupDef.{GroupDef}
-use Rattle.plant_files.specs.RowFiles.{ToldFiles}
-use Rattle.plant_files.specs.Texts.{IsBaseFile}
+use Rattle.tag_base.specs.{Base, GroupDef}
+use Rattle.plant_files.specs.{ToldFiles, IsBaseFile}
 use Rattle.plant_store.specs.Tags as tag
-use Rattle.tag_cell.specs.Devices.{device_name}
+use Rattle.tag_cell.specs.{device_name}
 use Rattle.plant_store.specs.Groups as group
 use Rattle.plant_store.specs.Groups.{DeviceTraces, input_records_of, group_trace_at}
 use Rattle.plant_store.specs.BookRefusals.{IsRefusal}
 use Rattle.plant_store.proofs.BookDevices as book
-use Rattle.store_commands.specs.Replies.{Rows}
+use Rattle.store_commands.specs.{Rows}
 use Rattle.store_commands.specs.Commands.{AreAllKept, AreOtherDevicesSame}
 use Rattle.store_commands.specs.GroupRows.{AllGainSync, AreGroupsTold, IsGroupTold, IsGroupRowsRefusal, IsTooMuchAt, OfCells, OfCopies, OfOpening, OfWant}
 

@@ -1,20 +1,18 @@
 -- What the commands over stored archives print, and why they print nothing.
 use Rattle.std.specs.Prelude.{◌≡◌, ◌≢◌, ◌⊎◌, ℕ, List, All}
 use Rattle.tag_core.specs.Core.{Core}
-use Rattle.tag_base.specs.declared.definition.Base.{Base}
-use Rattle.tag_base.specs.declared.schedule.Plan.{Plan}
-use Rattle.value_rows.specs.declared.asked.Query.{Query}
+use Rattle.tag_base.specs.{Base, Plan}
+use Rattle.value_rows.specs.{Query}
 use Rattle.plant_status.specs.declared.status.Status.{Status}
 use Rattle.plant_status.specs.declared.status.Status.TheVariants.{WantOfMemory}
-use Rattle.plant_files.specs.Texts.{IsBaseFile, IsBaseRefusal, IsPlanFile, IsPlanRefusal}
-use Rattle.plant_files.specs.Asked.{ToldFiles, AreQueries, IsQueriesRefusal}
-use Rattle.tag_cell.specs.Devices.{device_name}
+use Rattle.plant_files.specs.{IsBaseFile, IsBaseRefusal, IsPlanFile, IsPlanRefusal, ToldFiles, AreQueries, IsQueriesRefusal}
+use Rattle.tag_cell.specs.{device_name}
 use Rattle.plant_store.specs.Tags.{AllStaySame}
-use Rattle.trend_report.specs.CheckLines.{check_text}
+use Rattle.trend_report.specs.{check_text}
 use Rattle.plant_store.specs.TagRefusals.{IsRefusal}
 use Rattle.plant_store.specs.Groups as group
 use Rattle.plant_store.specs.Groups.{DeviceTraces}
-use Rattle.plant_store.specs.OpenedBases.{AreUntouched, IsOpenedBase}
+use Rattle.plant_store.specs.{AreUntouched, IsOpenedBase}
 use Rattle.store_commands.specs.Replies.{Rows, trend_text}
 use Rattle.store_commands.specs.GroupRows.{AllGainSync, AreGroupsTold, IsGroupRowsRefusal, tag_records}
 

@@ -1,22 +1,20 @@
 -- What `frames` prints, why it prints nothing, and what it leaves of the devices.
 use Rattle.std.specs.Prelude.{◌≡◌, ◌≢◌, ◌⊎◌, ℕ, List, All}
-use Rattle.disk_model.specs.Moments.{During}
-use Rattle.trend_num.specs.declared.value.CalcValue.{CalcValue}
+use Rattle.disk_model.specs.{During}
+use Rattle.trend_num.specs.{CalcValue}
 use Rattle.tag_core.specs.Core.{Core}
-use Rattle.tag_base.specs.declared.definition.Base.{Base}
-use Rattle.tag_base.specs.declared.definition.GroupDef.{GroupDef}
+use Rattle.tag_base.specs.{Base, GroupDef}
 use Rattle.plant_status.specs.declared.status.Status.{Status}
 use Rattle.plant_status.specs.declared.status.Status.TheVariants.{WantOfMemory}
-use Rattle.plant_files.specs.Asked.{ToldFiles}
-use Rattle.plant_files.specs.Texts.{IsBaseFile, IsBaseRefusal}
+use Rattle.plant_files.specs.{ToldFiles, IsBaseFile, IsBaseRefusal}
 use Rattle.plant_store.specs.TagRefusals.{IsRefusal}
 use Rattle.plant_store.specs.Tags.{AllStaySame}
-use Rattle.tag_cell.specs.Devices.{device_name}
-use Rattle.group_layout.specs.Readings.{GainsGroupSync}
-use Rattle.group_book.specs.Openings.{BookStaysSame}
+use Rattle.tag_cell.specs.{device_name}
+use Rattle.group_layout.specs.{GainsGroupSync}
+use Rattle.group_book.specs.{BookStaysSame}
 use Rattle.plant_store.specs.Groups.{group_parts_of, input_records_of, group_definition_text, group_trace_at, DeviceTraces}
 use Rattle.plant_store.specs.Groups as group
-use Rattle.plant_store.specs.OpenedBases.{AreUntouched, IsOpenedBase}
+use Rattle.plant_store.specs.{AreUntouched, IsOpenedBase}
 use Rattle.store_commands.specs.GroupRows.{tag_records}
 use Rattle.store_commands.specs.FrameLines.{TellsFrames}
 use Rattle.store_commands.specs.FrameNames.{IsNamed, IsNameRefusal}

@@ -2,17 +2,12 @@
 use Rattle.std.specs.Prelude.{◌≡◌, ℕ, ◌^◌, ◌<◌, ◌≤◌, List, [], ◌++◌, codes, if◌then◌else◌}
 use Rattle.std.specs.Fmt.{decimal}
 use Rattle.std.specs.List.{flat_map}
-use Rattle.trend_num.specs.Ranges.{last_time}
-use Rattle.trend_num.specs.declared.value.CalcValue.{CalcValue}
-use Rattle.calc_refresh.specs.Sheet.{grid_of}
-use Rattle.sheet_law.specs.Windows.{window_from, window_to}
-use Rattle.tag_base.specs.declared.definition.GroupDef.{GroupDef}
-use Rattle.event_frames.specs.declared.frame.Edit.{Edit}
+use Rattle.trend_num.specs.{last_time, CalcValue}
+use Rattle.calc_refresh.specs.{grid_of}
+use Rattle.sheet_law.specs.{window_from, window_to}
+use Rattle.tag_base.specs.{GroupDef}
+use Rattle.event_frames.specs.{Edit, Frame, AreEdits, AreFrames, truths_of}
 use Rattle.event_frames.specs.declared.frame.Edit.TheVariants.{Gone, New}
-use Rattle.event_frames.specs.declared.frame.Frame.{Frame}
-use Rattle.event_frames.specs.Edits.{AreEdits}
-use Rattle.event_frames.specs.Frames.{AreFrames}
-use Rattle.event_frames.specs.Row.{truths_of}
 
 -- when a frame of a group's calculation begins, and when it ends, in milliseconds from 1970
 abbrev pub frame_from : GroupDef → Frame → ℕ

@@ -1,7 +1,7 @@
 -- The group and the calculation that two names stand for.
 use Rattle.std.specs.Prelude.{◌≡◌, ◌≢◌, ℕ, List, All, Contains, Some, slice_get}
 use Rattle.calc_check.specs.Group.{names_of}
-use Rattle.tag_base.specs.declared.definition.GroupDef.{GroupDef}
+use Rattle.tag_base.specs.{GroupDef}
 use Rattle.plant_status.specs.declared.status.Status.{Status}
 use Rattle.plant_status.specs.declared.status.Status.TheVariants.{BadName}
 

@@ -1,20 +1,13 @@
 -- The row of a calculation for which its group's device stands, and the row after one refresh; and why there is none.
 use Rattle.std.specs.Prelude.{◌≡◌, ℕ, ◌^◌, ◌<◌, ◌≤◌, All, List, length, slice_get, Option, Some}
-use Rattle.trend_num.specs.declared.archive.Rec.{Rec}
+use Rattle.trend_num.specs.{Rec, CalcValue}
 use Rattle.trend_num.specs.declared.refusal.What.TheVariants.{Cells, Copies}
-use Rattle.trend_num.specs.declared.value.CalcValue.{CalcValue}
-use Rattle.disk_model.specs.Calls.{Rose, Shows}
-use Rattle.disk_model.specs.Traces.{Trace}
-use Rattle.sheet_law.specs.Windows.{complete_windows}
-use Rattle.calc_refresh.specs.Lists.{lists_of, total_length}
-use Rattle.calc_refresh.specs.Refreshed.{most_cells, most_copies}
-use Rattle.calc_refresh.specs.Sheet.{grid_of}
-use Rattle.group_layout.specs.Images.{IsGroupDamage}
-use Rattle.group_layout.specs.Readings.{GainsGroupSync}
-use Rattle.group_book.specs.declared.history.GroupOpening.{GroupOpening}
-use Rattle.group_book.specs.Openings.{SavesAhead, SavesShape}
-use Rattle.group_book.specs.Tapes.{cut}
-use Rattle.tag_base.specs.declared.definition.GroupDef.{GroupDef}
+use Rattle.disk_model.specs.{Rose, Shows, Trace}
+use Rattle.sheet_law.specs.{complete_windows}
+use Rattle.calc_refresh.specs.{lists_of, total_length, most_cells, most_copies, grid_of}
+use Rattle.group_layout.specs.{IsGroupDamage, GainsGroupSync}
+use Rattle.group_book.specs.{GroupOpening, SavesAhead, SavesShape, cut}
+use Rattle.tag_base.specs.{GroupDef}
 use Rattle.plant_status.specs.declared.mismatch.Place.TheVariants.{Version, Windows}
 use Rattle.plant_status.specs.declared.mismatch.Seen.TheVariants.{Number}
 use Rattle.plant_status.specs.declared.status.Status.{Status}

@@ -1,18 +1,14 @@
 -- The rows of the groups of a base, each refreshed once from the records of its tags.
 use Rattle.std.specs.Prelude.{◌≡◌, ℕ, ◌*◌, ◌<◌, ◌≤◌, All, List, length, map, slice_index_or}
-use Rattle.trend_num.specs.declared.archive.Rec.{Rec}
+use Rattle.trend_num.specs.{Rec}
 use Rattle.trend_num.specs.declared.refusal.What.TheVariants.{Cells, Copies}
 use Rattle.tag_core.specs.Core.{Core}
-use Rattle.disk_model.specs.Traces.{Trace}
-use Rattle.sheet_law.specs.Scratch.{IsScratch}
-use Rattle.sheet_law.specs.Windows.{complete_windows}
-use Rattle.calc_refresh.specs.Lists.{total_length}
-use Rattle.calc_refresh.specs.Refreshed.{most_cells, most_copies}
-use Rattle.calc_refresh.specs.Sheet.{grid_of}
-use Rattle.group_layout.specs.Readings.{GainsGroupSync}
-use Rattle.tag_base.specs.declared.definition.GroupDef.{GroupDef}
-use Rattle.group_book.specs.declared.history.GroupOpening.{GroupOpening}
-use Rattle.group_book.specs.Histories.{AreRowsOver, IsRight}
+use Rattle.disk_model.specs.{Trace}
+use Rattle.sheet_law.specs.{IsScratch, complete_windows}
+use Rattle.calc_refresh.specs.{total_length, most_cells, most_copies, grid_of}
+use Rattle.group_layout.specs.{GainsGroupSync}
+use Rattle.tag_base.specs.{GroupDef}
+use Rattle.group_book.specs.{GroupOpening, AreRowsOver, IsRight}
 use Rattle.plant_status.specs.declared.status.Status.{Status}
 use Rattle.plant_status.specs.declared.status.Status.TheVariants.{Limit, WantOfMemory}
 use Rattle.plant_store.specs.Groups.{AreGroupsOpened, DeviceTraces, IsGroupOpening, input_records_of, group_definition_text, group_trace_at}

@@ -1,17 +1,11 @@
 -- Books that are refreshed once from lists of records.
 use Rattle.std.specs.Prelude.{◌≡◌, ℕ, ◌*◌, ◌<◌, ◌≤◌, List, length, slice_index_or}
-use Rattle.trend_num.specs.declared.archive.Rec.{Rec}
+use Rattle.trend_num.specs.{Rec}
 use Rattle.trend_num.specs.declared.refusal.What.TheVariants.{Cells, Copies}
-use Rattle.sheet_law.specs.Windows.{complete_windows}
-use Rattle.calc_refresh.specs.declared.definition.GroupDefParts.{GroupDefParts}
-use Rattle.calc_refresh.specs.Lists.{total_length}
-use Rattle.calc_refresh.specs.Sheet.{grid_of}
-use Rattle.calc_refresh.specs.Refreshed.{most_cells, most_copies}
-use Rattle.group_book.specs.declared.refusal.RefreshNo.{RefreshNo}
+use Rattle.sheet_law.specs.{complete_windows}
+use Rattle.calc_refresh.specs.{GroupDefParts, total_length, grid_of, most_cells, most_copies}
+use Rattle.group_book.specs.{RefreshNo, lists_at, cut, ToldBook as Book, versions_of}
 use Rattle.group_book.specs.declared.refusal.RefreshNo.TheVariants.{Ahead, CellLimit, CopyLimit, WantOfMemory}
-use Rattle.group_book.specs.InputLists.{lists_at}
-use Rattle.group_book.specs.Tapes.{cut}
-use Rattle.group_book.specs.Told.{ToldBook as Book, versions_of}
 use Rattle.plant_status.specs.declared.status.Status.{Status}
 use Rattle.plant_status.specs.declared.status.Status.TheVariants as status
 

@@ -2,22 +2,17 @@
 use Rattle.std.specs.Prelude.{ℕ, ◌+◌, ◌<◌, List, [], ◌∷◌, ◌++◌, codes, length, map, nat_lt, slice_get, take}
 use Rattle.std.specs.Fmt.{decimal}
 use Rattle.std.specs.Option.{option_map_or}
-use Rattle.trend_num.specs.declared.point.Point.{Point}
-use Rattle.trend_num.specs.declared.value.CalcValue.{CalcValue}
-use Rattle.trend_model.specs.Reads.{points_from_to, read_at}
-use Rattle.trend_model.specs.Windows.{window_value}
+use Rattle.trend_num.specs.{Point, CalcValue, most_listed, TagQuery, IsTagQuery}
+use Rattle.trend_model.specs.{points_from_to, read_at, window_value}
 use Rattle.tag_core.specs.Core.{Core}
-use Rattle.trend_num.specs.Limits.{most_listed}
-use Rattle.trend_num.specs.declared.query.TagQuery.{TagQuery}
 use Rattle.trend_num.specs.declared.query.TagQuery.TheVariants.{At, Points, Window}
-use Rattle.value_rows.specs.declared.asked.Query.{Query}
+use Rattle.value_rows.specs.{Query}
 use Rattle.value_rows.specs.declared.asked.Query.TheVariants.{Tag, Snap, Row}
-use Rattle.trend_num.specs.Queries.{IsTagQuery}
-use Rattle.calc_refresh.specs.Lists.{lists_of}
-use Rattle.group_layout.specs.Rows.{cell_of}
-use Rattle.group_book.specs.declared.history.GroupHistory.{GroupHistory}
-use Rattle.plant_store.specs.OpenedBases.{points_recovered}
-use Rattle.trend_report.specs.Lines.{held_text, number_text, points_text, reading_text, value_text}
+use Rattle.calc_refresh.specs.{lists_of}
+use Rattle.group_layout.specs.{cell_of}
+use Rattle.group_book.specs.{GroupHistory}
+use Rattle.plant_store.specs.{points_recovered}
+use Rattle.trend_report.specs.{held_text, number_text, points_text, reading_text, value_text}
 
 -- ---- one tag
 

@@ -1,6 +1,6 @@
 -- The contents of tags.
 use Rattle.std.specs.Prelude.{◌≡◌, List, map}
-use Rattle.trend_model.specs.Contents.{ContentState, listed}
+use Rattle.trend_model.specs.{ContentState, listed}
 use Rattle.tag_core.specs.Core.{Core}
 
 -- these are the contents of the records of these tags

@@ -1,10 +1,10 @@
 // The command `frames`.
 ghost use Rattle.std.specs.Prelude.{◌≡◌, ◌^◌, ◌<◌, ◌≤◌, IfErr, IfOk, OnOk, string_bytes};
-ghost use Rattle.byte_io.specs.Files.{IsFaultOf};
-ghost use Rattle.plant_status.specs.declared.file.FileId.{FileId};
+ghost use Rattle.byte_io.specs.{IsFaultOf};
+ghost use Rattle.plant_status.specs.{FileId};
 ghost use Rattle.plant_status.specs.declared.status.Status.TheVariants.{ReadFault};
 ghost use Rattle.plant_files.specs.Reading.{faults_after};
-ghost use Rattle.plant_store.specs.OpenedBases.{CountsDevices, IsDurable};
+ghost use Rattle.plant_store.specs.{CountsDevices, IsDurable};
 ghost use Rattle.store_commands.specs.FrameCommands.{AreFramesKept, HasGroupSynced, IsFrames, IsFramesRefusal};
 
 use crate::frame_names::place_of;

@@ -1,7 +1,7 @@
 // Finds a group and a calculation by their names.
 ghost use Rattle.std.specs.Prelude.{◌≡◌, ◌≢◌, ◌<◌, All, IfErr, IfNone, IfOk, IfSome, length, slice_index_or};
-ghost use Rattle.calc_check.specs.declared.definition.CalcDef.{CalcDef};
-ghost use Rattle.tag_base.specs.declared.definition.GroupDef.{GroupDef};
+ghost use Rattle.calc_check.specs.{CalcDef};
+ghost use Rattle.tag_base.specs.{GroupDef};
 ghost use Rattle.store_commands.specs.FrameNames.{IsNameRefusal, IsPlaced};
 
 use calc_check::CalcDef;

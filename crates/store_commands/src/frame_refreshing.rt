@@ -1,11 +1,11 @@
 // Brings what was saved of a group up to all records of its tags.
 ghost use Rattle.std.specs.Prelude.{◌≡◌, ◌≢◌, ℕ, ◌^◌, ◌<◌, List, All, IfErr, IfOk, OnOk, Some, length, slice_get, vec_len};
-ghost use Rattle.disk_model.specs.Moments.{During};
+ghost use Rattle.disk_model.specs.{During};
 ghost use Rattle.plant_files.specs.Reading.{faults_told};
-ghost use Rattle.calc_refresh.specs.Lists.{lists_of};
-ghost use Rattle.group_layout.specs.Readings.{GainsGroupSync};
-ghost use Rattle.group_book.specs.Openings.{BookStaysSame};
-ghost use Rattle.tag_base.specs.Groups.{IsSoundGroup};
+ghost use Rattle.calc_refresh.specs.{lists_of};
+ghost use Rattle.group_layout.specs.{GainsGroupSync};
+ghost use Rattle.group_book.specs.{BookStaysSame};
+ghost use Rattle.tag_base.specs.{IsSoundGroup};
 ghost use Rattle.plant_store.specs.Groups.{device_name, group_parts_of, input_records_of, group_definition_text, group_trace_at};
 ghost use Rattle.plant_store.specs.BookRefusals.{CountsStore};
 ghost use Rattle.store_commands.specs.GroupRows.{tag_records};

@@ -1,6 +1,6 @@
 // What changes in the row of a calculation.
 ghost use Rattle.std.specs.Prelude.{◌≡◌, ◌<◌, ◌≤◌, IfOk, IsTrue, Some, length, slice_get, ◌↔◌};
-ghost use Rattle.event_frames.specs.Row.{IsChangeList, row_with};
+ghost use Rattle.event_frames.specs.{IsChangeList, row_with};
 
 use calc_refresh::CalcValue;
 use event_frames::Change;

@@ -1,11 +1,11 @@
 // The groups of a base, each refreshed once from the records of its tags.
 ghost use Rattle.std.specs.Prelude.{◌≡◌, ℕ, ◌^◌, ◌<◌, All, IfErr, IfOk, OnErr, OnOk, length, map};
-ghost use Rattle.calc_refresh.specs.Sheet.{IsCopy, grid_of};
+ghost use Rattle.calc_refresh.specs.{IsCopy, grid_of};
 ghost use Rattle.plant_files.specs.Reading.{faults_told};
-ghost use Rattle.tag_base.specs.Groups.{IsSoundGroup};
+ghost use Rattle.tag_base.specs.{IsSoundGroup};
 ghost use Rattle.plant_store.specs.Groups.{AllStaySame, AreDistinct, AreOtherGroupsSame};
 ghost use Rattle.plant_store.specs.BookRefusals.{CountsStore};
-ghost use Rattle.group_book.specs.InputLists.{lists_at};
+ghost use Rattle.group_book.specs.{lists_at};
 ghost use Rattle.store_commands.specs.Replies.{rows_in};
 ghost use Rattle.store_commands.specs.GroupRows.{AllGainSync, AreGroupsTold, IsGroupRowsRefusal, tag_records};
 ghost use Rattle.store_commands.specs.Refreshing.{AreCutBooks, AreRefreshedOnce, HaveDevicesOf, IsCutBook, IsOverIn, IsOverSome, IsRefreshedOnce, book_cells, refresh_status};

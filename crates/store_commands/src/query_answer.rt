@@ -1,11 +1,11 @@
 // The answer to a query.
 ghost use Rattle.std.specs.Prelude.{◌≡◌, IfOk, length};
-ghost use Rattle.trend_num.specs.Queries.{IsTagQuery};
-ghost use Rattle.trend_model.specs.Contents.{listed};
-ghost use Rattle.trend_report.specs.Lines.{answer_text, told_text};
+ghost use Rattle.trend_num.specs.{IsTagQuery};
+ghost use Rattle.trend_model.specs.{listed};
+ghost use Rattle.trend_report.specs.{answer_text, told_text};
 ghost use Rattle.store_commands.specs.TagContents.{AreContentsOf};
-ghost use Rattle.calc_refresh.specs.Lists.{lists_of};
-ghost use Rattle.group_layout.specs.Rows.{cell_of};
+ghost use Rattle.calc_refresh.specs.{lists_of};
+ghost use Rattle.group_layout.specs.{cell_of};
 ghost use Rattle.store_commands.specs.Replies.{IsAsked, answer_in, rows_in, told};
 
 use group_book::GroupHistory;

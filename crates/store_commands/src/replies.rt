@@ -1,9 +1,9 @@
 // The command `trend`.
 ghost use Rattle.std.specs.Prelude.{◌^◌, ◌<◌, ◌≡◌, string_bytes, IfOk, IfErr, OnOk};
-ghost use Rattle.plant_files.specs.Faults.{IsFaultOfPlanned};
+ghost use Rattle.plant_files.specs.{IsFaultOfPlanned};
 ghost use Rattle.plant_files.specs.Reading.{faults_after};
 ghost use Rattle.store_commands.specs.Commands.{AreAllKept, HaveGroupsSynced, IsTrend, IsTrendRefusal};
-ghost use Rattle.plant_store.specs.OpenedBases.{CountsDevices, IsDurable};
+ghost use Rattle.plant_store.specs.{CountsDevices, IsDurable};
 
 use crate::groups::histories_of;
 use crate::trend_lines::trend_text;

@@ -1,6 +1,6 @@
 // The contents of tags.
 ghost use Rattle.std.specs.Prelude.{◌≡◌, IfOk};
-ghost use Rattle.trend_model.specs.Contents.{listed};
+ghost use Rattle.trend_model.specs.{listed};
 ghost use Rattle.store_commands.specs.TagContents.{AreContentsOf};
 
 use late_insert::Content;

@@ -1,11 +1,11 @@
 // The command `check`.
 ghost use Rattle.std.specs.Prelude.{◌^◌, ◌<◌, ◌≡◌, string_bytes, IfOk, IfErr, OnOk};
-ghost use Rattle.byte_io.specs.Files.{IsFaultOf};
-ghost use Rattle.plant_status.specs.declared.file.FileId.{FileId};
+ghost use Rattle.byte_io.specs.{IsFaultOf};
+ghost use Rattle.plant_status.specs.{FileId};
 ghost use Rattle.plant_status.specs.declared.status.Status.TheVariants.{ReadFault};
 ghost use Rattle.plant_files.specs.Reading.{faults_after};
 ghost use Rattle.store_commands.specs.Commands.{IsCheckRefusal, IsChecked};
-ghost use Rattle.plant_store.specs.OpenedBases.{AreKept, IsDurable};
+ghost use Rattle.plant_store.specs.{AreKept, IsDurable};
 ghost use Rattle.plant_store.specs.TagRefusals.{CountsStore};
 
 use byte_io::Files;

@@ -1,12 +1,9 @@
 -- What the texts of calculations define, one after another.
 use Rattle.std.proofs.Common.{◌≡◌, ℕ, ◌+◌, ◌<◌, List, [], ◌∷◌, ◌++◌, length, map, take, drop, get_or, sym, ap, ◌∙◌, subst, take-append-drop}
 use Rattle.std.proofs.lemmas.List.{drop_more, take_more, map_push, map-append}
-use Rattle.calc_parser.specs.declared.refusal.ParseNo.{ParseNo}
-use Rattle.calc_parser.specs.Formulas.{IsFormula, HasFormulaCause}
+use Rattle.calc_parser.specs.{ParseNo, IsFormula, HasFormulaCause}
 use Rattle.calc_check.specs.Group.{Calculation}
-use Rattle.tag_base.specs.declared.calculation.CalcText.{CalcText}
-use Rattle.tag_base.specs.declared.refusal.TextNo.{TextNo}
-use Rattle.tag_base.specs.Groups.{CalcForm, formula_text_of, told_of, Define, IsFirstRefused}
+use Rattle.tag_base.specs.{CalcText, TextNo, CalcForm, formula_text_of, told_of, Define, IsFirstRefused}
 
 -- one text more defines one calculation more
 Define-push : (texts : List CalcForm) (calcs : List Calculation) (text : CalcForm) (calc : Calculation) → Define texts calcs

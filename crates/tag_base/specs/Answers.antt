@@ -2,7 +2,7 @@
 use Rattle.std.specs.Prelude.{◌≡◌, ◌≢◌, ℕ, ◌-◌, ◌^◌, min, nat_le, Bool, true, false, Option, None, Some, Result, Ok, Err}
 use Rattle.tag_base.specs.declared.refusal.TextNo.{TextNo}
 use Rattle.tag_base.specs.declared.refusal.TextNo.TheVariants.{BadText, Limit, WantOfMemory}
-use Rattle.trend_num.specs.declared.refusal.What.{What}
+use Rattle.trend_num.specs.{What}
 
 -- the refusal of the table at a place that breaks a rule; a place past the end of its type is reported as the last one
 abbrev pub broken : ℕ → ℕ → TextNo

@@ -2,9 +2,9 @@
 use Rattle.std.specs.Prelude.{◌≡◌, ℕ, if◌then◌else◌, List, [], ◌∷◌, length, map, codes, Option, None, Some, option_and_then, option_map, Result, Ok, Err}
 use Rattle.toml.specs.Data.{Members}
 use Rattle.toml.specs.View.{table_view}
-use Rattle.toml_tables.specs.Tables.{document, has_keys}
+use Rattle.toml_tables.specs.{document, has_keys}
 use Rattle.trend_num.specs.declared.refusal.What.TheVariants.{Tags, Groups}
-use Rattle.trend_num.specs.declared.tag_def.TagDef.{TagDef}
+use Rattle.trend_num.specs.{TagDef}
 use Rattle.tag_base.specs.declared.definition.GroupDef.{GroupDef}
 use Rattle.tag_base.specs.declared.base.BaseTables.{BaseTables}
 use Rattle.tag_base.specs.declared.definition.Base.{Base}

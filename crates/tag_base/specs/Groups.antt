@@ -1,14 +1,13 @@
 -- What the tables of groups say.
-use Rattle.std.specs.Prelude.{◌≡◌, ◌≢◌, ◌⊎◌, ℕ, Bool, if◌then◌else◌, ◌||◌, List, [], ◌∷◌, ◌++◌, length, map, position, slice_get, codes, bytes_eq, string_bytes, nat_eq, Option, None, Some, is_none, option_and_then, Result, Ok, Err, ⊤, ◌<◌, ◌≤◌, All, vec_len}
+use Rattle.std.specs.Prelude.{◌≡◌, ◌≢◌, ◌⊎◌, ℕ, Bool, if◌then◌else◌, ◌||◌, List, [], ◌∷◌, ◌++◌, length, map, position, slice_get, codes, bytes_eq, string_bytes, nat_eq, Option, None, Some, is_none, option_and_then, Result, Ok, Err, ⊤, ◌<◌}
+use Rattle.std.specs.Prelude.{◌≤◌, All, vec_len}
 use Rattle.std.specs.List.{list_any}
 use Rattle.toml.specs.Data.{Members}
-use Rattle.toml_tables.specs.Tables.{has_keys, places_at, string_at}
-use Rattle.trend_num.specs.Ranges.{last_time}
+use Rattle.toml_tables.specs.{has_keys, places_at, string_at}
+use Rattle.trend_num.specs.{last_time, TagDef}
 use Rattle.trend_num.specs.declared.refusal.What.TheVariants.{Calcs}
-use Rattle.trend_num.specs.declared.tag_def.TagDef.{TagDef}
-use Rattle.calc_parser.specs.declared.refusal.ParseNo.{ParseNo}
+use Rattle.calc_parser.specs.{ParseNo, IsFormula, HasFormulaCause, most_bytes}
 use Rattle.calc_parser.specs.declared.refusal.ParseNo.TheVariants as parse_no
-use Rattle.calc_parser.specs.Formulas.{IsFormula, HasFormulaCause, most_bytes}
 use Rattle.calc_check.specs.Group.{Calculation, Group, fault_of}
 use Rattle.tag_base.specs.declared.calculation.CalcText.{CalcText}
 use Rattle.tag_base.specs.declared.definition.GroupDef.{GroupDef}

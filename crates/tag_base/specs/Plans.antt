@@ -3,7 +3,7 @@ use Rattle.std.specs.Prelude.{ℕ, Bool, if◌then◌else◌, ◌&&◌, List, []
 use Rattle.std.specs.List.{list_any}
 use Rattle.toml.specs.Data.{Members}
 use Rattle.toml.specs.View.{table_view}
-use Rattle.toml_tables.specs.Tables.{document, has_keys, string_at}
+use Rattle.toml_tables.specs.{document, has_keys, string_at}
 use Rattle.trend_num.specs.declared.refusal.What.TheVariants.{Collectors, Readers}
 use Rattle.tag_base.specs.declared.definition.GroupDef.{GroupDef}
 use Rattle.tag_base.specs.declared.plan.PlanTables.{PlanTables}

@@ -2,8 +2,8 @@
 use Rattle.std.specs.Prelude.{ℕ, ℤ, pos, negsuc, Bool, if◌then◌else◌, ◌&&◌, List, [], ◌∷◌, ◌++◌, length, nat_le, Option, None, Some, option_and_then}
 use Rattle.std.specs.List.{list_all}
 use Rattle.toml.specs.Data.{Items, Members, no_items, item, get_member, as_integer, as_table}
-use Rattle.toml_tables.specs.Tables.{has_key, string_at, array_at}
-use Rattle.trend_num.specs.Names.{is_name_byte}
+use Rattle.toml_tables.specs.{has_key, string_at, array_at}
+use Rattle.trend_num.specs.{is_name_byte}
 
 -- whether bytes are a name: 1 to 64 bytes, each of which a name may have
 abbrev pub is_name : List ℕ → Bool

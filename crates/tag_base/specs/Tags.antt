@@ -1,13 +1,11 @@
 -- What the tables of tags say.
 use Rattle.std.specs.Prelude.{ℕ, Bool, true, false, if◌then◌else◌, ◌&&◌, List, [], ◌∷◌, ◌++◌, length, position, codes, bytes_eq, Option, None, Some, is_some, is_none, option_map, option_and_then, Result, Ok}
 use Rattle.toml.specs.Data.{Data, Members, get_member, as_str, as_bool}
-use Rattle.trend_num.specs.Ranges.{last_time, largest_value}
-use Rattle.trend_num.specs.declared.tuning.Tuning.{Tuning}
-use Rattle.trend_num.specs.declared.tag_def.TagDef.{TagDef}
+use Rattle.trend_num.specs.{last_time, largest_value, Tuning, TagDef}
 use Rattle.tag_base.specs.declared.refusal.TextNo.{TextNo}
 use Rattle.tag_base.specs.Answers.{broken, where_held, where_given, after_step}
 use Rattle.tag_base.specs.Tables.{name_at, number_at}
-use Rattle.toml_tables.specs.Tables.{has_keys}
+use Rattle.toml_tables.specs.{has_keys}
 
 -- the keys that each tag has
 abbrev pub tag_keys : List (List ℕ)

@@ -2,7 +2,7 @@
 ghost use Rattle.std.specs.Prelude.{◌≡◌, ◌≤◌, false, vec_len, All, Err, IfOk, None, option_map, length};
 ghost use Rattle.std.specs.Str.{is_utf8};
 ghost use Rattle.toml.specs.View.{table_view};
-ghost use Rattle.trend_num.specs.Ranges.{TuningInRange};
+ghost use Rattle.trend_num.specs.{TuningInRange};
 ghost use Rattle.tag_base.specs.Answers.{AnswersDue, AnswersOneDue, broken};
 ghost use Rattle.tag_base.specs.Bases.{tables_of, base_arrays, base_tables, BaseRead};
 ghost use Rattle.tag_base.specs.Groups.{IsSoundGroup};

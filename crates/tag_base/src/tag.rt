@@ -1,7 +1,7 @@
 // The tags of a base.
 ghost use Rattle.std.specs.Prelude.{◌≡◌, ◌<◌, [], map, length, vec_len, All, IfOk, IfSome, option_map};
 ghost use Rattle.toml.specs.View.{view, table_view};
-ghost use Rattle.trend_num.specs.Ranges.{TuningInRange};
+ghost use Rattle.trend_num.specs.{TuningInRange};
 ghost use Rattle.tag_base.specs.Answers.{AnswersDue};
 ghost use Rattle.tag_base.specs.Tags.{is_text_if_there, has_tag_form, tuning_at, step_of, tag_place, new_tag_name, tag_of, tags_after};
 

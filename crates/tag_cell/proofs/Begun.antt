@@ -1,14 +1,11 @@
 -- What a crash left until the opening of a cell ended.
 use Rattle.std.proofs.Common.{◌≡◌, ◌∙◌, Option, None, Some, sym, subst, refl}
 use Rattle.std.specs.Prelude.{IfSome}
-use Rattle.trend_num.specs.declared.tag_def.TagDef.{TagDef}
-use Rattle.disk_model.specs.Traces.{Device, HandOut, Trace, moment}
-use Rattle.disk_model.specs.Moments.{ComesAfter}
+use Rattle.trend_num.specs.{TagDef}
+use Rattle.disk_model.specs.{Device, HandOut, Trace, moment, ComesAfter}
 use Rattle.disk_model.proofs.Moments.{after_both, after_self}
-use Rattle.crash_recovery.specs.Opening.{RecoversThen, StaysSame}
-use Rattle.tag_cell.specs.declared.history.TagOpening.{TagOpening}
-use Rattle.tag_cell.specs.Tapes.{opened}
-use Rattle.tag_cell.specs.Crashes.{BeganWell, IsOpenedWell}
+use Rattle.crash_recovery.specs.{RecoversThen, StaysSame}
+use Rattle.tag_cell.specs.{TagOpening, opened, BeganWell, IsOpenedWell}
 
 -- at the end of the opening of a device that was not used since it was handed out
 pub began_well : (def : TagDef) (o : TagOpening) (old new : Device) → IfSome old.handed.trace (λ t. old.trace ≡ t)

@@ -1,35 +1,24 @@
 -- What a cell's type keeps, after a commit.
-use Rattle.std.proofs.Common.{◌≡◌, ℕ, ◌+◌, ◌-◌, ◌<◌, ◌≤◌, ◌^◌, Bool, true, false, List, [], ◌∷◌, ◌++◌, length, map, take, drop, min, nat_eq, if◌then◌else◌, All, Err, le_refl, le_trans, refl, sym, ◌∙◌, ap, subst, arith, length-append, length-drop}
+use Rattle.std.proofs.Common.{◌≡◌, ℕ, ◌+◌, ◌-◌, ◌<◌, ◌≤◌, ◌^◌, Bool, true, false, List, [], ◌∷◌, ◌++◌, length, map, take, drop, min, nat_eq, if◌then◌else◌, All, Err, le_refl, le_trans, refl, sym, ◌∙◌, ap, subst, arith, length-append}
+use Rattle.std.proofs.Common.{length-drop}
 use Rattle.std.proofs.lemmas.List.{append-nil, map-append, take-append-le, take-append-drop, take_all}
 use Rattle.std.proofs.lemmas.List.Elements.{All-drop}
-use Rattle.std.specs.Prelude.{IsErrOf}
+use Rattle.std.specs.Prelude.{IsErrOf, MatchBool}
 use Rattle.std.proofs.Math.Seq.{take-add, drop-append_seam}
-use Rattle.trend_num.specs.declared.point.Point.{Point}
-use Rattle.trend_num.specs.declared.tag_def.TagDef.{TagDef}
-use Rattle.trend_model.specs.History.{Event, Raw}
+use Rattle.trend_num.specs.{Point, TagDef, InRange, Rec}
+use Rattle.trend_model.specs.{Event, Raw}
 use Rattle.trend_model.specs.State.{State, after, replay}
-use Rattle.disk_model.specs.Traces.{Trace, moment, Device}
-use Rattle.disk_model.specs.Calls.{CountsFault, Rose}
-use Rattle.disk_model.specs.Moments.{During, LeftSince}
+use Rattle.disk_model.specs.{Trace, moment, Device, CountsFault, Rose, During, LeftSince}
 use Rattle.disk_model.proofs.Moments.{weaker}
-use Rattle.crash_recovery.specs.Journals.{AllRecover, Logged}
-use Rattle.device_layout.specs.Recovery.{AllFit}
+use Rattle.crash_recovery.specs.{AllRecover, Logged}
+use Rattle.device_layout.specs.{AllFit}
 use Rattle.crash_recovery.proofs.Replays.{replay_append}
-use Rattle.trend_num.specs.Ranges.{InRange}
 use Rattle.tag_core.specs.Core.{Core}
 use Rattle.std.proofs.lemmas.Bool.Decides.{nat_tests}
-use Rattle.std.specs.Prelude.{MatchBool}
-use Rattle.tag_cell.specs.declared.entry.Acked.{Acked}
-use Rattle.tag_cell.specs.declared.entry.CommitNo.{CommitNo}
+use Rattle.tag_cell.specs.{Acked, CommitNo, Entry, TagOpening, CellWalk, cell_start, cell_walked, taken, last_records, acked_at, opened, state_after, replayed, IsTapeReplayed, GoesOnBy, IsCountable, IsSafe, RecoversPart, count_written}
+use Rattle.tag_cell.specs.{AreTakesAcknowledged, IsCommitted, IsInStep, IsKept, ToldCell, Waits, takes_waiting}
 use Rattle.tag_cell.specs.declared.entry.CommitNo.TheVariants as no
-use Rattle.trend_num.specs.declared.archive.Rec.{Rec}
-use Rattle.tag_cell.specs.declared.entry.Entry.{Entry}
 use Rattle.tag_cell.specs.declared.entry.Entry.TheVariants.{Commit}
-use Rattle.tag_cell.specs.declared.history.TagOpening.{TagOpening}
-use Rattle.tag_cell.specs.Tapes.{CellWalk, cell_start, cell_walked, taken, last_records, acked_at, opened, state_after}
-use Rattle.tag_cell.specs.Replays.{replayed, IsTapeReplayed}
-use Rattle.tag_cell.specs.Crashes.{GoesOnBy, IsCountable, IsSafe, RecoversPart, count_written}
-use Rattle.tag_cell.specs.Told.{AreTakesAcknowledged, IsCommitted, IsInStep, IsKept, ToldCell, Waits, takes_waiting}
 use Rattle.tag_cell.proofs.Tapes.{taken-append, walked-push, fit-push, last_records-append}
 use Rattle.tag_cell.proofs.Entries.{countable_before, points-end}
 use Rattle.tag_cell.proofs.Crashes.{acked_at-most, part_behind, safe_commit, taken-take}

@@ -3,22 +3,16 @@ use Rattle.std.proofs.Common.{◌≡◌, inl, inr, ⊎_elim, ℕ, ◌+◌, ◌-�
 use Rattle.std.proofs.lemmas.List.{append-nil, map-append, take-append-drop}
 use Rattle.std.proofs.Math.Seq.{take-append_seam, take-length}
 use Rattle.std.proofs.lemmas.Bool.Decides.{nat_tests}
-use Rattle.trend_num.specs.declared.point.Point.{Point}
-use Rattle.trend_num.specs.declared.tag_def.TagDef.{TagDef}
-use Rattle.trend_model.specs.History.{Raw}
+use Rattle.trend_num.specs.{Point, TagDef}
+use Rattle.trend_model.specs.{Raw}
 use Rattle.trend_model.specs.State.{State, after, replay}
-use Rattle.disk_model.specs.Traces.{Trace, moment}
-use Rattle.disk_model.specs.Moments.{During, LeftSince}
+use Rattle.disk_model.specs.{Trace, moment, During, LeftSince}
 use Rattle.disk_model.proofs.Moments.{parted, only_since, weaker}
-use Rattle.crash_recovery.specs.Journals.{AllRecover, GoesOnFrom, RecoversEither}
-use Rattle.device_layout.specs.Recovery.{AllFit, Recovers}
+use Rattle.crash_recovery.specs.{AllRecover, GoesOnFrom, RecoversEither}
+use Rattle.device_layout.specs.{AllFit, Recovers}
 use Rattle.crash_recovery.proofs.Replays.{replay_append}
-use Rattle.tag_cell.specs.declared.entry.Entry.{Entry}
+use Rattle.tag_cell.specs.{Entry, TagOpening, CellWalk, after_entry, cell_walked, taken, acked_at, opened, state_after, Shown, FitAll, GoesOnBy, IsCountable, IsSafe, RecoversPart}
 use Rattle.tag_cell.specs.declared.entry.Entry.TheVariants.{Take, Ask, Pull, Commit}
-use Rattle.tag_cell.specs.declared.history.TagOpening.{TagOpening}
-use Rattle.tag_cell.specs.Tapes.{CellWalk, after_entry, cell_walked, taken, acked_at, opened, state_after}
-use Rattle.tag_cell.specs.Replays.{Shown, FitAll}
-use Rattle.tag_cell.specs.Crashes.{GoesOnBy, IsCountable, IsSafe, RecoversPart}
 use Rattle.tag_cell.proofs.Tapes.{taken-append}
 
 -- ---- some of the values

@@ -1,23 +1,16 @@
 -- What a cell's type keeps, after one more entry on its tape.
 use Rattle.std.proofs.Common.{◌≡◌, ℕ, ◌+◌, ◌-◌, ◌≤◌, Bool, List, [], ◌∷◌, ◌++◌, length, map, take, Some, refl, sym, ◌∙◌, ap, subst, arith, length-append}
 use Rattle.std.proofs.lemmas.List.{append-nil, take-append-le}
-use Rattle.trend_num.specs.declared.point.Point.{Point}
-use Rattle.trend_num.specs.declared.tag_def.TagDef.{TagDef}
-use Rattle.trend_num.specs.declared.query.TagQuery.{TagQuery}
-use Rattle.trend_num.specs.Limits.{most_records}
-use Rattle.trend_model.specs.History.{Raw}
+use Rattle.trend_num.specs.{Point, TagDef, TagQuery, most_records}
+use Rattle.trend_model.specs.{Raw}
 use Rattle.trend_model.specs.State.{State, after, replay}
-use Rattle.disk_model.specs.Traces.{Device}
-use Rattle.crash_recovery.specs.Journals.{AllRecover}
-use Rattle.device_layout.specs.Recovery.{Recovers}
-use Rattle.interp_read.specs.declared.query.Reply.{Reply}
-use Rattle.tag_cell.specs.declared.entry.Entry.{Entry}
+use Rattle.disk_model.specs.{Device}
+use Rattle.crash_recovery.specs.{AllRecover}
+use Rattle.device_layout.specs.{Recovers}
+use Rattle.interp_read.specs.{Reply}
+use Rattle.tag_cell.specs.{Entry, TagOpening, CellWalk, cell_start, cell_walked, taken, last_records, acked_at, done, opened, state_after, IsAnswer, IsPull, replayed, shown_of, IsTapeReplayed, IsCountable, IsSafe, RecoversPart, IsKept}
+use Rattle.tag_cell.specs.{Waits}
 use Rattle.tag_cell.specs.declared.entry.Entry.TheVariants.{Take, Ask, Pull}
-use Rattle.tag_cell.specs.declared.history.TagOpening.{TagOpening}
-use Rattle.tag_cell.specs.Tapes.{CellWalk, cell_start, cell_walked, taken, last_records, acked_at, done, opened, state_after}
-use Rattle.tag_cell.specs.Replays.{IsAnswer, IsPull, replayed, shown_of, IsTapeReplayed}
-use Rattle.tag_cell.specs.Crashes.{IsCountable, IsSafe, RecoversPart}
-use Rattle.tag_cell.specs.Told.{IsKept, Waits}
 use Rattle.tag_cell.proofs.Tapes.{IsCall, moment-call, acked_at-call, walked-push, taken-append, points-walked, fit-push, state_after-push}
 
 -- ---- the tape replays

@@ -1,16 +1,12 @@
 -- A replayed tape is legal for every history for which its opening stands.
 use Rattle.std.proofs.Common.{◌≡◌, ℕ, Bool, List, [], ◌∷◌, ◌++◌, map, sym, subst}
-use Rattle.trend_num.specs.declared.point.Point.{Point}
-use Rattle.trend_num.specs.declared.tag_def.TagDef.{TagDef}
-use Rattle.trend_model.specs.History.{Event, Origin, Raw, in_force}
+use Rattle.trend_num.specs.{Point, TagDef}
+use Rattle.trend_model.specs.{Event, Origin, Raw, in_force}
 use Rattle.trend_model.specs.State.{State, Stands, followed, replay}
 use Rattle.trend_model.proofs.Sent.{same_there}
 use Rattle.trend_model.proofs.StateLaw.{stands_followed}
-use Rattle.tag_cell.specs.declared.entry.Entry.{Entry}
+use Rattle.tag_cell.specs.{Entry, TagOpening, CellWalk, cell_start, after_entry, taken, opened, state_after, done, Shown, IsTake, IsAnswer, IsPull, Fits, FitAll, replayed, shown_by, shown_of, shown_after, IsTapeReplayed, IsLegal}
 use Rattle.tag_cell.specs.declared.entry.Entry.TheVariants.{Take, Ask, Pull, Commit}
-use Rattle.tag_cell.specs.declared.history.TagOpening.{TagOpening}
-use Rattle.tag_cell.specs.Tapes.{CellWalk, cell_start, after_entry, taken, opened, state_after, done}
-use Rattle.tag_cell.specs.Replays.{Shown, IsTake, IsAnswer, IsPull, Fits, FitAll, replayed, shown_by, shown_of, shown_after, IsTapeReplayed, IsLegal}
 
 -- two accounts of what a tag shows agree, so an entry fits one of them if it fits the other
 same_fits : (f g : List Point → Shown) (step : Bool) (o : TagOpening) (w : CellWalk) (e : Entry)

@@ -2,24 +2,15 @@
 use Rattle.std.proofs.Common.{◌≡◌, ℕ, ◌*◌, ◌<◌, ◌≤◌, ◌^◌, Bool, false, List, [], length, Some, refl, sym, ap, subst, arith}
 use Rattle.std.proofs.lemmas.List.Elements.{All-nil}
 use Rattle.atomic_table.specs.Seated.{TableId}
-use Rattle.trend_num.specs.declared.archive.Rec.{Rec}
-use Rattle.trend_num.specs.declared.archive.Summary.{Summary}
-use Rattle.trend_num.specs.declared.tag_def.TagDef.{TagDef}
-use Rattle.trend_num.specs.Ranges.{InRange}
-use Rattle.trend_model.specs.Contents.{listed}
+use Rattle.trend_num.specs.{Rec, Summary, TagDef, InRange}
+use Rattle.trend_model.specs.{listed}
 use Rattle.trend_model.specs.State.{State}
-use Rattle.disk_model.specs.Traces.{Trace, Device, moment}
-use Rattle.disk_model.specs.Moments.{LeftSince}
+use Rattle.disk_model.specs.{Trace, Device, moment, LeftSince}
 use Rattle.disk_model.proofs.Moments.{only_since}
-use Rattle.crash_recovery.specs.Journals.{AllRecover}
-use Rattle.snapshot_table.specs.Boards.{Posting, PostsTo}
+use Rattle.crash_recovery.specs.{AllRecover}
+use Rattle.snapshot_table.specs.{Posting, PostsTo}
 use Rattle.tag_core.specs.Core.{Core}
-use Rattle.tag_cell.specs.declared.entry.Entry.{Entry}
-use Rattle.tag_cell.specs.declared.history.TagOpening.{TagOpening}
-use Rattle.tag_cell.specs.Tapes.{opened}
-use Rattle.tag_cell.specs.Replays.{IsTapeReplayed}
-use Rattle.tag_cell.specs.Crashes.{IsSafe}
-use Rattle.tag_cell.specs.Told.{HasRoomForTakes, IsInStep, IsKept, IsPosted, Waits}
+use Rattle.tag_cell.specs.{Entry, TagOpening, opened, IsTapeReplayed, IsSafe, HasRoomForTakes, IsInStep, IsKept, IsPosted, Waits}
 
 -- the state of these records and this summary
 pub same_state : (s : State) (o : TagOpening) → o.recs.items ≡ s.records → o.summary ≡ s.summary → s ≡ opened o

@@ -2,21 +2,14 @@
 use Rattle.std.proofs.Common.{◌≡◌, ◌≢◌, ℕ, ◌-◌, ◌≤◌, Bool, List, [], ◌∷◌, ◌++◌, length, map, take, drop, Option, Some, None, refl, sym, ◌∙◌, ap, subst, arith, length-drop, nat_le}
 use Rattle.std.proofs.lemmas.List.{map-append, take-append-drop, drop-append-le}
 use Rattle.std.proofs.Math.Seq.{take-append_seam}
-use Rattle.trend_num.specs.declared.archive.Rec.{Rec}
-use Rattle.trend_num.specs.declared.point.Point.{Point}
-use Rattle.trend_num.specs.declared.tag_def.TagDef.{TagDef}
+use Rattle.trend_num.specs.{Rec, Point, TagDef, Tuning}
 use Rattle.trend_num.specs.declared.sending.Sending.TheVariants as sending
-use Rattle.trend_num.specs.declared.tuning.Tuning.{Tuning}
-use Rattle.trend_model.specs.History.{Raw, is_far}
+use Rattle.trend_model.specs.{Raw, is_far}
 use Rattle.trend_model.specs.State.{State, Offer, offered, offered_in_order, after, after_under, replay}
 use Rattle.trend_model.proofs.Following.{cond_by}
 use Rattle.crash_recovery.proofs.Replays.{replay_more, replay_append}
-use Rattle.tag_cell.specs.declared.entry.Entry.{Entry}
+use Rattle.tag_cell.specs.{Entry, TagOpening, CellWalk, cell_start, after_entry, cell_walked, taken, done, last_records, opened, state_after, Shown, FitAll, IsPull, replayed, IsTapeReplayed, Waits}
 use Rattle.tag_cell.specs.declared.entry.Entry.TheVariants.{Take, Ask, Pull, Commit}
-use Rattle.tag_cell.specs.declared.history.TagOpening.{TagOpening}
-use Rattle.tag_cell.specs.Tapes.{CellWalk, cell_start, after_entry, cell_walked, taken, done, last_records, opened, state_after}
-use Rattle.tag_cell.specs.Replays.{Shown, FitAll, IsPull, replayed, IsTapeReplayed}
-use Rattle.tag_cell.specs.Told.{Waits}
 use Rattle.tag_cell.proofs.Tapes.{points-walked}
 use Rattle.tag_cell.proofs.Entries.{points-end}
 use Rattle.tag_cell.proofs.Commits.{taken-parts}

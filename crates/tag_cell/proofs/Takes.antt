@@ -3,25 +3,16 @@ use Rattle.std.proofs.Common.{◌≡◌, ℕ, ◌+◌, ◌<◌, ◌≤◌, cond,
 use Rattle.std.proofs.lemmas.List.{map_push}
 use Rattle.std.proofs.lemmas.List.Elements.{All-push}
 use Rattle.atomic_table.specs.Seated.{TableId}
-use Rattle.trend_num.specs.declared.archive.Rec.{Rec}
-use Rattle.trend_num.specs.declared.point.Point.{Point}
-use Rattle.trend_num.specs.declared.tag_def.TagDef.{TagDef}
-use Rattle.trend_num.specs.Limits.{most_records}
-use Rattle.trend_num.specs.Ranges.{InRange}
-use Rattle.trend_model.specs.Contents.{listed, over, placed}
+use Rattle.trend_num.specs.{Rec, Point, TagDef, most_records, InRange}
+use Rattle.trend_model.specs.{listed, over, placed, Raw}
 use Rattle.trend_model.proofs.Following.{cond_by}
-use Rattle.trend_model.specs.History.{Raw}
 use Rattle.trend_model.specs.State.{State}
-use Rattle.device_layout.specs.Recovery.{AllFit}
+use Rattle.device_layout.specs.{AllFit}
 use Rattle.crash_recovery.proofs.Replays.{fit_append}
-use Rattle.snapshot_table.specs.Boards.{Posting}
+use Rattle.snapshot_table.specs.{Posting}
 use Rattle.tag_core.specs.Core.{Core}
-use Rattle.tag_cell.specs.declared.entry.Entry.{Entry}
+use Rattle.tag_cell.specs.{Entry, TagOpening, taken, opened, IsTapeReplayed, HasRoomForTakes, IsInStep, IsPosted}
 use Rattle.tag_cell.specs.declared.entry.Entry.TheVariants.{Take}
-use Rattle.tag_cell.specs.declared.history.TagOpening.{TagOpening}
-use Rattle.tag_cell.specs.Tapes.{taken, opened}
-use Rattle.tag_cell.specs.Replays.{IsTapeReplayed}
-use Rattle.tag_cell.specs.Told.{HasRoomForTakes, IsInStep, IsPosted}
 use Rattle.tag_cell.proofs.Tapes.{taken-append}
 
 -- the values of a tape with one take more

@@ -1,15 +1,12 @@
 -- One more entry on a tape.
 use Rattle.std.proofs.Common.{◌≡◌, ℕ, ◌+◌, Bool, List, [], ◌∷◌, ◌++◌, length, map, take, nat_le, if◌then◌else◌, get_or, ◌<◌, refl, sym, ◌∙◌, ap, append_assoc}
 use Rattle.std.proofs.lemmas.List.{append-nil, map_push, take_more}
-use Rattle.trend_num.specs.declared.point.Point.{Point}
-use Rattle.trend_model.specs.History.{Raw}
+use Rattle.trend_num.specs.{Point}
+use Rattle.trend_model.specs.{Raw}
 use Rattle.trend_model.specs.State.{after, replay}
 use Rattle.crash_recovery.proofs.Replays.{replay_append}
-use Rattle.tag_cell.specs.declared.entry.Entry.{Entry}
+use Rattle.tag_cell.specs.{Entry, TagOpening, CellWalk, after_entry, cell_walked, taken, last_records, acked_at, opened, state_after, Shown, Fits, FitAll}
 use Rattle.tag_cell.specs.declared.entry.Entry.TheVariants.{Take, Ask, Pull, Commit}
-use Rattle.tag_cell.specs.declared.history.TagOpening.{TagOpening}
-use Rattle.tag_cell.specs.Tapes.{CellWalk, after_entry, cell_walked, taken, last_records, acked_at, opened, state_after}
-use Rattle.tag_cell.specs.Replays.{Shown, Fits, FitAll}
 
 -- ---- walks
 

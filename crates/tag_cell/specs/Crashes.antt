@@ -1,14 +1,12 @@
 -- What a crash leaves of a cell's device.
 use Rattle.std.specs.Prelude.{◌≡◌, IfSome, ℕ, ◌+◌, ◌-◌, ◌^◌, ◌<◌, ◌≤◌, Bool, List, length, take, map, min, nat_eq, if◌then◌else◌}
-use Rattle.trend_num.specs.declared.point.Point.{Point}
-use Rattle.trend_num.specs.declared.tag_def.TagDef.{TagDef}
-use Rattle.trend_model.specs.History.{Raw}
+use Rattle.trend_num.specs.{Point, TagDef}
+use Rattle.trend_model.specs.{Raw}
 use Rattle.trend_model.specs.State.{State, replay}
-use Rattle.disk_model.specs.Traces.{HandOut, Trace, moment}
-use Rattle.disk_model.specs.Moments.{ComesAfter}
-use Rattle.device_layout.specs.Recovery.{AllFit, Recovers}
-use Rattle.crash_recovery.specs.Opening.{RecoversThen, StaysSame}
-use Rattle.archive_file.specs.declared.failure.PutNo.{PutNo}
+use Rattle.disk_model.specs.{HandOut, Trace, moment, ComesAfter}
+use Rattle.device_layout.specs.{AllFit, Recovers}
+use Rattle.crash_recovery.specs.{RecoversThen, StaysSame}
+use Rattle.archive_file.specs.{PutNo}
 use Rattle.archive_file.specs.declared.failure.PutNo.TheVariants as put
 use Rattle.tag_cell.specs.declared.entry.CommitNo.{CommitNo}
 use Rattle.tag_cell.specs.declared.entry.CommitNo.TheVariants as commit

@@ -1,16 +1,10 @@
 -- Tapes whose entries are true: replayed from an opening, or legal for a history.
 use Rattle.std.specs.Prelude.{◌≡◌, ℕ, ◌+◌, ◌<◌, ◌≤◌, Bool, List, [], ◌∷◌, ◌++◌, length, map, Option, Some}
-use Rattle.trend_num.specs.declared.archive.Rec.{Rec}
-use Rattle.trend_num.specs.declared.point.Point.{Point}
-use Rattle.trend_num.specs.declared.query.TagQuery.{TagQuery}
-use Rattle.trend_num.specs.declared.tag_def.TagDef.{TagDef}
-use Rattle.trend_num.specs.Limits.{most_records}
-use Rattle.trend_model.specs.Contents.{closed_points}
-use Rattle.trend_model.specs.History.{Event, Origin, Raw, in_force}
+use Rattle.trend_num.specs.{Rec, Point, TagQuery, TagDef, most_records}
+use Rattle.trend_model.specs.{closed_points, Event, Origin, Raw, in_force}
 use Rattle.trend_model.specs.State.{State, Stands, followed}
 use Rattle.trend_model.specs.Walk.{held, records}
-use Rattle.interp_read.specs.declared.query.Reply.{Reply}
-use Rattle.interp_read.specs.Replies.{Answers}
+use Rattle.interp_read.specs.{Reply, Answers}
 use Rattle.tag_cell.specs.declared.entry.Entry.{Entry}
 use Rattle.tag_cell.specs.declared.entry.Entry.TheVariants.{Take, Ask, Pull, Commit}
 use Rattle.tag_cell.specs.declared.history.TagOpening.{TagOpening}

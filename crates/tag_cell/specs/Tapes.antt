@@ -1,7 +1,7 @@
 -- What a tape says: which values were taken, and which are acknowledged.
 use Rattle.std.specs.Prelude.{ℕ, ◌-◌, Bool, List, [], ◌∷◌, ◌++◌, take, map, nat_le, if◌then◌else◌}
-use Rattle.trend_num.specs.declared.point.Point.{Point}
-use Rattle.trend_model.specs.History.{Raw}
+use Rattle.trend_num.specs.{Point}
+use Rattle.trend_model.specs.{Raw}
 use Rattle.trend_model.specs.State.{State, replay}
 use Rattle.tag_cell.specs.declared.entry.Entry.{Entry}
 use Rattle.tag_cell.specs.declared.entry.Entry.TheVariants.{Take, Ask, Pull, Commit}

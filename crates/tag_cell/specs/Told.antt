@@ -1,23 +1,14 @@
 -- The model of a cell, and what its type guarantees.
 use Rattle.std.specs.Prelude.{◌≡◌, ◌⊎◌, ℕ, ◌+◌, ◌-◌, ◌*◌, ◌^◌, ◌<◌, ◌≤◌, Bool, true, false, List, [], ◌∷◌, ◌++◌, All, length, take, map, Option, None, Some, nat_eq, nat_le, nat_lt, MatchBool, if◌then◌else◌}
 use Rattle.atomic_table.specs.Seated.{TableId}
-use Rattle.trend_num.specs.declared.archive.Rec.{Rec}
-use Rattle.trend_num.specs.declared.point.Point.{Point}
-use Rattle.trend_num.specs.declared.query.TagQuery.{TagQuery}
-use Rattle.trend_num.specs.declared.tag_def.TagDef.{TagDef}
-use Rattle.trend_num.specs.Limits.{most_records}
-use Rattle.trend_num.specs.Ranges.{InRange}
-use Rattle.trend_model.specs.Contents.{listed}
-use Rattle.trend_model.specs.History.{Raw}
+use Rattle.trend_num.specs.{Rec, Point, TagQuery, TagDef, most_records, InRange}
+use Rattle.trend_model.specs.{listed, Raw}
 use Rattle.trend_model.specs.State.{State, after}
-use Rattle.disk_model.specs.Calls.{Rose}
-use Rattle.disk_model.specs.Moments.{LeftSince}
-use Rattle.disk_model.specs.Traces.{Device, moment}
-use Rattle.interp_read.specs.declared.query.Reply.{Reply}
-use Rattle.interp_read.specs.Replies.{AreAlike}
-use Rattle.crash_recovery.specs.Journals.{AllRecover, Logged}
-use Rattle.device_layout.specs.Recovery.{AllFit}
-use Rattle.snapshot_table.specs.Boards.{Posting, PostsTo}
+use Rattle.disk_model.specs.{Rose, LeftSince, Device, moment}
+use Rattle.interp_read.specs.{Reply, AreAlike}
+use Rattle.crash_recovery.specs.{AllRecover, Logged}
+use Rattle.device_layout.specs.{AllFit}
+use Rattle.snapshot_table.specs.{Posting, PostsTo}
 use Rattle.tag_core.specs.Core.{Core}
 use Rattle.tag_cell.specs.declared.entry.Acked.{Acked}
 use Rattle.tag_cell.specs.declared.entry.Entry.{Entry}

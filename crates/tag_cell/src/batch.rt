@@ -1,16 +1,13 @@
 // What a commit writes to the device.
 ghost use Rattle.std.specs.Prelude.{◌≡◌, ◌+◌, ◌-◌, ◌^◌, ◌<◌, ◌≤◌, ◌++◌, [], ◌∷◌, All, IfOk, IsErrOf, OnErr, OnOk, false, length, map, min, take, true};
-ghost use Rattle.trend_num.specs.declared.tag_def.TagDef.{TagDef};
-ghost use Rattle.trend_num.specs.Ranges.{InRange};
-ghost use Rattle.trend_model.specs.History.{Raw};
+ghost use Rattle.trend_num.specs.{TagDef, InRange};
+ghost use Rattle.trend_model.specs.{Raw};
 ghost use Rattle.trend_model.specs.State.{State, replay};
-ghost use Rattle.disk_model.specs.Calls.{CountsFault};
-ghost use Rattle.disk_model.specs.Moments.{ComesAfter, During};
-ghost use Rattle.crash_recovery.specs.Journals.{AllRecover};
+ghost use Rattle.disk_model.specs.{CountsFault, ComesAfter, During, moment};
+ghost use Rattle.crash_recovery.specs.{AllRecover};
 ghost use Rattle.tag_cell.specs.declared.entry.CommitNo.TheVariants.{DeviceFault, WantOfMemory as NoMemory, Broken as WasBroken};
 ghost use Rattle.tag_cell.specs.Tapes.{last_records, taken};
 ghost use Rattle.tag_cell.specs.Crashes.{GoesOnBy, RecoversPart, count_written};
-ghost use Rattle.disk_model.specs.Traces.{moment};
 
 use crate::entry::{CommitNo, Entry};
 use archive_file::PutNo;

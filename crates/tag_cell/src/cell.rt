@@ -1,6 +1,6 @@
 // A cell: a tag with all that lies under its lock.
 ghost use Rattle.std.specs.Prelude.{◌≡◌, IsTrue, true, false, length};
-ghost use Rattle.disk_model.specs.Traces.{FitsName};
+ghost use Rattle.disk_model.specs.{FitsName};
 ghost use Rattle.tag_cell.specs.Crashes.{BeganWell};
 ghost use Rattle.tag_cell.specs.Devices.{device_name};
 ghost use Rattle.tag_cell.specs.Told.{IsCellHistory};
@@ -40,8 +40,7 @@ pub struct Cell<D: Disk> {
 impl<D: Disk> Model for Cell<D> {
     ghost use Rattle.std.specs.Prelude.{vec_capacity};
     ghost use Rattle.std.specs.Arc.{arc_value};
-    ghost use Rattle.disk_model.specs.Moments.{LeftSince};
-    ghost use Rattle.disk_model.specs.Traces.{FitsName};
+    ghost use Rattle.disk_model.specs.{LeftSince, FitsName};
     ghost use Rattle.tag_cell.specs.Replays.{IsTapeReplayed};
     ghost use Rattle.tag_cell.specs.Crashes.{BeganWell, IsSafe};
     ghost use Rattle.tag_cell.specs.Devices.{device_name};
@@ -72,8 +71,8 @@ impl<D: Disk> Model for Cell<D> {
 
 impl<D: Disk> Cell<D> {
     ghost use Rattle.std.specs.Prelude.{◌^◌, ◌<◌, All};
-    ghost use Rattle.trend_num.specs.Ranges.{InRange};
-    ghost use Rattle.disk_model.specs.Calls.{Rose};
+    ghost use Rattle.trend_num.specs.{InRange};
+    ghost use Rattle.disk_model.specs.{Rose};
 
     /// Returns the records, the oldest first. There are fewer than 2^32, and their points are in range.
     pub fn recs(&self) -> &[Rec]

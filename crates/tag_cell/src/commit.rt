@@ -1,9 +1,8 @@
 // The commit of the values that wait.
 ghost use Rattle.std.specs.Prelude.{◌≡◌, ◌↔◌, Err, Ok, IfOk, IsErrOf, false, true};
-ghost use Rattle.disk_model.specs.Calls.{CountsFault};
+ghost use Rattle.disk_model.specs.{CountsFault, moment};
 ghost use Rattle.tag_cell.specs.declared.entry.CommitNo.TheVariants.{Broken, DeviceFault, WantOfMemory as NoMemory};
 ghost use Rattle.tag_cell.specs.Told.{IsCommitted, IsCellFaulted, takes_waiting};
-ghost use Rattle.disk_model.specs.Traces.{moment};
 
 use crate::batch::{records_after, write_waiting};
 use crate::cell::Cell;

@@ -1,8 +1,7 @@
 // What a replayed tape says of its tag's archive.
 ghost use Rattle.std.specs.Prelude.{◌≡◌, ℕ, List, map};
-ghost use Rattle.trend_num.specs.declared.tag_def.TagDef.{TagDef};
-ghost use Rattle.trend_model.specs.History.{Event, Origin, Raw};
-ghost use Rattle.trend_model.specs.Bound.{IsBounded};
+ghost use Rattle.trend_num.specs.{TagDef};
+ghost use Rattle.trend_model.specs.{Event, Origin, Raw, IsBounded};
 ghost use Rattle.trend_model.specs.State.{State, Stands, followed};
 ghost use Rattle.tag_cell.specs.declared.entry.Entry.{Entry};
 ghost use Rattle.tag_cell.specs.declared.history.TagOpening.{TagOpening};

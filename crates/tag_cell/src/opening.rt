@@ -1,17 +1,14 @@
 // The opening of a cell.
 ghost use Rattle.std.specs.Prelude.{◌≡◌, ◌*◌, ◌<◌, ◌≤◌, [], IfOk, IfErr, IfSome, false};
 ghost use Rattle.std.specs.Arc.{arc_value};
-ghost use Rattle.trend_num.specs.Ranges.{TuningInRange};
+ghost use Rattle.trend_num.specs.{TuningInRange};
 ghost use Rattle.trend_model.specs.State.{State};
-ghost use Rattle.trend_model.specs.Contents.{listed};
+ghost use Rattle.trend_model.specs.{listed};
 ghost use Rattle.device_layout.specs.declared.failure.OpenNo.TheVariants.{WantOfMemory as NoMemory};
-ghost use Rattle.device_layout.specs.Recovery.{Recovers};
-ghost use Rattle.crash_recovery.specs.Opening.{GainsSync, HasSlots, IsOpenedAs, LeavesFree, MakesLayout, OpensAt, RecoversThen, StaysSame};
-ghost use Rattle.device_layout.specs.Readings.{CountsRefusal, IsCause};
-ghost use Rattle.disk_model.specs.Calls.{Shows};
-ghost use Rattle.disk_model.specs.Traces.{FitsName, moment};
-ghost use Rattle.snapshot_table.specs.Boards.{PostsTo};
-ghost use Rattle.snapshot_table.specs.Snaps.{nothing};
+ghost use Rattle.device_layout.specs.{Recovers, CountsRefusal, IsCause};
+ghost use Rattle.crash_recovery.specs.{GainsSync, HasSlots, IsOpenedAs, LeavesFree, MakesLayout, OpensAt, RecoversThen, StaysSame};
+ghost use Rattle.disk_model.specs.{Shows, FitsName, moment};
+ghost use Rattle.snapshot_table.specs.{PostsTo, nothing};
 ghost use Rattle.tag_cell.specs.Devices.{device_name};
 ghost use Rattle.tag_cell.specs.Tapes.{opened};
 

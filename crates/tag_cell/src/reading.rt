@@ -1,9 +1,8 @@
 // Questions about a tag, and records that a group pulls.
 ghost use Rattle.std.specs.Prelude.{◌≡◌, ◌↔◌, ℕ, ◌+◌, ◌-◌, ◌^◌, ◌<◌, ◌≤◌, [], ◌∷◌, ◌++◌, All, drop, take, Err, IfOk, IsErrOf, OnErr, OnOk, length, vec_len, vec_capacity};
-ghost use Rattle.trend_num.specs.Queries.{IsTagQuery};
-ghost use Rattle.trend_num.specs.Ranges.{InRange};
-ghost use Rattle.trend_model.specs.Contents.{closed_points};
-ghost use Rattle.interp_read.specs.Replies.{Answers};
+ghost use Rattle.trend_num.specs.{IsTagQuery, InRange};
+ghost use Rattle.trend_model.specs.{closed_points};
+ghost use Rattle.interp_read.specs.{Answers};
 ghost use Rattle.tag_cell.specs.declared.entry.Entry.TheVariants.{Pull};
 ghost use Rattle.tag_cell.specs.declared.entry.PullNo.TheVariants.{Ahead};
 ghost use Rattle.tag_cell.specs.Told.{IsAskedBy, durable_records};

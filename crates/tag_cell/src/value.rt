@@ -1,10 +1,7 @@
 // The take of a raw value.
 ghost use Rattle.std.specs.Prelude.{◌≡◌, ◌↔◌, ◌+◌, ◌-◌, ◌^◌, ◌<◌, ◌≤◌, All, IfOk, IfErr, IsErr, None, OnErr, OnOk, Some, MatchResult, length, fold};
-ghost use Rattle.trend_num.specs.declared.point.Point.{Point};
-ghost use Rattle.trend_num.specs.Limits.{most_records};
-ghost use Rattle.trend_num.specs.Ranges.{InRange};
-ghost use Rattle.trend_model.specs.Contents.{listed, placed};
-ghost use Rattle.trend_model.specs.History.{Raw};
+ghost use Rattle.trend_num.specs.{Point, most_records, InRange};
+ghost use Rattle.trend_model.specs.{listed, placed, Raw};
 ghost use Rattle.trend_model.specs.State.{after};
 ghost use Rattle.tag_cell.specs.Told.{IsTakenBy, take_refusal};
 

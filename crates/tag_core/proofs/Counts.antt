@@ -1,10 +1,8 @@
 -- How many slopes are compared_values at most.
 use Rattle.std.proofs.Common.{◌+◌, ◌*◌, ◌≤◌, pos, Bool, true, false, cond, List, [], ◌∷◌, Option, None, Some, length, arith}
-use Rattle.trend_num.specs.declared.point.Point.{Point}
-use Rattle.trend_num.specs.declared.tuning.Tuning.{Tuning}
-use Rattle.trend_model.specs.History.{Sent, InOrder, Late, Tuned}
+use Rattle.trend_num.specs.{Point, Tuning}
+use Rattle.trend_model.specs.{Sent, InOrder, Late, Tuned, is_admitted, is_not_steeper}
 use Rattle.trend_model.specs.Walk.{is_short}
-use Rattle.trend_model.specs.Doors.{is_admitted, is_not_steeper}
 use Rattle.trend_model.specs.State.{Archive, archived}
 use Rattle.tag_core.specs.Core.{line_compared, compared_on, compared_values}
 

@@ -1,8 +1,8 @@
 -- Two doors that a point leaves where they are.
 use Rattle.std.proofs.Common.{◌≡◌, ◌↔◌, ℕ, pos, Bool, true, false, cond, IsTrue, refl, sym, ap, ◌∙◌, arith}
 use Rattle.std.proofs.lemmas.Int.{ints}
-use Rattle.trend_num.specs.declared.point.Point.{Point}
-use Rattle.trend_model.specs.Doors.{down, IsNotSteeper, is_not_steeper, upper_after, lower_after}
+use Rattle.trend_num.specs.{Point}
+use Rattle.trend_model.specs.{down, IsNotSteeper, is_not_steeper, upper_after, lower_after}
 use Rattle.trend_model.proofs.Doors.{test_fact, steeper_self}
 use Rattle.door_slopes.specs.Hung.{Hung}
 

@@ -1,14 +1,9 @@
 -- What one more event changes in a core.
 use Rattle.std.proofs.Common.{◌≡◌, ℕ, ◌+◌, ◌≤◌, Bool, List, [], ◌∷◌, Option, None, Some, length, refl, sym, ap, ap₂, ◌∙◌, subst, arith, length-append}
 use Rattle.std.specs.Option.{option_or}
-use Rattle.trend_num.specs.declared.point.Point.{Point}
-use Rattle.trend_num.specs.Limits.{most_records}
-use Rattle.trend_num.specs.declared.sending.Sending.{Sending}
-use Rattle.trend_num.specs.declared.tuning.Tuning.{Tuning}
-use Rattle.trend_num.specs.Ranges.{InRange, TuningInRange}
-use Rattle.trend_model.specs.History.{Event, Origin, Raw, Tune, Tuned, Sent}
+use Rattle.trend_num.specs.{Point, most_records, Sending, Tuning, InRange, TuningInRange}
+use Rattle.trend_model.specs.{Event, Origin, Raw, Tune, Tuned, Sent, AllPoints, tuned_by}
 use Rattle.trend_model.specs.State.{State, Stands, pushed_out, gained, offered, turned, archive_on, archived, state_with, after_under, after}
-use Rattle.trend_model.specs.Orders.{AllPoints, tuned_by}
 use Rattle.trend_model.proofs.Following.{held_after, held_archived, grows_archived}
 use Rattle.trend_model.proofs.RulesLaw.{after_adds, after_ruled, tuning_is}
 use Rattle.trend_model.proofs.StateLaw.{stands_after}

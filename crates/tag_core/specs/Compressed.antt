@@ -1,13 +1,8 @@
 -- What the compression of a core keeps, and what it asks of the values that it takes. Only the core's own parts cite this.
 use Rattle.std.specs.Prelude.{◌≡◌, ℕ, ◌+◌, ◌-◌, ◌<◌, ◌≤◌, Bool, List, ◌++◌, Option, None, Some, length}
-use Rattle.trend_num.specs.declared.point.Point.{Point}
-use Rattle.trend_num.specs.declared.archive.Rec.{Rec}
-use Rattle.trend_num.specs.declared.sending.Sending.{Sending}
+use Rattle.trend_num.specs.{Point, Rec, Sending, Tuning, InRange}
 use Rattle.trend_num.specs.declared.sending.Sending.TheVariants as sending
-use Rattle.trend_num.specs.declared.tuning.Tuning.{Tuning}
-use Rattle.trend_num.specs.Ranges.{InRange}
-use Rattle.trend_model.specs.Lists.{IfThere}
-use Rattle.trend_model.specs.History.{Sent}
+use Rattle.trend_model.specs.{IfThere, Sent}
 use Rattle.trend_model.specs.State.{Archive, archived}
 use Rattle.door_slopes.specs.Hung.{Hung}
 

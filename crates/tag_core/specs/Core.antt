@@ -1,14 +1,9 @@
 -- The model of a tag's core.
 use Rattle.std.specs.Prelude.{◌≡◌, ℕ, ◌+◌, ◌≤◌, pos, Bool, true, false, List, [], ◌∷◌, Option, None, Some, length, if◌then◌else◌}
-use Rattle.trend_num.specs.Limits.{most_records}
-use Rattle.trend_num.specs.declared.point.Point.{Point}
-use Rattle.trend_num.specs.declared.tuning.Tuning.{Tuning}
-use Rattle.trend_num.specs.Ranges.{InRange, TuningInRange}
-use Rattle.trend_model.specs.History.{Event, Sent, InOrder, Late, Tuned}
+use Rattle.trend_num.specs.{most_records, Point, Tuning, InRange, TuningInRange}
+use Rattle.trend_model.specs.{Event, Sent, InOrder, Late, Tuned, is_admitted, is_not_steeper, IsRuled}
 use Rattle.trend_model.specs.Walk.{is_short}
-use Rattle.trend_model.specs.Doors.{is_admitted, is_not_steeper}
 use Rattle.trend_model.specs.State.{Archive, State, archive_in, archived, turned}
-use Rattle.trend_model.specs.Parts.{IsRuled}
 
 -- the state of a tag, whether it is a step tag, and how many more records there is memory for
 pub record Core : Type 0 where

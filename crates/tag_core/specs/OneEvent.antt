@@ -1,7 +1,6 @@
 -- What one event, of any kind, makes of a tag's core.
 use Rattle.std.specs.Prelude.{◌≡◌, ◌↔◌, ◌+◌, ◌<◌, ◌≤◌, ◌++◌, List, Result, IfOk, IfErr, OnOk, OnErr, IsErr, length}
-use Rattle.trend_num.specs.Limits.{most_records}
-use Rattle.trend_num.specs.declared.archive.Rec.{Rec}
+use Rattle.trend_num.specs.{most_records, Rec}
 use Rattle.tag_core.specs.Core.{Core}
 use Rattle.tag_core.specs.declared.tag.Took.{Took}
 use Rattle.tag_core.specs.declared.tag.Full.{Full}

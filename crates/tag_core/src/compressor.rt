@@ -1,9 +1,8 @@
 // The records, the hinge and the doors of a tag.
 ghost use Rattle.std.specs.Prelude.{◌≡◌, ◌+◌, ◌^◌, ◌<◌, ◌≤◌, [], ◌∷◌, ◌++◌, IfOk, None, Some, vec_capacity};
 ghost use Rattle.std.specs.Option.{option_or};
-ghost use Rattle.trend_num.specs.Ranges.{InRange, TuningInRange};
-ghost use Rattle.trend_model.specs.History.{InOrder, Tuned};
-ghost use Rattle.trend_model.specs.Lists.{IfThere};
+ghost use Rattle.trend_num.specs.{InRange, TuningInRange};
+ghost use Rattle.trend_model.specs.{InOrder, Tuned, IfThere};
 ghost use Rattle.trend_model.specs.State.{gained, line_after, pushed_out, stair_after};
 ghost use Rattle.trend_model.specs.Walk.{kept, late};
 ghost use Rattle.tag_core.specs.Compressed.{AddsTwo, ArePlaced, Compressed, HangAt, IsNext, IsNextSending, archive_with, compressed_after, compressed_in, lower_of, free_places_of, upper_of};
@@ -33,7 +32,7 @@ pub(crate) struct Compressor {
 
 impl Model for Compressor {
     ghost use Rattle.std.specs.Prelude.{◌<◌, ◌^◌, vec_capacity};
-    ghost use Rattle.trend_num.specs.Ranges.{TuningInRange};
+    ghost use Rattle.trend_num.specs.{TuningInRange};
     ghost use Rattle.tag_core.specs.Compressed.{Compressed, HangAt, lower_of, upper_of};
 
     ghost Value = { Compressed };

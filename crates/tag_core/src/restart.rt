@@ -1,14 +1,7 @@
 // The test of records and a summary from which a tag is to continue.
 ghost use Rattle.std.specs.Prelude.{◌≡◌, ◌↔◌, ◌*◌, ◌^◌, ◌<◌, ◌≤◌, ◌∷◌, IsTrue, Some, false, length, pos};
-ghost use Rattle.trend_model.specs.Content.{is_late_record};
-ghost use Rattle.trend_model.specs.Doors.{IsNotSteeper, down};
-ghost use Rattle.trend_num.specs.declared.archive.Rec.{Rec};
-ghost use Rattle.trend_num.specs.declared.tuning.Tuning.{Tuning};
-ghost use Rattle.trend_num.specs.Ranges.{InRange, TuningInRange, largest_value};
-ghost use Rattle.trend_model.specs.Lists.{Each, IfThere};
-ghost use Rattle.trend_model.specs.Parts.{AreDoorsAt, ArePartsOk, BeginsKept, DoorsFit, IsTagBegun, IsBegunOrBlank, IsBlank, IsLateBefore, PendingFits, PointsRise, kept_points, last_point};
-ghost use Rattle.trend_num.specs.declared.point.Point.{Point};
-ghost use Rattle.trend_num.specs.Limits.{most_records};
+ghost use Rattle.trend_model.specs.{is_late_record, IsNotSteeper, down, Each, IfThere, AreDoorsAt, ArePartsOk, BeginsKept, DoorsFit, IsTagBegun, IsBegunOrBlank, IsBlank, IsLateBefore, PendingFits, PointsRise, kept_points, last_point};
+ghost use Rattle.trend_num.specs.{Rec, Tuning, InRange, TuningInRange, largest_value, Point, most_records};
 
 use door_slopes::{Doors, same_doors};
 use std::marker::Brand;

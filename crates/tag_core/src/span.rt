@@ -1,7 +1,7 @@
 // Whether a value joins the span since the hinge.
 ghost use Rattle.std.specs.Prelude.{◌≡◌, ◌+◌, ◌<◌, ◌&&◌, ◌||◌, pos, if◌then◌else◌};
-ghost use Rattle.trend_num.specs.Ranges.{InRange, TuningInRange};
-ghost use Rattle.trend_model.specs.Doors.{is_not_steeper};
+ghost use Rattle.trend_num.specs.{InRange, TuningInRange};
+ghost use Rattle.trend_model.specs.{is_not_steeper};
 ghost use Rattle.trend_model.specs.State.{joins};
 ghost use Rattle.trend_model.specs.Walk.{is_early, is_near, is_short};
 

@@ -1,14 +1,7 @@
 // The core of a tag: a gate, and the compressor after it.
 ghost use Rattle.std.specs.Prelude.{◌≡◌, ◌↔◌, ◌+◌, ◌-◌, ◌*◌, ◌^◌, ◌<◌, ◌≤◌, List, [], ◌∷◌, IfOk, IfErr, OnOk, OnErr, IsErr, All, None, Some, length, true, vec_capacity};
-ghost use Rattle.trend_num.specs.declared.archive.Rec.{Rec};
-ghost use Rattle.trend_num.specs.declared.point.Point.{Point};
-ghost use Rattle.trend_num.specs.declared.tuning.Tuning.{Tuning};
-ghost use Rattle.trend_num.specs.Ranges.{InRange, TuningInRange};
-ghost use Rattle.trend_num.specs.Limits.{most_records};
-ghost use Rattle.trend_model.specs.History.{Event, Origin, Raw, Tune};
-ghost use Rattle.trend_model.specs.Contents.{IsNotBefore, listed};
-ghost use Rattle.trend_model.specs.Lists.{IfThere};
-ghost use Rattle.trend_model.specs.Parts.{ArePartsOk};
+ghost use Rattle.trend_num.specs.{Rec, Point, Tuning, InRange, TuningInRange, most_records};
+ghost use Rattle.trend_model.specs.{Event, Origin, Raw, Tune, IsNotBefore, listed, IfThere, ArePartsOk};
 ghost use Rattle.trend_model.specs.State.{Stands, after, nothing_taken};
 ghost use Rattle.tag_core.specs.Compressed.{HangAt, lower_of, upper_of};
 ghost use Rattle.tag_core.specs.Core.{IsCore, comparisons};

@@ -1,6 +1,6 @@
 // Contents of few records, and of so many that they fill pages.
 ghost use Rattle.std.specs.Prelude.{IsTrue, All};
-ghost use Rattle.trend_num.specs.Ranges.{InRange};
+ghost use Rattle.trend_num.specs.{InRange};
 
 use crate::spelled::{content, number, rows_tell, same};
 use late_insert::{Content, Kind, Point, Rec, Runs};

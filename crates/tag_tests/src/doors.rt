@@ -1,6 +1,6 @@
 // Doors of values that come one after the other.
 ghost use Rattle.std.specs.Prelude.{◌≡◌, ◌<◌, ◌↔◌, IsTrue};
-ghost use Rattle.trend_num.specs.Ranges.{InRange};
+ghost use Rattle.trend_num.specs.{InRange};
 
 use crate::spelled::{point, rows_tell};
 use door_slopes::{Doors, Point, Steps};

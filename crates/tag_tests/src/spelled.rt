@@ -1,5 +1,5 @@
 // The points and contents that the rows of tables spell, and what tests tell of them.
-ghost use Rattle.trend_num.specs.Ranges.{InRange};
+ghost use Rattle.trend_num.specs.{InRange};
 
 use late_insert::{Content, Kind, Point, Rec};
 use std::alloc::Global;

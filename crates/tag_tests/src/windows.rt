@@ -1,6 +1,6 @@
 // Windows of small contents, in each measure.
 ghost use Rattle.std.specs.Prelude.{◌<◌, ◌≤◌};
-ghost use Rattle.trend_num.specs.Ranges.{last_time};
+ghost use Rattle.trend_num.specs.{last_time};
 
 use crate::spelled::{content, number, rows_tell, same};
 use late_insert::{Content, Kind, Point, Rec};

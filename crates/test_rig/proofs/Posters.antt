@@ -4,8 +4,7 @@ use Rattle.std.specs.Prelude.{All}
 use Rattle.std.proofs.lemmas.List.{length-replicate}
 use Rattle.std.proofs.lemmas.List.Elements.{All-replicate}
 use Rattle.atomic_table.specs.Seated.{TableId}
-use Rattle.snapshot_table.specs.Snaps.{nothing}
-use Rattle.snapshot_table.specs.Boards.{Looking, LooksAt, Posting, PostsTo, new_looker, new_posters}
+use Rattle.snapshot_table.specs.{nothing, Looking, LooksAt, Posting, PostsTo, new_looker, new_posters}
 
 -- it posts to that tag
 pub lone_posts : (board : List TableId) (rest : List Posting) (p : Posting) → length board ≡ 1

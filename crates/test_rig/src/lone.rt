@@ -1,7 +1,6 @@
 // The board of a single tag.
 ghost use Rattle.std.specs.Prelude.{◌≡◌, All, IfOk, length};
-ghost use Rattle.snapshot_table.specs.Boards.{LooksAt, PostsTo};
-ghost use Rattle.snapshot_table.specs.Snaps.{nothing};
+ghost use Rattle.snapshot_table.specs.{LooksAt, PostsTo, nothing};
 
 use snapshot_table::{Board, Looker, Poster, new_board};
 use std::alloc::Global;

@@ -1,6 +1,6 @@
 // Small groups over the inputs A and B, checked and evaluated.
 ghost use Rattle.std.specs.Prelude.{◌≡◌, ◌<◌, ◌≤◌, length, IfOk};
-ghost use Rattle.trend_num.specs.Ranges.{last_time};
+ghost use Rattle.trend_num.specs.{last_time};
 
 use crate::spelled::{number, rows_tell};
 use calc_eval::{CalcDef, CalcValue, CheckNo, Checked, check, eval};

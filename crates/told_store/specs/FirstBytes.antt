@@ -2,7 +2,7 @@
 use Rattle.std.specs.Prelude.{◌⊎◌, ◌≢◌, ◌<◌, ◌+◌, ℕ, eqb, List, [], ◌∷◌, length, slice_index, take, drop, bytes_eq, Contains, IsTrue, codes, if◌then◌else◌}
 use Rattle.std.specs.Int.{w32, from_be_bytes}
 use Rattle.std.specs.List.{ends_with}
-use Rattle.disk_model.specs.Gates.{open_byte}
+use Rattle.disk_model.specs.{open_byte}
 
 -- the bytes from one place to another, as far as there are any
 abbrev pub part : List ℕ → ℕ → ℕ → List ℕ

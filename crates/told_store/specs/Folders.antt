@@ -1,6 +1,6 @@
 -- How a proof sees a folder of devices.
 use Rattle.std.specs.Prelude.{ℕ, List}
-use Rattle.disk_model.specs.Traces.{Trace}
+use Rattle.disk_model.specs.{Trace}
 use Rattle.told_store.specs.Places.{told_in}
 use Rattle.told_store.specs.declared.dir_store.DirStore.{DirStore}
 

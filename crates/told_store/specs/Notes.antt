@@ -1,7 +1,6 @@
 -- The trace that the notes of the calls on a file record.
 use Rattle.std.specs.Prelude.{◌≡◌, ℕ, ◌==◌, List, [], ◌∷◌, slice_index, if◌then◌else◌}
-use Rattle.disk_model.specs.Traces.{DeviceCall, Wrote, WroteInPart, Resized, ResizedInPart, Synced, Idle, Trace}
-use Rattle.disk_model.specs.Stores.{empty_trace}
+use Rattle.disk_model.specs.{DeviceCall, Wrote, WroteInPart, Resized, ResizedInPart, Synced, Idle, Trace, empty_trace}
 
 -- which call it was, its place or length, and its bytes
 abbrev pub Note : Type 0

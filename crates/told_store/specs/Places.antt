@@ -2,8 +2,7 @@
 use Rattle.std.specs.Prelude.{ℕ, Bool, false, List, Option, None, Some, String, is_none, is_some}
 use Rattle.std.specs.BTreeMap.{BTreeMap, get_by_text}
 use Rattle.std.specs.declared.alloc.Global.{Global}
-use Rattle.disk_model.specs.Traces.{Trace}
-use Rattle.disk_model.specs.Stores.{empty_trace}
+use Rattle.disk_model.specs.{Trace, empty_trace}
 use Rattle.told_store.specs.Notes.{IsFresh, told_by}
 use Rattle.told_store.specs.declared.folder.FileId.{FileId}
 use Rattle.told_store.specs.declared.kept.Kept.{Kept}

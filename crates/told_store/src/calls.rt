@@ -1,6 +1,6 @@
 // What is asked of a real file: it records its calls, whatever they answer.
 ghost use Rattle.std.specs.Prelude.{◌≡◌, OnErr, OnOk};
-ghost use Rattle.disk_model.specs.Traces.{Trace, Wrote, WroteInPart, Resized, ResizedInPart, Synced, Idle};
+ghost use Rattle.disk_model.specs.{Trace, Wrote, WroteInPart, Resized, ResizedInPart, Synced, Idle};
 ghost use Rattle.told_store.specs.Notes.{after_call};
 
 use std::io;

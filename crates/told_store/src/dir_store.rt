@@ -1,7 +1,7 @@
 // The folder of devices as a store.
 ghost use Rattle.std.specs.Prelude.{◌≡◌, ◌≢◌, ℕ, List, IfOk, IsErr, OnErr, OnOk, IsTrue, Some, string_bytes};
 ghost use Rattle.std.specs.BTreeMap.{get_by_text};
-ghost use Rattle.disk_model.specs.Stores.{empty_trace};
+ghost use Rattle.disk_model.specs.{empty_trace};
 ghost use Rattle.told_store.specs.Notes.{IsFresh, told_by};
 ghost use Rattle.told_store.specs.Places.{AllFresh, is_placed, is_stopped_in, told_in};
 

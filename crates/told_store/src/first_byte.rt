@@ -1,6 +1,6 @@
 // Was the first byte of a device damaged?
 ghost use Rattle.std.specs.Prelude.{◌≡◌, ◌↔◌, ◌+◌, ◌<◌, ◌≤◌, ◌^◌, length, slice_index, Contains, IsTrue, false};
-ghost use Rattle.disk_model.specs.Gates.{open_byte};
+ghost use Rattle.disk_model.specs.{open_byte};
 ghost use Rattle.told_store.specs.FirstBytes.{IsGateLost, IsPastMaking, later_gates, number_of, part};
 
 use disk_model::OPEN;

@@ -1,7 +1,7 @@
 // A device that the store keeps, with no file open.
 ghost use Rattle.std.specs.Prelude.{◌≡◌, ◌⊎◌, is_none, true, None, Some, IfOk, IsErr};
 ghost use Rattle.std.specs.Option.{ForSome};
-ghost use Rattle.disk_model.specs.Stores.{empty_trace};
+ghost use Rattle.disk_model.specs.{empty_trace};
 ghost use Rattle.told_store.specs.FirstBytes.{IsGateLost, IsPastMaking};
 ghost use Rattle.told_store.specs.Notes.{IsFresh, read_as, told_by};
 

@@ -1,7 +1,6 @@
 // What a device that was just read is.
 ghost use Rattle.std.specs.Prelude.{◌≡◌};
-ghost use Rattle.disk_model.specs.Traces.{Trace, seen};
-ghost use Rattle.disk_model.specs.Images.{IsSettled};
+ghost use Rattle.disk_model.specs.{Trace, seen, IsSettled};
 ghost use Rattle.told_store.specs.Notes.{IsFresh};
 
 /// If no call was made on a device since it was read, a read gives exactly what was read, and so does a crash.

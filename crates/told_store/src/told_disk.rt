@@ -1,8 +1,6 @@
 // A file as a device, which the program reads from memory.
 ghost use Rattle.std.specs.Prelude.{◌≡◌, ◌+◌, ◌-◌, ◌^◌, ◌<◌, ◌≤◌, ◌↔◌, length, vec_len, vec_capacity, IsTrue, IsFalse, IsErr, IfOk, OnOk, OnErr, Some, string_bytes};
-ghost use Rattle.disk_model.specs.Traces.{Wrote, WroteInPart, Resized, ResizedInPart, Synced, Idle, moment, seen, written};
-ghost use Rattle.disk_model.specs.Calls.{next_count, Rose, HasCause, HasLength, IsNoted, IsTimed, Reaches, Reads};
-ghost use Rattle.disk_model.specs.Memory.{handed_as};
+ghost use Rattle.disk_model.specs.{Wrote, WroteInPart, Resized, ResizedInPart, Synced, Idle, moment, seen, written, next_count, Rose, HasCause, HasLength, IsNoted, IsTimed, Reaches, Reads, handed_as};
 ghost use Rattle.told_store.specs.Notes.{read_as};
 
 use crate::calls::Calls;

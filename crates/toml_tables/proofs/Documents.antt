@@ -5,7 +5,7 @@ use Rattle.std.proofs.lemmas.Bool.{cases_Bool}
 use Rattle.std.proofs.lemmas.Str.{IsUtf8-from_is_utf8, is_utf8-from_IsUtf8}
 use Rattle.toml.specs.Data.{Members}
 use Rattle.toml.specs.Parse.{parse_document}
-use Rattle.toml_tables.specs.Tables.{document}
+use Rattle.toml_tables.specs.{document}
 
 -- bytes that are no text are none
 pub no_document : (bytes : List ℕ) → ¬ IsUtf8 bytes → None ≡ document bytes

@@ -4,7 +4,7 @@ use Rattle.std.specs.List.{list_all}
 use Rattle.std.specs.Map.{keys_of}
 use Rattle.toml.specs.View.{members_view}
 use Rattle.toml.specs.declared.value.Value.{Value}
-use Rattle.toml_tables.specs.Tables.{all_keys}
+use Rattle.toml_tables.specs.{all_keys}
 
 -- a test of each key of the entries is one of each key of the table
 pub all_keys-view : (test : List ℕ → Bool) (es : List (String Global × Value))

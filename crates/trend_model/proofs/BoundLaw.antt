@@ -1,20 +1,12 @@
 -- The archive's promise, from the walk, the content and the place of each raw value.
 use Rattle.std.proofs.Common.{◌≡◌, ℕ, ◌*◌, ◌<◌, ◌≤◌, inl, inr, ℤ, ◌-ℤ◌, Bool, true, false, List, ◌∷◌, ◌++◌, Option, None, Some, unsigned_abs, refl, sym, ◌∙◌, subst, arith}
 use Rattle.std.proofs.lemmas.Int.{ints}
-use Rattle.trend_num.specs.declared.point.Point.{Point}
-use Rattle.trend_num.specs.declared.archive.Rec.{Rec}
-use Rattle.trend_num.specs.declared.tuning.Tuning.{Tuning}
+use Rattle.trend_num.specs.{Point, Rec, Tuning}
 use Rattle.trend_num.specs.declared.reading.Reading.TheVariants.{Exact}
-use Rattle.trend_model.specs.Contents.{closed_by, closed_points, listed}
-use Rattle.trend_model.specs.Reads.{read_at}
+use Rattle.trend_model.specs.{closed_by, closed_points, listed, read_at, IsAmong, Event, Origin, InOrder, in_force, tuning_of_value, prior, pending, sent, IsInOrder, late_at, IsCleanSpan, IsNear, raw_deviation, IsBounded, RisesInTime}
 use Rattle.trend_model.proofs.ContentList.{content_closed, content_listed}
 use Rattle.trend_model.proofs.ReadLaw.{late_read}
-use Rattle.trend_model.specs.Lists.{IsAmong}
-use Rattle.trend_model.specs.History.{Event, Origin, InOrder, in_force, tuning_of_value, prior, pending, sent, IsInOrder}
 use Rattle.trend_model.specs.Walk.{records, passed, held, walked}
-use Rattle.trend_model.specs.Content.{late_at, IsCleanSpan}
-use Rattle.trend_model.specs.Bound.{IsNear, raw_deviation, IsBounded}
-use Rattle.trend_model.specs.Orders.{RisesInTime}
 use Rattle.trend_model.specs.State.{pushed_out}
 use Rattle.trend_model.proofs.Near.{within_more, within_between}
 use Rattle.trend_model.proofs.Sent.{same_there, flushed, last_in_order_is}

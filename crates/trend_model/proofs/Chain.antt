@@ -3,15 +3,10 @@
 use Rattle.std.proofs.Common.{◌≡◌, ℕ, ◌+◌, ◌<◌, ◌≤◌, ◌⊎◌, inl, inr, Bool, true, false, List, [], ◌∷◌, ◌++◌, refl, sym, ap, ◌∙◌, subst, arith}
 use Rattle.std.proofs.lemmas.Int.{ints}
 use Rattle.std.proofs.Math.Nat.{lt_of_not-le}
-use Rattle.trend_num.specs.declared.point.Point.{Point}
-use Rattle.trend_num.specs.declared.archive.Rec.{Rec}
+use Rattle.trend_num.specs.{Point, Rec, Tuning}
 use Rattle.trend_num.specs.declared.archive.Kind.TheVariants as kind
-use Rattle.trend_num.specs.declared.tuning.Tuning.{Tuning}
-use Rattle.trend_model.specs.Lists.{IsAmong}
-use Rattle.trend_model.specs.History.{Origin, Sent, InOrder, Late, Tuned}
+use Rattle.trend_model.specs.{IsAmong, Origin, Sent, InOrder, Late, Tuned, RisesInTime, IsNear}
 use Rattle.trend_model.specs.Walk.{kept, late}
-use Rattle.trend_model.specs.Orders.{RisesInTime}
-use Rattle.trend_model.specs.Bound.{IsNear}
 use Rattle.trend_model.proofs.Near.{within_left, within_right}
 use Rattle.trend_model.proofs.Order.{same_in_order, not_late, time_of, time_of_sent}
 use Rattle.trend_model.proofs.SentTunings.{IsMade, made_more}

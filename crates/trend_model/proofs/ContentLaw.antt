@@ -2,16 +2,10 @@
 use Rattle.std.proofs.Common.{◌≡◌, ℕ, ◌<◌, ◌⊎◌, inl, inr, ℤ, Bool, true, false, cond, List, [], ◌∷◌, Option, None, Some, nat_eq, refl, sym, ap, ap₂, ◌∙◌, subst, arith}
 use Rattle.std.proofs.lemmas.Bool.Decides.{nat_tests}
 use Rattle.std.specs.Option.{option_or}
-use Rattle.trend_num.specs.declared.point.Point.{Point}
-use Rattle.trend_num.specs.declared.archive.Rec.{Rec}
-use Rattle.trend_num.specs.declared.archive.Kind.{Kind}
+use Rattle.trend_num.specs.{Point, Rec, Kind}
 use Rattle.trend_num.specs.declared.archive.Kind.TheVariants as kind
-use Rattle.trend_model.specs.Lists.{IsAmong}
-use Rattle.trend_model.specs.History.{Origin, Sent, InOrder}
+use Rattle.trend_model.specs.{IsAmong, Origin, Sent, InOrder, value_at, is_late_record, late_at, kept_at, value_at_point, closed_at, RisesInTime, at}
 use Rattle.trend_model.specs.Walk.{kept, last_since_hinge}
-use Rattle.trend_model.specs.Content.{value_at, is_late_record, late_at, kept_at, value_at_point, closed_at}
-use Rattle.trend_model.specs.Orders.{RisesInTime}
-use Rattle.trend_model.specs.Examples.{at}
 use Rattle.trend_model.proofs.Sent.{same_there}
 use Rattle.trend_model.proofs.Chain.{NoneKept, IsSpan, spans_kept}
 use Rattle.trend_model.proofs.WalkLaw.{IsHung, IsWalked}

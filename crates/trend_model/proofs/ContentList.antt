@@ -3,14 +3,11 @@ use Rattle.std.proofs.Common.{◌≡◌, ℕ, ◌<◌, inl, inr, ℤ, Bool, true
 use Rattle.std.specs.Prelude.{is_some}
 use Rattle.std.proofs.lemmas.List.Elements.{All-head, All-tail}
 use Rattle.std.proofs.lemmas.Bool.{cases_eq, ne_eqb, eq-eqb}
-use Rattle.trend_num.specs.declared.point.Point.{Point}
-use Rattle.trend_num.specs.declared.archive.Rec.{Rec}
-use Rattle.trend_num.specs.declared.archive.Kind.{Kind}
+use Rattle.trend_num.specs.{Point, Rec, Kind}
 use Rattle.trend_num.specs.declared.archive.Kind.TheVariants.{Kept, Late}
 use Rattle.std.specs.Option.{option_or}
-use Rattle.trend_model.specs.Content.{value_at, is_late_record, late_at, kept_at, content_at}
+use Rattle.trend_model.specs.{value_at, is_late_record, late_at, kept_at, content_at, IsRising, IsContentOf, IsClosedContentOf, over, placed, listed, closed_by}
 use Rattle.trend_model.specs.Walk.{kept}
-use Rattle.trend_model.specs.Contents.{IsRising, IsContentOf, IsClosedContentOf, over, placed, listed, closed_by}
 use Rattle.trend_model.proofs.Placing.{time, AllAfter, rising_head, rising_tail, rising_nil, rising_placed, placed_by, time_of_over}
 
 -- ---- one record more in a list of records

@@ -3,13 +3,10 @@ use Rattle.std.proofs.Common.{◌≡◌, ℕ, ◌≤◌, Bool, true, false, cond
 use Rattle.std.specs.Prelude.{◌↔◌, is_some}
 use Rattle.std.specs.List.{filter}
 use Rattle.std.proofs.lemmas.Bool.{and_parts, false≢true, le-ltb, leb-true}
-use Rattle.trend_num.specs.declared.measure.Measure.{Measure}
+use Rattle.trend_num.specs.{Measure, Point, Reading}
 use Rattle.trend_num.specs.declared.measure.Measure.TheVariants.{Area, Avg, Total, Low, High, Count, First, Last}
-use Rattle.trend_num.specs.declared.point.Point.{Point}
-use Rattle.trend_num.specs.declared.reading.Reading.{Reading}
 use Rattle.trend_num.specs.declared.reading.Reading.TheVariants.{Exact, Flat}
-use Rattle.trend_model.specs.Reads.{between, read_at, read_from, value_read}
-use Rattle.trend_model.specs.Windows.{end_at, is_covered, last_time_from, measured, shape, window_value}
+use Rattle.trend_model.specs.{between, read_at, read_from, value_read, end_at, is_covered, last_time_from, measured, shape, window_value}
 use Rattle.trend_model.proofs.WindowLaw.{inside}
 
 -- from a point on a read has a value

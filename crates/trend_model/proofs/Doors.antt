@@ -7,10 +7,8 @@ use borrow.Author.Differences.{up, down as low}
 use Rattle.std.proofs.Math.Nat.{mul-le-mul_right}
 use Rattle.std.proofs.lemmas.Bool.Decides.{nat_tests}
 use Rattle.std.proofs.lemmas.Bool.{false≢true}
-use Rattle.trend_num.specs.declared.point.Point.{Point}
-use Rattle.trend_num.specs.Lines.{cross, Within, is_within}
-use Rattle.trend_model.specs.Lists.{IsAmong}
-use Rattle.trend_model.specs.Doors.{AreAfter, down, IsNotSteeper, is_not_steeper, AreDoors, is_admitted, upper_after, lower_after}
+use Rattle.trend_num.specs.{Point, cross, Within, is_within}
+use Rattle.trend_model.specs.{IsAmong, AreAfter, down, IsNotSteeper, is_not_steeper, AreDoors, is_admitted, upper_after, lower_after}
 
 -- a common factor above 0 is cancelled
 cancel_right : (a b n : ℕ) → 0 < n → a * n ≤ b * n → a ≤ b

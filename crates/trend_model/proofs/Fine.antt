@@ -1,14 +1,9 @@
 -- An archive keeps the rules of records and doors by what is sent in its turn.
 use Rattle.std.proofs.Common.{◌≡◌, ℕ, ◌<◌, ◌≤◌, pos, Bool, true, false, cond, ◌&&◌, List, [], ◌∷◌, ◌++◌, Option, None, Some, refl, sym, ap, subst, arith}
-use Rattle.trend_num.specs.declared.point.Point.{Point}
-use Rattle.trend_num.specs.declared.archive.Rec.{Rec}
-use Rattle.trend_num.specs.declared.tuning.Tuning.{Tuning}
-use Rattle.trend_model.specs.Lists.{Each, IfThere}
-use Rattle.trend_model.specs.History.{Sent, InOrder, Late, Tuned}
+use Rattle.trend_num.specs.{Point, Rec, Tuning}
+use Rattle.trend_model.specs.{Each, IfThere, Sent, InOrder, Late, Tuned, down, IsNotSteeper, is_not_steeper, is_admitted, upper_after, lower_after, AreDoorsAt, AreFitDoors, DoorsFit, IsTagBegun, IsBegunOrBlank}
 use Rattle.trend_model.specs.Walk.{kept, late, is_short, is_early, is_near}
-use Rattle.trend_model.specs.Doors.{down, IsNotSteeper, is_not_steeper, is_admitted, upper_after, lower_after}
 use Rattle.trend_model.specs.State.{Archive, joins, line_after, stair_after, ends_at, archive_on, archived}
-use Rattle.trend_model.specs.Parts.{AreDoorsAt, AreFitDoors, DoorsFit, IsTagBegun, IsBegunOrBlank}
 use Rattle.trend_model.proofs.Near.{within_right}
 use Rattle.trend_model.proofs.Doors.{under_of_within, over_of_within, test_fact, steeper_self}
 use Rattle.trend_model.proofs.Listed.{each_push, AreListed, listed_first, listed_on, listed_late, listed_keep}

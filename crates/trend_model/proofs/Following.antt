@@ -1,9 +1,7 @@
 -- What is sent in its turn after the held point, and what it makes of an archive: its held point, tuning and records.
 use Rattle.std.proofs.Common.{◌≡◌, ℕ, ◌<◌, ◌≤◌, Bool, true, false, cond, ◌&&◌, List, [], ◌∷◌, ◌++◌, length, Option, None, Some, refl, sym, ap, ◌∙◌, arith, length-append, append_assoc, append-nil}
-use Rattle.trend_num.specs.declared.point.Point.{Point}
-use Rattle.trend_num.specs.declared.archive.Rec.{Rec}
-use Rattle.trend_model.specs.Lists.{IfThere}
-use Rattle.trend_model.specs.History.{Sent, InOrder, Late, Tuned}
+use Rattle.trend_num.specs.{Point, Rec}
+use Rattle.trend_model.specs.{IfThere, Sent, InOrder, Late, Tuned}
 use Rattle.trend_model.specs.Walk.{kept, late, is_short, is_early, is_near}
 use Rattle.trend_model.specs.State.{Archive, keeps, holding, joins, line_after, stair_after, ends_at, archive_on, archived}
 use Rattle.trend_model.proofs.SentTunings.{force_sent}

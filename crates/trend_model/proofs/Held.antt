@@ -1,19 +1,10 @@
 -- No record of a tag is after its held point.
-use Rattle.std.proofs.Common.{◌≡◌, ℕ, ◌<◌, ◌≤◌, Bool, true, false, cond, List, [], ◌∷◌, Option, None, Some}
-use Rattle.std.proofs.Common.{All, refl, ap, subst, arith}
+use Rattle.std.proofs.Common.{◌≡◌, ℕ, ◌<◌, ◌≤◌, Bool, true, false, cond, List, [], ◌∷◌, Option, None, Some, All, refl, ap, subst, arith}
 use Rattle.std.specs.Prelude.{fold}
 use Rattle.std.proofs.lemmas.List.Elements.{All-nil, All-cons, All-head, All-tail, All-weaker}
-use Rattle.trend_num.specs.declared.archive.Rec.{Rec}
-use Rattle.trend_num.specs.declared.archive.Summary.{Summary}
-use Rattle.trend_num.specs.declared.point.Point.{Point}
-use Rattle.trend_num.specs.declared.tuning.Tuning.{Tuning}
-use Rattle.trend_model.specs.Content.{is_late_record}
-use Rattle.trend_model.specs.Contents.{IsNotBefore, listed, placed}
-use Rattle.trend_model.specs.History.{Event, Origin, in_force}
+use Rattle.trend_num.specs.{Rec, Summary, Point, Tuning}
+use Rattle.trend_model.specs.{is_late_record, IsNotBefore, listed, placed, Event, Origin, in_force, Each, IfThere, DoorsFit, IsTagBegun, IsBegunOrBlank, IsLateBefore, IsRuled, RisesAfter, PointsRise, kept_points, last_point}
 use Rattle.trend_model.specs.Walk.{records, held}
-use Rattle.trend_model.specs.Lists.{Each, IfThere}
-use Rattle.trend_model.specs.Parts.{DoorsFit, IsTagBegun, IsBegunOrBlank, IsLateBefore, IsRuled, RisesAfter}
-use Rattle.trend_model.specs.Parts.{PointsRise, kept_points, last_point}
 use Rattle.trend_model.proofs.Placing.{all_placed, time}
 use Rattle.trend_model.proofs.HistoryLaw.{all_points, state_of, state_ruled, state_stands}
 

@@ -1,17 +1,10 @@
 -- What stands for a history keeps the rules of records and summaries.
 use Rattle.std.proofs.Common.{◌≡◌, ℕ, ◌^◌, ◌<◌, ◌≤◌, inl, inr, Bool, true, false, List, [], ◌∷◌, ◌++◌, length, Option, None, Some, refl, sym, ap, ◌∙◌, subst, arith, append_assoc, append-nil}
-use Rattle.trend_num.specs.Limits.{most_records}
-use Rattle.trend_num.specs.declared.point.Point.{Point}
-use Rattle.trend_num.specs.declared.archive.Rec.{Rec}
-use Rattle.trend_num.specs.declared.tuning.Tuning.{Tuning}
-use Rattle.trend_num.specs.Ranges.{InRange}
-use Rattle.trend_model.specs.Doors.{AreAfter}
-use Rattle.trend_model.specs.Lists.{IsAmong, Each, IfThere}
-use Rattle.trend_model.specs.History.{Event, Raw, Tune, Origin, Sent, InOrder, in_force, pending, sent}
+use Rattle.trend_num.specs.{most_records, Point, Rec, Tuning, InRange}
+use Rattle.trend_model.specs.{AreAfter, IsAmong, Each, IfThere, Event, Raw, Tune, Origin, Sent, InOrder, in_force, pending, sent, kept_points, PointsRise, last_point, AreFitDoors, DoorsFit, PendingFits, IsBegunOrBlank, IsRuled, ArePartsOk}
+use Rattle.trend_model.specs.{AllPoints, tuned_by}
 use Rattle.trend_model.specs.Walk.{walked, last_since_hinge, records, hinge, since, held}
 use Rattle.trend_model.specs.State.{State, nothing_taken, after, AreDoorsFor, DoorsStand, Stands, StandsAsStored, with_made}
-use Rattle.trend_model.specs.Parts.{kept_points, PointsRise, last_point, AreFitDoors, DoorsFit, PendingFits, IsBegunOrBlank, IsRuled, ArePartsOk}
-use Rattle.trend_model.specs.Orders.{AllPoints, tuned_by}
 use Rattle.trend_model.proofs.Doors.{under_of_within, over_of_within}
 use Rattle.trend_model.proofs.Sent.{flushed, tune_sends, comes_late, goes, waits, happens}
 use Rattle.trend_model.proofs.Order.{not_late, same_in_order, sent_in_flushed, sent_rises}

@@ -1,12 +1,9 @@
 -- The records of a tag that has begun, and one record more.
 use Rattle.std.proofs.Common.{◌≡◌, ◌<◌, ◌≤◌, Bool, true, false, cond, List, [], ◌∷◌, ◌++◌, Some, refl, sym, ap, ◌∙◌, subst, arith}
 use Rattle.std.proofs.lemmas.Bool.{false≢true}
-use Rattle.trend_num.specs.declared.point.Point.{Point}
-use Rattle.trend_num.specs.declared.archive.Rec.{Rec}
-use Rattle.trend_model.specs.Lists.{Each}
+use Rattle.trend_num.specs.{Point, Rec}
+use Rattle.trend_model.specs.{Each, is_late_record, kept_points, RisesAfter, PointsRise, last_point, BeginsKept, IsLateBefore}
 use Rattle.trend_model.specs.Walk.{kept, late}
-use Rattle.trend_model.specs.Content.{is_late_record}
-use Rattle.trend_model.specs.Parts.{kept_points, RisesAfter, PointsRise, last_point, BeginsKept, IsLateBefore}
 
 -- a fact of each, and of one more
 pub each_push : {A : Type 0} (P : A → Type 0) (xs : List A) (y : A) → Each P xs → P y → Each P (xs ++ (y ∷ []))

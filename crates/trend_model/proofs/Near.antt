@@ -3,8 +3,7 @@ use Rattle.std.proofs.Common.{◌≡◌, ℕ, suc, ◌+◌, ◌-◌, ◌*◌, �
 use Rattle.std.proofs.lemmas.Int.{ints, unsigned_abs-mul}
 use borrow.Author.Differences.{up, down}
 use Rattle.std.proofs.Math.Nat.{mul-le-mul_left, mul-le-mul_right}
-use Rattle.trend_num.specs.declared.point.Point.{Point}
-use Rattle.trend_num.specs.Lines.{Within}
+use Rattle.trend_num.specs.{Point, Within}
 
 -- a number times itself once less
 zero_cross : (x y : ℤ) → (x *ℤ y) -ℤ (x *ℤ y) ≡ pos 0

@@ -1,10 +1,9 @@
 -- What an event makes of the two places of an exception test is what the definitions say of the longer history.
 use Rattle.std.proofs.Common.{◌≡◌, Bool, true, false, cond, ◌||◌, List, ◌∷◌, ◌++◌, Option, None, Some, nat_le, refl, sym, ◌∙◌}
 use Rattle.std.specs.Option.{option_or}
-use Rattle.trend_num.specs.declared.point.Point.{Point}
+use Rattle.trend_num.specs.{Point, Tuning}
 use Rattle.trend_num.specs.declared.sending.Sending.TheVariants as sending
-use Rattle.trend_num.specs.declared.tuning.Tuning.{Tuning}
-use Rattle.trend_model.specs.History.{Event, Raw, Tune, Origin, Sent, in_force, is_late, is_far, is_far_from, newest, prior, pending, sent}
+use Rattle.trend_model.specs.{Event, Raw, Tune, Origin, Sent, in_force, is_late, is_far, is_far_from, newest, prior, pending, sent}
 use Rattle.trend_model.specs.State.{Offer, offered, pushed_out, gained, Turn, turned}
 use Rattle.trend_model.proofs.Sent.{is_not_after, is_late_newest, newest_is, pending_none, sent_on, value_sends, tune_sends}
 

@@ -1,10 +1,8 @@
 -- What is sent in order rises in time.
 use Rattle.std.proofs.Common.{◌≡◌, ◌<◌, ◌≤◌, inl, inr, false, List, [], ◌∷◌, ◌++◌, Option, None, Some, refl, sym, ap, ◌∙◌, subst, arith}
 use Rattle.std.proofs.lemmas.Bool.Decides.{nat_tests}
-use Rattle.trend_num.specs.declared.point.Point.{Point}
-use Rattle.trend_model.specs.Lists.{IsAmong}
-use Rattle.trend_model.specs.History.{Event, Raw, Tune, Origin, Sent, InOrder, Late, Tuned, is_late, newest, pending, sent, last_in_order}
-use Rattle.trend_model.specs.Orders.{RisesInTime}
+use Rattle.trend_num.specs.{Point}
+use Rattle.trend_model.specs.{IsAmong, Event, Raw, Tune, Origin, Sent, InOrder, Late, Tuned, is_late, newest, pending, sent, last_in_order, RisesInTime}
 use Rattle.trend_model.specs.State.{pushed_out}
 use Rattle.trend_model.proofs.Sent.{same_there, not_both, is_not_after, is_late_newest, flushed, tune_sends, comes_late, goes, waits, happens, newest_is_last}
 

@@ -4,9 +4,8 @@ use Rattle.std.specs.Prelude.{insert, not, ◌&&◌}
 use Rattle.std.proofs.lemmas.List.{get_or_append_left, get_or-append-add, take-append-drop, drop_more, set_split}
 use Rattle.std.proofs.lemmas.List.Elements.{All-nil, All-cons, All-head, All-tail}
 use Rattle.std.proofs.lemmas.Bool.{cases_order, lt-ltb, le-ltb}
-use Rattle.trend_model.specs.Content.{is_late_record}
-use Rattle.trend_num.specs.declared.archive.Rec.{Rec}
-use Rattle.trend_model.specs.Contents.{IsRising, over, placed}
+use Rattle.trend_model.specs.{is_late_record, IsRising, over, placed}
+use Rattle.trend_num.specs.{Rec}
 
 -- the time of a record
 abbrev pub time : Rec → ℕ

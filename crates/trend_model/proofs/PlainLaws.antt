@@ -1,14 +1,9 @@
 -- Laws that tie the definitions to plain words: tunings that send all, or are exact.
 use Rattle.std.proofs.Common.{◌≡◌, ◌≤◌, Bool, true, false, List, [], ◌∷◌, ◌++◌, map, None, sym, refl, ap, ◌∙◌, subst, arith}
 use Rattle.std.proofs.lemmas.Bool.{true≢false}
-use Rattle.trend_num.specs.declared.point.Point.{Point}
-use Rattle.trend_num.specs.declared.tuning.Tuning.{Tuning}
-use Rattle.trend_model.specs.Lists.{Each}
-use Rattle.trend_model.specs.History.{Event, Raw, Tune, Origin, InOrder, Tuned, in_force, is_late, prior, pending, sent, tuning_of_value, IsInOrder}
+use Rattle.trend_num.specs.{Point, Tuning}
+use Rattle.trend_model.specs.{Each, Event, Raw, Tune, Origin, InOrder, Tuned, in_force, is_late, prior, pending, sent, tuning_of_value, IsInOrder, IsCleanSpan, IsNear, raw_deviation, AllInOrder, sent_plainly, tunings}
 use Rattle.trend_model.specs.Walk.{records, held, passed}
-use Rattle.trend_model.specs.Content.{IsCleanSpan}
-use Rattle.trend_model.specs.Bound.{IsNear, raw_deviation}
-use Rattle.trend_model.specs.Orders.{AllInOrder, sent_plainly, tunings}
 use Rattle.trend_model.specs.State.{pushed_out}
 use Rattle.trend_model.proofs.Sent.{flushed, tune_sends, comes_late, goes, waits, happens, last_in_order_is}
 use Rattle.trend_model.proofs.Order.{last_is_sent, new_sent, flushed_rises}

@@ -1,11 +1,8 @@
 -- Where a raw value in order is among those that are sent once the pending one is pushed out.
 use Rattle.std.proofs.Common.{◌≡◌, ◌<◌, ◌≤◌, inl, inr, ◌-ℤ◌, false, ◌+◌, List, [], ◌∷◌, ◌++◌, Option, None, Some, unsigned_abs, refl, sym, ap, ◌∙◌, subst, arith}
 use Rattle.std.proofs.lemmas.Bool.{true≢false}
-use Rattle.trend_num.specs.declared.point.Point.{Point}
-use Rattle.trend_num.specs.declared.tuning.Tuning.{Tuning}
-use Rattle.trend_model.specs.Lists.{IsAmong}
-use Rattle.trend_model.specs.History.{Event, Raw, Tune, Origin, Sent, InOrder, Late, Tuned, in_force, is_late, is_far_from, prior, pending, sent, last_in_order, IsInOrder}
-use Rattle.trend_model.specs.Orders.{RisesInTime}
+use Rattle.trend_num.specs.{Point, Tuning}
+use Rattle.trend_model.specs.{IsAmong, Event, Raw, Tune, Origin, Sent, InOrder, Late, Tuned, in_force, is_late, is_far_from, prior, pending, sent, last_in_order, IsInOrder, RisesInTime}
 use Rattle.trend_model.specs.State.{pushed_out}
 use Rattle.trend_model.proofs.Sent.{same_there, not_both, not_far, flushed, tune_sends, comes_late, goes, waits, happens, last_in_order_is}
 use Rattle.trend_model.proofs.Order.{same_in_order, not_late, time_of_sent, not_above, last_is_sent, new_after, flushed_rises}

@@ -5,19 +5,10 @@ use Rattle.std.specs.Option.{option_or}
 use Rattle.std.proofs.lemmas.Bool.{cases_eq, cases_lt, cases_Bool, eq-eqb, ne_eqb, lt-ltb, le-ltb}
 use Rattle.std.proofs.lemmas.Int.{ints}
 use Rattle.std.proofs.Math.Nat.{mul-le-mul_left}
-use Rattle.trend_num.specs.declared.archive.Rec.{Rec}
-use Rattle.trend_num.specs.declared.fraction.Frac.{Frac}
-use Rattle.trend_num.specs.declared.point.Point.{Point}
-use Rattle.trend_num.specs.declared.reading.Reading.{Reading}
+use Rattle.trend_num.specs.{Rec, Frac, Point, Reading, line_value}
 use Rattle.trend_num.specs.declared.reading.Reading.TheVariants.{Exact, Line, Flat, Nothing}
-use Rattle.trend_num.specs.Lines.{line_value}
-use Rattle.trend_model.specs.Content.{closed_at, content_at, is_late_record, kept_at, late_at}
-use Rattle.trend_model.specs.Contents.{IsClosedContentOf, IsRising, points_of}
-use Rattle.trend_model.specs.Lists.{IsAmong}
-use Rattle.trend_model.specs.Parts.{PointsRise, RisesAfter}
-use Rattle.trend_model.specs.ReadFacts.{IsBetween, IsFracBetween}
-use Rattle.trend_model.specs.Reads.{between, read_at, read_from, rounded, value_read}
-use Rattle.trend_model.specs.Windows.{lesser, greater}
+use Rattle.trend_model.specs.{closed_at, content_at, is_late_record, kept_at, late_at, IsClosedContentOf, IsRising, points_of, IsAmong, PointsRise, RisesAfter, IsBetween, IsFracBetween, between, read_at, read_from, rounded, value_read}
+use Rattle.trend_model.specs.{lesser, greater}
 use Rattle.trend_model.proofs.Rounding.{add_times, not_under, rounded_next}
 
 -- ---- exact reads

@@ -4,8 +4,8 @@ use Rattle.std.specs.Int.{int_div_euclid}
 use Rattle.std.proofs.lemmas.Int.{ints, by_lt_z}
 use Rattle.std.proofs.Math.Nat.{mul-le-mul_right}
 use borrow.Author.Differences.{up, down}
-use Rattle.trend_num.specs.Lines.{IsRounded}
-use Rattle.trend_model.specs.Reads.{rounded}
+use Rattle.trend_num.specs.{IsRounded}
+use Rattle.trend_model.specs.{rounded}
 
 -- a sum times a natural number
 pub add_times : (x y : ℤ) (t : ℕ) → (x +ℤ y) *ℤ pos t ≡ (x *ℤ pos t) +ℤ (y *ℤ pos t)

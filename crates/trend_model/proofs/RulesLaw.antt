@@ -1,18 +1,10 @@
 -- One more event keeps the rules of records and summaries, whatever state it comes to, and whatever its points have.
 use Rattle.std.proofs.Common.{◌≡◌, ℕ, ◌+◌, ◌*◌, ◌^◌, ◌<◌, ◌≤◌, Bool, true, false, List, [], ◌∷◌, ◌++◌, length, Option, None, Some, nat_le, refl, sym, ap, ◌∙◌, subst, arith, length-append}
 use Rattle.std.proofs.lemmas.Bool.Decides.{nat_tests}
-use Rattle.trend_num.specs.Limits.{most_records}
-use Rattle.trend_num.specs.declared.point.Point.{Point}
-use Rattle.trend_num.specs.declared.archive.Rec.{Rec}
-use Rattle.trend_num.specs.declared.sending.Sending.{Sending}
+use Rattle.trend_num.specs.{most_records, Point, Rec, Sending, Tuning, InRange}
 use Rattle.trend_num.specs.declared.sending.Sending.TheVariants as sending
-use Rattle.trend_num.specs.declared.tuning.Tuning.{Tuning}
-use Rattle.trend_num.specs.Ranges.{InRange}
-use Rattle.trend_model.specs.Lists.{IfThere}
-use Rattle.trend_model.specs.History.{Event, Raw, Tune, is_far}
+use Rattle.trend_model.specs.{IfThere, Event, Raw, Tune, is_far, PendingFits, IsBegunOrBlank, IsRuled, ArePartsOk, AllPoints, tuned_by}
 use Rattle.trend_model.specs.State.{Offer, Turn, turn_of, offered, offered_in_order, gained, turned, Archive, archived, State, archive_in, state_with, after_under, after}
-use Rattle.trend_model.specs.Parts.{PendingFits, IsBegunOrBlank, IsRuled, ArePartsOk}
-use Rattle.trend_model.specs.Orders.{AllPoints, tuned_by}
 use Rattle.trend_model.proofs.Sent.{not_far}
 use Rattle.trend_model.proofs.SentTunings.{force_sent}
 use Rattle.trend_model.proofs.Following.{cond_by, held_after, Follows, held_archived, tuning_archived, Grows, grows_none, grows_archived}

@@ -3,9 +3,8 @@ use Rattle.std.proofs.Common.{◌≡◌, ℕ, ◌+◌, ◌<◌, ◌≤◌, ◌-�
 use Rattle.std.proofs.lemmas.Bool.{false≢true}
 use Rattle.std.proofs.lemmas.Bool.Decides.{nat_tests}
 use Rattle.std.specs.Option.{option_or}
-use Rattle.trend_num.specs.declared.point.Point.{Point}
-use Rattle.trend_num.specs.declared.tuning.Tuning.{Tuning}
-use Rattle.trend_model.specs.History.{Event, Raw, Tune, Origin, Sent, InOrder, Late, Tuned, in_force, is_late, is_far, is_far_from, newest, prior, pending, is_pushed_out, sent, sent_before, last_in_order}
+use Rattle.trend_num.specs.{Point, Tuning}
+use Rattle.trend_model.specs.{Event, Raw, Tune, Origin, Sent, InOrder, Late, Tuned, in_force, is_late, is_far, is_far_from, newest, prior, pending, is_pushed_out, sent, sent_before, last_in_order}
 use Rattle.trend_model.specs.State.{pushed_out}
 
 -- ---- places of values

@@ -1,13 +1,8 @@
 -- The values since the hinge: those that the line or the stair to come still covers.
 use Rattle.std.proofs.Common.{◌≡◌, ℕ, ◌<◌, ◌≤◌, ◌⊎◌, inl, inr, Bool, true, false, ◌-ℤ◌, List, [], ◌∷◌, unsigned_abs, refl, sym, subst, arith}
 use Rattle.std.proofs.Math.Nat.{eq-or-lt_of_le}
-use Rattle.trend_num.specs.declared.point.Point.{Point}
-use Rattle.trend_num.specs.declared.tuning.Tuning.{Tuning}
-use Rattle.trend_num.specs.Lines.{Within}
-use Rattle.trend_model.specs.Lists.{IsAmong}
-use Rattle.trend_model.specs.History.{Origin, Sent, InOrder, Late, Tuned}
-use Rattle.trend_model.specs.Orders.{RisesInTime}
-use Rattle.trend_model.specs.Bound.{IsNear}
+use Rattle.trend_num.specs.{Point, Tuning, Within}
+use Rattle.trend_model.specs.{IsAmong, Origin, Sent, InOrder, Late, Tuned, RisesInTime, IsNear}
 use Rattle.trend_model.proofs.Order.{same_in_order, not_late, time_of, time_of_sent, IsNew}
 use Rattle.trend_model.proofs.SentTunings.{force_sent, IsMade, sent_of_made}
 use Rattle.trend_model.proofs.Chain.{IsClear, IsSpan, IsSpanNear, same_time, near_left}

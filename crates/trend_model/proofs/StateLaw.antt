@@ -1,14 +1,9 @@
 -- The state machine follows the definitions: two doors in place of the values since the hinge.
 use Rattle.std.proofs.Common.{◌≡◌, ℕ, ◌<◌, Bool, true, false, cond, ◌&&◌, List, [], ◌∷◌, ◌++◌, length, Option, None, Some, refl, sym, ap, ◌∙◌, subst, arith}
-use Rattle.trend_num.specs.declared.point.Point.{Point}
-use Rattle.trend_num.specs.declared.archive.Rec.{Rec}
-use Rattle.trend_num.specs.declared.tuning.Tuning.{Tuning}
-use Rattle.trend_model.specs.Lists.{IfThere}
-use Rattle.trend_model.specs.History.{Event, Origin, Sent, InOrder, Late, Tuned, in_force, pending, sent}
+use Rattle.trend_num.specs.{Point, Rec, Tuning}
+use Rattle.trend_model.specs.{IfThere, Event, Origin, Sent, InOrder, Late, Tuned, in_force, pending, sent, AreAfter, AreDoors, upper_after, lower_after, RisesInTime}
 use Rattle.trend_model.specs.Walk.{Walk, walk, walk_on, line_on, stair_on, ended, walked, is_short, is_early, is_fit, is_near, last_since_hinge, since}
-use Rattle.trend_model.specs.Doors.{AreAfter, AreDoors, upper_after, lower_after}
 use Rattle.trend_model.specs.State.{Archive, keeps, holding, line_after, stair_after, ends_at, archive_on, archived, State, archive_in, after_under, after, nothing_taken, replay, followed, DoorsStand, Stands, turned}
-use Rattle.trend_model.specs.Orders.{RisesInTime}
 use Rattle.trend_model.proofs.Doors.{doors_decide, doors_hang, doors_swing}
 use Rattle.trend_model.proofs.Sent.{same_there, not_both}
 use Rattle.trend_model.proofs.Order.{sent_rises}

@@ -2,15 +2,9 @@
 -- the last.
 use Rattle.std.proofs.Common.{◌≡◌, ℕ, ◌≤◌, ◌⊎◌, inl, inr, Bool, true, false, ◌&&◌, ◌-ℤ◌, List, [], ◌∷◌, ◌++◌, Option, None, Some, nat_le, unsigned_abs, refl, sym, subst, arith}
 use Rattle.std.proofs.lemmas.Bool.Decides.{nat_tests}
-use Rattle.trend_num.specs.declared.point.Point.{Point}
-use Rattle.trend_num.specs.declared.archive.Rec.{Rec}
-use Rattle.trend_num.specs.declared.tuning.Tuning.{Tuning}
-use Rattle.trend_num.specs.Lines.{Within, is_within}
-use Rattle.trend_model.specs.Lists.{IsAmong}
-use Rattle.trend_model.specs.History.{Origin, Sent, InOrder, Late, Tuned}
+use Rattle.trend_num.specs.{Point, Rec, Tuning, Within, is_within}
+use Rattle.trend_model.specs.{IsAmong, Origin, Sent, InOrder, Late, Tuned, RisesInTime, lines, stairs}
 use Rattle.trend_model.specs.Walk.{Walk, walk, walk_on, line_on, stair_on, ended, kept, late, is_short, is_early, is_fit, is_near}
-use Rattle.trend_model.specs.Orders.{RisesInTime}
-use Rattle.trend_model.specs.Examples.{lines, stairs}
 use Rattle.trend_model.proofs.Doors.{pass_each, second_of_both, within_test}
 use Rattle.trend_model.proofs.Walks.{line_by, stair_by}
 use Rattle.trend_model.proofs.Order.{time_of, time_of_sent}

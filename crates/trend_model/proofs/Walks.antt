@@ -1,7 +1,7 @@
 -- Lemmas on the walk of the compression.
 use Rattle.std.proofs.Common.{◌≡◌, Bool, true, false, cond, ◌&&◌, List, [], ◌∷◌, Option, None, Some, refl, sym, ap, ◌∙◌}
-use Rattle.trend_num.specs.declared.point.Point.{Point}
-use Rattle.trend_model.specs.History.{Event, Origin, Sent, InOrder, Late, Tuned, sent, prior, last_in_order}
+use Rattle.trend_num.specs.{Point}
+use Rattle.trend_model.specs.{Event, Origin, Sent, InOrder, Late, Tuned, sent, prior, last_in_order}
 use Rattle.trend_model.specs.Walk.{Walk, walk, walk_on, line_on, stair_on, joined, skipped, replaced, keeping, ended, is_short, is_early, is_fit, is_near, last_since_hinge, held}
 use Rattle.trend_model.proofs.Sent.{last_in_order_is}
 

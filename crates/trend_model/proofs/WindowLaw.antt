@@ -6,13 +6,9 @@ use Rattle.std.proofs.lemmas.Bool.{lt-ltb, le-ltb, and_parts, and_from}
 use Rattle.std.proofs.lemmas.Bool.Decides.{nat_tests}
 use Rattle.std.proofs.lemmas.Int.{ints}
 use Rattle.std.proofs.lemmas.List.Elements.{filter-append}
-use Rattle.trend_num.specs.declared.measure.Measure.{Measure}
+use Rattle.trend_num.specs.{Measure, Point}
 use Rattle.trend_num.specs.declared.measure.Measure.TheVariants.{Area, Count}
-use Rattle.trend_num.specs.declared.point.Point.{Point}
-use Rattle.trend_model.specs.Lists.{IsAmong}
-use Rattle.trend_model.specs.Parts.{PointsRise, RisesAfter}
-use Rattle.trend_model.specs.Reads.{read_at, value_read}
-use Rattle.trend_model.specs.Windows.{area, end_at, is_covered, measured, piece, shape, window_value, last_time_from}
+use Rattle.trend_model.specs.{IsAmong, PointsRise, RisesAfter, read_at, value_read, area, end_at, is_covered, measured, piece, shape, window_value, last_time_from}
 use Rattle.trend_model.proofs.ReadLaw.{among_after, among_middle, read_at_point}
 
 -- ---- areas

@@ -1,9 +1,6 @@
 -- How near the archive's line, or a step tag's stair, is to the values.
 use Rattle.std.specs.Prelude.{◌≡◌, ℕ, ◌+◌, ◌*◌, ◌<◌, ◌≤◌, ◌-ℤ◌, ℤ, Bool, true, false, List, Option, Some, unsigned_abs}
-use Rattle.trend_num.specs.declared.point.Point.{Point}
-use Rattle.trend_num.specs.declared.archive.Rec.{Rec}
-use Rattle.trend_num.specs.declared.tuning.Tuning.{Tuning}
-use Rattle.trend_num.specs.Lines.{Within}
+use Rattle.trend_num.specs.{Point, Rec, Tuning, Within}
 use Rattle.trend_model.specs.Lists.{IsAmong}
 use Rattle.trend_model.specs.History.{Event, Origin, Sent, InOrder, sent, in_force, tuning_of_value, IsInOrder}
 use Rattle.trend_model.specs.Walk.{records, held, passed}

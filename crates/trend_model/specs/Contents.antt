@@ -1,8 +1,7 @@
 -- The content of a list of records as a list: one record for each time that occurs, in order of time. The kind of a
 -- record says whether a Late record has that time.
 use Rattle.std.specs.Prelude.{if◌then◌else◌, ◌≡◌, ℕ, ◌<◌, ◌&&◌, not, List, [], ◌∷◌, Option, None, Some, is_some, nat_lt, fold, map, All, AllPairs, Contains, ◌≤◌}
-use Rattle.trend_num.specs.declared.point.Point.{Point}
-use Rattle.trend_num.specs.declared.archive.Rec.{Rec}
+use Rattle.trend_num.specs.{Point, Rec}
 use Rattle.trend_model.specs.Content.{is_late_record, content_at, late_at, closed_at}
 use Rattle.trend_model.specs.Walk.{kept}
 

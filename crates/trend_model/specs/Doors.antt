@@ -1,6 +1,6 @@
 -- Two doors: the two values since the hinge that decide which lines fit (after Bristol).
 use Rattle.std.specs.Prelude.{if◌then◌else◌, ℕ, ◌-◌, ◌<◌, ℤ, pos, ◌+ℤ◌, ◌-ℤ◌, ◌*ℤ◌, ◌≤ℤ◌, Bool, ◌&&◌, int_le, List}
-use Rattle.trend_num.specs.declared.point.Point.{Point}
+use Rattle.trend_num.specs.{Point}
 use Rattle.trend_model.specs.Lists.{IsAmong}
 
 -- how far x, raised by `raise`, is above a, times how much later y is than a

@@ -1,8 +1,6 @@
 -- Small histories.
 use Rattle.std.specs.Prelude.{ℕ, ℤ, pos, negsuc, true, false, List, [], ◌∷◌, map}
-use Rattle.trend_num.specs.declared.point.Point.{Point}
-use Rattle.trend_num.specs.declared.archive.Rec.{Rec}
-use Rattle.trend_num.specs.declared.tuning.Tuning.{Tuning}
+use Rattle.trend_num.specs.{Point, Rec, Tuning}
 use Rattle.trend_model.specs.History.{Event, Raw, Tune, Origin}
 use Rattle.trend_model.specs.Walk.{kept, late}
 

@@ -1,8 +1,7 @@
 -- What an exception test sends of a history. A history is the list of what happened to a tag, the newest first. What
 -- was sent is listed in the same way. Each definition applies the rules at a place of the history, and keeps no state.
 use Rattle.std.specs.Prelude.{if◌then◌else◌, ◌≡◌, ◌+◌, ◌-ℤ◌, ℕ, Bool, true, false, ◌||◌, ◌&&◌, not, ◌⊎◌, List, [], ◌∷◌, Option, None, Some, nat_eq, nat_lt, nat_le, unsigned_abs}
-use Rattle.trend_num.specs.declared.point.Point.{Point}
-use Rattle.trend_num.specs.declared.tuning.Tuning.{Tuning}
+use Rattle.trend_num.specs.{Point, Tuning}
 
 -- what happens to a tag: a raw value comes, or the tag is retuned
 pub data Event : Type 0 where

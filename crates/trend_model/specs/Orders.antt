@@ -1,7 +1,6 @@
 -- Words of the laws about a history and what it sent: order in time, tunings, and a fact of each value.
 use Rattle.std.specs.Prelude.{◌≡◌, ◌<◌, false, List, [], ◌∷◌}
-use Rattle.trend_num.specs.declared.point.Point.{Point}
-use Rattle.trend_num.specs.declared.tuning.Tuning.{Tuning}
+use Rattle.trend_num.specs.{Point, Tuning}
 use Rattle.trend_model.specs.Lists.{IsAmong}
 use Rattle.trend_model.specs.History.{Event, Raw, Tune, Origin, Sent, InOrder, Late, Tuned, is_late}
 

@@ -1,11 +1,6 @@
 -- Which records and which summary can be those of a tag.
 use Rattle.std.specs.Prelude.{if◌then◌else◌, ◌≡◌, ℕ, ◌+◌, ◌*◌, ◌^◌, ◌<◌, ◌≤◌, ◌-ℤ◌, pos, Bool, true, false, List, [], ◌∷◌, length, Option, None, Some, unsigned_abs}
-use Rattle.trend_num.specs.Limits.{most_records}
-use Rattle.trend_num.specs.declared.point.Point.{Point}
-use Rattle.trend_num.specs.declared.archive.Rec.{Rec}
-use Rattle.trend_num.specs.declared.archive.Summary.{Summary}
-use Rattle.trend_num.specs.declared.tuning.Tuning.{Tuning}
-use Rattle.trend_num.specs.Ranges.{InRange}
+use Rattle.trend_num.specs.{most_records, Point, Rec, Summary, Tuning, InRange}
 use Rattle.trend_model.specs.Lists.{Each, IfThere}
 use Rattle.trend_model.specs.Content.{is_late_record}
 use Rattle.trend_model.specs.Doors.{IsNotSteeper, down}

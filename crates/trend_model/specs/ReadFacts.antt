@@ -1,6 +1,6 @@
 -- What the laws about reads and windows say of values.
 use Rattle.std.specs.Prelude.{ℤ, pos, ◌*ℤ◌, ◌≤ℤ◌}
-use Rattle.trend_num.specs.declared.fraction.Frac.{Frac}
+use Rattle.trend_num.specs.{Frac}
 use Rattle.trend_model.specs.Windows.{lesser, greater}
 
 -- a value that is not below the lesser of two and not above the greater

@@ -3,10 +3,8 @@
 use Rattle.std.specs.Prelude.{if◌then◌else◌, ℕ, ◌*◌, ℤ, pos, ◌+ℤ◌, ◌*ℤ◌, Bool, ◌&&◌, List, [], ◌∷◌, Option, None, Some, nat_eq, nat_le, nat_lt}
 use Rattle.std.specs.Int.{int_div_euclid}
 use Rattle.std.specs.List.{filter}
-use Rattle.trend_num.specs.declared.point.Point.{Point}
-use Rattle.trend_num.specs.declared.reading.Reading.{Reading}
+use Rattle.trend_num.specs.{Point, Reading, line_value}
 use Rattle.trend_num.specs.declared.reading.Reading.TheVariants.{Exact, Line, Flat, Nothing}
-use Rattle.trend_num.specs.Lines.{line_value}
 
 -- between p and q a line goes from the one value to the other, and a stair keeps the first
 abbrev pub between : Bool → Point → Point → ℕ → Reading

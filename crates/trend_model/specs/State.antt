@@ -2,12 +2,8 @@
 -- its pending value; compression has two doors. A law says that this follows the definitions over histories.
 use Rattle.std.specs.Prelude.{if◌then◌else◌, ◌≡◌, ◌⊎◌, ℕ, ◌+◌, ◌&&◌, Bool, true, false, List, [], ◌∷◌, ◌++◌, length, Option, None, Some, nat_le}
 use Rattle.std.specs.Option.{option_or}
-use Rattle.trend_num.specs.declared.point.Point.{Point}
-use Rattle.trend_num.specs.declared.archive.Rec.{Rec}
-use Rattle.trend_num.specs.declared.archive.Summary.{Summary}
-use Rattle.trend_num.specs.declared.sending.Sending.{Sending}
+use Rattle.trend_num.specs.{Point, Rec, Summary, Sending, Tuning}
 use Rattle.trend_num.specs.declared.sending.Sending.TheVariants as sending
-use Rattle.trend_num.specs.declared.tuning.Tuning.{Tuning}
 use Rattle.trend_model.specs.History.{Event, Raw, Tune, Origin, Sent, InOrder, Late, Tuned, in_force, is_far, pending}
 use Rattle.trend_model.specs.Walk.{kept, late, is_short, is_early, is_near, records, hinge, since, held}
 use Rattle.trend_model.specs.Doors.{AreDoors, is_admitted, upper_after, lower_after}

@@ -3,11 +3,8 @@
 -- the last kept one.
 use Rattle.std.specs.Prelude.{if◌then◌else◌, ◌+◌, ◌-ℤ◌, Bool, true, false, ◌&&◌, List, [], ◌∷◌, ◌++◌, Option, None, Some, nat_lt, nat_le, unsigned_abs}
 use Rattle.std.specs.List.{list_all}
-use Rattle.trend_num.specs.declared.point.Point.{Point}
-use Rattle.trend_num.specs.declared.archive.Rec.{Rec}
+use Rattle.trend_num.specs.{Point, Rec, Tuning, is_within}
 use Rattle.trend_num.specs.declared.archive.Kind.TheVariants as kind
-use Rattle.trend_num.specs.declared.tuning.Tuning.{Tuning}
-use Rattle.trend_num.specs.Lines.{is_within}
 use Rattle.trend_model.specs.History.{Event, Origin, Sent, InOrder, Late, Tuned, sent}
 
 -- a point as a Kept record

@@ -1,8 +1,7 @@
 -- What a window of a list of points measures. The points rise in time.
 use Rattle.std.specs.Prelude.{if◌then◌else◌, ℕ, ◌-◌, ◌*◌, ℤ, pos, ◌+ℤ◌, ◌*ℤ◌, Bool, true, false, ◌&&◌, List, [], ◌∷◌, ◌++◌, length, Option, None, Some, int_le, nat_le, nat_lt}
 use Rattle.std.specs.List.{filter}
-use Rattle.trend_num.specs.declared.point.Point.{Point}
-use Rattle.trend_num.specs.declared.measure.Measure.{Measure}
+use Rattle.trend_num.specs.{Point, Measure}
 use Rattle.trend_num.specs.declared.measure.Measure.TheVariants.{Area, Avg, Total, Low, High, Count, First, Last}
 use Rattle.trend_model.specs.Reads.{read_at, value_read, rounded}
 

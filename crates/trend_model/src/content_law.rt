@@ -1,7 +1,6 @@
 // Laws about the content of every list of records. The bodies are empty: each law is a contract.
 ghost use Rattle.std.specs.Prelude.{List, Option};
-ghost use Rattle.trend_num.specs.declared.archive.Rec.{Rec};
-ghost use Rattle.trend_num.specs.declared.point.Point.{Point};
+ghost use Rattle.trend_num.specs.{Rec, Point};
 ghost use Rattle.trend_model.specs.Contents.{IsClosedContentOf, IsContentOf, closed_by, listed};
 
 /// The list of a content rises in time, has each time once, and reads at every time as its records do.

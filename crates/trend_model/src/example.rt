@@ -2,7 +2,7 @@
 ghost use Rattle.std.specs.Prelude.{◌≡◌, ◌+◌, ◌*◌, pos, negsuc, [], ◌∷◌, None, Some};
 ghost use Rattle.trend_model.specs.Lists.{IsAmong};
 ghost use Rattle.trend_model.specs.History.{InOrder, IsInOrder, in_force, pending, sent, tuning_of_value};
-ghost use Rattle.trend_num.specs.Lines.{Within};
+ghost use Rattle.trend_num.specs.{Within};
 ghost use Rattle.trend_model.specs.Walk.{held, kept, late, passed, records};
 ghost use Rattle.trend_model.specs.Content.{IsCleanSpan, content_at, late_at};
 ghost use Rattle.trend_model.specs.Bound.{IsBoundedBy};

@@ -1,9 +1,6 @@
 // Laws that tie the definitions to plain words.
 ghost use Rattle.std.specs.Prelude.{◌≡◌, ◌≤◌, ◌++◌, Bool, List, map};
-ghost use Rattle.trend_num.specs.declared.point.Point.{Point};
-ghost use Rattle.trend_num.specs.declared.archive.Rec.{Rec};
-ghost use Rattle.trend_num.specs.declared.archive.Summary.{Summary};
-ghost use Rattle.trend_num.specs.declared.tuning.Tuning.{Tuning};
+ghost use Rattle.trend_num.specs.{Point, Rec, Summary, Tuning};
 ghost use Rattle.trend_model.specs.Lists.{Each, IfThere};
 ghost use Rattle.trend_model.specs.History.{Event, Origin, IsInOrder, last_in_order, prior, sent, tuning_of_value};
 ghost use Rattle.trend_model.specs.Walk.{held, hinge, passed, records};

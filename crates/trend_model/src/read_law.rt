@@ -1,9 +1,7 @@
 // Laws about reads of every list of points. The bodies are empty: each law is a contract.
 ghost use Rattle.std.specs.Prelude.{◌≡◌, ℕ, ◌<◌, ℤ, ◌↔◌, Bool, true, false, List, ◌∷◌, ◌++◌, Option, Some};
-ghost use Rattle.trend_num.specs.declared.archive.Rec.{Rec};
-ghost use Rattle.trend_num.specs.declared.point.Point.{Point};
+ghost use Rattle.trend_num.specs.{Rec, Point, IsRounded, line_value};
 ghost use Rattle.trend_num.specs.declared.reading.Reading.TheVariants.{Exact, Flat, Line};
-ghost use Rattle.trend_num.specs.Lines.{IsRounded, line_value};
 ghost use Rattle.trend_model.specs.Content.{closed_at, content_at, late_at};
 ghost use Rattle.trend_model.specs.Contents.{IsClosedContentOf, IsContentOf, points_of};
 ghost use Rattle.trend_model.specs.Lists.{IsAmong};

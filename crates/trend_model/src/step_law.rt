@@ -1,8 +1,6 @@
 // Laws about one more event, and about records and summaries.
 ghost use Rattle.std.specs.Prelude.{◌≡◌, ◌+◌, ◌^◌, ◌<◌, ◌≤◌, Bool, Some, [], ◌∷◌, List, length};
-ghost use Rattle.trend_num.specs.Limits.{most_records};
-ghost use Rattle.trend_num.specs.declared.tuning.Tuning.{Tuning};
-ghost use Rattle.trend_num.specs.Ranges.{InRange};
+ghost use Rattle.trend_num.specs.{most_records, Tuning, InRange};
 ghost use Rattle.trend_model.specs.History.{Event, Origin, in_force};
 ghost use Rattle.trend_model.specs.Parts.{ArePartsOk};
 ghost use Rattle.trend_model.specs.State.{Stands, StandsAsStored, State, after, followed, nothing_taken, replay};

@@ -1,8 +1,7 @@
 // Laws about windows of every list of points. The bodies are empty: each law is a contract.
 ghost use Rattle.std.specs.Prelude.{◌≡◌, ℕ, ◌<◌, ◌≤◌, ℤ, ◌+ℤ◌, ◌↔◌, Bool, false, List, None, Some};
-ghost use Rattle.trend_num.specs.declared.measure.Measure.{Measure};
+ghost use Rattle.trend_num.specs.{Measure, Point};
 ghost use Rattle.trend_num.specs.declared.measure.Measure.TheVariants.{Area, Count};
-ghost use Rattle.trend_num.specs.declared.point.Point.{Point};
 ghost use Rattle.trend_model.specs.Lists.{IsAmong};
 ghost use Rattle.trend_model.specs.Parts.{PointsRise};
 ghost use Rattle.trend_model.specs.Windows.{is_covered, window_value};

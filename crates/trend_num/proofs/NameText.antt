@@ -3,7 +3,7 @@ use Rattle.std.proofs.Common.{◌≡◌, ℕ, zero, suc, ◌<◌, Bool, true, fa
 use Rattle.std.proofs.lemmas.Bool.Decides.{nat_tests}
 use Rattle.std.proofs.lemmas.Str.{IsUtf8-from_ascii}
 use Rattle.std.specs.List.{list_all}
-use Rattle.trend_num.specs.Names.{IsName, is_name_byte}
+use Rattle.trend_num.specs.{IsName, is_name_byte}
 
 -- the left of two tests
 pub both_left : (b c : Bool) → (b && c) ≡ true → b ≡ true

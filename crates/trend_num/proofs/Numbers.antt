@@ -7,7 +7,7 @@ use Rattle.std.proofs.lemmas.Bool.Decides.{nat_tests}
 use Rattle.std.proofs.Math.Nat.{pow-suc}
 use Rattle.std.specs.Char.{is_ascii_digit}
 use Rattle.std.specs.List.{list_all}
-use Rattle.trend_num.specs.Numerals.{digits_value}
+use Rattle.trend_num.specs.{digits_value}
 
 -- n is the value of these k digits
 pub record IsDigitsValue (n k : ℕ) (digits : List ℕ) : Type 0 where

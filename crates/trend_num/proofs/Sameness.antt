@@ -7,9 +7,7 @@ use Rattle.std.specs.Str.{bytes_eq}
 use Rattle.std.proofs.lemmas.Bool.Decides.{Decides-eqb, Decides-int_eq, Decides-and}
 use Rattle.std.proofs.lemmas.Slice.Eq.{bytes_eq-Decides}
 use Rattle.std.proofs.Math.Seq.{take-append_seam}
-use Rattle.trend_num.specs.declared.archive.Summary.{Summary}
-use Rattle.trend_num.specs.declared.point.Point.{Point}
-use Rattle.trend_num.specs.declared.tuning.Tuning.{Tuning}
+use Rattle.trend_num.specs.{Summary, Point, Tuning}
 
 -- two places that may be empty
 option_same : {A : Type 0} (same : A → A → Bool) → ((x y : A) → Decides (same x y) (x ≡ y)) → (a b : Option A)

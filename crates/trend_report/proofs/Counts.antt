@@ -2,10 +2,9 @@
 use Rattle.std.proofs.Common.{◌≡◌, ◌+◌, List, [], ◌∷◌, length, refl, arith, cond}
 use Rattle.std.specs.List.{count_by}
 use Rattle.std.proofs.lemmas.List.Sums.{sum_by-cons}
-use Rattle.trend_num.specs.declared.archive.Kind.{Kind}
+use Rattle.trend_num.specs.{Kind, Rec}
 use Rattle.trend_num.specs.declared.archive.Kind.TheVariants.{Kept, Late}
-use Rattle.trend_num.specs.declared.archive.Rec.{Rec}
-use Rattle.trend_report.specs.Lines.{is_kept, is_late}
+use Rattle.trend_report.specs.{is_kept, is_late}
 
 -- A kind is one of the two.
 one_kind : (k : Kind) → cond (is_kept k) 1 0 + cond (is_late k) 1 0 ≡ 1

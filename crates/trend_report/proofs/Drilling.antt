@@ -1,9 +1,8 @@
 -- One event more of a drill.
 use Rattle.std.proofs.Common.{◌≡◌, ℕ, ◌+◌, List, ◌++◌, ◌∷◌, [], ap, ap₂, ◌∙◌, sym, add-one, arith}
 use Rattle.std.proofs.lemmas.List.FromFn.{map-range_with_len_more}
-use Rattle.trend_num.specs.declared.point.Point.{Point}
-use Rattle.trend_report.specs.declared.drill.Signal.{Signal}
-use Rattle.trend_report.specs.Drill.{signal_after, drill_points, event, signal_at}
+use Rattle.trend_num.specs.{Point}
+use Rattle.trend_report.specs.{Signal, signal_after, drill_points, event, signal_at}
 
 -- the points of so many events, and the event at that place after them, are those of one event more
 pub one_event_more : (number tag n : ℕ) (rows more : List Point) (s : Signal) (p : Point)

@@ -3,9 +3,9 @@ use Rattle.std.proofs.Common.{◌≡◌, ℕ, ◌*◌, ◌<◌, ℤ, pos, negsuc
 use Rattle.std.specs.Int.{int_div_euclid, int_rem_euclid}
 use Rattle.std.proofs.lemmas.Bool.Decides.{nat_tests}
 use Rattle.std.proofs.lemmas.Int.{ints}
-use Rattle.trend_num.specs.Lines.{IsRounded}
-use Rattle.trend_model.specs.Reads.{rounded}
-use Rattle.trend_report.specs.Lines.{whole_of}
+use Rattle.trend_num.specs.{IsRounded}
+use Rattle.trend_model.specs.{rounded}
+use Rattle.trend_report.specs.{whole_of}
 use Rattle.trend_model.proofs.Rounding.{add_times, rounded_only}
 
 -- a number is its quotient times the divisor, and the remainder

@@ -1,7 +1,7 @@
 -- The lines of opened tags.
 use Rattle.std.specs.Prelude.{ℕ, List}
 use Rattle.std.specs.List.{flat_map, zip}
-use Rattle.trend_num.specs.declared.tag_def.TagDef.{TagDef}
+use Rattle.trend_num.specs.{TagDef}
 use Rattle.tag_core.specs.Core.{Core}
 use Rattle.trend_report.specs.Lines.{tag_line_of, tag_text}
 

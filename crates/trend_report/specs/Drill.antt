@@ -6,7 +6,7 @@
 -- clock has not come so far. It leaves clock and level as they are.
 use Rattle.std.specs.Prelude.{List, map, Bool, ℕ, zero, suc, ◌+◌, ◌-◌, ◌*◌, ◌/◌, ◌%◌, ◌^◌, ◌<◌, ◌≤◌, ◌==◌, if◌then◌else◌, ℤ, pos, ◌+ℤ◌, ◌-ℤ◌, unsigned_abs}
 use Rattle.std.specs.List.{range_with_len}
-use Rattle.trend_num.specs.declared.point.Point.{Point}
+use Rattle.trend_num.specs.{Point}
 use Rattle.trend_report.specs.declared.drill.Signal.{Signal}
 
 -- the number after a number, and what is drawn of one

@@ -2,19 +2,14 @@
 use Rattle.std.specs.Prelude.{List, ◌++◌, Bool, true, false, Option, None, Some, codes, ℕ, ℤ, pos, ◌-◌, ◌==◌, if◌then◌else◌}
 use Rattle.std.specs.Fmt.{decimal, signed_decimal}
 use Rattle.std.specs.List.{count_by, flat_map}
-use Rattle.trend_num.specs.declared.archive.Kind.{Kind}
+use Rattle.trend_num.specs.{Kind, Rec, Summary, Point, Reading, CalcValue}
 use Rattle.trend_num.specs.declared.archive.Kind.TheVariants.{Kept, Late}
-use Rattle.trend_num.specs.declared.archive.Rec.{Rec}
-use Rattle.trend_num.specs.declared.archive.Summary.{Summary}
-use Rattle.trend_num.specs.declared.point.Point.{Point}
-use Rattle.trend_num.specs.declared.reading.Reading.{Reading}
 use Rattle.trend_num.specs.declared.reading.Reading.TheVariants.{Exact, Line, Flat, Nothing}
-use Rattle.trend_model.specs.Reads.{rounded}
-use Rattle.interp_read.specs.declared.query.Reply.{Reply}
+use Rattle.trend_model.specs.{rounded}
+use Rattle.interp_read.specs.{Reply}
 use Rattle.interp_read.specs.declared.query.Reply.TheVariants.{At, Points, Window}
 use Rattle.trend_num.specs.declared.value.Bad.{Bad as Cause}
 use Rattle.trend_num.specs.declared.value.Bad.TheVariants.{NoData, DivZero, Range}
-use Rattle.trend_num.specs.declared.value.CalcValue.{CalcValue}
 use Rattle.trend_num.specs.declared.value.CalcValue.TheVariants.{Num, Bad}
 use Rattle.trend_report.specs.declared.group_line.GroupLine.{GroupLine}
 use Rattle.trend_report.specs.declared.group_line.LastRow.{LastRow}

@@ -1,6 +1,6 @@
 // The points that a drill generates.
 ghost use Rattle.std.specs.Prelude.{◌≡◌, ◌<◌, ◌≤◌, ◌+◌, ◌^◌, ◌+ℤ◌, All, IfOk, unsigned_abs};
-ghost use Rattle.trend_num.specs.Ranges.{InRange};
+ghost use Rattle.trend_num.specs.{InRange};
 ghost use Rattle.trend_report.specs.Drill.{signal_after, drill_points, event, first_signal, gap_of, IsNear, next_number, swing_of};
 
 use std::alloc::Global;

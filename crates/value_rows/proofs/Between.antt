@@ -6,7 +6,7 @@ use Rattle.csv.specs.declared.parser.Action.{Action}
 use Rattle.csv.specs.declared.parser.Action.TheVariants as act
 use Rattle.csv.specs.declared.parser.State.{State}
 use Rattle.csv.specs.declared.parser.State.TheVariants as st
-use Rattle.value_rows.specs.RowReader.{is_between}
+use Rattle.value_rows.specs.{is_between}
 
 -- where it ends a record, what a byte does leads between two records
 abbrev pub EndsBetween : State × Action → Type 0

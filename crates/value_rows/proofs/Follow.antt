@@ -7,9 +7,7 @@ use Rattle.csv.specs.declared.parser.Action.{Action}
 use Rattle.csv.specs.declared.parser.Action.TheVariants as act
 use Rattle.csv.specs.declared.parser.State.{State}
 use Rattle.csv.specs.declared.parser.State.TheVariants as st
-use Rattle.value_rows.specs.Narrow.{ended_after, part_after}
-use Rattle.value_rows.specs.RowReader.{is_between}
-use Rattle.value_rows.specs.declared.narrow.FieldPart.{FieldPart}
+use Rattle.value_rows.specs.{ended_after, part_after, is_between, FieldPart}
 use Rattle.value_rows.specs.declared.narrow.FieldPart.TheVariants.{Begin, Unquoted, Quoted, BehindQuote}
 use Rattle.value_rows.proofs.PlainRow.{IsBare}
 

@@ -6,7 +6,7 @@ use Rattle.csv.specs.declared.parser.State.{State}
 use Rattle.csv.specs.declared.parser.State.TheVariants as st
 use Rattle.csv.specs.declared.reader.Reader.{Reader}
 use Rattle.csv.proofs.ReadFacts.{rows-more, rows-end}
-use Rattle.value_rows.specs.RowReader.{HasLeft, IsNext, is_between, records_left}
+use Rattle.value_rows.specs.{HasLeft, IsNext, is_between, records_left}
 use Rattle.value_rows.proofs.Between.{read_ends}
 
 -- no record is read of no bytes between two records

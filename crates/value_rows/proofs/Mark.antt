@@ -3,8 +3,7 @@ use Rattle.std.proofs.Common.{◌≡◌, ℕ, zero, suc, ◌+◌, ◌-◌, ◌&&
 use Rattle.std.proofs.lemmas.Bool.Decides.{nat_tests}
 use Rattle.csv.specs.Reading.{is_bom, strip_bom}
 use Rattle.csv.specs.declared.parser.State.TheVariants.{StartRecord}
-use Rattle.value_rows.specs.RowReader.{AreFirstRows, ReadsRecords, has_mark, reads_behind, records_left}
-use Rattle.value_rows.specs.Reading.{text_records_of}
+use Rattle.value_rows.specs.{AreFirstRows, ReadsRecords, has_mark, reads_behind, records_left, text_records_of}
 
 -- whether a text of three bytes and more begins with one
 mark_is : (a b c : ℕ) (rest : List ℕ) → has_mark (a ∷ b ∷ c ∷ rest) ≡ is_bom a b c

@@ -12,9 +12,8 @@ use Rattle.std.specs.List.{position, position_from}
 use Rattle.std.specs.Option.{is_some, option_or}
 use Rattle.std.specs.Ordering.{nat_cmp}
 use Rattle.std.specs.Str.{bytes_eq}
-use Rattle.value_rows.specs.Raw.{first_place_of}
-use Rattle.trend_num.specs.Names.{IsName}
-use Rattle.value_rows.specs.RowReader.{ArePlaces, IsHint}
+use Rattle.value_rows.specs.{first_place_of, ArePlaces, IsHint}
+use Rattle.trend_num.specs.{IsName}
 
 -- the place of the first that passes, where there is one element more
 position_from-push : {X : Type 0} (test : X → Bool) (i : ℕ) (xs : List X) (x : X)

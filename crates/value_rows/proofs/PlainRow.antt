@@ -1,5 +1,6 @@
 -- Lemmas on a plain row: its line is the next record of its text.
-use Rattle.std.proofs.Common.{◌≡◌, ◌⊎◌, inl, inr, ℕ, ◌+◌, ◌-◌, ◌<◌, ℤ, pos, neg_ℤ, Bool, ◌&&◌, true, false, cond, List, [], ◌∷◌, ◌++◌, All, length, take, get_or, nat_eq, nat_le, Option, Some, None, Ok, refl, sym, ap, ◌∙◌, append_assoc, subst, arith}
+use Rattle.std.proofs.Common.{◌≡◌, ◌⊎◌, inl, inr, ℕ, ◌+◌, ◌-◌, ◌<◌, ℤ, pos, neg_ℤ, Bool, ◌&&◌, true, false, cond, List, [], ◌∷◌, ◌++◌, All, length, take, get_or, nat_eq, nat_le, Option, Some, None, Ok, refl, sym, ap, ◌∙◌, append_assoc}
+use Rattle.std.proofs.Common.{subst, arith}
 use Rattle.std.proofs.lemmas.Bool.Decides.{nat_tests}
 use Rattle.std.proofs.lemmas.Bool.{eqb-true, false≢true}
 use Rattle.std.proofs.lemmas.List.{take_more, take_all}
@@ -15,15 +16,10 @@ use Rattle.csv.specs.Reading.{default_config}
 use Rattle.csv.specs.declared.parser.Action.TheVariants as act
 use Rattle.csv.specs.declared.parser.State.{State}
 use Rattle.csv.specs.declared.parser.State.TheVariants as st
-use Rattle.trend_num.specs.declared.point.Point.{Point}
-use Rattle.trend_num.specs.Names.{IsName, is_name_byte}
-use Rattle.trend_num.specs.Numerals.{digits_value, numeral, signed_by, unsigned_numeral}
+use Rattle.trend_num.specs.{Point, IsName, is_name_byte, digits_value, numeral, signed_by, unsigned_numeral}
 use Rattle.trend_num.proofs.Numbers.{digit_at, digit_code}
-use Rattle.point_text.specs.FirstPoint.{IsFirstPoint}
-use Rattle.point_text.specs.Row.{point_read, point_of_fields, point_of_line}
-use Rattle.value_rows.specs.Raw.{first_place_of, raw_row}
-use Rattle.value_rows.specs.RowReader.{IsFirstRow, records_left}
-use Rattle.value_rows.specs.declared.raw.RawRow.{RawRow}
+use Rattle.point_text.specs.{IsFirstPoint, point_read, point_of_fields, point_of_line}
+use Rattle.value_rows.specs.{first_place_of, raw_row, IsFirstRow, records_left, RawRow}
 use Rattle.value_rows.proofs.Left.{first_left, same_next}
 
 -- neither a quote, a comma, a carriage return nor a line feed

@@ -1,5 +1,6 @@
 -- What a reader has of a text that was scanned so far, and what it then reads of the text that is cut there.
-use Rattle.std.proofs.Common.{All, ◌≡◌, inr, ℕ, ◌+◌, ◌<◌, ◌≤◌, ◌==◌, ◌||◌, Bool, true, false, cond, List, [], ◌∷◌, ◌++◌, None, Some, length, get_or, take, drop, refl, sym, ap, ◌∙◌, append_assoc, length-append, take-append-drop, arith, subst}
+use Rattle.std.proofs.Common.{All, ◌≡◌, inr, ℕ, ◌+◌, ◌<◌, ◌≤◌, ◌==◌, ◌||◌, Bool, true, false, cond, List, [], ◌∷◌, ◌++◌, None, Some, length, get_or, take, drop, refl, sym, ap, ◌∙◌, append_assoc, length-append, take-append-drop, arith}
+use Rattle.std.proofs.Common.{subst}
 use Rattle.std.proofs.lemmas.List.{append-nil, take_more}
 use Rattle.std.proofs.lemmas.List.Elements.{All-append, All-cons, All-nil, All-push}
 use Rattle.csv.specs.Machine.{Read, ends_at_end, field_after, fields_after, is_end, next_record, step}
@@ -8,9 +9,7 @@ use Rattle.csv.specs.declared.parser.Action.{Action}
 use Rattle.csv.specs.declared.parser.Action.TheVariants as act
 use Rattle.csv.specs.declared.parser.State.{State}
 use Rattle.csv.specs.declared.parser.State.TheVariants as st
-use Rattle.value_rows.specs.Narrow.{AgreeUpToWide, IsNarrow, IsWide, ended_after, part_after}
-use Rattle.value_rows.specs.RowReader.{records_left}
-use Rattle.value_rows.specs.declared.narrow.FieldPart.{FieldPart}
+use Rattle.value_rows.specs.{AgreeUpToWide, IsNarrow, IsWide, ended_after, part_after, records_left, FieldPart}
 use Rattle.value_rows.specs.declared.narrow.FieldPart.TheVariants.{Begin, Unquoted, Quoted, BehindQuote}
 use Rattle.value_rows.proofs.Between.{step_ends}
 use Rattle.value_rows.proofs.Follow.{Follows, Stands, count_after, follows, part_of}

@@ -3,11 +3,10 @@ use Rattle.std.proofs.Common.{All, ◌≡◌, ℕ, ◌+◌, ◌<◌, ◌≤◌, 
 use Rattle.std.proofs.lemmas.List.{append-nil, map-append}
 use Rattle.std.proofs.lemmas.List.Elements.{All-push}
 use Rattle.csv.specs.declared.reader.Reader.{Reader}
-use Rattle.trend_num.specs.declared.refusal.Reason.{Reason}
+use Rattle.trend_num.specs.{Reason}
 use Rattle.point_text.specs.declared.failure.RowNo.TheVariants.{BadRow, TooMany}
 use Rattle.point_text.proofs.RowList.{all_read, rows_from-all, rows_from-bad, rows_from-more}
-use Rattle.value_rows.specs.Reading.{rows_read}
-use Rattle.value_rows.specs.RowReader.{HasLeft, IsNext, ReadsRecords}
+use Rattle.value_rows.specs.{rows_read, HasLeft, IsNext, ReadsRecords}
 
 -- of records that read so, these rows were read, as many as counted and no more than allowed; the reader has the others
 -- left

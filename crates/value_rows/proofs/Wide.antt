@@ -1,14 +1,12 @@
 -- Lemmas on records that agree up to a wide one: the same rows are read of them, or they are refused for the same reason.
-use Rattle.std.proofs.Common.{◌≡◌, inl, inr, ℕ, suc, ◌+◌, ◌-◌, ◌<◌, ◌≤◌, true, false, List, [], ◌∷◌, ◌++◌, Result, Ok, Err, length, map, take, drop, take-add, take_at, drop_at, nat_lt, refl, sym, ap, ◌∙◌, append_assoc, length-append, subst, arith, ltb-true, ltb-false}
+use Rattle.std.proofs.Common.{◌≡◌, inl, inr, ℕ, suc, ◌+◌, ◌-◌, ◌<◌, ◌≤◌, true, false, List, [], ◌∷◌, ◌++◌, Result, Ok, Err, length, map, take, drop, take-add, take_at, drop_at, nat_lt, refl, sym, ap, ◌∙◌, append_assoc, length-append, subst}
+use Rattle.std.proofs.Common.{arith, ltb-true, ltb-false}
 use Rattle.std.proofs.lemmas.Bool.Decides.{nat_tests}
 use Rattle.std.proofs.lemmas.List.{map-append, take-append-le}
-use Rattle.trend_num.specs.declared.refusal.Reason.{Reason}
+use Rattle.trend_num.specs.{Reason}
 use Rattle.trend_num.specs.declared.refusal.Reason.TheVariants.{Fields}
-use Rattle.point_text.specs.declared.failure.RowNo.{RowNo}
-use Rattle.point_text.specs.Row.{all_rows, unless_more, with_first}
-use Rattle.value_rows.specs.Narrow.{AgreeUpToWide, IsWide, RefusesWide}
-use Rattle.value_rows.specs.Reading.{rows_read, text_records_of}
-use Rattle.value_rows.specs.RowReader.{ReadsRecords, reads_behind}
+use Rattle.point_text.specs.{RowNo, all_rows, unless_more, with_first}
+use Rattle.value_rows.specs.{AgreeUpToWide, IsWide, RefusesWide, rows_read, text_records_of, ReadsRecords, reads_behind}
 
 -- the first bad one of some reads is the same, whatever follows one that is bad
 first_bad : {R : Type 0} (front : List (Result R Reason)) (why : Reason)

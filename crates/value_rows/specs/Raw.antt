@@ -1,13 +1,9 @@
 -- The rows of a collector: a tag, a time and a value.
 use Rattle.std.specs.Prelude.{ℕ, ◌<◌, List, [], ◌∷◌, Option, None, Some, length, position, Result, Ok, Err}
 use Rattle.std.specs.Str.{bytes_eq}
-use Rattle.trend_num.specs.declared.point.Point.{Point}
-use Rattle.trend_num.specs.declared.refusal.Reason.{Reason}
+use Rattle.trend_num.specs.{Point, Reason, numeral, InRange}
 use Rattle.trend_num.specs.declared.refusal.Reason.TheVariants.{Fields, Name}
-use Rattle.trend_num.specs.Numerals.{numeral}
-use Rattle.trend_num.specs.Ranges.{InRange}
-use Rattle.point_text.specs.Row.{point_read}
-use Rattle.point_text.specs.declared.failure.RowNo.{RowNo}
+use Rattle.point_text.specs.{point_read, RowNo}
 use Rattle.value_rows.specs.declared.raw.RawRow.{RawRow}
 use Rattle.value_rows.specs.Reading.{rows_of_text}
 

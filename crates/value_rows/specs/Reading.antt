@@ -1,9 +1,8 @@
 -- Rows of a text of comma-separated records, of any kind.
 use Rattle.std.specs.Prelude.{◌≡◌, ℕ, List, length, map, take, Result, Err}
 use Rattle.csv.specs.Reading.{default_config, records, strip_bom}
-use Rattle.trend_num.specs.declared.refusal.Reason.{Reason}
-use Rattle.point_text.specs.Row.{all_rows, unless_more}
-use Rattle.point_text.specs.declared.failure.RowNo.{RowNo}
+use Rattle.trend_num.specs.{Reason}
+use Rattle.point_text.specs.{all_rows, unless_more, RowNo}
 use Rattle.point_text.specs.declared.failure.RowNo.TheVariants.{BadRow, TooMany, WantOfMemory}
 
 -- the records of a text, each as its fields: no header row, records of any length, and without a byte order mark

@@ -10,8 +10,7 @@ use Rattle.csv.specs.declared.parser.State.{State}
 use Rattle.csv.specs.declared.parser.State.TheVariants as st
 use Rattle.csv.specs.declared.reader.Reader.{Reader}
 use Rattle.csv.specs.declared.reader.Trim.TheVariants as trim
-use Rattle.trend_num.specs.declared.refusal.Reason.{Reason}
-use Rattle.trend_num.specs.Names.{IsName}
+use Rattle.trend_num.specs.{Reason, IsName}
 use Rattle.value_rows.specs.Raw.{first_place_of}
 use Rattle.value_rows.specs.Reading.{text_records_of}
 

@@ -1,6 +1,6 @@
 // The rows of a reader.
 ghost use Rattle.std.specs.Prelude.{◌≡◌, ◌<◌, ◌^◌, ◌≤◌, All, length, vec_len, Ok, IfOk, IfErr, IfSome};
-ghost use Rattle.trend_num.specs.Ranges.{last_time};
+ghost use Rattle.trend_num.specs.{last_time};
 ghost use Rattle.value_rows.specs.Asked.{IsQuery, query_row, query_rows, asked_group_place, calc_names_at, snap_row, at_row, span_of, points_row, window_row, calc_row, one_field, two_fields, three_fields};
 ghost use Rattle.value_rows.specs.Raw.{first_place_of};
 ghost use Rattle.value_rows.specs.Reading.{AreRefusedFor};

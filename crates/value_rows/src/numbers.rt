@@ -1,7 +1,6 @@
 // Numbers within a range.
 ghost use Rattle.std.specs.Prelude.{◌≡◌, ◌≤◌, IfSome};
-ghost use Rattle.trend_num.specs.Numerals.{natural_upto};
-ghost use Rattle.trend_num.specs.Ranges.{last_time};
+ghost use Rattle.trend_num.specs.{natural_upto, last_time};
 
 use trend_num::MAX_T;
 

@@ -1,7 +1,7 @@
 // Looks up the places of names.
 ghost use Rattle.std.specs.Prelude.{◌≡◌, ◌<◌, ◌^◌, All, length, replicate, IfOk, IfSome};
 ghost use Rattle.std.specs.BTreeMap.{BTreeMap};
-ghost use Rattle.trend_num.specs.Names.{IsName};
+ghost use Rattle.trend_num.specs.{IsName};
 ghost use Rattle.value_rows.specs.Raw.{first_place_of};
 ghost use Rattle.value_rows.specs.RowReader.{ArePlaces, IsHint};
 

@@ -1,8 +1,7 @@
 // The rows of a collector.
 ghost use Rattle.std.specs.Prelude.{◌≡◌, ◌<◌, ◌^◌, All, length, Ok, IfOk, IfErr};
-ghost use Rattle.trend_num.specs.Numerals.{numeral};
-ghost use Rattle.trend_num.specs.Ranges.{InRange};
-ghost use Rattle.point_text.specs.Row.{point_read};
+ghost use Rattle.trend_num.specs.{numeral, InRange};
+ghost use Rattle.point_text.specs.{point_read};
 ghost use Rattle.value_rows.specs.Raw.{IsRawRow, raw_row, raw_rows};
 ghost use Rattle.value_rows.specs.Reading.{AreRefusedFor};
 

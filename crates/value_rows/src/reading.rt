@@ -2,7 +2,7 @@
 ghost use Rattle.std.specs.Prelude.{◌≡◌, ◌≤◌, ◌∷◌, ◌++◌, [], ℕ, All, List, Result, length, IfOk, IfErr};
 ghost use Rattle.csv.specs.Records.{fields_of};
 ghost use Rattle.point_text.specs.declared.failure.RowNo.TheVariants.{WantOfMemory};
-ghost use Rattle.trend_num.specs.declared.refusal.Reason.{Reason};
+ghost use Rattle.trend_num.specs.{Reason};
 ghost use Rattle.value_rows.specs.Narrow.{RefusesWide};
 ghost use Rattle.value_rows.specs.Reading.{AreRefusedFor, text_records_of, rows_of_text, rows_read};
 ghost use Rattle.value_rows.specs.RowReader.{HasLeft, IsNext, reads_behind};

@@ -1,39 +1,25 @@
 -- The ends of a window's shape, and the points inside.
-use Rattle.std.proofs.Common.{◌≡◌, ℕ, zero, suc, ◌+◌, ◌-◌, ◌<◌, ◌≤◌, inl, inr, ℤ, pos, Bool, true, false}
-use Rattle.std.proofs.Common.{nat_lt, nat_le, List, [], ◌∷◌, ◌++◌, Option, None, Some, All, get_or}
-use Rattle.std.proofs.Common.{take, drop, refl, sym, ap, ap₂, ◌∙◌, subst, arith, append-nil}
+use Rattle.std.proofs.Common.{◌≡◌, ℕ, zero, suc, ◌+◌, ◌-◌, ◌<◌, ◌≤◌, inl, inr, ℤ, pos, Bool, true, false, nat_lt, nat_le, List, [], ◌∷◌, ◌++◌, Option, None, Some, All, get_or, take, drop, refl, sym, ap, ap₂, ◌∙◌, subst, arith, append-nil}
 use Rattle.std.specs.Prelude.{◌&&◌, count_by, slice_range}
 use Rattle.std.specs.List.{filter}
 use Rattle.std.specs.Option.{option_to_list}
-use Rattle.std.proofs.lemmas.Bool.{and_left, and_parts, and_right, cases_lt, false≢true, le-leb, le-ltb}
-use Rattle.std.proofs.lemmas.Bool.{leb-true, lt-leb, lt-ltb}
+use Rattle.std.proofs.lemmas.Bool.{and_left, and_parts, and_right, cases_lt, false≢true, le-leb, le-ltb, leb-true, lt-leb, lt-ltb}
 use Rattle.std.proofs.lemmas.List.{get_or-drop, get_or-take, length-drop, length-take}
-use Rattle.std.proofs.lemmas.List.Elements.{All-append, All-cons, All-drop, All-head, All-nil, All-take}
-use Rattle.std.proofs.lemmas.List.Elements.{All-weaker, filter-append}
+use Rattle.std.proofs.lemmas.List.Elements.{All-append, All-cons, All-drop, All-head, All-nil, All-take, All-weaker, filter-append}
 use Rattle.std.proofs.lemmas.Slice.{between_is}
-use Rattle.trend_num.specs.declared.archive.Rec.{Rec}
-use Rattle.trend_num.specs.declared.point.Point.{Point}
-use Rattle.trend_num.specs.Ranges.{InRange, last_time}
-use Rattle.trend_model.specs.Contents.{IsRising, points_of}
-use Rattle.trend_model.specs.Lists.{IfThere}
-use Rattle.trend_model.specs.Parts.{PointsRise, RisesAfter, last_point}
-use Rattle.trend_model.specs.Reads.{read_at, value_read}
-use Rattle.trend_model.specs.Windows.{end_at, is_covered, last_from, last_time_from}
+use Rattle.trend_num.specs.{Rec, Point, InRange, last_time}
+use Rattle.trend_model.specs.{IsRising, points_of, IfThere, PointsRise, RisesAfter, last_point, read_at, value_read, end_at, is_covered, last_from, last_time_from, IsNotBefore}
 use Rattle.trend_model.proofs.Covering.{covered_read}
 use Rattle.trend_model.proofs.ReadLaw.{points_rise}
 use Rattle.trend_model.proofs.WindowLaw.{inside, rises_rest}
-use Rattle.trend_model.specs.Contents.{IsNotBefore}
-use Rattle.interp_read.specs.Closing.{points_closed_by}
+use Rattle.interp_read.specs.{points_closed_by, AreNeighbours}
 use Rattle.interp_read.proofs.ClosedPoints.{IsClosed, closed, closed_in_range, closed_rise}
 use Rattle.interp_read.proofs.Listing.{kept_middle}
-use Rattle.interp_read.proofs.RisingPoints.{Before, From, IsGapAt, first_parts, gap_at, no_first, no_last}
-use Rattle.interp_read.proofs.RisingPoints.{rises_push}
-use Rattle.interp_read.specs.NextTo.{AreNeighbours}
+use Rattle.interp_read.proofs.RisingPoints.{Before, From, IsGapAt, first_parts, gap_at, no_first, no_last, rises_push}
 use Rattle.interp_read.proofs.ReadsNextTo.{before_is}
 use Rattle.weighted_total.proofs.Walking.{last_is}
 use Rattle.weighted_total.proofs.Sums.{last_joined, last_from_all}
-use Rattle.weighted_total.specs.declared.shape.Ends.{Ends}
-use Rattle.weighted_total.specs.Shapes.{IsShape, counted}
+use Rattle.weighted_total.specs.{Ends, IsShape, counted}
 use Rattle.interp_read.proofs.Readable.{readable, value_small}
 
 -- ---- what a window covers

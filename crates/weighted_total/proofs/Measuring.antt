@@ -1,20 +1,14 @@
 -- Measures of the points between two ends, and of these.
-use Rattle.std.proofs.Common.{◌≡◌, ℕ, ◌-◌, ◌*◌, ◌^◌, ◌≤◌, ℤ, pos, ◌+ℤ◌, Bool, true, List, [], ◌∷◌, ◌++◌, Some}
-use Rattle.std.proofs.Common.{All, length, refl, sym, ap, ◌∙◌, subst, arith}
+use Rattle.std.proofs.Common.{◌≡◌, ℕ, ◌-◌, ◌*◌, ◌^◌, ◌≤◌, ℤ, pos, ◌+ℤ◌, Bool, true, List, [], ◌∷◌, ◌++◌, Some, All, length, refl, sym, ap, ◌∙◌, subst, arith}
 use Rattle.std.specs.Prelude.{count_by, nat_lt, unsigned_abs}
 use Rattle.std.proofs.lemmas.Int.{ints}
 use Rattle.std.proofs.lemmas.List.{get_or_append_left, length-append}
 use Rattle.std.proofs.lemmas.List.Edits.{length-between}
-use Rattle.trend_num.specs.declared.archive.Rec.{Rec}
-use Rattle.trend_num.specs.declared.point.Point.{Point}
-use Rattle.trend_num.specs.Ranges.{InRange, largest_value, last_time}
-use Rattle.trend_model.specs.Contents.{IsRising, points_of}
-use Rattle.trend_model.specs.Windows.{area, but_last, greatest_from, last_from, least_from}
-use Rattle.trend_model.specs.Windows.{of_first, piece, taken_values}
+use Rattle.trend_num.specs.{Rec, Point, InRange, largest_value, last_time}
+use Rattle.trend_model.specs.{IsRising, points_of, area, but_last, greatest_from, last_from, least_from, of_first, piece, taken_values}
 use Rattle.trend_model.proofs.ReadLaw.{points_rise}
 use Rattle.interp_read.proofs.RisingPoints.{IsGapAt, gap_at}
-use Rattle.weighted_total.specs.declared.shape.Ends.{Ends}
-use Rattle.weighted_total.specs.Shapes.{AreEnds, counted, inner, outline}
+use Rattle.weighted_total.specs.{Ends, AreEnds, counted, inner, outline}
 use Rattle.weighted_total.proofs.EndsOf.{counted_places, gaps_rise}
 use Rattle.weighted_total.proofs.Sums.{area_joined, area_small, last_in_range, last_joined, piece_bounded}
 use Rattle.weighted_total.proofs.Walking.{rises_front, rises_seam}

@@ -1,17 +1,14 @@
 -- Totals of lists of points.
-use Rattle.std.proofs.Common.{◌≡◌, ℕ, ◌+◌, ◌-◌, ◌*◌, ◌≤◌, ℤ, pos, ◌+ℤ◌, Bool, true, false, List, [], ◌∷◌}
-use Rattle.std.proofs.Common.{◌++◌, All, refl, sym, ap, ◌∙◌, fold, arith}
+use Rattle.std.proofs.Common.{◌≡◌, ℕ, ◌+◌, ◌-◌, ◌*◌, ◌≤◌, ℤ, pos, ◌+ℤ◌, Bool, true, false, List, [], ◌∷◌, ◌++◌, All, refl, sym, ap, ◌∙◌, fold, arith}
 use Rattle.std.specs.Prelude.{unsigned_abs}
 use Rattle.std.specs.Int.{int_min, int_max}
 use Rattle.std.proofs.lemmas.Int.{ints, unsigned_abs-mul}
 use Rattle.std.proofs.lemmas.List.Elements.{All-head, All-tail}
 use Rattle.std.proofs.lemmas.Nat.{mul-le}
 use Rattle.std.proofs.Math.Nat.{mul-le-mul_right}
-use Rattle.trend_num.specs.declared.point.Point.{Point}
-use Rattle.trend_num.specs.Ranges.{InRange, largest_value, last_time}
-use Rattle.trend_model.specs.Parts.{RisesAfter}
-use Rattle.trend_model.specs.Windows.{area, greater, greatest_from, last_from, least_from, lesser, piece}
-use Rattle.late_insert.specs.Totals.{greatest_of, least_of}
+use Rattle.trend_num.specs.{Point, InRange, largest_value, last_time}
+use Rattle.trend_model.specs.{RisesAfter, area, greater, greatest_from, last_from, least_from, lesser, piece}
+use Rattle.late_insert.specs.{greatest_of, least_of}
 
 -- ---- areas of lists that are joined
 

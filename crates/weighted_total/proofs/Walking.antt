@@ -1,20 +1,13 @@
 -- A walk over the points of a window, in runs.
-use Rattle.std.proofs.Common.{◌≡◌, ℕ, ◌-◌, ◌*◌, ◌<◌, ◌≤◌, ℤ, ◌+ℤ◌, Bool, List, [], ◌∷◌}
-use Rattle.std.proofs.Common.{◌++◌, Some, All, length}
-use Rattle.std.proofs.Common.{refl, sym, ap, ap₂, ◌∙◌, subst, arith, append_assoc, append-nil}
+use Rattle.std.proofs.Common.{◌≡◌, ℕ, ◌-◌, ◌*◌, ◌<◌, ◌≤◌, ℤ, ◌+ℤ◌, Bool, List, [], ◌∷◌, ◌++◌, Some, All, length, refl, sym, ap, ap₂, ◌∙◌, subst, arith, append_assoc, append-nil}
 use Rattle.std.specs.Prelude.{drop, slice_get, slice_range, unsigned_abs}
 use Rattle.std.proofs.lemmas.List.Elements.{All-cons, All-drop, All-take}
-use Rattle.trend_num.specs.declared.archive.Rec.{Rec}
-use Rattle.trend_num.specs.declared.point.Point.{Point}
-use Rattle.trend_model.specs.Contents.{points_of}
-use Rattle.trend_num.specs.Ranges.{InRange, largest_value, last_time}
-use Rattle.trend_model.specs.Parts.{RisesAfter, last_point}
-use Rattle.trend_model.specs.Windows.{area, greater, greatest_from, last_from, least_from, lesser, piece}
-use Rattle.late_insert.specs.Totals.{greatest_of, least_of}
+use Rattle.trend_num.specs.{Rec, Point, InRange, largest_value, last_time}
+use Rattle.trend_model.specs.{points_of, RisesAfter, last_point, area, greater, greatest_from, last_from, least_from, lesser, piece}
+use Rattle.late_insert.specs.{greatest_of, least_of}
 use Rattle.late_insert.proofs.Joining.{all_left, all_right}
 use Rattle.interp_read.proofs.RisingPoints.{first_parts}
-use Rattle.weighted_total.proofs.Sums.{area_joined, area_small, greatest_joined, greatest_of_is, last_joined}
-use Rattle.weighted_total.proofs.Sums.{least_joined, least_of_is}
+use Rattle.weighted_total.proofs.Sums.{area_joined, area_small, greatest_joined, greatest_of_is, last_joined, least_joined, least_of_is}
 
 -- the last of some points
 pub last_is : (p : Point) (rest : List Point) → last_point (p ∷ rest) ≡ Some (last_from p rest)

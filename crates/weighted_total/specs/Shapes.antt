@@ -1,11 +1,8 @@
 -- The shape of a window, from its ends and the places of the points between them.
-use Rattle.std.specs.Prelude.{◌≡◌, ◌≤◌, ℕ, Bool, true, List, [], ◌∷◌, ◌++◌, length, nat_le, nat_lt, ◌&&◌}
-use Rattle.std.specs.Prelude.{slice_range, All}
+use Rattle.std.specs.Prelude.{◌≡◌, ◌≤◌, ℕ, Bool, true, List, [], ◌∷◌, ◌++◌, length, nat_le, nat_lt, ◌&&◌, slice_range, All}
 use Rattle.std.specs.List.{filter}
-use Rattle.trend_num.specs.declared.point.Point.{Point}
-use Rattle.trend_num.specs.Ranges.{InRange}
-use Rattle.trend_model.specs.Parts.{PointsRise}
-use Rattle.trend_model.specs.Windows.{is_covered, shape}
+use Rattle.trend_num.specs.{Point, InRange}
+use Rattle.trend_model.specs.{PointsRise, is_covered, shape}
 use Rattle.weighted_total.specs.declared.shape.Ends.{Ends}
 
 -- the points between the ends, and the same points with the ends

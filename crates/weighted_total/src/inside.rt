@@ -1,11 +1,7 @@
 // Totals over points of a content that follow one another.
-ghost use Rattle.std.specs.Prelude.{◌≡◌, ◌+◌, ◌*◌, ◌≤◌, ◌+ℤ◌, ◌∷◌, length, slice_range};
-ghost use Rattle.std.specs.Prelude.{unsigned_abs};
-ghost use Rattle.trend_num.specs.Ranges.{InRange, largest_value, last_time};
-ghost use Rattle.trend_model.specs.Contents.{points_of};
-ghost use Rattle.trend_model.specs.Parts.{PointsRise};
-ghost use Rattle.trend_model.specs.Windows.{area, greater, greatest_from, last_from, least_from, lesser};
-ghost use Rattle.trend_model.specs.Windows.{piece};
+ghost use Rattle.std.specs.Prelude.{◌≡◌, ◌+◌, ◌*◌, ◌≤◌, ◌+ℤ◌, ◌∷◌, length, slice_range, unsigned_abs};
+ghost use Rattle.trend_num.specs.{InRange, largest_value, last_time};
+ghost use Rattle.trend_model.specs.{points_of, PointsRise, area, greater, greatest_from, last_from, least_from, lesser, piece};
 
 use late_insert::{Content, piece};
 use trend_num::Point;

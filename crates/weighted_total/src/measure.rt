@@ -1,12 +1,8 @@
 // The measures of a window.
 ghost use Rattle.std.specs.Prelude.{◌≡◌, ◌^◌, ◌<◌, ◌≤◌, Some, true, false, length, unsigned_abs};
-ghost use Rattle.trend_num.specs.Ranges.{InRange, last_time};
-ghost use Rattle.trend_model.specs.Contents.{points_of};
-ghost use Rattle.trend_model.specs.Lists.{IfThere};
-ghost use Rattle.trend_model.specs.Windows.{area, greatest_from, least_from, measured, of_first};
-ghost use Rattle.trend_model.specs.Windows.{taken_values, window_value};
-ghost use Rattle.trend_model.specs.Contents.{IsNotBefore};
-ghost use Rattle.interp_read.specs.Closing.{points_closed_by};
+ghost use Rattle.trend_num.specs.{InRange, last_time};
+ghost use Rattle.trend_model.specs.{points_of, IfThere, area, greatest_from, least_from, measured, of_first, taken_values, window_value, IsNotBefore};
+ghost use Rattle.interp_read.specs.{points_closed_by};
 ghost use Rattle.weighted_total.specs.Shapes.{AreEnds, counted, outline};
 
 use crate::inside::{Extremes, area_inside, extremes_inside, sum, widened};

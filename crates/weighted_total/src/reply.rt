@@ -1,11 +1,8 @@
 // The reply of a tag to a question.
 ghost use Rattle.std.specs.Prelude.{IfOk};
-ghost use Rattle.trend_num.specs.Queries.{IsTagQuery};
-ghost use Rattle.trend_num.specs.Ranges.{InRange};
-ghost use Rattle.trend_model.specs.Contents.{IsNotBefore};
-ghost use Rattle.trend_model.specs.Lists.{IfThere};
-ghost use Rattle.interp_read.specs.Closing.{points_closed_by};
-ghost use Rattle.interp_read.specs.Replies.{Answers, IsReadableReply};
+ghost use Rattle.trend_num.specs.{IsTagQuery, InRange};
+ghost use Rattle.trend_model.specs.{IsNotBefore, IfThere};
+ghost use Rattle.interp_read.specs.{points_closed_by, Answers, IsReadableReply};
 
 use crate::measure::window_value;
 use interp_read::{Reply, points, read_at};

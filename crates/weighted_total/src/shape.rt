@@ -1,14 +1,8 @@
 // The shape of a window.
 ghost use Rattle.std.specs.Prelude.{◌≡◌, ◌<◌, ◌≤◌, IfNone, IfSome, false};
-ghost use Rattle.trend_num.specs.Ranges.{InRange, last_time};
-ghost use Rattle.trend_model.specs.Contents.{points_of};
-ghost use Rattle.trend_model.specs.Lists.{IfThere};
-ghost use Rattle.trend_model.specs.Reads.{read_at, value_read};
-ghost use Rattle.trend_model.specs.Windows.{is_covered};
-ghost use Rattle.trend_model.specs.Contents.{IsNotBefore};
-ghost use Rattle.interp_read.specs.Closing.{points_closed_by};
-ghost use Rattle.interp_read.specs.NextTo.{AreNeighbours};
-ghost use Rattle.interp_read.specs.Readable.{IsReadable};
+ghost use Rattle.trend_num.specs.{InRange, last_time};
+ghost use Rattle.trend_model.specs.{points_of, IfThere, read_at, value_read, is_covered, IsNotBefore};
+ghost use Rattle.interp_read.specs.{points_closed_by, AreNeighbours, IsReadable};
 ghost use Rattle.weighted_total.specs.Shapes.{IsShape};
 
 use interp_read::{Neighbours, Reading, neighbours_at, reading_of};

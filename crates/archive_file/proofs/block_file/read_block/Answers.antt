@@ -1,5 +1,5 @@
 use Rattle.std.proofs.Common.{Err, length, ap, arith, length-drop}
-use Rattle.disk_model.specs.Traces.{seen}
+use Rattle.disk_model.specs.{seen}
 use Rattle.archive_file.proofs.Windows.{breaks_low}
 use Rattle.archive_file.proofs.block_file.read_block.Goals as goal
 

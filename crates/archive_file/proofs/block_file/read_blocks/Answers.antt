@@ -1,8 +1,7 @@
 use Rattle.std.proofs.Common.{◌+◌, ◌<◌, ◌∙◌, drop, ap, subst, arith}
 use Rattle.std.proofs.lemmas.Result.{err_from_is_err_and}
 use Rattle.std.specs.Prelude.{IfSome}
-use Rattle.disk_model.specs.Gates.{IsOpen}
-use Rattle.disk_model.specs.Traces.{seen}
+use Rattle.disk_model.specs.{IsOpen, seen}
 use Rattle.archive_file.proofs.BlockFiles.{broken_next, read_next}
 use Rattle.archive_file.proofs.FieldLaws.{told_through}
 use Rattle.archive_file.proofs.block_file.read_blocks.Goals as goal

@@ -1,6 +1,5 @@
 use Rattle.std.proofs.Common.{◌≡◌, ◌-◌, ◌<◌, drop}
-use Rattle.disk_model.specs.Calls.{HasLength, Shows}
-use Rattle.disk_model.specs.Traces.{seen}
+use Rattle.disk_model.specs.{HasLength, Shows, seen}
 use Rattle.archive_file.proofs.BlockFiles.{IsReadTo}
 use Rattle.archive_file.proofs.block_file.read_blocks.Given as goal
 

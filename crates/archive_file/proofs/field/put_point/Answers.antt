@@ -2,7 +2,7 @@ use Rattle.std.proofs.Common.{◌≡◌, ◌++◌, ap, ◌∙◌, arith}
 use Rattle.std.specs.Int.{w64}
 use Rattle.std.proofs.lemmas.Int.{to_z-of_z}
 use mir.Val.{of_z, to_z}
-use Rattle.archive_file.specs.Fields.{number_bytes, value_bytes}
+use Rattle.archive_file.specs.{number_bytes, value_bytes}
 use Rattle.archive_file.proofs.Joins.{joined}
 use Rattle.archive_file.proofs.field.put_point.Goals as goal
 

@@ -1,6 +1,5 @@
 use Rattle.std.proofs.Common.{◌≡◌, ◌+◌, ◌≤◌, ◌∷◌, [], true, All, OnOk, Result, arith, length, lit<, ap, ◌∙◌, subst}
-use Rattle.archive_file.specs.LayoutFields.{Keeps}
-use Rattle.archive_file.specs.TextHeads.{head_fields}
+use Rattle.archive_file.specs.{Keeps, head_fields}
 use Rattle.archive_file.proofs.FieldLaws.{field_of}
 use Rattle.archive_file.proofs.head_reader.check_head.Goals as goal
 

@@ -1,8 +1,6 @@
 use Rattle.std.proofs.Common.{◌≡◌, All, rules, sym, ap, ◌∙◌, subst}
-use Rattle.disk_model.specs.Gates.{IsBegun}
-use Rattle.disk_model.specs.Traces.{seen}
-use Rattle.archive_file.specs.LayoutFields.{Keeps}
-use Rattle.archive_file.specs.TextHeads.{head_fields, text_in}
+use Rattle.disk_model.specs.{IsBegun, seen}
+use Rattle.archive_file.specs.{Keeps, head_fields, text_in}
 use Rattle.archive_file.proofs.head_reader.read_text.Goals as goal
 
 pub returns-clause-text : goal.returns-clause-text

@@ -1,4 +1,4 @@
-use Rattle.disk_model.specs.Traces.{seen}
+use Rattle.disk_model.specs.{seen}
 use Rattle.archive_file.proofs.head_reader.read_text.Given as goal
 
 -- all bytes of the device

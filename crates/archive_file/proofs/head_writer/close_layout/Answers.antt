@@ -1,7 +1,7 @@
 use Rattle.std.proofs.Common.{arith, ap}
 use Rattle.archive_file.proofs.Beginnings.{closed_counted, left_closed, left_kept, left_then_synced, left_wrote, wrote_counted}
 use Rattle.archive_file.proofs.head_writer.close_layout.Goals as goal
-use Rattle.disk_model.specs.Traces.{moment}
+use Rattle.disk_model.specs.{moment}
 
 pub returns-in_err-len-clause-any_moment : goal.returns-in_err-len-clause-any_moment
 returns-in_err-len-clause-any_moment g c = left_kept _ _ c.len.ensures.same

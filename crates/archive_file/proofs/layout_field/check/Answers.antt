@@ -2,7 +2,7 @@ use Rattle.std.proofs.Common.{◌+◌, ◌++◌, Err, take, drop, sym, ap, ◌�
 use Rattle.std.proofs.lemmas.Result.{err_from_is_err_and}
 use Rattle.std.proofs.lemmas.List.{drop_more, take-append-drop, take_all}
 use Rattle.std.proofs.lemmas.List.Elements.{All-more}
-use Rattle.archive_file.specs.LayoutFields.{Keeps}
+use Rattle.archive_file.specs.{Keeps}
 use Rattle.archive_file.proofs.layout_field.check.Goals as goal
 
 pub loop-field-preserved : goal.loop-field-preserved

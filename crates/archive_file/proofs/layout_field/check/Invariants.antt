@@ -1,5 +1,5 @@
 use Rattle.std.proofs.Common.{All, take}
-use Rattle.archive_file.specs.LayoutFields.{Keeps}
+use Rattle.archive_file.specs.{Keeps}
 use Rattle.archive_file.proofs.layout_field.check.Given as goal
 
 abbrev pub invariant-loop-field : goal.invariant-loop-field

@@ -1,7 +1,7 @@
 use Rattle.std.proofs.Common.{◌≡◌, ◌≤◌, inr, refl, ap, ◌∙◌, drop, arith}
 use Rattle.std.proofs.lemmas.List.{take_rest}
-use Rattle.trend_num.specs.Ranges.{last_time}
-use Rattle.archive_file.specs.Fields.{point_at}
+use Rattle.trend_num.specs.{last_time}
+use Rattle.archive_file.specs.{point_at}
 use Rattle.archive_file.proofs.Logs.{value_breaks}
 use Rattle.archive_file.proofs.log.bad_place.Goals as goal
 

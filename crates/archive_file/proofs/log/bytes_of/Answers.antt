@@ -1,6 +1,6 @@
 use Rattle.std.proofs.Common.{◌++◌, sym, ap, ◌∙◌, take}
 use Rattle.std.proofs.lemmas.List.{get_or_default}
-use Rattle.archive_file.specs.Records.{rec_image, recs_image}
+use Rattle.archive_file.specs.{rec_image, recs_image}
 use Rattle.archive_file.proofs.Joins.{images_more}
 use Rattle.archive_file.proofs.log.bytes_of.Goals as goal
 

@@ -1,5 +1,5 @@
 use Rattle.std.proofs.Common.{◌≡◌, take}
-use Rattle.archive_file.specs.Records.{recs_image}
+use Rattle.archive_file.specs.{recs_image}
 use Rattle.archive_file.proofs.log.bytes_of.Given as goal
 
 abbrev pub invariant-loop-r : goal.invariant-loop-r

@@ -1,5 +1,5 @@
 use Rattle.std.proofs.Common.{◌≡◌, ◌+◌, vec_len, vec_capacity}
-use Rattle.archive_file.specs.Places.{Adds}
+use Rattle.archive_file.specs.{Adds}
 use Rattle.archive_file.proofs.log.parse.Given as goal
 
 abbrev pub invariant-loop-k : goal.invariant-loop-k

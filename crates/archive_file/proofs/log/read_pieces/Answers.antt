@@ -1,9 +1,8 @@
 use Rattle.std.proofs.Common.{◌≡◌, ◌+◌, ◌*◌, Err, length, subst, sym, ap, ◌∙◌, arith}
 use Rattle.std.proofs.lemmas.List.{length-take}
 use Rattle.std.proofs.lemmas.Result.{err_from_is_err_and}
-use Rattle.disk_model.specs.Traces.{seen}
-use Rattle.disk_model.specs.Calls.{Reads}
-use Rattle.archive_file.specs.Places.{Adds}
+use Rattle.disk_model.specs.{seen, Reads}
+use Rattle.archive_file.specs.{Adds}
 use Rattle.archive_file.proofs.Logs.{added_at, added_next, damage_next}
 use Rattle.archive_file.proofs.log.read_pieces.Goals as goal
 use Rattle.archive_file.proofs.log.read_pieces.Goals.{After-parse}

@@ -1,6 +1,6 @@
 use Rattle.std.proofs.Common.{◌≡◌, ◌+◌, ◌-◌, ◌≤◌, vec_len, vec_capacity}
-use Rattle.disk_model.specs.Traces.{seen}
-use Rattle.archive_file.specs.Places.{Adds}
+use Rattle.disk_model.specs.{seen}
+use Rattle.archive_file.specs.{Adds}
 use Rattle.archive_file.proofs.log.read_pieces.Given as goal
 
 abbrev pub invariant-loop-done : goal.invariant-loop-done

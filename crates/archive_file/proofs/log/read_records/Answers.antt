@@ -1,6 +1,6 @@
 use Rattle.std.proofs.Common.{subst}
-use Rattle.disk_model.specs.Traces.{seen}
-use Rattle.archive_file.specs.Places.{Adds}
+use Rattle.disk_model.specs.{seen}
+use Rattle.archive_file.specs.{Adds}
 use Rattle.archive_file.proofs.Logs.{added_all}
 use Rattle.archive_file.proofs.log.read_records.Goals as goal
 

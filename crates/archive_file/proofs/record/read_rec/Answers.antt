@@ -1,8 +1,7 @@
 use Rattle.std.proofs.Common.{◌≡◌, drop, Some, sym, ap, ◌∙◌, subst, arith, rules}
 use Rattle.std.proofs.lemmas.List.{take_rest}
-use Rattle.trend_num.specs.Ranges.{InRange}
-use Rattle.archive_file.specs.Fields.{point_at}
-use Rattle.archive_file.specs.Records.{rec_image}
+use Rattle.trend_num.specs.{InRange}
+use Rattle.archive_file.specs.{point_at, rec_image}
 use Rattle.archive_file.proofs.Points.{rec_here, rec_outside}
 use Rattle.archive_file.proofs.record.read_rec.Goals as goal
 

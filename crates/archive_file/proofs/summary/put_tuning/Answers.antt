@@ -1,6 +1,5 @@
 use Rattle.std.proofs.Common.{◌++◌, sym, ap, ◌∙◌}
-use Rattle.archive_file.specs.Fields.{number_bytes}
-use Rattle.archive_file.specs.Summaries.{tuning_bytes}
+use Rattle.archive_file.specs.{number_bytes, tuning_bytes}
 use Rattle.archive_file.proofs.Joins.{joined_5}
 use Rattle.archive_file.proofs.summary.put_tuning.Goals as goal
 

@@ -1,6 +1,6 @@
 use Rattle.std.proofs.Common.{◌≡◌, ◌≤◌, ◌++◌, take, drop, length, ap, ◌∙◌, arith, length-take, length-drop}
 use Rattle.std.proofs.Math.Seq.{take-append_seam}
-use Rattle.disk_model.specs.Traces.{seen}
+use Rattle.disk_model.specs.{seen}
 use Rattle.archive_file.proofs.Windows.{filled, grown_front}
 use Rattle.archive_file.proofs.window.fill.Goals as goal
 

@@ -1,6 +1,6 @@
 use Rattle.std.proofs.Common.{◌≡◌, ◌∙◌, ◌++◌, take, length, refl, subst, sym, arith}
 use Rattle.std.proofs.lemmas.Grind.{common_steps}
-use Rattle.byte_io.specs.Files.{HasAt}
+use Rattle.byte_io.specs.{HasAt}
 use Rattle.byte_io.proofs.FilePiece.{IsRead, IsRead-nil, IsRead-append}
 use Rattle.byte_io.proofs.file_reading.read_file.Goals as goal
 

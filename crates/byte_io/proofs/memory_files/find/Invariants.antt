@@ -1,5 +1,5 @@
 use Rattle.std.proofs.Common.{◌≡◌, drop}
-use Rattle.byte_io.specs.Files.{bytes_of, files_named}
+use Rattle.byte_io.specs.{bytes_of, files_named}
 use Rattle.byte_io.proofs.memory_files.find.Given as goal
 
 abbrev pub invariant-loop-file : goal.invariant-loop-file

@@ -2,7 +2,7 @@ use Rattle.std.proofs.Common.{◌≡◌, arith, rules}
 use mir.Syntax.{w128}
 use mir.Val.{SFits}
 use Rattle.std.proofs.lemmas.Int.{ints, to_z-of_z}
-use Rattle.sheet_law.specs.Number.{floor_div}
+use Rattle.sheet_law.specs.{floor_div}
 use Rattle.calc_eval.proofs.Quotient.{computed_rem}
 use Rattle.calc_eval.proofs.arithmetic.floor_rem.Goals as goal
 

@@ -1,5 +1,5 @@
 use Rattle.std.proofs.Common.{get_or, sym, ap}
-use Rattle.sheet_law.specs.Value.{points_in}
+use Rattle.sheet_law.specs.{points_in}
 use Rattle.calc_eval.proofs.Growth.{within_defs, eval_value}
 use Rattle.calc_eval.proofs.evaluation.eval.Goals as goal
 

@@ -1,8 +1,6 @@
 -- The verdict on the tokens becomes the answer for the text.
 use Rattle.std.proofs.Common.{arith, sym, ◌∙◌, ◌≡◌, subst, ap, Err, length, ◌-◌, drop, get_or, []}
-use Rattle.calc_parser.specs.Formulas.{HasFormulaCause, Gives}
-use Rattle.calc_parser.specs.Scan.{refusal_of, Stops, scan, whole}
-use Rattle.calc_parser.specs.Tokens.{tokens_of, places_of}
+use Rattle.calc_parser.specs.{HasFormulaCause, Gives, refusal_of, Stops, scan, whole, tokens_of, places_of}
 use Rattle.calc_parser.proofs.Parsing.{is_formula, only_formula, has_cause, no_formula}
 use Rattle.calc_parser.proofs.formula.parse.Goals as goal
 

@@ -1,5 +1,5 @@
 use Rattle.std.proofs.Common.{◌≡◌, ◌+◌, ◌^◌, min, take}
-use Rattle.trend_num.specs.Numerals.{digits_value}
+use Rattle.trend_num.specs.{digits_value}
 use Rattle.calc_parser.proofs.lexer.capped_value.Given as goal
 
 -- the number of the digits so far, up to one above the greatest

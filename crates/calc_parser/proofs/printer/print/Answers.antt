@@ -1,6 +1,5 @@
 use Rattle.std.proofs.Common.{◌≡◌, string_bytes, sym, subst, rules}
-use Rattle.calc_parser.specs.Canonical.{text_of}
-use Rattle.calc_parser.specs.Formulas.{IsFormula}
+use Rattle.calc_parser.specs.{text_of, IsFormula}
 use Rattle.calc_parser.specs.Tree.{tree_of}
 use Rattle.calc_parser.proofs.RoundTrip.{round_trip}
 use Rattle.calc_parser.proofs.printer.print.Goals as goal

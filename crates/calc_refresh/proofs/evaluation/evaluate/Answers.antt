@@ -2,10 +2,8 @@ use Rattle.std.proofs.Common.{◌≡◌, ℕ, ◌+◌, ◌*◌, ◌++◌, [], �
 use Rattle.std.proofs.lemmas.Bool.{cases_eq}
 use Rattle.std.proofs.lemmas.List.{take_all, take_more}
 use Rattle.std.proofs.lemmas.List.Elements.{Contains-append_left, Contains-push, Contains-push_cases}
-use Rattle.sheet_law.specs.Value.{points_in, values}
-use Rattle.sheet_law.specs.Windows.{window_from, window_to}
-use Rattle.sheet_law.specs.Scratch.{column}
-use Rattle.calc_refresh.specs.Lists.{lists_of}
+use Rattle.sheet_law.specs.{points_in, values, window_from, window_to, column}
+use Rattle.calc_refresh.specs.{lists_of}
 use Rattle.calc_refresh.proofs.Columns.{lengths_at}
 use Rattle.calc_refresh.proofs.evaluation.evaluate.Goals as goal
 

@@ -1,8 +1,6 @@
 use Rattle.std.proofs.Common.{◌≡◌, ℕ, ◌+◌, ◌*◌, Contains, Some, length, map, take, vec_len}
-use Rattle.sheet_law.specs.Value.{points_in, values}
-use Rattle.sheet_law.specs.Windows.{window_from, window_to}
-use Rattle.sheet_law.specs.Scratch.{column}
-use Rattle.calc_refresh.specs.Lists.{lists_of}
+use Rattle.sheet_law.specs.{points_in, values, window_from, window_to, column}
+use Rattle.calc_refresh.specs.{lists_of}
 use Rattle.calc_refresh.proofs.evaluation.evaluate.Given as goal
 
 abbrev pub invariant-loop-k : goal.invariant-loop-k

@@ -1,7 +1,7 @@
 use Rattle.std.proofs.Common.{◌<◌, [], ◌∷◌, ◌++◌, length, get_or, sym, ap, ◌∙◌, refl, arith, vec_len}
 use Rattle.std.proofs.Math.Seq.{map-set_same}
 use Rattle.std.proofs.lemmas.List.{length-set, take_more_set}
-use Rattle.sheet_law.specs.Value.{points_in, values}
+use Rattle.sheet_law.specs.{points_in, values}
 use Rattle.calc_eval.proofs.Growth.{take_next}
 use Rattle.calc_refresh.proofs.Columns.{column_full, column_kept, column_more, get-set_other, get-set_same, length-values, lengths_at}
 use Rattle.calc_refresh.proofs.evaluation.evaluate_window.Goals as goal

@@ -1,7 +1,6 @@
 use Rattle.std.proofs.Common.{◌≡◌, ◌≢◌, ℕ, ◌+◌, Some, length, map, take, vec_len}
-use Rattle.sheet_law.specs.Value.{points_in, values}
-use Rattle.sheet_law.specs.Scratch.{column}
-use Rattle.calc_refresh.specs.Lists.{lists_of}
+use Rattle.sheet_law.specs.{points_in, values, column}
+use Rattle.calc_refresh.specs.{lists_of}
 use Rattle.calc_refresh.proofs.evaluation.evaluate_window.Given as goal
 
 abbrev pub invariant-loop-i : goal.invariant-loop-i

@@ -3,7 +3,7 @@ use Rattle.std.specs.Prelude.{is_ok, slice_get, vec_len, Vec, if◌then◌else�
 use Rattle.std.specs.declared.alloc.Global.{Global}
 use Rattle.std.proofs.lemmas.Bool.{cases_eq}
 use Rattle.std.proofs.lemmas.List.{get_or-set_other, get_or-set_same}
-use Rattle.trend_num.specs.declared.value.CalcValue.{CalcValue}
+use Rattle.trend_num.specs.{CalcValue}
 use Rattle.trend_num.specs.declared.value.CalcValue.TheVariants.{Num}
 use Rattle.calc_refresh.proofs.Columns.{column_kept, get-longer}
 use Rattle.calc_refresh.proofs.evaluation.lengthen.Goals as goal

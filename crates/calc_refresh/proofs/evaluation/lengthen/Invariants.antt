@@ -1,9 +1,9 @@
 use Rattle.std.proofs.Common.{◌≡◌, ℕ, ◌<◌, ◌≤◌, All, get_or, vec_len}
 use Rattle.std.specs.Prelude.{Vec}
 use Rattle.std.specs.declared.alloc.Global.{Global}
-use Rattle.trend_num.specs.declared.value.CalcValue.{CalcValue}
-use Rattle.sheet_law.specs.Scratch.{column}
-use Rattle.calc_refresh.specs.Lists.{lists_of}
+use Rattle.trend_num.specs.{CalcValue}
+use Rattle.sheet_law.specs.{column}
+use Rattle.calc_refresh.specs.{lists_of}
 use Rattle.calc_refresh.proofs.evaluation.lengthen.Given as goal
 
 abbrev pub invariant-loop-i : goal.invariant-loop-i

@@ -1,6 +1,6 @@
 use Rattle.std.proofs.Common.{◌≡◌, List, ◌++◌, take}
-use Rattle.trend_num.specs.declared.archive.Rec.{Rec}
-use Rattle.sheet_law.specs.Windows.{kept_end}
+use Rattle.trend_num.specs.{Rec}
+use Rattle.sheet_law.specs.{kept_end}
 use Rattle.calc_refresh.proofs.limit.kept_end_after.Given as goal
 
 abbrev pub invariant-loop-rec : goal.invariant-loop-rec

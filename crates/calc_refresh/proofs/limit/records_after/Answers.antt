@@ -1,8 +1,7 @@
 use Rattle.std.proofs.Common.{◌<◌, length, ap, ◌∙◌, arith}
 use Rattle.std.proofs.lemmas.List.{length-map, take_all}
-use Rattle.sheet_law.specs.Touched.{longer}
-use Rattle.calc_refresh.specs.Lists.{lists_of, total_length}
-use Rattle.calc_refresh.specs.Sheet.{IsCopy}
+use Rattle.sheet_law.specs.{longer}
+use Rattle.calc_refresh.specs.{lists_of, total_length, IsCopy}
 use Rattle.calc_refresh.proofs.Inputs.{each_read, length-longer, length_at, total_more}
 use Rattle.calc_refresh.proofs.limit.records_after.Goals as goal
 

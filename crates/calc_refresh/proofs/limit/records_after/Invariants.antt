@@ -1,6 +1,6 @@
 use Rattle.std.proofs.Common.{◌≡◌, ◌*◌, ◌≤◌, take}
-use Rattle.sheet_law.specs.Touched.{longer}
-use Rattle.calc_refresh.specs.Lists.{lists_of, total_length}
+use Rattle.sheet_law.specs.{longer}
+use Rattle.calc_refresh.specs.{lists_of, total_length}
 use Rattle.calc_refresh.proofs.limit.records_after.Given as goal
 
 abbrev pub invariant-loop-i : goal.invariant-loop-i

@@ -1,11 +1,8 @@
 use Rattle.std.proofs.Common.{◌≡◌, List, All, length, subst, sym, ap, ◌∙◌, arith}
 use Rattle.std.proofs.lemmas.List.{length-map, take_all}
-use Rattle.trend_num.specs.declared.archive.Rec.{Rec}
-use Rattle.trend_num.specs.Ranges.{InRange}
-use Rattle.sheet_law.specs.Windows.{kept_end, least, windows_before}
-use Rattle.sheet_law.specs.Touched.{longer}
-use Rattle.calc_refresh.specs.Lists.{lists_of}
-use Rattle.calc_refresh.specs.Sheet.{IsCopy}
+use Rattle.trend_num.specs.{Rec, InRange}
+use Rattle.sheet_law.specs.{kept_end, least, windows_before, longer}
+use Rattle.calc_refresh.specs.{lists_of, IsCopy}
 use Rattle.calc_refresh.proofs.Inputs.{each_read, length-longer}
 use Rattle.calc_refresh.proofs.Limits.{least_first, least_more, window_at, windows_by}
 use Rattle.calc_refresh.proofs.limit.windows_after.Goals as goal

@@ -1,8 +1,7 @@
 use Rattle.std.proofs.Common.{◌≡◌, List, map, take}
-use Rattle.trend_num.specs.declared.archive.Rec.{Rec}
-use Rattle.sheet_law.specs.Windows.{kept_end, least, windows_before}
-use Rattle.sheet_law.specs.Touched.{longer}
-use Rattle.calc_refresh.specs.Lists.{lists_of}
+use Rattle.trend_num.specs.{Rec}
+use Rattle.sheet_law.specs.{kept_end, least, windows_before, longer}
+use Rattle.calc_refresh.specs.{lists_of}
 use Rattle.calc_refresh.proofs.limit.windows_after.Given as goal
 
 abbrev pub invariant-loop-i : goal.invariant-loop-i

@@ -1,5 +1,5 @@
 use Rattle.std.proofs.Common.{◌≡◌, ◌+◌, ◌++◌, [], ◌∷◌, take, vec_capacity, vec_len, sym, ap, ◌∙◌, arith}
-use Rattle.calc_refresh.specs.Marks.{furthest, is_marked}
+use Rattle.calc_refresh.specs.{furthest, is_marked}
 use Rattle.calc_refresh.proofs.Marking.{furthest_more, marked_now, unmarked_now}
 use Rattle.calc_refresh.proofs.Passing.{passing_next, passing_same}
 use Rattle.calc_refresh.proofs.mark.add_marked.Goals as goal

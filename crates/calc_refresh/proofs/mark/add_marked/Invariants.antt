@@ -1,6 +1,6 @@
 use Rattle.std.proofs.Common.{◌≡◌, ◌+◌, ◌-◌, ◌≤◌, take, vec_capacity, vec_len}
 use Rattle.std.specs.List.{filter, range_with_len}
-use Rattle.calc_refresh.specs.Marks.{furthest, is_marked}
+use Rattle.calc_refresh.specs.{furthest, is_marked}
 use Rattle.calc_refresh.proofs.mark.add_marked.Given as goal
 
 abbrev pub invariant-loop-k : goal.invariant-loop-k

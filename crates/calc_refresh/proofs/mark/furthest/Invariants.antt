@@ -1,5 +1,5 @@
 use Rattle.std.proofs.Common.{◌≡◌, take}
-use Rattle.calc_refresh.specs.Marks.{furthest}
+use Rattle.calc_refresh.specs.{furthest}
 use Rattle.calc_refresh.proofs.mark.furthest.Given as goal
 
 abbrev pub invariant-loop-mark : goal.invariant-loop-mark

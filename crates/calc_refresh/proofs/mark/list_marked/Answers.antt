@@ -1,6 +1,6 @@
 use Rattle.std.proofs.Common.{◌≡◌, ◌+◌, ◌-◌, length, drop, take, sym, ap, ◌∙◌, arith}
 use Rattle.std.specs.List.{filter, range_with_len}
-use Rattle.calc_refresh.specs.Marks.{furthest, is_marked}
+use Rattle.calc_refresh.specs.{furthest, is_marked}
 use Rattle.calc_refresh.proofs.Marking.{same_reach, unmarked_block}
 use Rattle.calc_refresh.proofs.Passing.{passing_few, passing_none}
 use Rattle.calc_refresh.proofs.mark.list_marked.Goals as goal

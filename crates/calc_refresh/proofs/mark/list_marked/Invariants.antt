@@ -1,6 +1,6 @@
 use Rattle.std.proofs.Common.{◌≡◌, ◌-◌, ◌≤◌, length, take, vec_capacity}
 use Rattle.std.specs.List.{filter, range_with_len}
-use Rattle.calc_refresh.specs.Marks.{furthest, is_marked}
+use Rattle.calc_refresh.specs.{furthest, is_marked}
 use Rattle.calc_refresh.proofs.mark.list_marked.Given as goal
 
 abbrev pub invariant-loop-from : goal.invariant-loop-from

@@ -1,6 +1,6 @@
 use Rattle.std.proofs.Common.{◌-◌, ◌^◌, nat_le, ap, ◌∙◌, arith}
 use Rattle.std.specs.Prelude.{◌&&◌, ◌||◌}
-use Rattle.calc_refresh.specs.Marks.{is_marked}
+use Rattle.calc_refresh.specs.{is_marked}
 use Rattle.calc_refresh.proofs.Marking.{cut_end, marks_span}
 use Rattle.calc_refresh.proofs.mark.mark.Goals as goal
 

@@ -1,15 +1,11 @@
 use Rattle.std.proofs.Common.{◌≡◌, ◌<◌, List, All, Contains, get_or, length, map, subst, sym, ap, ap₂, ◌∙◌, arith, vec_len}
 use Rattle.std.specs.Prelude.{◌&&◌, ◌||◌, nat_le, nat_lt}
 use Rattle.std.proofs.lemmas.List.{length-map}
-use Rattle.trend_num.specs.declared.archive.Rec.{Rec}
-use Rattle.trend_model.specs.Contents.{listed}
-use Rattle.sheet_law.specs.Windows.{complete_windows}
-use Rattle.sheet_law.specs.Touched.{longer}
+use Rattle.trend_num.specs.{Rec}
+use Rattle.trend_model.specs.{listed}
+use Rattle.sheet_law.specs.{complete_windows, longer}
 use Rattle.sheet_law.proofs.Complete.{complete_grow}
-use Rattle.calc_refresh.specs.Lists.{lists_of}
-use Rattle.calc_refresh.specs.Marks.{is_marked}
-use Rattle.calc_refresh.specs.Refreshed.{IsSheetAfter}
-use Rattle.calc_refresh.specs.Sheet.{IsCopy, IsGroup}
+use Rattle.calc_refresh.specs.{lists_of, is_marked, IsSheetAfter, IsCopy, IsGroup}
 use Rattle.calc_refresh.proofs.Columns.{lengths_all}
 use Rattle.calc_refresh.proofs.Inputs.{length-longer}
 use Rattle.calc_refresh.proofs.Refreshing.{complete_is_time, due_is, long_lists, long_vecs, swept}

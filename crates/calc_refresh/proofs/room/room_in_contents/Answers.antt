@@ -3,9 +3,9 @@ use Rattle.std.specs.Prelude.{Vec}
 use Rattle.std.specs.declared.alloc.Global.{Global}
 use Rattle.std.proofs.Math.Seq.{map-set_same}
 use Rattle.std.proofs.lemmas.List.{get_or_default}
-use Rattle.trend_num.specs.declared.archive.Rec.{Rec}
-use Rattle.trend_model.specs.Contents.{ContentState, listed}
-use Rattle.calc_refresh.specs.Sheet.{IsCopy}
+use Rattle.trend_num.specs.{Rec}
+use Rattle.trend_model.specs.{ContentState, listed}
+use Rattle.calc_refresh.specs.{IsCopy}
 use Rattle.calc_refresh.proofs.Inputs.{as_many, each_read, each_set, read_at}
 use Rattle.calc_refresh.proofs.room.room_in_contents.Goals as goal
 

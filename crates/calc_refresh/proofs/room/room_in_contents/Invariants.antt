@@ -1,9 +1,9 @@
 use Rattle.std.proofs.Common.{◌≡◌, ℕ, ◌<◌, ◌≤◌, length, get_or, map}
 use Rattle.std.specs.Prelude.{Vec}
 use Rattle.std.specs.declared.alloc.Global.{Global}
-use Rattle.trend_num.specs.declared.archive.Rec.{Rec}
-use Rattle.trend_model.specs.Contents.{ContentState, listed}
-use Rattle.calc_refresh.specs.Lists.{lists_of}
+use Rattle.trend_num.specs.{Rec}
+use Rattle.trend_model.specs.{ContentState, listed}
+use Rattle.calc_refresh.specs.{lists_of}
 use Rattle.calc_refresh.proofs.room.room_in_contents.Given as goal
 
 abbrev pub invariant-loop-i : goal.invariant-loop-i

@@ -1,8 +1,8 @@
 use Rattle.std.proofs.Common.{◌≡◌, ℕ, ◌+◌, ◌<◌, ◌≤◌, length, get_or, vec_len, vec_capacity}
 use Rattle.std.specs.Prelude.{Vec}
 use Rattle.std.specs.declared.alloc.Global.{Global}
-use Rattle.trend_num.specs.declared.archive.Rec.{Rec}
-use Rattle.calc_refresh.specs.Lists.{lists_of}
+use Rattle.trend_num.specs.{Rec}
+use Rattle.calc_refresh.specs.{lists_of}
 use Rattle.calc_refresh.proofs.room.room_in_copies.Given as goal
 
 abbrev pub invariant-loop-i : goal.invariant-loop-i

@@ -1,8 +1,8 @@
 use Rattle.std.proofs.Common.{◌≡◌, ℕ, ◌<◌, ◌≤◌, get_or, vec_capacity}
 use Rattle.std.specs.Prelude.{Vec}
 use Rattle.std.specs.declared.alloc.Global.{Global}
-use Rattle.trend_num.specs.declared.value.CalcValue.{CalcValue}
-use Rattle.calc_refresh.specs.Lists.{lists_of}
+use Rattle.trend_num.specs.{CalcValue}
+use Rattle.calc_refresh.specs.{lists_of}
 use Rattle.calc_refresh.proofs.room.room_in_rows.Given as goal
 
 abbrev pub invariant-loop-i : goal.invariant-loop-i

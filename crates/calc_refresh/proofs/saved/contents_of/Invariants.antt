@@ -1,6 +1,6 @@
 use Rattle.std.proofs.Common.{◌≡◌, ◌≤◌, length, map, take, vec_len, vec_capacity}
-use Rattle.trend_model.specs.Contents.{listed}
-use Rattle.calc_refresh.specs.Lists.{lists_of}
+use Rattle.trend_model.specs.{listed}
+use Rattle.calc_refresh.specs.{lists_of}
 use Rattle.calc_refresh.proofs.saved.contents_of.Given as goal
 
 abbrev pub invariant-loop-copy : goal.invariant-loop-copy

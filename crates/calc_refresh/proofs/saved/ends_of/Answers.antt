@@ -2,11 +2,9 @@ use Rattle.std.proofs.Common.{◌≡◌, ◌++◌, [], ◌∷◌, List, All, get
 use Rattle.std.specs.Prelude.{Vec}
 use Rattle.std.specs.declared.alloc.Global.{Global}
 use Rattle.std.proofs.lemmas.List.{map_push}
-use Rattle.trend_num.specs.declared.archive.Rec.{Rec}
-use Rattle.trend_num.specs.Ranges.{InRange}
-use Rattle.sheet_law.specs.Windows.{kept_end}
-use Rattle.calc_refresh.specs.Lists.{lists_of}
-use Rattle.calc_refresh.specs.Sheet.{IsCopy}
+use Rattle.trend_num.specs.{Rec, InRange}
+use Rattle.sheet_law.specs.{kept_end}
+use Rattle.calc_refresh.specs.{lists_of, IsCopy}
 use Rattle.calc_refresh.proofs.Inputs.{each_read, lists_more}
 use Rattle.calc_refresh.proofs.saved.ends_of.Goals as goal
 

@@ -2,13 +2,9 @@ use Rattle.std.proofs.Common.{◌≡◌, List, Some, None, Err, sym, ap, ap₂, 
 use Rattle.std.specs.Prelude.{Vec}
 use Rattle.std.specs.declared.alloc.Global.{Global}
 use Rattle.std.proofs.lemmas.Option.{same_Some}
-use Rattle.trend_num.specs.declared.archive.Rec.{Rec}
-use Rattle.trend_num.specs.declared.value.CalcValue.{CalcValue}
-use Rattle.sheet_law.specs.declared.grid.Grid.{Grid}
-use Rattle.sheet_law.specs.Windows.{complete_windows}
-use Rattle.calc_refresh.specs.Lists.{lists_of}
-use Rattle.calc_refresh.specs.Refreshed.{shape_fault}
-use Rattle.calc_refresh.specs.Sheet.{grid_of}
+use Rattle.trend_num.specs.{Rec, CalcValue}
+use Rattle.sheet_law.specs.{Grid, complete_windows}
+use Rattle.calc_refresh.specs.{lists_of, shape_fault, grid_of}
 use Rattle.calc_refresh.proofs.Beginning.{few_by, shapes_hold, told_of}
 use Rattle.calc_refresh.proofs.Refreshing.{long_vecs}
 use Rattle.calc_refresh.proofs.saved.from_saved.Goals as goal

@@ -1,6 +1,5 @@
 use Rattle.std.proofs.Common.{◌≡◌, drop}
-use Rattle.calc_refresh.specs.Lists.{lists_of}
-use Rattle.calc_refresh.specs.Refreshed.{shape_fault}
+use Rattle.calc_refresh.specs.{lists_of, shape_fault}
 use Rattle.calc_refresh.proofs.saved.shape_fault.Given as goal
 
 abbrev pub invariant-loop-row : goal.invariant-loop-row

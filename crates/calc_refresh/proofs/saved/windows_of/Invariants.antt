@@ -1,6 +1,6 @@
 use Rattle.std.proofs.Common.{◌≡◌, take}
-use Rattle.sheet_law.specs.Windows.{least}
-use Rattle.calc_refresh.specs.Lists.{lists_of}
+use Rattle.sheet_law.specs.{least}
+use Rattle.calc_refresh.specs.{lists_of}
 use Rattle.calc_refresh.proofs.Limits.{windows_by}
 use Rattle.calc_refresh.proofs.saved.windows_of.Given as goal
 

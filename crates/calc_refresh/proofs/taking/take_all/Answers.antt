@@ -2,13 +2,9 @@ use Rattle.std.proofs.Common.{◌≡◌, ◌+◌, Bool, true, false, List, ◌++
 use Rattle.std.specs.Prelude.{◌||◌, Vec}
 use Rattle.std.specs.declared.alloc.Global.{Global}
 use Rattle.std.proofs.lemmas.List.{get_or-set_other, take_all as take_whole}
-use Rattle.trend_num.specs.declared.archive.Rec.{Rec}
-use Rattle.trend_num.specs.Ranges.{InRange}
-use Rattle.sheet_law.specs.Windows.{window_from, window_to}
-use Rattle.sheet_law.specs.Touched.{any_touched, is_touched, longer}
-use Rattle.calc_refresh.specs.Lists.{lists_of}
-use Rattle.calc_refresh.specs.Marks.{is_marked}
-use Rattle.calc_refresh.specs.Sheet.{IsCopy}
+use Rattle.trend_num.specs.{Rec, InRange}
+use Rattle.sheet_law.specs.{window_from, window_to, any_touched, is_touched, longer}
+use Rattle.calc_refresh.specs.{lists_of, is_marked, IsCopy}
 use Rattle.calc_refresh.proofs.Inputs.{any_touched-nil, any_touched_more, each_at, ended_at, ended_set, lists_set, longer-nil, longer_more, read_at, read_set}
 use Rattle.calc_refresh.proofs.Turns.{or_more}
 use Rattle.calc_refresh.proofs.taking.take_all.Goals as goal

@@ -1,12 +1,10 @@
 use Rattle.std.proofs.Common.{◌≡◌, ℕ, ◌<◌, ◌≤◌, length, get_or, map, take}
 use Rattle.std.specs.Prelude.{◌||◌, Vec}
 use Rattle.std.specs.declared.alloc.Global.{Global}
-use Rattle.trend_num.specs.declared.archive.Rec.{Rec}
-use Rattle.trend_model.specs.Contents.{ContentState, listed}
-use Rattle.sheet_law.specs.Windows.{kept_end, window_from, window_to}
-use Rattle.sheet_law.specs.Touched.{any_touched, longer}
-use Rattle.calc_refresh.specs.Lists.{lists_of}
-use Rattle.calc_refresh.specs.Marks.{is_marked}
+use Rattle.trend_num.specs.{Rec}
+use Rattle.trend_model.specs.{ContentState, listed}
+use Rattle.sheet_law.specs.{kept_end, window_from, window_to, any_touched, longer}
+use Rattle.calc_refresh.specs.{lists_of, is_marked}
 use Rattle.calc_refresh.proofs.taking.take_all.Given as goal
 
 abbrev pub invariant-loop-i : goal.invariant-loop-i

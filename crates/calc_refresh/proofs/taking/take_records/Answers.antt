@@ -1,13 +1,11 @@
 use Rattle.std.proofs.Common.{◌≡◌, ◌+◌, ◌≤◌, Bool, true, false, refl, List, ◌++◌, [], ◌∷◌, All, get_or, take, subst, sym, ap, ◌∙◌, arith, append_assoc}
 use Rattle.std.proofs.lemmas.List.{append-nil, take_more}
-use Rattle.trend_num.specs.declared.archive.Rec.{Rec}
-use Rattle.trend_num.specs.Ranges.{last_time}
-use Rattle.trend_model.specs.Contents.{IsRising, listed, placed}
-use Rattle.calc_refresh.specs.Marks.{is_marked}
+use Rattle.trend_num.specs.{Rec, last_time}
+use Rattle.trend_model.specs.{IsRising, listed, placed}
+use Rattle.calc_refresh.specs.{is_marked}
 use Rattle.std.specs.Prelude.{◌||◌}
 use Rattle.trend_model.proofs.Placing.{all_placed, time}
-use Rattle.sheet_law.specs.Windows.{kept_end, window_from, window_to}
-use Rattle.sheet_law.specs.Touched.{is_touched, touches}
+use Rattle.sheet_law.specs.{kept_end, window_from, window_to, is_touched, touches}
 use Rattle.sheet_law.proofs.Stay.{listed-push, listed_rises}
 use Rattle.calc_refresh.proofs.Turns.{is_touched-push, no_rec, or_more, times_bound}
 use Rattle.calc_refresh.proofs.taking.take_records.Goals as goal

@@ -1,10 +1,9 @@
 use Rattle.std.proofs.Common.{◌≡◌, ℕ, ◌+◌, ◌<◌, ◌≤◌, ◌++◌, length, take, All, vec_len, vec_capacity}
 use Rattle.std.specs.Prelude.{◌||◌}
-use Rattle.trend_num.specs.Ranges.{last_time}
-use Rattle.trend_model.specs.Contents.{listed}
-use Rattle.sheet_law.specs.Windows.{kept_end, window_from, window_to}
-use Rattle.sheet_law.specs.Touched.{is_touched}
-use Rattle.calc_refresh.specs.Marks.{is_marked}
+use Rattle.trend_num.specs.{last_time}
+use Rattle.trend_model.specs.{listed}
+use Rattle.sheet_law.specs.{kept_end, window_from, window_to, is_touched}
+use Rattle.calc_refresh.specs.{is_marked}
 use Rattle.calc_refresh.proofs.taking.take_records.Given as goal
 
 abbrev pub invariant-loop-rec : goal.invariant-loop-rec

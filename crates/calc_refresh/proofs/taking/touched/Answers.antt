@@ -1,5 +1,5 @@
 use Rattle.std.proofs.Common.{arith}
-use Rattle.sheet_law.specs.Windows.{window_from, window_to}
+use Rattle.sheet_law.specs.{window_from, window_to}
 use Rattle.calc_refresh.proofs.Turns.{newest_touches_none, older_touches_all}
 use Rattle.calc_refresh.proofs.taking.touched.Goals as goal
 

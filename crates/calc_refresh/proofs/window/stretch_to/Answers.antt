@@ -1,6 +1,6 @@
 use Rattle.calc_refresh.proofs.Spans.{ceil_bound, ceil_none, ceil_some}
 use Rattle.std.proofs.Common.{refl}
-use Rattle.trend_num.specs.Ranges.{last_time}
+use Rattle.trend_num.specs.{last_time}
 use Rattle.calc_refresh.proofs.window.stretch_to.Goals as goal
 
 pub returns-in-Some-clause-value : goal.returns-in-Some-clause-value

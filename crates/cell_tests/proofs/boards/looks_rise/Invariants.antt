@@ -1,4 +1,4 @@
-use Rattle.snapshot_table.specs.Boards.{LooksAt}
+use Rattle.snapshot_table.specs.{LooksAt}
 use Rattle.cell_tests.proofs.boards.looks_rise.Given as goal
 
 abbrev pub invariant-loop : goal.invariant-loop

@@ -1,4 +1,4 @@
-use Rattle.snapshot_table.specs.Boards.{PostsTo}
+use Rattle.snapshot_table.specs.{PostsTo}
 use Rattle.cell_tests.proofs.boards.post_all.Given as goal
 
 abbrev pub invariant-loop : goal.invariant-loop

@@ -1,4 +1,4 @@
-use Rattle.snapshot_table.specs.Boards.{LooksAt, PostsTo}
+use Rattle.snapshot_table.specs.{LooksAt, PostsTo}
 use Rattle.cell_tests.proofs.boards.unshown.Given as goal
 
 -- the poster and the looker are still those of the board

@@ -1,5 +1,5 @@
 use Rattle.std.proofs.Common.{◌≡◌}
-use Rattle.tag_cell.specs.Told.{takes_waiting}
+use Rattle.tag_cell.specs.{takes_waiting}
 use Rattle.collector_pool.proofs.collector.commit_all.Given as goal
 
 abbrev pub invariant-loop-done : goal.invariant-loop-done

@@ -1,6 +1,6 @@
 use Rattle.std.proofs.Common.{◌≡◌, ◌≤◌, length, vec_capacity, vec_len}
-use Rattle.snapshot_table.specs.Boards.{LooksAt}
-use Rattle.collector_pool.specs.Notes.{AreSnapsOf, AreSnapsSeen, DoSnapsRise}
+use Rattle.snapshot_table.specs.{LooksAt}
+use Rattle.collector_pool.specs.{AreSnapsOf, AreSnapsSeen, DoSnapsRise}
 use Rattle.collector_pool.proofs.reader.answer_all.Given as goal
 
 abbrev pub invariant-loop-i : goal.invariant-loop-i

@@ -1,7 +1,6 @@
 use Rattle.std.proofs.Common.{rules}
 use Rattle.plant_status.proofs.Gathering.{stops_told}
-use Rattle.collector_pool.specs.declared.session_worker.SessionWorker.{SessionWorker}
-use Rattle.collector_pool.specs.Notes.{halts}
+use Rattle.collector_pool.specs.{SessionWorker, halts}
 use Rattle.collector_pool.proofs.Sessions.{all_stopped, notes_of}
 use Rattle.collector_pool.proofs.session.run_session.Goals as goal
 

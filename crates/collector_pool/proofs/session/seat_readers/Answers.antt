@@ -1,6 +1,6 @@
 use Rattle.std.proofs.Common.{◌≡◌, ◌<◌, ◌∷◌, length, ◌∙◌, arith, rules}
 use Rattle.std.specs.Vec.Iter.{into_iter_items}
-use Rattle.snapshot_table.specs.Boards.{LooksAt}
+use Rattle.snapshot_table.specs.{LooksAt}
 use Rattle.plant_status.proofs.Gathering.{all_first, all_rest}
 use Rattle.collector_pool.proofs.Seats.{one_seated}
 use Rattle.collector_pool.proofs.session.seat_readers.Goals as goal

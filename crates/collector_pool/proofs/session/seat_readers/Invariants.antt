@@ -2,8 +2,8 @@ use Rattle.std.proofs.Common.{◌≡◌, ◌+◌, List, vec_capacity, vec_len}
 use Rattle.std.specs.Prelude.{All}
 use Rattle.std.specs.Vec.Iter.{into_iter_items, into_iter_len}
 use Rattle.atomic_table.specs.Seated.{TableId}
-use Rattle.snapshot_table.specs.Boards.{LooksAt}
-use Rattle.collector_pool.specs.SeatedWorkers.{AreSeated}
+use Rattle.snapshot_table.specs.{LooksAt}
+use Rattle.collector_pool.specs.{AreSeated}
 use Rattle.collector_pool.proofs.session.seat_readers.Given as goal
 
 abbrev pub invariant-loop-reader : goal.invariant-loop-reader

@@ -1,6 +1,6 @@
 use Rattle.std.proofs.Common.{◌≡◌, ◌+◌, List, vec_capacity, vec_len}
-use Rattle.snapshot_table.specs.Boards.{Looking}
-use Rattle.collector_pool.specs.SeatedWorkers.{AreSeated}
+use Rattle.snapshot_table.specs.{Looking}
+use Rattle.collector_pool.specs.{AreSeated}
 use Rattle.collector_pool.proofs.session.seat_refreshers.Given as goal
 
 abbrev pub invariant-loop-refresher : goal.invariant-loop-refresher

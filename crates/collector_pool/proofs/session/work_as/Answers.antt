@@ -1,5 +1,5 @@
 use Rattle.std.proofs.Common.{All, subst, sym}
-use Rattle.collector_pool.specs.Work.{IsQueryOf}
+use Rattle.collector_pool.specs.{IsQueryOf}
 use Rattle.collector_pool.proofs.Sessions.{as_collector, as_reader, as_refresher, queries_known, rows_known, turns_known}
 use Rattle.collector_pool.proofs.session.work_as.Goals as goal
 

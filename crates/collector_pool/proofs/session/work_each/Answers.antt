@@ -1,5 +1,5 @@
 use Rattle.std.proofs.Common.{sym, subst}
-use Rattle.collector_pool.specs.SeatedWorkers.{IsReady}
+use Rattle.collector_pool.specs.{IsReady}
 use Rattle.collector_pool.proofs.Leaving.{leaves_nothing}
 use Rattle.collector_pool.proofs.session.work_each.Goals as goal
 

@@ -1,5 +1,5 @@
 use Rattle.std.proofs.lemmas.Result.{err_from_is_err_and}
-use Rattle.disk_model.specs.Traces.{seen}
+use Rattle.disk_model.specs.{seen}
 use Rattle.archive_file.proofs.FieldLaws.{told_through}
 use Rattle.commit_log.proofs.Walks.{breaks_there, lists_all, rows_all}
 use Rattle.commit_log.proofs.block_reader.read_blocks.Goals as goal

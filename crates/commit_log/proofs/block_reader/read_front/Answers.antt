@@ -1,6 +1,5 @@
 use Rattle.std.proofs.Common.{◌≤◌, ◌∙◌, length, nat_eq, true, refl, sym, subst, lit<, eqb-true}
-use Rattle.archive_file.specs.Fields.{number_bytes}
-use Rattle.archive_file.specs.LayoutFields.{Keeps, Spells}
+use Rattle.archive_file.specs.{number_bytes, Keeps, Spells}
 use Rattle.archive_file.proofs.FieldLaws.{field_of}
 use Rattle.archive_file.proofs.Windows.{then_spelled}
 use Rattle.commit_log.proofs.block_reader.read_front.Goals as goal

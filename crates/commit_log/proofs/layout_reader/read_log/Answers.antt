@@ -1,9 +1,8 @@
 use Rattle.std.proofs.Common.{◌≡◌, ◌+◌, Err, length, refl, sym, ap, ◌∙◌, subst, arith}
 use Rattle.std.proofs.lemmas.Result.{err_from_is_err_and}
-use Rattle.disk_model.specs.Calls.{Shows}
-use Rattle.archive_file.specs.TextHeads.{IsOfText}
-use Rattle.commit_log.specs.Blocks.{IsBlockDamage}
-use Rattle.commit_log.specs.Images.{letters}
+use Rattle.disk_model.specs.{Shows}
+use Rattle.archive_file.specs.{IsOfText}
+use Rattle.commit_log.specs.{IsBlockDamage, letters}
 use Rattle.commit_log.proofs.Opened.{block_damage, gate_reached, head_damage}
 use Rattle.commit_log.proofs.Openings.{damage_read}
 use Rattle.commit_log.proofs.Walks.{if_some}

@@ -1,9 +1,9 @@
 use Rattle.std.proofs.Common.{◌≡◌, ℕ, length, refl, subst, sym, arith}
 use Rattle.std.specs.Prelude.{vec_capacity}
-use Rattle.commit_log.specs.Openings.{LogBeganWell}
+use Rattle.commit_log.specs.{LogBeganWell}
 use Rattle.commit_log.proofs.Openings.{opened_keeps}
 use Rattle.commit_log.proofs.opening.log_of.Goals as goal
-use Rattle.disk_model.specs.Traces.{moment}
+use Rattle.disk_model.specs.{moment}
 
 pub invariant_of-result : goal.invariant_of-result
 invariant_of-result g c =

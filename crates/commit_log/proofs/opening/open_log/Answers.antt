@@ -1,9 +1,6 @@
 use Rattle.std.proofs.Common.{List, ℕ, ap, subst, sym, refl}
-use Rattle.disk_model.specs.Calls.{Shows}
-use Rattle.commit_log.specs.Images.{StandsForRows}
-use Rattle.commit_log.specs.Told.{ToldLog}
-use Rattle.disk_model.specs.Traces.{moment}
-use Rattle.commit_log.specs.Openings.{LogBeganWell}
+use Rattle.disk_model.specs.{Shows, moment}
+use Rattle.commit_log.specs.{StandsForRows, ToldLog, LogBeganWell}
 use Rattle.commit_log.proofs.Begun.{began_well}
 use Rattle.commit_log.proofs.opening.open_log.Goals as goal
 

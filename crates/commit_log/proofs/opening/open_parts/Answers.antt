@@ -1,13 +1,8 @@
 use Rattle.std.proofs.Common.{[], List, Err, IfErr, refl, sym, ◌∙◌, arith, subst, ap}
-use Rattle.disk_model.specs.Gates.{IsNew}
+use Rattle.disk_model.specs.{IsNew, Shows, During, seen, moment}
 use Rattle.archive_file.proofs.Beginnings.{not_new, opens_begun, opens_kept}
 use Rattle.std.proofs.lemmas.Result.{err_from_is_err_and}
-use Rattle.disk_model.specs.Calls.{Shows}
-use Rattle.disk_model.specs.Moments.{During}
-use Rattle.disk_model.specs.Traces.{seen, moment}
-use Rattle.commit_log.specs.declared.row.LogRow.{LogRow}
-use Rattle.commit_log.specs.Images.{LogsNothing, StandsForRows}
-use Rattle.commit_log.specs.Openings.{IsLogCause, IsLogLeftOrSame, IsLeftOrStands, IsTooMany, StandsSame, Stores}
+use Rattle.commit_log.specs.{LogRow, LogsNothing, StandsForRows, IsLogCause, IsLogLeftOrSame, IsLeftOrStands, IsTooMany, StandsSame, Stores}
 use Rattle.archive_file.proofs.ReadImages.{during_same, left_synced, shown_before}
 use Rattle.commit_log.proofs.Opened.{begun_same, begun_stands, found_many, found_new, found_stands, found_stores}
 use Rattle.commit_log.proofs.Openings.{ok_rows, on_err, on_ok, parts_cause, read_cause}

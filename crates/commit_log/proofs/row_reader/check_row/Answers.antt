@@ -1,6 +1,6 @@
 use Rattle.std.proofs.Common.{◌≡◌, ◌∷◌, [], All, OnOk, ap, ◌∙◌, ◌+◌, subst}
-use Rattle.archive_file.specs.LayoutFields.{Keeps}
-use Rattle.commit_log.specs.Blocks.{row_fields}
+use Rattle.archive_file.specs.{Keeps}
+use Rattle.commit_log.specs.{row_fields}
 use Rattle.archive_file.proofs.FieldLaws.{field_of}
 use Rattle.commit_log.proofs.row_reader.check_row.Goals as goal
 

@@ -1,7 +1,7 @@
 use Rattle.std.proofs.Common.{◌≤◌, ◌+◌, All, length, sym, subst, arith, true, lit<}
-use Rattle.archive_file.specs.LayoutFields.{Keeps, Spells}
+use Rattle.archive_file.specs.{Keeps, Spells}
 use Rattle.archive_file.proofs.FieldLaws.{field_of}
-use Rattle.commit_log.specs.Blocks.{row_fields, row_image}
+use Rattle.commit_log.specs.{row_fields, row_image}
 use Rattle.commit_log.proofs.RowLaws.{row_found}
 use Rattle.commit_log.proofs.row_reader.read_row.Goals as goal
 

@@ -1,6 +1,5 @@
 use Rattle.std.proofs.Common.{◌≡◌, ◌+◌, ◌-◌, ◌*◌, ◌≤◌, length}
-use Rattle.commit_log.specs.Blocks.{rows_fields}
-use Rattle.commit_log.specs.Openings.{AddsRows}
+use Rattle.commit_log.specs.{rows_fields, AddsRows}
 use Rattle.archive_file.proofs.FieldLaws.{KeptUpTo}
 use Rattle.commit_log.proofs.row_reader.read_rows.Given as goal
 

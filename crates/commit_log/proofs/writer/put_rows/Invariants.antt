@@ -1,5 +1,5 @@
 use Rattle.std.proofs.Common.{◌-◌, ◌≤◌, length}
-use Rattle.commit_log.specs.Writes.{WritesRows}
+use Rattle.commit_log.specs.{WritesRows}
 use Rattle.commit_log.proofs.writer.put_rows.Given as goal
 
 abbrev pub invariant-loop-done : goal.invariant-loop-done

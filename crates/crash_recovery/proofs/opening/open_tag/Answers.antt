@@ -1,16 +1,12 @@
 use Rattle.std.proofs.Common.{◌≡◌, ◌∙◌, ◌+◌, ◌<◌, ◌^◌, IfOk, length, ap, refl, sym, subst, true, false, arith}
-use Rattle.disk_model.specs.{Gates.IsNew, Calls.Shows, Moments.During}
-use Rattle.disk_model.specs.Traces.{Synced, noted, moment, Trace}
-use Rattle.crash_recovery.specs.{checkpoint_calls, AllRecover, GoesOnFrom, HasSlots, IsTagLeftOrSame}
-use Rattle.crash_recovery.specs.{IsOpenedAs, StaysSame, RecoversThen, IsReadAs, LeavesFree, OpensAt}
-use Rattle.trend_num.specs.declared.tag_def.TagDef.{TagDef}
+use Rattle.disk_model.specs.{Gates.IsNew, Calls.Shows, Moments.During, Synced, noted, moment, Trace}
+use Rattle.crash_recovery.specs.{checkpoint_calls, AllRecover, GoesOnFrom, HasSlots, IsTagLeftOrSame, IsOpenedAs, StaysSame, RecoversThen, IsReadAs, LeavesFree, OpensAt}
+use Rattle.trend_num.specs.{TagDef}
 use Rattle.trend_model.specs.State.{State}
-use Rattle.device_layout.specs.Recovery.{Recovers}
+use Rattle.device_layout.specs.{Recovers}
 use Rattle.device_layout.proofs.Shows.{if_ok, if_ok₂, if_err}
-use Rattle.crash_recovery.proofs.Openings.{Promises, during_same, opened_shown, recovers_read, stays_retuned}
-use Rattle.crash_recovery.proofs.Openings.{recovers_retuned, stays_read, now_read, now_retuned}
-use Rattle.crash_recovery.proofs.Afterwards.{free_read, free_retuned, layout_retuned, opens_read}
-use Rattle.crash_recovery.proofs.Afterwards.{opens_retuned, synced_read, synced_retuned}
+use Rattle.crash_recovery.proofs.Openings.{Promises, during_same, opened_shown, recovers_read, stays_retuned, recovers_retuned, stays_read, now_read, now_retuned}
+use Rattle.crash_recovery.proofs.Afterwards.{free_read, free_retuned, layout_retuned, opens_read, opens_retuned, synced_read, synced_retuned}
 use Rattle.crash_recovery.proofs.opening.open_tag.Goals as goal
 
 -- what was read, where it was retuned, as the device that the journal has shows it, and what a crash left of that on the way

@@ -1,11 +1,10 @@
 use Rattle.std.proofs.Common.{◌≡◌, ◌∙◌, refl, sym, subst, arith}
 use Rattle.std.proofs.lemmas.Result.{err_from_is_err_and}
 use Rattle.trend_model.specs.State.{State}
-use Rattle.device_layout.specs.{Readings.HasLayout, Readings.IsReadFrom, Recovery.IsRecovered}
-use Rattle.device_layout.specs.{declared.header.Header.Header, declared.layout_reader.Stored.Stored}
+use Rattle.device_layout.specs.{Readings.HasLayout, Readings.IsReadFrom, Recovery.IsRecovered, declared.header.Header.Header, declared.layout_reader.Stored.Stored}
 use Rattle.device_layout.proofs.{Reading.cause_before, Shows.shows_after, Shows.shows_before, Shows.if_ok}
 use Rattle.disk_model.specs.{Calls.Shows, Traces.Trace}
-use Rattle.trend_num.specs.declared.tag_def.TagDef.{TagDef}
+use Rattle.trend_num.specs.{TagDef}
 use Rattle.crash_recovery.specs.{IsSeat, OpensAs}
 use Rattle.crash_recovery.proofs.Openings.{cause_full, counts_full, counts_on}
 use Rattle.crash_recovery.proofs.opening.read_back.Goals.{After-tuned}

@@ -1,11 +1,9 @@
 use Rattle.std.proofs.Common.{◌≡◌, ◌+◌, ◌≤◌, ◌∙◌, false, sym, subst, arith}
 use Rattle.trend_model.specs.State.{State, nothing_taken}
 use Rattle.disk_model.specs.{Gates.IsNew, Calls.Shows, Traces.Synced, Traces.noted, Traces.moment}
-use Rattle.device_layout.specs.Recovery.{IsRecovered}
-use Rattle.crash_recovery.specs.{HasSlots, OpensAs, IsTagLeftOrSame, IsReadAs, IsSeat, HasFreeAtFirst}
-use Rattle.crash_recovery.specs.{free_in}
-use Rattle.crash_recovery.proofs.Openings.{synced_during, during_same, made_during, made_as, read_as}
-use Rattle.crash_recovery.proofs.Openings.{slots_made, slots_kept, cause_synced}
+use Rattle.device_layout.specs.{IsRecovered}
+use Rattle.crash_recovery.specs.{HasSlots, OpensAs, IsTagLeftOrSame, IsReadAs, IsSeat, HasFreeAtFirst, free_in}
+use Rattle.crash_recovery.proofs.Openings.{synced_during, during_same, made_during, made_as, read_as, slots_made, slots_kept, cause_synced}
 use Rattle.crash_recovery.proofs.Afterwards.{free_kept, free_made, begun_before, new_before, shown_always}
 use Rattle.crash_recovery.proofs.{Places.seated_again, DeviceReads.shown_so, Turns.on_ok, Turns.ok_always}
 use Rattle.disk_model.proofs.Images.{settled}

@@ -1,5 +1,5 @@
 use Rattle.std.proofs.lemmas.Result.{err_from_is_err_and}
-use Rattle.device_layout.specs.Readings.{IsFoundOn}
+use Rattle.device_layout.specs.{IsFoundOn}
 use Rattle.device_layout.proofs.{Shows.shows_after, Reading.cause_before}
 use Rattle.crash_recovery.proofs.PartsFound.{read_from}
 use Rattle.crash_recovery.proofs.parts.read_parts.Goals as goal

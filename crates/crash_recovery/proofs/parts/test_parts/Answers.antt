@@ -1,5 +1,5 @@
 use Rattle.std.proofs.Common.{rules, sym, subst}
-use Rattle.trend_model.specs.Parts.{ArePartsOk}
+use Rattle.trend_model.specs.{ArePartsOk}
 use Rattle.crash_recovery.proofs.PartsFound.{none_ok, parts_damaged}
 use Rattle.crash_recovery.proofs.parts.test_parts.Goals as goal
 

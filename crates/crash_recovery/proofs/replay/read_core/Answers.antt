@@ -1,11 +1,10 @@
 use Rattle.std.proofs.Common.{◌<◌, ◌+◌, ap, Err, subst, length, take, map, arith}
-use Rattle.trend_num.specs.Limits.{most_records}
+use Rattle.trend_num.specs.{most_records}
 use Rattle.trend_model.specs.{History.Raw, State.replay}
-use Rattle.device_layout.specs.Recovery.{AllFit}
+use Rattle.device_layout.specs.{AllFit}
 use Rattle.crash_recovery.specs.{HoldsValue, IsOverfull}
 use Rattle.device_layout.proofs.{Shows.shows_after, Reading.cause_of_scan}
-use Rattle.crash_recovery.proofs.{Cores.queue_shown, Cores.holds_shown, Cores.overfull_cause}
-use Rattle.crash_recovery.proofs.{Cores.recovered_shown, Cores.seated_shown, Numbered.numbered_read}
+use Rattle.crash_recovery.proofs.{Cores.queue_shown, Cores.holds_shown, Cores.overfull_cause, Cores.recovered_shown, Cores.seated_shown, Numbered.numbered_read}
 use Rattle.crash_recovery.proofs.replay.read_core.Goals as goal
 
 pub returns-in-Err-clause-cause : goal.returns-in-Err-clause-cause

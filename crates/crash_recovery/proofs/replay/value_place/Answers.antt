@@ -1,5 +1,5 @@
 use Rattle.std.proofs.Common.{◌≡◌, ◌+◌, ◌-◌, ◌∙◌, min, arith, ap, sym, subst}
-use Rattle.event_queue.specs.Slots.{slot_at, count_in}
+use Rattle.event_queue.specs.{slot_at, count_in}
 use Rattle.device_layout.proofs.Shows.{shows, shows_before}
 use Rattle.crash_recovery.proofs.LanePlaces.{IsCountedTo, more_shown, value_shown, never_shown}
 use Rattle.crash_recovery.proofs.replay.value_place.Goals as goal

@@ -1,5 +1,5 @@
 use Rattle.std.proofs.Common.{◌≡◌, ℕ}
-use Rattle.disk_model.specs.Calls.{Shows}
+use Rattle.disk_model.specs.{Shows}
 use Rattle.crash_recovery.specs.{HoldsValue}
 use Rattle.crash_recovery.proofs.LanePlaces.{IsCountedTo}
 use Rattle.crash_recovery.proofs.replay.value_place.Given as goal

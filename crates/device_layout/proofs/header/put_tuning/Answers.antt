@@ -1,5 +1,5 @@
 use Rattle.std.proofs.Common.{◌++◌, ap, ◌∙◌}
-use Rattle.archive_file.specs.Fields.{number_bytes}
+use Rattle.archive_file.specs.{number_bytes}
 use Rattle.archive_file.proofs.Joins.{joined_5}
 use Rattle.device_layout.proofs.header.put_tuning.Goals as goal
 

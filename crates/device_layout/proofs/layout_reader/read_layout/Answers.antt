@@ -1,6 +1,6 @@
 use Rattle.std.proofs.Common.{arith}
 use Rattle.std.proofs.lemmas.Result.{err_from_is_err_and}
-use Rattle.disk_model.specs.Gates.{IsBegun}
+use Rattle.disk_model.specs.{IsBegun}
 use Rattle.device_layout.proofs.{Shows.shows_before, Shows.shows_after, Reading.cause_before, Reading.of_tag, Causes.other_cause}
 use Rattle.device_layout.proofs.layout_reader.read_layout.Goals as goal
 

@@ -1,6 +1,6 @@
 use Rattle.std.proofs.Common.{arith, ◌≡◌, ◌∙◌, Some}
 use Rattle.std.proofs.lemmas.Result.{err_from_is_err_and}
-use Rattle.archive_file.specs.Summaries.{summary_image}
+use Rattle.archive_file.specs.{summary_image}
 use Rattle.device_layout.specs.{counting, slot_bytes, HasLayout, CountsSummary}
 use Rattle.device_layout.proofs.{Shows.shows, Shows.shows_before, Shows.shows_after, Reading.cause_before, Causes.counts_shown, Causes.stored_shown}
 use Rattle.device_layout.proofs.layout_reader.read_stored.Goals as goal

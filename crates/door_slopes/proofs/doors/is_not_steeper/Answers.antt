@@ -1,5 +1,5 @@
 use Rattle.std.proofs.Common.{◌≡◌, ◌∙◌, rules}
-use Rattle.trend_num.specs.Lines.{compare_slopes}
+use Rattle.trend_num.specs.{compare_slopes}
 use Rattle.door_slopes.proofs.Slopes.{test_of_cmp}
 use Rattle.door_slopes.proofs.doors.is_not_steeper.Goals as goal
 

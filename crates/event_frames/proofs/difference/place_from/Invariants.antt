@@ -1,5 +1,5 @@
 use Rattle.std.proofs.Common.{ℕ, ◌<◌, ◌≤◌, get_or}
-use Rattle.event_frames.specs.declared.frame.Frame.{Frame}
+use Rattle.event_frames.specs.{Frame}
 use Rattle.event_frames.proofs.difference.place_from.Given as goal
 
 abbrev pub invariant-loop-i : goal.invariant-loop-i

@@ -1,7 +1,6 @@
 use Rattle.std.proofs.Common.{◌++◌, [], ◌∷◌, false, get_or, refl, ap, ◌∙◌, arith}
 use Rattle.std.proofs.lemmas.List.{get_or_default}
-use Rattle.event_frames.specs.declared.frame.Frame.{Frame}
-use Rattle.event_frames.specs.declared.frame.Edit.{Edit}
+use Rattle.event_frames.specs.{Frame, Edit}
 use Rattle.event_frames.proofs.Differing.{missing_none, missing_step}
 use Rattle.event_frames.proofs.difference.push_missing.Goals as goal
 

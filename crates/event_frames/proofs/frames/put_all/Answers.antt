@@ -1,5 +1,5 @@
 use Rattle.std.proofs.Common.{◌∙◌, arith}
-use Rattle.event_frames.specs.Near.{no_change}
+use Rattle.event_frames.specs.{no_change}
 use Rattle.event_frames.proofs.Changing.{row_len, row_more}
 use Rattle.event_frames.proofs.frames.put_all.Goals as goal
 

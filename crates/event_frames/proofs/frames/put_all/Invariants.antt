@@ -1,5 +1,5 @@
 use Rattle.std.proofs.Common.{◌≡◌, map, take}
-use Rattle.event_frames.specs.Row.{is_true}
+use Rattle.event_frames.specs.{is_true}
 use Rattle.event_frames.proofs.frames.put_all.Given as goal
 
 abbrev pub invariant-loop-k : goal.invariant-loop-k

@@ -1,4 +1,4 @@
-use Rattle.event_frames.specs.Levels.{AreSet}
+use Rattle.event_frames.specs.{AreSet}
 use Rattle.event_frames.proofs.gap.last_gap.Given as goal
 
 abbrev pub invariant-loop-k : goal.invariant-loop-k

@@ -1,4 +1,4 @@
-use Rattle.event_frames.specs.Frames.{IsFrame}
+use Rattle.event_frames.specs.{IsFrame}
 use Rattle.event_frames.proofs.Unique.{list_unique}
 use Rattle.event_frames.proofs.law.frames_are_one_list.Goals as goal
 

@@ -1,7 +1,6 @@
 use Rattle.std.proofs.Common.{◌-◌, Bool, Some, subst, sym, ap}
 use Rattle.std.specs.Prelude.{◌==◌}
-use Rattle.event_frames.specs.declared.frame.Frame.{Frame}
-use Rattle.event_frames.specs.Frames.{IsFrame}
+use Rattle.event_frames.specs.{Frame, IsFrame}
 use Rattle.event_frames.proofs.Framing.{frame_made, frame_short, frame_unique}
 use Rattle.event_frames.proofs.near.frame_between.Goals as goal
 

@@ -1,6 +1,6 @@
 use Rattle.std.proofs.Common.{◌≡◌, ◌+◌, ◌++◌, List, subst, sym, ap, ◌∙◌, arith}
 use Rattle.std.specs.Option.{option_to_list}
-use Rattle.event_frames.specs.declared.frame.Frame.{Frame}
+use Rattle.event_frames.specs.{Frame}
 use Rattle.event_frames.proofs.Nearing.{IsListed, listed_all, listed_more, listed_none}
 use Rattle.event_frames.proofs.near.push_all.Goals as goal
 

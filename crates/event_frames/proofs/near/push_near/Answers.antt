@@ -1,7 +1,6 @@
 use Rattle.std.proofs.Common.{◌≡◌, ◌+◌, ◌-◌, ◌<◌, ◌++◌, List, length, refl, subst, sym, ap, ◌∙◌, arith}
 use Rattle.std.specs.Option.{option_to_list}
-use Rattle.event_frames.specs.declared.frame.Frame.{Frame}
-use Rattle.event_frames.specs.Near.{no_change, window_of}
+use Rattle.event_frames.specs.{Frame, no_change, window_of}
 use Rattle.event_frames.proofs.Listing.{IsListBelow, list_none}
 use Rattle.event_frames.proofs.Nearing.{IsAfter, IsBefore, IsNearFrame, near_step}
 use Rattle.event_frames.proofs.near.push_near.Goals as goal

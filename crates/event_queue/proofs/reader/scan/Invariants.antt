@@ -1,5 +1,5 @@
 use Rattle.std.proofs.Common.{◌≡◌, ◌*◌, ◌<◌, min, vec_len}
-use Rattle.disk_model.specs.Traces.{seen}
+use Rattle.disk_model.specs.{seen}
 use Rattle.event_queue.specs.{IsWithin, IsRead}
 use Rattle.event_queue.proofs.reader.scan.Given as goal
 

@@ -1,5 +1,5 @@
 use Rattle.std.proofs.Common.{◌≢◌, ℕ, ◌≤◌, ◌<◌, get_or}
-use Rattle.disk_model.specs.Gates.{open_byte}
+use Rattle.disk_model.specs.{open_byte}
 use Rattle.event_queue.proofs.reader.used_of.Given as goal
 
 abbrev pub invariant-loop-k : goal.invariant-loop-k

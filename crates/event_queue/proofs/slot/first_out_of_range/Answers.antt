@@ -1,7 +1,7 @@
 use Rattle.std.proofs.Common.{arith, ◌*◌, drop}
 use Rattle.std.proofs.lemmas.List.Elements.{All-push}
-use Rattle.trend_num.specs.Ranges.{InRange}
-use Rattle.archive_file.specs.Fields.{point_at}
+use Rattle.trend_num.specs.{InRange}
+use Rattle.archive_file.specs.{point_at}
 use Rattle.event_queue.specs.{slot_points}
 use Rattle.event_queue.proofs.Batches.{points_in_more, points_behind}
 use Rattle.event_queue.proofs.slot.first_out_of_range.Goals as goal

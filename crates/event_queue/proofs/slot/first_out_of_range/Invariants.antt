@@ -1,6 +1,6 @@
 use Rattle.std.proofs.Common.{◌≡◌, ◌*◌, drop}
 use Rattle.std.specs.List.{All}
-use Rattle.trend_num.specs.Ranges.{InRange}
+use Rattle.trend_num.specs.{InRange}
 use Rattle.event_queue.specs.{slot_points}
 use Rattle.event_queue.proofs.slot.first_out_of_range.Given as goal
 

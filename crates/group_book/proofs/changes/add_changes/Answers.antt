@@ -1,8 +1,8 @@
 use Rattle.std.proofs.Common.{◌+◌, drop, get_or, length, ap, ◌∙◌, subst, arith}
 use Rattle.std.proofs.lemmas.List.{drop_all, drop_more}
-use Rattle.sheet_law.specs.Windows.{complete_windows}
-use Rattle.calc_refresh.specs.Lists.{lists_of}
-use Rattle.group_layout.specs.Rows.{cell_of}
+use Rattle.sheet_law.specs.{complete_windows}
+use Rattle.calc_refresh.specs.{lists_of}
+use Rattle.group_layout.specs.{cell_of}
 use Rattle.group_book.proofs.Listing.{ListedBefore, list_begun, list_ended, list_window}
 use Rattle.group_book.proofs.changes.add_changes.Goals as goal
 

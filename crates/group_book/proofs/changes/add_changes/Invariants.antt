@@ -1,6 +1,6 @@
 use Rattle.std.proofs.Common.{drop, length}
-use Rattle.sheet_law.specs.Windows.{complete_windows}
-use Rattle.calc_refresh.specs.Lists.{lists_of}
+use Rattle.sheet_law.specs.{complete_windows}
+use Rattle.calc_refresh.specs.{lists_of}
 use Rattle.group_book.proofs.Listing.{ListedBefore}
 use Rattle.group_book.proofs.changes.add_changes.Given as goal
 

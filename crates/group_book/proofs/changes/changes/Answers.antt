@@ -1,7 +1,7 @@
 use Rattle.std.proofs.Common.{◌≡◌, ℕ, length, sym, subst, arith}
-use Rattle.sheet_law.specs.Windows.{complete_windows}
-use Rattle.calc_refresh.specs.Lists.{lists_of}
-use Rattle.group_book.specs.Saves.{ListedUpTo}
+use Rattle.sheet_law.specs.{complete_windows}
+use Rattle.calc_refresh.specs.{lists_of}
+use Rattle.group_book.specs.{ListedUpTo}
 use Rattle.group_book.proofs.Listing.{list_all_cells, list_none}
 use Rattle.group_book.proofs.changes.changes.Goals as goal
 

@@ -1,7 +1,7 @@
 use Rattle.std.proofs.Common.{length}
-use Rattle.sheet_law.specs.Windows.{complete_windows}
-use Rattle.calc_refresh.specs.Lists.{lists_of}
-use Rattle.group_book.specs.Saves.{ListedUpTo}
+use Rattle.sheet_law.specs.{complete_windows}
+use Rattle.calc_refresh.specs.{lists_of}
+use Rattle.group_book.specs.{ListedUpTo}
 use Rattle.group_book.proofs.changes.changes.Given as goal
 
 abbrev pub invariant-loop-calc : goal.invariant-loop-calc

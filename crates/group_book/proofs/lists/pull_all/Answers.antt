@@ -1,7 +1,7 @@
 use Rattle.std.proofs.Common.{◌+◌, ◌∙◌, [], arith, get_or, map, subst, sym, take}
 use Rattle.std.proofs.lemmas.List.{length-map}
 use Rattle.std.proofs.lemmas.Result.{err_from_is_err_and}
-use Rattle.group_book.specs.InputLists.{ArePullsOf, IsPullOf, IsPullRefusal, lists_at}
+use Rattle.group_book.specs.{ArePullsOf, IsPullOf, IsPullRefusal, lists_at}
 use Rattle.group_book.proofs.InputLists.{list_ahead, list_at, pulls_all, pulls_more, pulls_none}
 use Rattle.group_book.proofs.lists.pull_all.Goals as goal
 

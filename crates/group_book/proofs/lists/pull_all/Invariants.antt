@@ -1,5 +1,5 @@
 use Rattle.std.proofs.Common.{map, take}
-use Rattle.group_book.specs.InputLists.{ArePullsOf, lists_at}
+use Rattle.group_book.specs.{ArePullsOf, lists_at}
 use Rattle.group_book.proofs.lists.pull_all.Given as goal
 
 abbrev pub invariant-loop-input : goal.invariant-loop-input

@@ -1,5 +1,5 @@
 use Rattle.std.proofs.Common.{◌<◌, length, get_or, take, ap, ◌∙◌, arith}
-use Rattle.calc_refresh.specs.Sheet.{IsCopy}
+use Rattle.calc_refresh.specs.{IsCopy}
 use Rattle.calc_refresh.proofs.Inputs.{each_read}
 use Rattle.group_book.proofs.Loaded.{first_all, first_lengths, first_more, low_more}
 use Rattle.group_book.proofs.loading.first_records.Goals as goal

@@ -1,7 +1,7 @@
 use Rattle.std.proofs.Common.{◌≡◌, ℕ, ◌<◌, ◌≤◌, List, get_or, length, take}
-use Rattle.trend_num.specs.declared.archive.Rec.{Rec}
-use Rattle.calc_refresh.specs.Lists.{lists_of}
-use Rattle.group_book.specs.Tapes.{cut}
+use Rattle.trend_num.specs.{Rec}
+use Rattle.calc_refresh.specs.{lists_of}
+use Rattle.group_book.specs.{cut}
 use Rattle.group_book.proofs.loading.first_records.Given as goal
 
 abbrev pub invariant-loop-i : goal.invariant-loop-i

@@ -1,23 +1,12 @@
 use Rattle.std.proofs.Common.{◌≡◌, ◌∙◌, ℕ, All, [], Err, Some, false, List, length, map, refl, sym, ap, subst, arith}
 use Rattle.std.proofs.lemmas.List.{length-map}
-use Rattle.disk_model.specs.Calls.{Shows}
-use Rattle.disk_model.specs.Moments.{During, LeftSince}
-use Rattle.disk_model.specs.Traces.{FitsName, moment}
-use Rattle.trend_num.specs.declared.value.CalcValue.{CalcValue}
+use Rattle.disk_model.specs.{Shows, During, LeftSince, FitsName, moment}
+use Rattle.trend_num.specs.{CalcValue}
 use Rattle.calc_check.specs.Group.{calculation}
-use Rattle.calc_refresh.specs.declared.definition.GroupDefParts.{GroupDefParts}
-use Rattle.calc_refresh.specs.Lists.{lists_of}
-use Rattle.calc_refresh.specs.Sheet.{SheetState, grid_of}
-use Rattle.group_layout.specs.Images.{StandsFor}
-use Rattle.group_layout.specs.Readings.{IsLeftOrSame, IsReadOf}
-use Rattle.group_book.specs.declared.history.GroupOpening.{GroupOpening}
-use Rattle.group_book.specs.declared.turn.Turn.{Turn}
-use Rattle.group_book.specs.Crashes.{IsBookSafe}
-use Rattle.group_book.specs.Histories.{AreRowsEvaluated, IsBookLegal}
-use Rattle.group_book.specs.Openings.{BookStaysSame, IsBookCause, StandsForGroup}
-use Rattle.group_book.specs.Told.{AreFlagged, IsDefined, IsKept, IsWellHeld, Saved, device_name_of}
-use Rattle.sheet_law.specs.declared.grid.Grid.{Grid}
-use Rattle.sheet_law.specs.Windows.{complete_windows}
+use Rattle.calc_refresh.specs.{GroupDefParts, lists_of, SheetState, grid_of}
+use Rattle.group_layout.specs.{StandsFor, IsLeftOrSame, IsReadOf}
+use Rattle.group_book.specs.{GroupOpening, Turn, IsBookSafe, AreRowsEvaluated, IsBookLegal, BookStaysSame, IsBookCause, StandsForGroup, AreFlagged, IsDefined, IsKept, IsWellHeld, Saved, device_name_of}
+use Rattle.sheet_law.specs.{Grid, complete_windows}
 use Rattle.group_book.proofs.Begun.{began_well}
 use Rattle.group_book.proofs.Evaluations.{evaluated_first}
 use Rattle.group_book.proofs.Flags.{flagged_saved}

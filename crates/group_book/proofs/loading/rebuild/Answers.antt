@@ -1,10 +1,8 @@
 use Rattle.std.proofs.Common.{◌≡◌, ◌∙◌, List, length, map, sym, ap, subst, arith}
 use Rattle.std.proofs.lemmas.List.{length-map}
-use Rattle.calc_refresh.specs.Lists.{lists_of}
-use Rattle.calc_refresh.specs.Refreshed.{IsRefreshToldOf, shape_fault}
-use Rattle.calc_refresh.specs.Sheet.{grid_of}
-use Rattle.sheet_law.specs.Windows.{complete_windows}
-use Rattle.group_book.specs.Tapes.{cut}
+use Rattle.calc_refresh.specs.{lists_of, IsRefreshToldOf, shape_fault, grid_of}
+use Rattle.sheet_law.specs.{complete_windows}
+use Rattle.group_book.specs.{cut}
 use Rattle.group_book.proofs.Loaded.{copies_copied, copies_many, rows_short}
 use Rattle.group_book.proofs.loading.rebuild.Goals as goal
 

@@ -1,5 +1,5 @@
 use Rattle.std.proofs.Common.{◌≡◌, [], replicate}
-use Rattle.calc_refresh.specs.Lists.{lists_of}
+use Rattle.calc_refresh.specs.{lists_of}
 use Rattle.group_book.proofs.making.empty_rows.Given as goal
 
 abbrev pub invariant-loop : goal.invariant-loop

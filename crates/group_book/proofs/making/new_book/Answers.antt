@@ -1,12 +1,8 @@
 use Rattle.std.proofs.Common.{◌≡◌, ◌∙◌, [], false, None, refl, sym, ap, subst, arith, replicate, length}
 use Rattle.std.proofs.lemmas.List.{length-map}
 use Rattle.calc_check.specs.Group.{calculation}
-use Rattle.calc_refresh.specs.Lists.{lists_of}
-use Rattle.calc_refresh.specs.Sheet.{SheetState, grid_of}
-use Rattle.group_book.specs.Crashes.{IsBookSafe}
-use Rattle.group_book.specs.Histories.{AreRowsEvaluated, IsBookLegal}
-use Rattle.group_book.specs.Told.{IsKept, LeftOf, Saved}
-use Rattle.group_book.specs.declared.history.GroupOpening.{GroupOpening}
+use Rattle.calc_refresh.specs.{lists_of, SheetState, grid_of}
+use Rattle.group_book.specs.{IsBookSafe, AreRowsEvaluated, IsBookLegal, IsKept, LeftOf, Saved, GroupOpening}
 use Rattle.group_book.proofs.Fresh.{fresh_defined, fresh_evaluated, fresh_kept, fresh_legal, fresh_safe}
 use Rattle.group_book.proofs.Flags.{flagged_fresh}
 use Rattle.group_book.proofs.making.new_book.Goals as goal

@@ -1,6 +1,6 @@
 use Rattle.std.proofs.Common.{◌≡◌}
-use Rattle.calc_refresh.specs.Lists.{lists_of}
-use Rattle.group_book.specs.Told.{pulled_records}
+use Rattle.calc_refresh.specs.{lists_of}
+use Rattle.group_book.specs.{pulled_records}
 use Rattle.group_book.proofs.publish.records_of.Given as goal
 
 abbrev pub invariant-loop-one : goal.invariant-loop-one

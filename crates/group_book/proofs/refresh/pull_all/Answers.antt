@@ -2,9 +2,9 @@ use Rattle.std.proofs.Common.{◌≡◌, ◌+◌, ◌∷◌, [], ℕ, ◌<◌, �
 use Rattle.std.proofs.lemmas.List.{map-append}
 use Rattle.std.proofs.lemmas.List.Elements.{All-push}
 use Rattle.std.proofs.lemmas.Result.{err_from_is_err_and}
-use Rattle.calc_refresh.specs.Sheet.{IsCopy}
-use Rattle.tag_cell.specs.declared.entry.Pulled.{Pulled}
-use Rattle.group_book.specs.Told.{GivesNone, pulled_records}
+use Rattle.calc_refresh.specs.{IsCopy}
+use Rattle.tag_cell.specs.{Pulled}
+use Rattle.group_book.specs.{GivesNone, pulled_records}
 use Rattle.group_book.proofs.Causes.{goes_more, none_more, one_refused}
 use Rattle.group_book.proofs.refresh.pull_all.Goals as goal
 

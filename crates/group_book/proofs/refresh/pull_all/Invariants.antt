@@ -1,7 +1,7 @@
 use Rattle.std.proofs.Common.{◌≡◌, ℕ, ◌+◌, ◌<◌, All, get_or, length}
-use Rattle.calc_refresh.specs.Sheet.{IsCopy}
-use Rattle.tag_cell.specs.declared.entry.Pulled.{Pulled}
-use Rattle.group_book.specs.Told.{GivesNone, pulled_records}
+use Rattle.calc_refresh.specs.{IsCopy}
+use Rattle.tag_cell.specs.{Pulled}
+use Rattle.group_book.specs.{GivesNone, pulled_records}
 use Rattle.group_book.proofs.refresh.pull_all.Given as goal
 
 abbrev pub invariant-loop-i : goal.invariant-loop-i

@@ -1,6 +1,6 @@
 use Rattle.std.proofs.Common.{◌<◌, inl, inr, length, vec_len, ap, ◌∙◌, sym, arith}
 use Rattle.std.specs.Prelude.{slice_get}
-use Rattle.calc_refresh.specs.Lists.{lists_of}
+use Rattle.calc_refresh.specs.{lists_of}
 use Rattle.group_book.proofs.Columns.{changes_below, changes_cover, same_values}
 use Rattle.group_book.proofs.saved_rows.bring_rows.Goals as goal
 

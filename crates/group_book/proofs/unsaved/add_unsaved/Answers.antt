@@ -1,6 +1,6 @@
 use Rattle.std.proofs.Common.{◌++◌, ◌∷◌, [], sym, ap, ◌∙◌}
 use Rattle.calc_refresh.proofs.Passing.{passing_next, passing_same}
-use Rattle.group_book.specs.Told.{is_unsaved}
+use Rattle.group_book.specs.{is_unsaved}
 use Rattle.group_book.proofs.unsaved.add_unsaved.Goals as goal
 use Rattle.group_book.proofs.unsaved.add_unsaved.Goals.{then-is_unsaved+in_ok-push, else-is_unsaved}
 

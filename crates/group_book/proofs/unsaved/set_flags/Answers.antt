@@ -2,7 +2,7 @@ use Rattle.std.proofs.Common.{◌≡◌, ◌⊎◌, ℕ, ◌+◌, ◌<◌, inl, 
 use Rattle.std.proofs.lemmas.Bool.{cases_eq}
 use Rattle.std.proofs.lemmas.List.{get_or-set_other, get_or-set_same, get_or_past, take_all, take_more}
 use Rattle.std.proofs.lemmas.List.Elements.{Contains-append_left, Contains-push, Contains-push_cases}
-use Rattle.group_book.specs.Told.{is_unsaved}
+use Rattle.group_book.specs.{is_unsaved}
 use Rattle.group_book.proofs.unsaved.set_flags.Goals as goal
 use Rattle.group_book.proofs.unsaved.set_flags.Goals.{then-k-flags, else-k-flags}
 

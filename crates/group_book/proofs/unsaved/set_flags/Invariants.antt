@@ -1,5 +1,5 @@
 use Rattle.std.proofs.Common.{◌≡◌, ℕ, true, Contains, take}
-use Rattle.group_book.specs.Told.{is_unsaved}
+use Rattle.group_book.specs.{is_unsaved}
 use Rattle.group_book.proofs.unsaved.set_flags.Given as goal
 
 abbrev pub invariant-loop-k : goal.invariant-loop-k

@@ -2,7 +2,7 @@ use Rattle.std.proofs.Common.{◌≡◌, ◌+◌, ◌-◌, ◌<◌, ◌≤◌, �
 use Rattle.std.specs.List.{filter, range_with_len}
 use Rattle.std.proofs.lemmas.List.{get_or-drop, get_or-take, length-drop, length-take}
 use Rattle.calc_refresh.proofs.Passing.{passing_none}
-use Rattle.group_book.specs.Told.{is_unsaved}
+use Rattle.group_book.specs.{is_unsaved}
 use Rattle.group_book.proofs.unsaved.unsaved_windows.Goals as goal
 
 -- a window whose flag is in a block without one that is set

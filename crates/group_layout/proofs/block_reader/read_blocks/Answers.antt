@@ -1,5 +1,5 @@
 use Rattle.std.proofs.lemmas.Result.{err_from_is_err_and}
-use Rattle.disk_model.specs.Traces.{seen}
+use Rattle.disk_model.specs.{seen}
 use Rattle.archive_file.proofs.FieldLaws.{told_through}
 use Rattle.group_layout.proofs.Walks.{all_blocks, breaks_there, end_there, versions_there}
 use Rattle.group_layout.proofs.block_reader.read_blocks.Goals as goal

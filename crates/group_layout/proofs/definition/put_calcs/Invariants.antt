@@ -1,6 +1,6 @@
 use Rattle.std.proofs.Common.{◌≡◌, ◌++◌, map, take}
 use Rattle.calc_check.specs.Group.{calculation}
-use Rattle.group_layout.specs.Texts.{calcs_text}
+use Rattle.group_layout.specs.{calcs_text}
 use Rattle.group_layout.proofs.definition.put_calcs.Given as goal
 
 abbrev pub invariant-loop-calc : goal.invariant-loop-calc

@@ -1,6 +1,6 @@
 use Rattle.std.proofs.Common.{◌++◌, sym, ap, ◌∙◌, take}
 use Rattle.archive_file.proofs.Joins.{images_more, joined}
-use Rattle.group_layout.specs.Texts.{name_text, names_text}
+use Rattle.group_layout.specs.{name_text, names_text}
 use Rattle.group_layout.proofs.definition.put_names.Goals as goal
 
 pub loop-name-preserved : goal.loop-name-preserved

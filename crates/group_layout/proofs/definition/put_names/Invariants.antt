@@ -1,5 +1,5 @@
 use Rattle.std.proofs.Common.{◌≡◌, ◌++◌, take}
-use Rattle.group_layout.specs.Texts.{names_text}
+use Rattle.group_layout.specs.{names_text}
 use Rattle.group_layout.proofs.definition.put_names.Given as goal
 
 abbrev pub invariant-loop-name : goal.invariant-loop-name

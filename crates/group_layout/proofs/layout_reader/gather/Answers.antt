@@ -1,6 +1,5 @@
 use Rattle.std.proofs.Common.{◌≡◌, ◌-◌, ◌<◌, ◌≤◌, Some, map, ap, sym, ◌∙◌, subst, arith}
-use Rattle.group_layout.specs.Blocks.{block_size, end_of, last_of, parts_of, unsaved}
-use Rattle.group_layout.specs.Rows.{saved_value}
+use Rattle.group_layout.specs.{block_size, end_of, last_of, parts_of, unsaved, saved_value}
 use Rattle.group_layout.proofs.Walks.{last_fits}
 use Rattle.group_layout.proofs.layout_reader.gather.Goals as goal
 use Rattle.group_layout.proofs.layout_reader.gather.Goals.{After-last_or-last, In-Ok-None}

@@ -1,8 +1,8 @@
 use Rattle.std.proofs.Common.{subst}
 use Rattle.std.proofs.lemmas.Result.{err_from_is_err_and}
-use Rattle.disk_model.specs.Calls.{Shows}
+use Rattle.disk_model.specs.{Shows}
 use Rattle.archive_file.proofs.FieldLaws.{told_through}
-use Rattle.group_layout.specs.Images.{IsGroupDamage}
+use Rattle.group_layout.specs.{IsGroupDamage}
 use Rattle.group_layout.proofs.Damages.{head_damage}
 use Rattle.group_layout.proofs.layout_reader.read_group.Goals as goal
 

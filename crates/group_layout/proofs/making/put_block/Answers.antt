@@ -1,10 +1,6 @@
 use Rattle.std.proofs.Common.{◌≡◌, ◌∙◌, ℕ, List, sym, subst, ◌+◌, ◌∷◌, ◌++◌, [], length, ap, arith}
-use Rattle.group_layout.specs.Blocks.{block_image, block_size, parts_of}
-use Rattle.disk_model.specs.Calls.{Sees}
-use Rattle.disk_model.specs.Gates.{IsGuarded, IsShut, open_byte}
-use Rattle.disk_model.specs.Images.{FromOld, Now}
-use Rattle.disk_model.specs.Moments.{During}
-use Rattle.disk_model.specs.Traces.{seen, written}
+use Rattle.group_layout.specs.{block_image, block_size, parts_of}
+use Rattle.disk_model.specs.{Sees, IsGuarded, IsShut, open_byte, FromOld, Now, During, seen, written}
 use Rattle.group_layout.proofs.BlockAdded.{block_ready}
 use Rattle.group_layout.proofs.Beginnings.{length-block_image, shut_guarded}
 use Rattle.archive_file.proofs.ReadImages.{shut_reached}

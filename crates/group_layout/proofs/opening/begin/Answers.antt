@@ -1,8 +1,6 @@
 use Rattle.std.proofs.Common.{◌∙◌, ◌<◌, [], List, map, ap, subst, arith}
 use Rattle.std.proofs.lemmas.Result.{err_from_is_err_and}
-use Rattle.group_layout.specs.declared.block.Block.{Block}
-use Rattle.group_layout.specs.Blocks.{last_of, parts_of, unsaved}
-use Rattle.group_layout.specs.Rows.{AreRowsOf, block_lists_of}
+use Rattle.group_layout.specs.{Block, last_of, parts_of, unsaved, AreRowsOf, block_lists_of}
 use Rattle.group_layout.proofs.Beginnings.{nothing_yet}
 use Rattle.archive_file.proofs.FieldLaws.{told_through}
 use Rattle.group_layout.proofs.Openings.{no_rows, none_shape}

@@ -1,10 +1,7 @@
 use Rattle.std.proofs.Common.{◌∙◌, arith, refl, subst, ap}
 use Rattle.std.proofs.lemmas.Result.{err_from_is_err_and}
-use Rattle.disk_model.specs.Moments.{During}
-use Rattle.disk_model.specs.Traces.{seen, moment}
-use Rattle.group_layout.specs.Images.{IsGroupDamage, IsUnsaved, StandsFor}
-use Rattle.group_layout.specs.Readings.{IsLeftOrSame, IsReadOf, SavesNothing, StandsSame}
-use Rattle.group_layout.specs.Rows.{block_lists_of}
+use Rattle.disk_model.specs.{During, seen, moment}
+use Rattle.group_layout.specs.{IsGroupDamage, IsUnsaved, StandsFor, IsLeftOrSame, IsReadOf, SavesNothing, StandsSame, block_lists_of}
 use Rattle.archive_file.proofs.FieldLaws.{told_through}
 use Rattle.archive_file.proofs.ReadImages.{during_same, left_synced, shown_before}
 use Rattle.group_layout.proofs.Openings.{found_unsaved, gains_nothing, gains_sync, left_begun, read_of, read_stands, saved_is, unsaved_stands}

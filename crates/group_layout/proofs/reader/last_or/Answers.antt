@@ -1,4 +1,4 @@
-use Rattle.group_layout.specs.Blocks.{parts_of}
+use Rattle.group_layout.specs.{parts_of}
 use Rattle.group_layout.proofs.Walks.{last_is}
 use Rattle.group_layout.proofs.reader.last_or.Goals as goal
 

@@ -1,7 +1,7 @@
 use Rattle.std.proofs.Common.{◌≡◌, ◌+◌, ◌*◌, ◌≤◌, ◌∷◌, [], true, All, length, nat_le, refl, ap, ◌∙◌, subst, arith, lit<}
 use Rattle.std.proofs.lemmas.Result.{err_from_is_err_and}
-use Rattle.archive_file.specs.LayoutFields.{BreaksFirst, Keeps}
-use Rattle.group_layout.specs.Blocks.{block_fields, parts_of}
+use Rattle.archive_file.specs.{BreaksFirst, Keeps}
+use Rattle.group_layout.specs.{block_fields, parts_of}
 use Rattle.archive_file.proofs.FieldLaws.{breaks_part, field_of, kept_none, told_through}
 use Rattle.group_layout.proofs.BlockLaws.{IsRead, at_counts, at_gate, at_rows, at_versions, block_follows, block_spelled, number_field, number_read}
 use Rattle.group_layout.proofs.reader.read_block.Goals as goal

@@ -3,10 +3,9 @@ use Rattle.std.proofs.Math.Seq.{get_or-append_seam}
 use Rattle.std.proofs.Math.ListN.{get_or-append}
 use Rattle.std.proofs.lemmas.Bool.{cases_lt}
 use Rattle.std.proofs.lemmas.Result.{err_from_is_err_and}
-use Rattle.archive_file.specs.Fields.{number_bytes}
+use Rattle.archive_file.specs.{number_bytes, BreaksFirst, Keeps, Spells, short_at}
 use Rattle.archive_file.proofs.Joins.{images_push}
-use Rattle.archive_file.specs.LayoutFields.{BreaksFirst, Keeps, Spells, short_at}
-use Rattle.group_layout.specs.Blocks.{versions_image}
+use Rattle.group_layout.specs.{versions_image}
 use Rattle.archive_file.proofs.FieldLaws.{field_of, spells_both, told_through}
 use Rattle.group_layout.proofs.VersionLaws.{version_breaks, version_more}
 use Rattle.group_layout.proofs.reader.read_versions.Goals as goal

@@ -1,6 +1,6 @@
 use Rattle.std.proofs.Common.{◌≡◌, ℕ, ◌+◌, ◌*◌, ◌<◌, ◌≤◌, drop, get_or, length}
-use Rattle.archive_file.specs.LayoutFields.{Spells}
-use Rattle.group_layout.specs.Blocks.{version_fields, versions_image}
+use Rattle.archive_file.specs.{Spells}
+use Rattle.group_layout.specs.{version_fields, versions_image}
 use Rattle.archive_file.proofs.FieldLaws.{KeptUpTo}
 use Rattle.group_layout.proofs.reader.read_versions.Given as goal
 

@@ -1,7 +1,7 @@
 use Rattle.std.proofs.Common.{◌≤◌, ◌+◌, All, true, length, sym, subst, arith, lit<}
-use Rattle.archive_file.specs.LayoutFields.{Keeps, Spells}
+use Rattle.archive_file.specs.{Keeps, Spells}
 use Rattle.archive_file.proofs.FieldLaws.{field_of}
-use Rattle.group_layout.specs.Blocks.{row_fields, row_image}
+use Rattle.group_layout.specs.{row_fields, row_image}
 use Rattle.group_layout.proofs.RowLaws.{row_found, row_ordered}
 use Rattle.group_layout.proofs.row_reader.read_row.Goals as goal
 

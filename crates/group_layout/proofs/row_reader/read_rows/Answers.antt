@@ -2,8 +2,8 @@ use Rattle.std.proofs.Common.{◌+◌, ◌∷◌, [], All, AllPairs, length, sym
 use Rattle.std.proofs.lemmas.Result.{err_from_is_err_and}
 use Rattle.std.proofs.lemmas.List.Elements.{All-push}
 use Rattle.archive_file.proofs.Joins.{images_push}
-use Rattle.archive_file.specs.LayoutFields.{Spells}
-use Rattle.group_layout.specs.Blocks.{IsBefore, IsRow, row_image, rows_image}
+use Rattle.archive_file.specs.{Spells}
+use Rattle.group_layout.specs.{IsBefore, IsRow, row_image, rows_image}
 use Rattle.archive_file.proofs.FieldLaws.{spells_both, told_through}
 use Rattle.group_layout.proofs.RowLaws.{row_breaks, row_more, sorted_push}
 use Rattle.group_layout.proofs.row_reader.read_rows.Goals as goal

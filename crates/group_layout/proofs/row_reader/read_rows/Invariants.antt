@@ -1,6 +1,6 @@
 use Rattle.std.proofs.Common.{◌≡◌, ◌+◌, ◌-◌, ◌*◌, ◌≤◌, All, AllPairs, None, length}
-use Rattle.archive_file.specs.LayoutFields.{Spells}
-use Rattle.group_layout.specs.Blocks.{IsBefore, IsRow, rows_fields, rows_image}
+use Rattle.archive_file.specs.{Spells}
+use Rattle.group_layout.specs.{IsBefore, IsRow, rows_fields, rows_image}
 use Rattle.archive_file.proofs.FieldLaws.{KeptUpTo}
 use Rattle.group_layout.proofs.RowLaws.{IsLastOf}
 use Rattle.group_layout.proofs.row_reader.read_rows.Given as goal

@@ -1,7 +1,6 @@
 use Rattle.std.proofs.Common.{◌≡◌, ◌++◌, None, drop, fold, length, map, replicate, take, sym, ap, ◌∙◌, arith, take_at}
 use Rattle.std.proofs.lemmas.List.{drop_all}
-use Rattle.group_layout.specs.Blocks.{parts_of}
-use Rattle.group_layout.specs.Rows.{block_lists_of, rows_of_blocks, with_row}
+use Rattle.group_layout.specs.{parts_of, block_lists_of, rows_of_blocks, with_row}
 use Rattle.group_layout.proofs.SavedRows.{next_block, lengths_saved, cells_saved}
 use Rattle.group_layout.proofs.saved.cells_of.Goals as goal
 

@@ -1,6 +1,5 @@
 use Rattle.std.proofs.Common.{◌≡◌, None, drop, fold, map, replicate}
-use Rattle.group_layout.specs.Blocks.{parts_of}
-use Rattle.group_layout.specs.Rows.{block_lists_of, rows_of_blocks, with_row}
+use Rattle.group_layout.specs.{parts_of, block_lists_of, rows_of_blocks, with_row}
 use Rattle.group_layout.proofs.saved.cells_of.Given as goal
 
 abbrev pub invariant-loop-block : goal.invariant-loop-block

@@ -1,5 +1,5 @@
 use Rattle.std.proofs.Common.{◌≡◌, ◌≤◌, None, replicate, vec_capacity, vec_len}
-use Rattle.group_layout.specs.Rows.{block_lists_of}
+use Rattle.group_layout.specs.{block_lists_of}
 use Rattle.group_layout.proofs.saved.no_cells.Given as goal
 
 abbrev pub invariant-loop : goal.invariant-loop

@@ -1,5 +1,5 @@
 use Rattle.std.proofs.Common.{◌≡◌, drop, fold}
-use Rattle.group_layout.specs.Rows.{block_lists_of, with_row}
+use Rattle.group_layout.specs.{block_lists_of, with_row}
 use Rattle.group_layout.proofs.saved.put_rows.Given as goal
 
 abbrev pub invariant-loop-row : goal.invariant-loop-row

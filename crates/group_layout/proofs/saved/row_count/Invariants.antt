@@ -1,6 +1,5 @@
 use Rattle.std.proofs.Common.{◌≡◌, ◌-◌, ◌^◌, length, map, min, take}
-use Rattle.group_layout.specs.Blocks.{parts_of}
-use Rattle.group_layout.specs.Rows.{rows_of_blocks}
+use Rattle.group_layout.specs.{parts_of, rows_of_blocks}
 use Rattle.group_layout.proofs.saved.row_count.Given as goal
 
 abbrev pub invariant-loop-block : goal.invariant-loop-block

@@ -3,8 +3,7 @@ use Rattle.std.proofs.lemmas.Iterator.Adapters.{YieldsList-from_vec}
 use Rattle.std.proofs.lemmas.Iterator.Consumers.{YieldsList-turn, YieldsList-end}
 use Rattle.std.proofs.lemmas.Nat.{mul-le}
 use Rattle.std.proofs.lemmas.List.{length-map, map-append}
-use Rattle.group_layout.specs.Blocks.{parts_of}
-use Rattle.group_layout.specs.Rows.{AreRowsOf, block_lists_of, saved_value}
+use Rattle.group_layout.specs.{parts_of, AreRowsOf, block_lists_of, saved_value}
 use Rattle.group_layout.proofs.SavedRows.{rows_push, vectors_are, vector_is}
 use Rattle.group_layout.proofs.FewRows.{too_few}
 use Rattle.group_layout.proofs.saved.rows_of.Goals as goal

@@ -1,6 +1,5 @@
 use Rattle.std.proofs.Common.{◌≤◌, length, map, vec_capacity}
-use Rattle.group_layout.specs.Blocks.{parts_of}
-use Rattle.group_layout.specs.Rows.{AreRowsOf, block_lists_of}
+use Rattle.group_layout.specs.{parts_of, AreRowsOf, block_lists_of}
 use Rattle.group_layout.proofs.saved.rows_of.Given as goal
 
 abbrev pub invariant-loop-calc_cells : goal.invariant-loop-calc_cells

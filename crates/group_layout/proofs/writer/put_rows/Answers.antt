@@ -1,7 +1,7 @@
 use Rattle.std.proofs.Common.{◌++◌, sym, ap, ◌∙◌, take}
 use Rattle.std.proofs.lemmas.List.{get_or_default}
 use Rattle.archive_file.proofs.Joins.{images_more, joined}
-use Rattle.group_layout.specs.Blocks.{row_image, rows_image}
+use Rattle.group_layout.specs.{row_image, rows_image}
 use Rattle.group_layout.proofs.writer.put_rows.Goals as goal
 
 pub loop-row-preserved : goal.loop-row-preserved

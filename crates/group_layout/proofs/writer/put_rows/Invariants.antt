@@ -1,5 +1,5 @@
 use Rattle.std.proofs.Common.{◌≡◌, ◌++◌, take}
-use Rattle.group_layout.specs.Blocks.{rows_image}
+use Rattle.group_layout.specs.{rows_image}
 use Rattle.group_layout.proofs.writer.put_rows.Given as goal
 
 abbrev pub invariant-loop-row : goal.invariant-loop-row

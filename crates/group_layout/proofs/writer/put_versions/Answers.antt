@@ -1,8 +1,8 @@
 use Rattle.std.proofs.Common.{◌++◌, sym, ap, ◌∙◌, take, get_or}
 use Rattle.std.proofs.lemmas.List.{get_or_default}
-use Rattle.archive_file.specs.Fields.{number_bytes}
+use Rattle.archive_file.specs.{number_bytes}
 use Rattle.archive_file.proofs.Joins.{images_more, joined}
-use Rattle.group_layout.specs.Blocks.{versions_image}
+use Rattle.group_layout.specs.{versions_image}
 use Rattle.group_layout.proofs.writer.put_versions.Goals as goal
 
 pub loop-version-preserved : goal.loop-version-preserved

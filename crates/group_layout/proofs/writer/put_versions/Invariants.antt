@@ -1,5 +1,5 @@
 use Rattle.std.proofs.Common.{◌≡◌, ◌++◌, take}
-use Rattle.group_layout.specs.Blocks.{versions_image}
+use Rattle.group_layout.specs.{versions_image}
 use Rattle.group_layout.proofs.writer.put_versions.Given as goal
 
 abbrev pub invariant-loop-version : goal.invariant-loop-version

@@ -1,6 +1,5 @@
 use Rattle.std.proofs.Common.{All}
-use Rattle.calc_refresh.specs.Lists.{lists_of}
-use Rattle.calc_refresh.specs.Sheet.{IsCopy}
+use Rattle.calc_refresh.specs.{lists_of, IsCopy}
 use Rattle.group_tests.proofs.sheets.deltas_of.Given as goal
 
 abbrev pub invariant-loop-part : goal.invariant-loop-part

@@ -1,4 +1,4 @@
-use Rattle.calc_refresh.specs.Lists.{lists_of}
+use Rattle.calc_refresh.specs.{lists_of}
 use Rattle.group_tests.proofs.Copies.{as_many_copies}
 use Rattle.group_tests.proofs.sheets.tell_on.Goals as goal
 

@@ -1,5 +1,5 @@
 use Rattle.std.proofs.Common.{◌≡◌, ◌≢◌, Some, ◌∙◌, rules}
-use Rattle.trend_num.specs.declared.point.Point.{Point}
+use Rattle.trend_num.specs.{Point}
 use Rattle.interp_read.proofs.ClosedPoints.{added_held, last_of_all, same_held}
 use Rattle.interp_read.proofs.closing.added.Goals as goal
 

@@ -1,5 +1,5 @@
 use Rattle.std.proofs.Common.{◌≡◌, ◌+◌, ◌-◌, sym, arith}
-use Rattle.trend_model.specs.Contents.{points_of}
+use Rattle.trend_model.specs.{points_of}
 use Rattle.late_insert.proofs.Ranges.{last_take}
 use Rattle.interp_read.proofs.closing.last_of.Goals as goal
 

@@ -3,7 +3,7 @@ use Rattle.std.specs.Prelude.{slice_range}
 use Rattle.std.proofs.lemmas.List.{length-map}
 use Rattle.std.proofs.lemmas.List.Edits.{between_more}
 use Rattle.std.proofs.lemmas.Option.{get_or_from_slice_get}
-use Rattle.trend_model.specs.Contents.{points_of}
+use Rattle.trend_model.specs.{points_of}
 use Rattle.interp_read.proofs.list.copied.Goals as goal
 
 pub loop-i-preserved : goal.loop-i-preserved

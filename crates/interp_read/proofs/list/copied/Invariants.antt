@@ -1,6 +1,6 @@
 use Rattle.std.proofs.Common.{◌≡◌, ◌≤◌, max}
 use Rattle.std.specs.Prelude.{slice_range}
-use Rattle.trend_model.specs.Contents.{points_of}
+use Rattle.trend_model.specs.{points_of}
 use Rattle.interp_read.proofs.list.copied.Given as goal
 
 abbrev pub invariant-loop-i : goal.invariant-loop-i

@@ -2,8 +2,7 @@ use Rattle.std.proofs.Common.{◌≡◌, ◌∙◌, ◌^◌, ◌-◌, ◌<◌, �
 use Rattle.std.specs.Prelude.{◌↔◌, IsTrue}
 use Rattle.std.proofs.lemmas.Bool.{lt-ltb, ltb-true}
 use Rattle.std.proofs.lemmas.List.{length-map}
-use Rattle.trend_model.specs.Contents.{points_of}
-use Rattle.trend_model.specs.Reads.{points_from_to}
+use Rattle.trend_model.specs.{points_of, points_from_to}
 use Rattle.interp_read.proofs.Listing.{copied_first, left_over}
 use Rattle.interp_read.proofs.list.points.Goals as goal
 use Rattle.interp_read.proofs.list.points.Goals.{After-completed}

@@ -1,6 +1,5 @@
 use Rattle.std.proofs.Common.{sym, subst}
-use Rattle.interp_read.specs.Closing.{points_closed_by}
-use Rattle.interp_read.specs.Readable.{IsReadable}
+use Rattle.interp_read.specs.{points_closed_by, IsReadable}
 use Rattle.interp_read.proofs.ClosedPoints.{closed_readable}
 use Rattle.interp_read.proofs.read.read_at.Goals as goal
 

@@ -1,8 +1,7 @@
 use Rattle.std.proofs.Common.{◌≡◌, ◌≢◌, Some, ap, sym, ◌∙◌}
-use Rattle.trend_num.specs.declared.point.Point.{Point}
+use Rattle.trend_num.specs.{Point}
 use Rattle.trend_num.specs.declared.reading.Reading.TheVariants.{Exact, Flat}
-use Rattle.interp_read.proofs.ReadsNextTo.{before_is, read_exact, read_flat, read_inside, read_nothing}
-use Rattle.interp_read.proofs.ReadsNextTo.{value_back}
+use Rattle.interp_read.proofs.ReadsNextTo.{before_is, read_exact, read_flat, read_inside, read_nothing, value_back}
 use Rattle.interp_read.proofs.read.reading_of.Goals as goal
 
 pub reading_between-requires-clause-after : goal.reading_between-requires-clause-after

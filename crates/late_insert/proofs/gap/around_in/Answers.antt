@@ -1,8 +1,8 @@
 use Rattle.std.proofs.Common.{◌≡◌, ◌≢◌, Some, sym, ◌∙◌}
 use Rattle.std.specs.Prelude.{slice_get}
-use Rattle.trend_num.specs.declared.point.Point.{Point}
-use Rattle.trend_model.specs.Contents.{points_of}
-use Rattle.late_insert.specs.Pages.{page_records_of}
+use Rattle.trend_num.specs.{Point}
+use Rattle.trend_model.specs.{points_of}
+use Rattle.late_insert.specs.{page_records_of}
 use Rattle.late_insert.proofs.Reading.{count_gap}
 use Rattle.late_insert.proofs.Nearest.{upto_there, upto_gap}
 use Rattle.late_insert.proofs.gap.around_in.Goals as goal

@@ -1,9 +1,9 @@
 use Rattle.std.proofs.Common.{sym, arith}
 use Rattle.std.proofs.lemmas.List.{length-map}
 use Rattle.std.proofs.lemmas.Option.{slice_get_past}
-use Rattle.trend_num.specs.declared.archive.Rec.{Rec}
-use Rattle.trend_model.specs.Contents.{points_of}
-use Rattle.late_insert.specs.Pages.{page_records_of}
+use Rattle.trend_num.specs.{Rec}
+use Rattle.trend_model.specs.{points_of}
+use Rattle.late_insert.specs.{page_records_of}
 use Rattle.late_insert.proofs.Nearest.{point_get}
 use Rattle.late_insert.proofs.gap.first_from.Goals as goal
 

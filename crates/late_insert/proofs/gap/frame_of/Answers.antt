@@ -1,6 +1,6 @@
 use Rattle.std.proofs.Common.{ap, ◌∙◌, get_or}
 use Rattle.std.proofs.lemmas.List.{get_or_default}
-use Rattle.page_pool.specs.Pool.{frame_at}
+use Rattle.page_pool.specs.{frame_at}
 use Rattle.late_insert.proofs.Finding.{no_page}
 use Rattle.late_insert.proofs.Reading.{held_by, is_read}
 use Rattle.late_insert.proofs.gap.frame_of.Goals as goal

@@ -1,5 +1,5 @@
 use Rattle.std.proofs.Common.{◌+◌, sym, arith}
-use Rattle.late_insert.specs.Pages.{page_records_of}
+use Rattle.late_insert.specs.{page_records_of}
 use Rattle.late_insert.proofs.Finding.{no_page, starts_rise, found_for}
 use Rattle.late_insert.proofs.Reading.{IsGap, frame_page, frame_rises, gap_on}
 use Rattle.late_insert.proofs.gap.gap_in.Goals as goal

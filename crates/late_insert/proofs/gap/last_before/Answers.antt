@@ -1,6 +1,6 @@
 use Rattle.std.proofs.Common.{◌≡◌, ◌+◌, ◌-◌, sym, arith}
-use Rattle.trend_model.specs.Contents.{points_of}
-use Rattle.late_insert.specs.Pages.{page_records_of}
+use Rattle.trend_model.specs.{points_of}
+use Rattle.late_insert.specs.{page_records_of}
 use Rattle.late_insert.proofs.Nearest.{point_get}
 use Rattle.late_insert.proofs.Ranges.{last_take}
 use Rattle.late_insert.proofs.gap.last_before.Goals as goal

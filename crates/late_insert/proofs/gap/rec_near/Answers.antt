@@ -1,5 +1,5 @@
 use Rattle.std.proofs.Common.{◌-◌, sym, ap, ◌∙◌, arith}
-use Rattle.late_insert.specs.Pages.{rec_in}
+use Rattle.late_insert.specs.{rec_in}
 use Rattle.late_insert.proofs.Finding.{no_page}
 use Rattle.late_insert.proofs.Reading.{frame_page, read_on}
 use Rattle.late_insert.proofs.gap.rec_near.Goals as goal

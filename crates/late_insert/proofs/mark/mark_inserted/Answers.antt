@@ -1,8 +1,7 @@
 use Rattle.std.proofs.Common.{ap, ◌∙◌, arith}
 use Rattle.std.proofs.lemmas.Nat.{one_shl}
-use Rattle.late_insert.specs.Pages.{kind_of}
-use Rattle.late_insert.proofs.Marks.{with_bit_is, with_bit_small, with_bit_fits, bit_below, bit_there}
-use Rattle.late_insert.proofs.Marks.{bit_above}
+use Rattle.late_insert.specs.{kind_of}
+use Rattle.late_insert.proofs.Marks.{with_bit_is, with_bit_small, with_bit_fits, bit_below, bit_there, bit_above}
 use Rattle.late_insert.proofs.mark.mark_inserted.Goals as goal
 
 pub overflow_mul-result : goal.overflow_mul-result

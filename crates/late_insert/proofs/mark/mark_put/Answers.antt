@@ -2,7 +2,7 @@ use Rattle.std.proofs.Common.{◌^◌, sym, ap, ◌∙◌, arith}
 use Rattle.std.specs.Int.{w128}
 use Rattle.std.proofs.lemmas.Nat.{one_shl, or_lt, pow_below}
 use Rattle.std.proofs.lemmas.Nat.Bits.{bit_at_set_same, bit_at_set_other}
-use Rattle.late_insert.specs.Pages.{kind_of}
+use Rattle.late_insert.specs.{kind_of}
 use Rattle.late_insert.proofs.mark.mark_put.Goals as goal
 
 pub returns-in-Late-clause-marks : goal.returns-in-Late-clause-marks

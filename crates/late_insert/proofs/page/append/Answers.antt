@@ -3,11 +3,9 @@ use Rattle.std.specs.Prelude.{FitsSigned}
 use Rattle.std.specs.Int.{w64, w128, int_min, int_max}
 use Rattle.std.proofs.lemmas.Int.{to_z-of_z}
 use mir.Val.{of_z, to_z}
-use Rattle.trend_model.specs.Contents.{points_of}
-use Rattle.trend_model.specs.Windows.{area}
-use Rattle.late_insert.specs.Pages.{frame_records_in}
-use Rattle.late_insert.proofs.Summing.{IsPushed, is_pushed, area_of_fits, area_pushed}
-use Rattle.late_insert.proofs.Summing.{area_pushed_fits, page_pushed, value_fits}
+use Rattle.trend_model.specs.{points_of, area}
+use Rattle.late_insert.specs.{frame_records_in}
+use Rattle.late_insert.proofs.Summing.{IsPushed, is_pushed, area_of_fits, area_pushed, area_pushed_fits, page_pushed, value_fits}
 use Rattle.late_insert.proofs.page.append.Goals as goal
 use Rattle.late_insert.proofs.page.append.Goals.{After-store_behind, After-piece-2}
 

@@ -1,8 +1,7 @@
 use Rattle.std.proofs.Common.{◌-◌, arith}
 use Rattle.std.proofs.lemmas.List.{get_or-take, length-take-le}
 use Rattle.late_insert.proofs.Sorted.{times_rise, times_sorted}
-use Rattle.late_insert.proofs.page.below_in.Goals.{then-n-eq0-via-then-n-eq0}
-use Rattle.late_insert.proofs.page.below_in.Goals.{then-n-eq0-via-else-n-eq0+then-frame-n}
+use Rattle.late_insert.proofs.page.below_in.Goals.{then-n-eq0-via-then-n-eq0, then-n-eq0-via-else-n-eq0+then-frame-n}
 use Rattle.late_insert.proofs.page.below_in.Goals as goal
 
 pub count_below-requires : goal.count_below-requires

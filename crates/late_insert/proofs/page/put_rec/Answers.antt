@@ -1,8 +1,8 @@
 use Rattle.std.proofs.Common.{length, sym, ap, ◌∙◌, arith}
 use Rattle.std.proofs.lemmas.List.{length_push, length-set}
 use Rattle.std.proofs.lemmas.List.Edits.{length-insert}
-use Rattle.late_insert.specs.Pages.{rec_in, frame_records_in}
-use Rattle.trend_model.specs.Contents.{over}
+use Rattle.late_insert.specs.{rec_in, frame_records_in}
+use Rattle.trend_model.specs.{over}
 use Rattle.late_insert.proofs.Summing.{length-records_in}
 use Rattle.late_insert.proofs.Sorted.{placed_end, placed_there, placed_gap, grown_by}
 use Rattle.late_insert.proofs.page.put_rec.Goals as goal

@@ -1,8 +1,8 @@
 use Rattle.std.proofs.Common.{ap, ◌∙◌, set}
 use Rattle.std.specs.Int.{w64}
 use Rattle.std.proofs.lemmas.Int.{to_z-of_z}
-use Rattle.late_insert.specs.Pages.{frame_records_in}
-use Rattle.trend_model.specs.Contents.{over}
+use Rattle.late_insert.specs.{frame_records_in}
+use Rattle.trend_model.specs.{over}
 use Rattle.late_insert.proofs.Summing.{value_fits}
 use Rattle.late_insert.proofs.Storing.{records-rewritten, recorded-rewritten}
 use Rattle.late_insert.proofs.page.replace.Goals as goal

@@ -1,5 +1,5 @@
 use Rattle.std.proofs.Common.{◌≡◌, subst, take, arith}
-use Rattle.trend_model.specs.Contents.{IsRising}
+use Rattle.trend_model.specs.{IsRising}
 use Rattle.late_insert.proofs.Filling.{first_rises, next_rises}
 use Rattle.late_insert.proofs.page.run_len.Goals as goal
 

@@ -1,5 +1,5 @@
 use Rattle.std.proofs.Common.{◌≤◌, take}
-use Rattle.trend_model.specs.Contents.{IsRising}
+use Rattle.trend_model.specs.{IsRising}
 use Rattle.late_insert.proofs.page.run_len.Given as goal
 
 abbrev pub invariant-loop-i : goal.invariant-loop-i

@@ -1,7 +1,7 @@
 use Rattle.std.proofs.Common.{pos, refl, ap, ◌∙◌, arith}
 use Rattle.std.specs.Int.{w64}
 use Rattle.std.proofs.lemmas.Int.{to_z-of_z}
-use Rattle.late_insert.specs.Pages.{kind_of}
+use Rattle.late_insert.specs.{kind_of}
 use Rattle.late_insert.proofs.Summing.{value_fits}
 use Rattle.late_insert.proofs.Storing.{one_more, IsInserted, same_rec, records-inserted, range-inserted}
 use Rattle.late_insert.proofs.page.store.Goals as goal

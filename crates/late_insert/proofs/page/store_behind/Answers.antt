@@ -1,7 +1,7 @@
 use Rattle.std.proofs.Common.{sym, subst, ◌∙◌}
 use Rattle.std.specs.Int.{w64}
 use Rattle.std.proofs.lemmas.Int.{to_z-of_z}
-use Rattle.page_pool.specs.declared.frame.Frame.{Frame}
+use Rattle.page_pool.specs.{Frame}
 use Rattle.late_insert.proofs.Storing.{IsAppended, appended, appended_kept, one_more}
 use Rattle.late_insert.proofs.Summing.{value_fits}
 use Rattle.late_insert.proofs.page.store_behind.Goals as goal

@@ -2,7 +2,7 @@ use Rattle.std.proofs.Common.{◌≡◌, ◌+◌, length, refl, sym, ◌∙◌, 
 use Rattle.std.specs.Int.{w64}
 use Rattle.std.proofs.lemmas.Int.{to_z-of_z}
 use Rattle.std.proofs.lemmas.List.{get_or_default}
-use Rattle.page_pool.specs.declared.frame.Frame.{Frame}
+use Rattle.page_pool.specs.{Frame}
 use Rattle.late_insert.proofs.Filling.{AreStored, stored_more, stored_kept, records-stored, recorded-stored}
 use Rattle.late_insert.proofs.Storing.{same_rec}
 use Rattle.late_insert.proofs.Summing.{value_fits}

@@ -1,7 +1,7 @@
 use Rattle.std.proofs.Common.{◌≡◌, pos, [], ◌∷◌, ◌++◌, ap, ◌∙◌}
-use Rattle.page_pool.specs.Pool.{TakesFrame}
+use Rattle.page_pool.specs.{TakesFrame}
 use Rattle.late_insert.proofs.Opening.{first_page_is, no_records, no_lengths}
-use Rattle.late_insert.specs.Moves.{Listed}
+use Rattle.late_insert.specs.{Listed}
 use Rattle.late_insert.proofs.shelf.first_page.Goals as goal
 
 -- the frame that was taken, and the list of its page alone

@@ -1,6 +1,6 @@
 use Rattle.std.proofs.Common.{◌-◌, length, get_or, arith}
 use Rattle.std.proofs.lemmas.Bool.{ltb-true}
-use Rattle.late_insert.specs.Pages.{IsPageRead}
+use Rattle.late_insert.specs.{IsPageRead}
 use Rattle.late_insert.proofs.Finding.{no_page}
 use Rattle.late_insert.proofs.Reading.{last_before, page_len, read_last}
 use Rattle.late_insert.proofs.shelf.is_open_before.Goals as goal

@@ -3,14 +3,11 @@ use Rattle.std.specs.Prelude.{FitsSigned}
 use Rattle.std.specs.Int.{w128}
 use mir.Val.{of_z, to_z}
 use Rattle.std.proofs.lemmas.Int.{to_z-of_z}
-use Rattle.page_pool.specs.Pool.{TakesFrame}
-use Rattle.trend_model.specs.Contents.{points_of}
-use Rattle.trend_model.specs.Windows.{area}
-use Rattle.late_insert.specs.Pages.{IsRecorded, frame_records_in}
-use Rattle.late_insert.proofs.Opening.{empty_page, taken_empty, pages_opened, records-opened}
-use Rattle.late_insert.proofs.Opening.{lengths-opened}
+use Rattle.page_pool.specs.{TakesFrame}
+use Rattle.trend_model.specs.{points_of, area}
+use Rattle.late_insert.specs.{IsRecorded, frame_records_in, Listed}
+use Rattle.late_insert.proofs.Opening.{empty_page, taken_empty, pages_opened, records-opened, lengths-opened}
 use Rattle.late_insert.proofs.Summing.{length-records_in}
-use Rattle.late_insert.specs.Moves.{Listed}
 use Rattle.late_insert.proofs.shelf.open_page.Goals as goal
 
 pub store_run-requires-clause-recorded : goal.store_run-requires-clause-recorded

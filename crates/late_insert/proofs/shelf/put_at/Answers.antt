@@ -4,16 +4,13 @@ use Rattle.page_pool.proofs.Stored.{spare-written}
 use Rattle.std.proofs.lemmas.Int.{to_z-of_z}
 use mir.Syntax.{w128}
 use mir.Val.{of_z, to_z}
-use Rattle.trend_model.specs.Contents.{points_of}
-use Rattle.trend_model.specs.Windows.{area}
-use Rattle.late_insert.specs.Pages.{frame_records_in, IsPageRead}
+use Rattle.trend_model.specs.{points_of, area}
+use Rattle.late_insert.specs.{frame_records_in, IsPageRead, Listed}
 use Rattle.std.proofs.lemmas.List.{get_or_default, length-set}
 use Rattle.late_insert.proofs.Moving.{length-moved}
-use Rattle.late_insert.specs.Moves.{Listed}
 use Rattle.late_insert.proofs.Finding.{no_page}
 use Rattle.late_insert.proofs.Reading.{held_by, read_by, frame_page, frame_rises, page_stair, page_len}
-use Rattle.late_insert.proofs.Shelving.{IsShelved, pages_shelved, records-shelved, len-shelved, small_places}
-use Rattle.late_insert.proofs.Shelving.{grown-shelved}
+use Rattle.late_insert.proofs.Shelving.{IsShelved, pages_shelved, records-shelved, len-shelved, small_places, grown-shelved}
 use Rattle.late_insert.proofs.shelf.put_at.Goals as goal
 
 pub frame_mut-frame-requires : goal.frame_mut-frame-requires

@@ -4,16 +4,13 @@ use Rattle.page_pool.proofs.Stored.{spare-written}
 use Rattle.std.proofs.lemmas.Int.{to_z-of_z}
 use mir.Syntax.{w128}
 use mir.Val.{of_z, to_z}
-use Rattle.trend_model.specs.Contents.{placed, points_of}
-use Rattle.trend_model.specs.Windows.{area}
-use Rattle.late_insert.specs.Pages.{frame_records_in, IsFor, IsPageRead}
+use Rattle.trend_model.specs.{placed, points_of, area}
+use Rattle.late_insert.specs.{frame_records_in, IsFor, IsPageRead, Listed}
 use Rattle.std.proofs.lemmas.List.{get_or_default, length_push, length-set}
-use Rattle.late_insert.specs.Moves.{Listed}
 use Rattle.late_insert.proofs.Finding.{no_page}
 use Rattle.late_insert.proofs.Reading.{before_on, held_by, read_by, read_last, frame_page, page_stair, page_len}
 use Rattle.late_insert.proofs.Sorted.{grown_by, placed_end}
-use Rattle.late_insert.proofs.Shelving.{IsShelved, last_for, none_moved, pages_shelved, records-shelved, len-shelved}
-use Rattle.late_insert.proofs.Shelving.{grown-shelved}
+use Rattle.late_insert.proofs.Shelving.{IsShelved, last_for, none_moved, pages_shelved, records-shelved, len-shelved, grown-shelved}
 use Rattle.late_insert.proofs.shelf.put_behind.Goals as goal
 use Rattle.late_insert.proofs.shelf.put_behind.Goals.{After-id, After-stair}
 

@@ -3,14 +3,11 @@ use Rattle.std.specs.Prelude.{insert, FitsSigned, IsOk, is_err, is_some}
 use Rattle.std.specs.Int.{w128}
 use Rattle.std.proofs.lemmas.Int.{to_z-of_z}
 use Rattle.std.proofs.lemmas.List.{get_or_default, length-set}
-use Rattle.late_insert.specs.declared.directory.Page.{Page}
-use Rattle.page_pool.specs.Pool.{TakesFrame}
+use Rattle.late_insert.specs.{Page, frame_records_in, IsPageRead, Listed, rewritten}
+use Rattle.page_pool.specs.{TakesFrame}
 use Rattle.page_pool.proofs.Stored.{spare-written}
 use mir.Val.{of_z, to_z}
-use Rattle.trend_model.specs.Contents.{points_of}
-use Rattle.trend_model.specs.Windows.{area}
-use Rattle.late_insert.specs.Pages.{frame_records_in, IsPageRead}
-use Rattle.late_insert.specs.Moves.{Listed, rewritten}
+use Rattle.trend_model.specs.{points_of, area}
 use Rattle.late_insert.proofs.Finding.{no_page}
 use Rattle.late_insert.proofs.Reading.{held_by, read_by, frame_page}
 use Rattle.late_insert.proofs.Shelving.{IsCut, cut_in_two, first_small, full_frame}

@@ -3,8 +3,8 @@ use Rattle.std.specs.Prelude.{FitsSigned}
 use Rattle.std.specs.Int.{w128}
 use Rattle.std.proofs.lemmas.Int.{to_z-of_z}
 use mir.Val.{of_z, to_z}
-use Rattle.trend_num.specs.Ranges.{InRange}
-use Rattle.trend_model.specs.Windows.{area}
+use Rattle.trend_num.specs.{InRange}
+use Rattle.trend_model.specs.{area}
 use Rattle.late_insert.proofs.Summing.{IsTotal, points_in, rec_in_range, total_first, area_total, total_fits}
 use Rattle.late_insert.proofs.total.area_between.Goals as goal
 use Rattle.late_insert.proofs.total.area_between.Goals.{After-piece-area}

@@ -1,6 +1,6 @@
 use Rattle.std.proofs.Common.{◌≡◌, ◌-◌, ◌≤◌}
-use Rattle.late_insert.specs.Pages.{rec_in}
-use Rattle.trend_model.specs.Windows.{area}
+use Rattle.late_insert.specs.{rec_in}
+use Rattle.trend_model.specs.{area}
 use Rattle.late_insert.proofs.Summing.{IsTotal}
 use Rattle.late_insert.proofs.total.area_between.Given as goal
 

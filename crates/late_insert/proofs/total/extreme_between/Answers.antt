@@ -2,7 +2,7 @@ use Rattle.std.proofs.Common.{◌≡◌, ◌-◌, take, drop, ap, ◌∙◌, ari
 use Rattle.std.specs.Prelude.{FitsSigned}
 use Rattle.std.specs.Int.{w64}
 use Rattle.std.proofs.lemmas.Int.{to_z-of_z}
-use Rattle.late_insert.specs.Totals.{extreme_of}
+use Rattle.late_insert.specs.{extreme_of}
 use Rattle.late_insert.proofs.Summing.{points_in, value_fits, total_first, extreme_one, extreme_total}
 use Rattle.late_insert.proofs.total.extreme_between.Goals as goal
 

@@ -1,5 +1,5 @@
 use Rattle.std.proofs.Common.{◌≤◌}
-use Rattle.late_insert.specs.Totals.{extreme_of}
+use Rattle.late_insert.specs.{extreme_of}
 use Rattle.late_insert.proofs.Summing.{IsTotal}
 use Rattle.late_insert.proofs.total.extreme_between.Given as goal
 

@@ -1,5 +1,5 @@
 use Rattle.std.proofs.lemmas.Int.{to_z-of_z}
-use Rattle.late_insert.specs.Pages.{rec_in}
+use Rattle.late_insert.specs.{rec_in}
 use Rattle.late_insert.proofs.Summing.{rec_in_range, value_fits}
 use Rattle.late_insert.proofs.total.point_at.Goals as goal
 

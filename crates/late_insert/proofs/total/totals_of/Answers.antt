@@ -2,13 +2,12 @@ use Rattle.std.proofs.Common.{◌≡◌, ℤ, Bool, ◌+◌, ◌+ℤ◌, ◌-◌
 use Rattle.std.specs.Prelude.{FitsSigned}
 use Rattle.std.specs.Int.{w64, w128}
 use Rattle.std.proofs.lemmas.Int.{to_z-of_z}
-use Rattle.trend_num.specs.Ranges.{InRange}
+use Rattle.trend_num.specs.{InRange}
 use mir.Val.{of_z, to_z}
-use Rattle.trend_model.specs.Windows.{area, piece}
+use Rattle.trend_model.specs.{area, piece}
 use Rattle.late_insert.specs.declared.total.Extreme.TheVariants.{Least, Greatest}
-use Rattle.late_insert.specs.Totals.{least_of, greatest_of}
-use Rattle.late_insert.proofs.Summing.{IsTotal, points_in, rec_in_range, value_fits, area_total, extreme_total}
-use Rattle.late_insert.proofs.Summing.{total_fits, whole_range}
+use Rattle.late_insert.specs.{least_of, greatest_of}
+use Rattle.late_insert.proofs.Summing.{IsTotal, points_in, rec_in_range, value_fits, area_total, extreme_total, total_fits, whole_range}
 use Rattle.late_insert.proofs.total.totals_of.Goals as goal
 use Rattle.late_insert.proofs.total.totals_of.Goals.{After-point_at-p}
 

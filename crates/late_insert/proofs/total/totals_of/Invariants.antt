@@ -1,7 +1,6 @@
 use Rattle.std.proofs.Common.{◌≡◌, ◌-◌, true, false}
-use Rattle.trend_model.specs.Windows.{area}
-use Rattle.late_insert.specs.Pages.{rec_in}
-use Rattle.late_insert.specs.Totals.{least_of, greatest_of}
+use Rattle.trend_model.specs.{area}
+use Rattle.late_insert.specs.{rec_in, least_of, greatest_of}
 use Rattle.late_insert.proofs.Summing.{IsTotal}
 use Rattle.late_insert.proofs.total.totals_of.Given as goal
 

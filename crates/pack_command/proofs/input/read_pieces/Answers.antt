@@ -1,5 +1,5 @@
 use Rattle.std.proofs.Common.{◌≡◌, ◌+◌, ◌≤◌, ◌++◌, ℕ, true, take, subst, arith}
-use Rattle.pack_command.specs.Coming.{HasCome}
+use Rattle.pack_command.specs.{HasCome}
 use Rattle.pack_command.proofs.Pieces.{come_piece, long_refused, taken_piece}
 use Rattle.pack_command.proofs.input.read_pieces.Goals as goal
 

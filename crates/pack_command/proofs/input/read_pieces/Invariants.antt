@@ -1,8 +1,7 @@
 use Rattle.std.proofs.Common.{◌+◌, ◌-◌, ◌≤◌, ℕ, List, [], true, take}
-use Rattle.trend_model.specs.History.{Origin}
-use Rattle.point_text.specs.FirstPoint.{HasNoFeed}
-use Rattle.pack_command.specs.Pack.{most_input_bytes}
-use Rattle.pack_command.specs.Coming.{AreTakenFrom, HasCome, IsReady}
+use Rattle.trend_model.specs.{Origin}
+use Rattle.point_text.specs.{HasNoFeed}
+use Rattle.pack_command.specs.{most_input_bytes, AreTakenFrom, HasCome, IsReady}
 use Rattle.pack_command.proofs.input.read_pieces.Given as goal
 
 abbrev pub invariant-loop-count : goal.invariant-loop-count

@@ -1,6 +1,6 @@
 use Rattle.std.proofs.Common.{◌≤◌, ◌-◌, ℕ, List, true, take, drop, length-take, subst, arith}
-use Rattle.point_text.specs.FirstPoint.{HasNoFeed}
-use Rattle.pack_command.specs.Coming.{HasCome}
+use Rattle.point_text.specs.{HasNoFeed}
+use Rattle.pack_command.specs.{HasCome}
 use Rattle.pack_command.proofs.Buffer.{left_of_front}
 use Rattle.pack_command.proofs.Coming.{come_same}
 use Rattle.pack_command.proofs.input.take_piece.Goals as goal

@@ -1,6 +1,6 @@
 use Rattle.std.proofs.Common.{refl, sym, ◌∙◌, subst}
 use Rattle.std.proofs.lemmas.Bool.{false≢true}
-use Rattle.pack_command.specs.Coming.{HasCome}
+use Rattle.pack_command.specs.{HasCome}
 use Rattle.pack_command.specs.declared.intake.Standing.TheVariants.{Taken, Full}
 use Rattle.pack_command.proofs.Coming.{row_taken, row_full, row_after_full, row_refused}
 use Rattle.pack_command.proofs.intake.after_row.Goals as goal

@@ -1,8 +1,7 @@
 use Rattle.std.proofs.Common.{ℕ, sym, subst}
 use Rattle.trend_num.specs.declared.refusal.What.TheVariants.{Records}
 use Rattle.plant_status.specs.declared.status.Status.TheVariants.{Limit}
-use Rattle.pack_command.specs.Pack.{IsPackRefusal, origin_of}
-use Rattle.pack_command.specs.Coming.{IsAllRead}
+use Rattle.pack_command.specs.{IsPackRefusal, origin_of, IsAllRead}
 use Rattle.pack_command.proofs.Ending.{ends_printed, ends_full, ends_refused}
 use Rattle.pack_command.proofs.packer.pack.Goals as goal
 

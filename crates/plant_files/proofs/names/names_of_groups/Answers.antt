@@ -2,9 +2,9 @@ use Rattle.std.proofs.Common.{◌≡◌, ◌<◌, ◌^◌, ◌+◌, ◌∙◌, �
 use Rattle.std.proofs.lemmas.Grind.{common_steps}
 use Rattle.std.proofs.lemmas.List.{take_more}
 use Rattle.std.proofs.lemmas.List.Elements.{All-push}
-use Rattle.tag_base.specs.declared.definition.GroupDef.{GroupDef}
-use Rattle.value_rows.specs.declared.asked.GroupNames.{GroupNames}
-use Rattle.plant_files.specs.Asked.{AreNamed}
+use Rattle.tag_base.specs.{GroupDef}
+use Rattle.value_rows.specs.{GroupNames}
+use Rattle.plant_files.specs.{AreNamed}
 use Rattle.plant_files.proofs.Named.{AreNamed-push}
 use Rattle.plant_files.proofs.names.names_of_groups.Goals as goal
 

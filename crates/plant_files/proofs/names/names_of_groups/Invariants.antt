@@ -1,5 +1,5 @@
 use Rattle.std.proofs.Common.{◌≡◌, ◌<◌, ◌^◌, All, take, vec_len}
-use Rattle.plant_files.specs.Asked.{AreNamed}
+use Rattle.plant_files.specs.{AreNamed}
 use Rattle.plant_files.proofs.names.names_of_groups.Given as goal
 
 abbrev pub invariant-loop-group : goal.invariant-loop-group

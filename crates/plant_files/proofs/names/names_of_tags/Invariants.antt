@@ -1,5 +1,5 @@
 use Rattle.std.proofs.Common.{◌≡◌, take, vec_len}
-use Rattle.plant_files.specs.Texts.{tag_names}
+use Rattle.plant_files.specs.{tag_names}
 use Rattle.plant_files.proofs.names.names_of_tags.Given as goal
 
 abbrev pub invariant-loop-tag : goal.invariant-loop-tag

@@ -2,7 +2,7 @@ use Rattle.std.proofs.Common.{Err, ◌∙◌, ap}
 use Rattle.std.proofs.lemmas.List.Elements.{All-map}
 use Rattle.std.specs.Prelude.{All}
 use Rattle.std.proofs.lemmas.Result.{err_from_is_err_and}
-use Rattle.plant_files.specs.Collected.{IsRowOfBase}
+use Rattle.plant_files.specs.{IsRowOfBase}
 use Rattle.plant_files.proofs.Distinct.{distinct_tags}
 use Rattle.plant_files.proofs.Faults.{of_collector}
 use Rattle.plant_files.specs.PlanRows.{OfBase, OfCollector, OfPlan}

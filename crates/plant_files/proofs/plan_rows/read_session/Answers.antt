@@ -1,7 +1,7 @@
 use Rattle.std.proofs.Common.{All, Err, ap, map}
 use Rattle.std.proofs.lemmas.List.Elements.{All-map}
 use Rattle.std.proofs.lemmas.Result.{err_from_is_err_and}
-use Rattle.plant_files.specs.Asked.{IsQueryOfBase}
+use Rattle.plant_files.specs.{IsQueryOfBase}
 use Rattle.plant_files.proofs.Faults.{of_reader}
 use Rattle.plant_files.specs.PlanRows.{OfFiles, OfReader, OfRows}
 use Rattle.plant_files.proofs.plan_rows.read_session.Goals as goal

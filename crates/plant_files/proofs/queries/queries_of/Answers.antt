@@ -1,10 +1,9 @@
 use Rattle.std.proofs.Common.{◌≡◌, ◌∙◌, All, ap, map, sym, subst}
 use Rattle.std.specs.Prelude.{◌≢◌}
 use Rattle.std.proofs.lemmas.Result.{IfOk-weaker, IfErr-weaker}
-use Rattle.value_rows.specs.Asked.{IsQuery}
+use Rattle.value_rows.specs.{IsQuery}
 use Rattle.plant_status.specs.declared.status.Status.TheVariants.{WantOfMemory}
-use Rattle.plant_files.specs.Texts.{tag_names}
-use Rattle.plant_files.specs.Asked.{AreNamed, AreQueries, AreReaderFiles, IsReaderRefused, IsQueriesRefusal, IsQueryOfBase}
+use Rattle.plant_files.specs.{tag_names, AreNamed, AreQueries, AreReaderFiles, IsReaderRefused, IsQueriesRefusal, IsQueryOfBase}
 use Rattle.plant_files.proofs.Named.{queries_of_base}
 use Rattle.plant_files.proofs.queries.queries_of.Goals as goal
 use Rattle.plant_files.proofs.queries.queries_of.Goals.{After-row_lists}

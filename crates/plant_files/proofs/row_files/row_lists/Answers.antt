@@ -3,8 +3,8 @@ use Rattle.std.proofs.lemmas.Grind.{common_steps}
 use Rattle.std.proofs.lemmas.List.{map_push}
 use Rattle.std.proofs.lemmas.List.Elements.{All-push}
 use Rattle.std.proofs.lemmas.Result.{err_from_is_err_and}
-use Rattle.value_rows.specs.Reading.{rows_of_text}
-use Rattle.plant_files.specs.RowFiles.{AreRowFiles, IsRowFile, IsRowRefusal}
+use Rattle.value_rows.specs.{rows_of_text}
+use Rattle.plant_files.specs.{AreRowFiles, IsRowFile, IsRowRefusal}
 use Rattle.plant_files.proofs.InOrder.{AreRowFiles-more, first_refused}
 use Rattle.plant_files.proofs.row_files.row_lists.Goals as goal
 

@@ -1,6 +1,6 @@
 use Rattle.std.proofs.Common.{◌≡◌, All, map, take, vec_len}
-use Rattle.value_rows.specs.Reading.{rows_of_text}
-use Rattle.plant_files.specs.RowFiles.{AreRowFiles, IsRowFile}
+use Rattle.value_rows.specs.{rows_of_text}
+use Rattle.plant_files.specs.{AreRowFiles, IsRowFile}
 use Rattle.plant_files.proofs.row_files.row_lists.Given as goal
 
 abbrev pub invariant-loop-name : goal.invariant-loop-name

@@ -1,7 +1,7 @@
 use Rattle.std.proofs.Common.{sym, subst}
 use Rattle.plant_files.specs.Reading.{IsReadWhole}
-use Rattle.value_rows.specs.Reading.{rows_of_text}
-use Rattle.plant_files.specs.RowFiles.{IsRowRefusal, most_file_bytes, row_status}
+use Rattle.value_rows.specs.{rows_of_text}
+use Rattle.plant_files.specs.{IsRowRefusal, most_file_bytes, row_status}
 use Rattle.plant_files.proofs.Refusals.{rows_refused}
 use Rattle.plant_files.proofs.row_files.rows_in.Goals as goal
 

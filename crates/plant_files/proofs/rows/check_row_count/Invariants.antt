@@ -1,5 +1,5 @@
 use Rattle.std.proofs.Common.{◌≡◌, ◌-◌, ◌^◌, map, min, take}
-use Rattle.plant_files.specs.Collected.{row_count}
+use Rattle.plant_files.specs.{row_count}
 use Rattle.plant_files.proofs.rows.check_row_count.Given as goal
 
 abbrev pub invariant-loop-rows : goal.invariant-loop-rows

@@ -1,10 +1,9 @@
 use Rattle.std.proofs.Common.{◌≡◌, ◌∙◌, All, ap, map, subst}
 use Rattle.std.specs.Prelude.{◌≢◌}
 use Rattle.std.proofs.lemmas.Result.{IfOk-weaker, IfErr-weaker}
-use Rattle.value_rows.specs.Raw.{IsRawRow}
+use Rattle.value_rows.specs.{IsRawRow}
 use Rattle.plant_status.specs.declared.status.Status.TheVariants.{WantOfMemory}
-use Rattle.plant_files.specs.Texts.{tag_names}
-use Rattle.plant_files.specs.Collected.{AreCollectorFiles, AreCollectedRows, IsCollectorRefused, IsRowOfBase, IsCollectedRefusal}
+use Rattle.plant_files.specs.{tag_names, AreCollectorFiles, AreCollectedRows, IsCollectorRefused, IsRowOfBase, IsCollectedRefusal}
 use Rattle.plant_files.proofs.Named.{rows_of_base}
 use Rattle.plant_files.proofs.rows.rows_of.Goals as goal
 

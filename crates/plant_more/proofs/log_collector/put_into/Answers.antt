@@ -1,5 +1,5 @@
 use Rattle.std.proofs.Common.{◌≡◌, ◌+◌, length, true, false, rules}
-use Rattle.plant_more.specs.LogTurns.{is_commit_due}
+use Rattle.plant_more.specs.{is_commit_due}
 use Rattle.plant_more.proofs.LogPuts.{put_alone, put_at, refused_at, refused_commit}
 use Rattle.plant_more.proofs.log_collector.put_into.Goals as goal
 

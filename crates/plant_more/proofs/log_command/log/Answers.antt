@@ -1,6 +1,6 @@
 use Rattle.std.proofs.Common.{◌∙◌, ap, sym}
 use Rattle.std.specs.Prelude.{option_map}
-use Rattle.plant_more.specs.Words.{words_named}
+use Rattle.plant_more.specs.{words_named}
 use Rattle.plant_more.proofs.Understood.{no_words}
 use Rattle.plant_more.proofs.log_command.log.Goals as goal
 

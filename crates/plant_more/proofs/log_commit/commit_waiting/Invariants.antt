@@ -1,5 +1,5 @@
-use Rattle.commit_log.specs.Told.{rows_waiting}
-use Rattle.plant_more.specs.LogTurns.{IsCommitted}
+use Rattle.commit_log.specs.{rows_waiting}
+use Rattle.plant_more.specs.{IsCommitted}
 use Rattle.plant_more.proofs.log_commit.commit_waiting.Given as goal
 
 abbrev pub invariant-loop-done : goal.invariant-loop-done

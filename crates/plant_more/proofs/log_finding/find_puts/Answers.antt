@@ -1,4 +1,4 @@
-use Rattle.plant_more.specs.LogNotes.{row_lists_of}
+use Rattle.plant_more.specs.{row_lists_of}
 use Rattle.plant_more.proofs.LogFound.{other_turn, put_turn}
 use Rattle.plant_more.proofs.log_finding.find_puts.Goals as goal
 use Rattle.plant_more.proofs.log_finding.find_puts.Goals.{in-Put+in_default-follow, in_default}

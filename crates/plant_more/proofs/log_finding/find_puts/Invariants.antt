@@ -1,5 +1,5 @@
 use Rattle.std.proofs.Common.{take}
-use Rattle.plant_more.specs.LogNotes.{row_lists_of}
+use Rattle.plant_more.specs.{row_lists_of}
 use Rattle.plant_more.specs.LogFinding.{AreFound}
 use Rattle.plant_more.proofs.log_finding.find_puts.Given as goal
 

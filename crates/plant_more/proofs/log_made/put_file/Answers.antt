@@ -1,7 +1,7 @@
 use Rattle.std.proofs.Common.{◌≡◌, Vec, length, sym, ap, ◌∙◌, arith}
 use Rattle.std.specs.declared.alloc.Global.{Global}
-use Rattle.value_rows.specs.declared.raw.RawRow.{RawRow}
-use Rattle.plant_more.specs.LogNotes.{row_lists_of}
+use Rattle.value_rows.specs.{RawRow}
+use Rattle.plant_more.specs.{row_lists_of}
 use Rattle.plant_more.specs.LogFinding.{rows_in}
 use Rattle.plant_more.proofs.LogRows.{file_length}
 use Rattle.plant_more.proofs.log_made.put_file.Goals as goal

@@ -1,7 +1,6 @@
 use Rattle.std.proofs.Common.{◌≡◌}
 use Rattle.std.specs.Prelude.{slice_index}
-use Rattle.plant_more.specs.LogNotes.{row_lists_of}
-use Rattle.plant_more.specs.LogTurns.{IsSameLog}
+use Rattle.plant_more.specs.{row_lists_of, IsSameLog}
 use Rattle.plant_more.specs.LogFinding.{AreFound, AreOthersSame}
 use Rattle.plant_more.proofs.log_made.put_file.Given as goal
 

@@ -1,6 +1,6 @@
 use Rattle.std.proofs.Common.{refl, Some, arith}
 use Rattle.std.specs.Prelude.{slice_index}
-use Rattle.plant_more.specs.LogNotes.{row_lists_of}
+use Rattle.plant_more.specs.{row_lists_of}
 use Rattle.plant_more.proofs.LogCounting.{few_puts}
 use Rattle.plant_more.proofs.LogRows.{files_length, next_is}
 use Rattle.plant_more.proofs.LogPutting.{row_found, row_good}

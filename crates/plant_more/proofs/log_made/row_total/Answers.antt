@@ -1,6 +1,6 @@
 use Rattle.std.proofs.Common.{◌≡◌, Vec, length, get_or, ap, arith}
 use Rattle.std.specs.declared.alloc.Global.{Global}
-use Rattle.value_rows.specs.declared.raw.RawRow.{RawRow}
+use Rattle.value_rows.specs.{RawRow}
 use Rattle.plant_more.proofs.LogRows.{total_front}
 use Rattle.plant_more.proofs.log_made.row_total.Goals as goal
 

@@ -1,6 +1,5 @@
 use Rattle.std.proofs.Common.{◌≡◌, take}
-use Rattle.plant_more.specs.LogNotes.{row_lists_of}
-use Rattle.plant_more.specs.LogMaking.{total_rows}
+use Rattle.plant_more.specs.{row_lists_of, total_rows}
 use Rattle.plant_more.proofs.log_made.row_total.Given as goal
 
 abbrev pub invariant-loop-file : goal.invariant-loop-file

@@ -1,7 +1,6 @@
 use Rattle.std.proofs.Common.{rules}
 use Rattle.plant_status.proofs.Gathering.{stops_told}
-use Rattle.plant_more.specs.declared.log_worker.LogWorker.{LogWorker}
-use Rattle.plant_more.specs.LogNotes.{halts, row_lists_of}
+use Rattle.plant_more.specs.{LogWorker, halts, row_lists_of}
 use Rattle.plant_more.proofs.LogSeats.{all_notes, all_ready, all_stopped}
 use Rattle.plant_more.proofs.log_pool.run_collectors.Goals as goal
 

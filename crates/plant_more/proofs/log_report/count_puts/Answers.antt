@@ -1,6 +1,6 @@
 use Rattle.std.proofs.Common.{◌+◌, ◌∙◌, length, refl, sym, take, arith}
-use Rattle.commit_log.specs.Tapes.{puts}
-use Rattle.plant_more.specs.LogReports.{log_rows}
+use Rattle.commit_log.specs.{puts}
+use Rattle.plant_more.specs.{log_rows}
 use Rattle.plant_more.proofs.LogReports.{log_there, row_known}
 use Rattle.plant_more.proofs.log_report.count_puts.Goals as goal
 

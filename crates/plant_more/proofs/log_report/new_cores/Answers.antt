@@ -1,7 +1,7 @@
 use Rattle.std.proofs.Common.{◌∙◌, [], ap, subst, arith}
-use Rattle.trend_num.specs.declared.tag_def.TagDef.{TagDef}
+use Rattle.trend_num.specs.{TagDef}
 use Rattle.trend_model.specs.State.{Stands}
-use Rattle.plant_more.specs.LogReports.{log_origin_of}
+use Rattle.plant_more.specs.{log_origin_of}
 use Rattle.plant_more.proofs.LogReports.{fresh_more}
 use Rattle.plant_more.proofs.log_report.new_cores.Goals as goal
 

@@ -1,5 +1,5 @@
 use Rattle.std.proofs.Common.{◌≡◌, ◌≤◌, [], length, take, vec_capacity, vec_len}
-use Rattle.plant_more.specs.LogReports.{AreStanding}
+use Rattle.plant_more.specs.{AreStanding}
 use Rattle.plant_more.proofs.log_report.new_cores.Given as goal
 
 abbrev pub invariant-loop-tag : goal.invariant-loop-tag

@@ -1,5 +1,5 @@
 use Rattle.std.proofs.Common.{take}
-use Rattle.plant_more.specs.LogReports.{AreStanding, HasRoomBelow, log_rows}
+use Rattle.plant_more.specs.{AreStanding, HasRoomBelow, log_rows}
 use Rattle.plant_more.proofs.log_report.take_opening.Given as goal
 
 abbrev pub invariant-loop-place : goal.invariant-loop-place

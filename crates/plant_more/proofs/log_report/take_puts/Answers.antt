@@ -1,7 +1,7 @@
 use Rattle.std.proofs.Common.{◌≡◌, ◌<◌, Some, length, slice_get, ◌∙◌, sym, arith}
 use Rattle.commit_log.specs.declared.history.LogTurn.TheVariants.{Put}
-use Rattle.commit_log.specs.declared.row.LogRow.{LogRow}
-use Rattle.plant_more.specs.LogReports.{log_rows}
+use Rattle.commit_log.specs.{LogRow}
+use Rattle.plant_more.specs.{log_rows}
 use Rattle.plant_more.proofs.LogReports.{few_before, log_there, other_reached, put_reached}
 use Rattle.plant_more.proofs.log_report.take_puts.Goals as goal
 use Rattle.plant_more.proofs.log_report.take_puts.Goals.{After-index, in-Put+in_ok-take_row, in_default}

@@ -1,6 +1,6 @@
 use Rattle.std.proofs.Common.{◌≡◌, ◌+◌, length, take}
-use Rattle.commit_log.specs.Tapes.{puts}
-use Rattle.plant_more.specs.LogReports.{AreStanding, HasRoomBelow, log_rows}
+use Rattle.commit_log.specs.{puts}
+use Rattle.plant_more.specs.{AreStanding, HasRoomBelow, log_rows}
 use Rattle.plant_more.proofs.log_report.take_puts.Given as goal
 
 abbrev pub invariant-loop-turn : goal.invariant-loop-turn

@@ -1,5 +1,5 @@
 use Rattle.std.proofs.Common.{◌≡◌, refl, rules}
-use Rattle.plant_more.specs.LogReports.{log_rows}
+use Rattle.plant_more.specs.{log_rows}
 use Rattle.plant_more.proofs.LogReports.{few_before, row_fits, row_full, row_taken, taken_count}
 use Rattle.plant_more.proofs.log_report.take_row.Goals as goal
 

@@ -1,5 +1,5 @@
 use Rattle.std.proofs.lemmas.Result.{err_from_is_err_and}
-use Rattle.plant_more.specs.LogNotes.{row_lists_of}
+use Rattle.plant_more.specs.{row_lists_of}
 use Rattle.plant_more.proofs.LogCommitting.{same_log_on}
 use Rattle.plant_more.specs.LogRefusals.{OfPut, OfStop}
 use Rattle.plant_more.proofs.LogSettled.{at_ok, begun_on, commit_refused, found_begun, made_on}

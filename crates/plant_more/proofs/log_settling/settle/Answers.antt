@@ -1,5 +1,5 @@
 use Rattle.std.proofs.lemmas.Result.{err_from_is_err_and}
-use Rattle.plant_more.specs.LogNotes.{row_lists_of}
+use Rattle.plant_more.specs.{row_lists_of}
 use Rattle.plant_more.specs.LogRefusals.{OfFinding, OfOpening}
 use Rattle.plant_more.proofs.LogSettled.{mismatch_is_opening, opening_foreign, put_foreign, rows_on}
 use Rattle.plant_more.proofs.log_settling.settle.Goals as goal

@@ -1,7 +1,7 @@
 use Rattle.std.proofs.Common.{length}
-use Rattle.branded_disk.specs.Pasts.{branded}
-use Rattle.commit_log.specs.Devices.{log_name}
-use Rattle.plant_more.specs.LogNotes.{row_lists_of}
+use Rattle.branded_disk.specs.{branded}
+use Rattle.commit_log.specs.{log_name}
+use Rattle.plant_more.specs.{row_lists_of}
 use Rattle.plant_more.proofs.LogBranded.{began_at, unbranded}
 use Rattle.plant_more.proofs.LogRuns.{is_run, rows_known}
 use Rattle.plant_more.proofs.logging.log_open.Goals as goal

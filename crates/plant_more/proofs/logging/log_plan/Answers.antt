@@ -2,12 +2,11 @@ use Rattle.std.proofs.Common.{◌∙◌, Result, String, ap, refl, subst, sym}
 use Rattle.std.specs.Prelude.{IfErr}
 use Rattle.std.specs.declared.alloc.Global.{Global}
 use Rattle.plant_status.specs.declared.status.Status.{Status}
-use Rattle.plant_files.specs.Faults.{IsFaultOfPlanned}
+use Rattle.plant_files.specs.{IsFaultOfPlanned}
 use Rattle.plant_files.specs.Reading.{faults_after}
 use Rattle.plant_files.proofs.Faults.{of_none}
-use Rattle.plant_more.specs.LogNotes.{row_lists_of}
+use Rattle.plant_more.specs.{row_lists_of, total_rows}
 use Rattle.plant_more.specs.LogHeadline.{IsOfOthers, IsUnlogged, OfFiles, OfOpening}
-use Rattle.plant_more.specs.LogMaking.{total_rows}
 use Rattle.plant_more.proofs.LogUnderstood.{after_unopened, err_weaker, no_file, no_read_fault, some_weaker, understood}
 use Rattle.plant_more.proofs.logging.log_plan.Goals as goal
 

@@ -1,4 +1,4 @@
-use Rattle.branded_disk.specs.Pasts.{told_of}
+use Rattle.branded_disk.specs.{told_of}
 use Rattle.plant_more.proofs.logging.log_plan.Given as goal
 
 -- what the devices were is what the store has now

@@ -2,13 +2,11 @@ use Rattle.std.proofs.Common.{◌∙◌, ℕ, List, Result, String, Vec, ap, len
 use Rattle.std.specs.Prelude.{IfErr, IfSome}
 use Rattle.std.specs.declared.alloc.Global.{Global}
 use Rattle.plant_status.specs.declared.status.Status.{Status}
-use Rattle.value_rows.specs.declared.raw.RawRow.{RawRow}
+use Rattle.value_rows.specs.{RawRow}
 use Rattle.branded_disk.proofs.Pasts.{unused}
-use Rattle.plant_more.specs.LogNotes.{row_lists_of}
+use Rattle.plant_more.specs.{row_lists_of, total_rows, plant_text}
 use Rattle.plant_more.specs.LogHeadline.{IsRun, IsUnopened}
-use Rattle.plant_more.specs.LogMaking.{total_rows}
-use Rattle.commit_log.specs.Devices.{log_name}
-use Rattle.plant_more.specs.LogTexts.{plant_text}
+use Rattle.commit_log.specs.{log_name}
 use Rattle.plant_more.proofs.LogKept.{gains_none, kept_ready, opened_for, synced_ready, unready_for, untouched}
 use Rattle.plant_more.proofs.logging.log_read.Goals as goal
 

@@ -1,5 +1,5 @@
 use Rattle.std.proofs.Common.{◌≡◌, take}
-use Rattle.plant_more.specs.LogTexts.{plant_text}
+use Rattle.plant_more.specs.{plant_text}
 use Rattle.plant_more.proofs.plant_text.plant_text.Given as goal
 
 abbrev pub invariant-loop-place : goal.invariant-loop-place

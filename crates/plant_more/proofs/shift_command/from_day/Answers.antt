@@ -1,7 +1,7 @@
 use Rattle.std.proofs.Common.{arith, ◌≡◌, inl, ℤ, subst, sym}
 use Rattle.std.proofs.lemmas.Int.{ints, to_z-of_z}
 use Rattle.std.specs.Int.{w32}
-use Rattle.shift_calendar.specs.Days.{IsDayWord, IsFirstDay}
+use Rattle.shift_calendar.specs.{IsDayWord, IsFirstDay}
 use mir.Val.{SFits, of_z, to_z}
 use Rattle.plant_more.specs.Shifts.{IsFaultOfRead, IsShifts, IsShiftsRefusal}
 use Rattle.plant_files.proofs.Printing.{answered_so, done_so, ended_so}

@@ -1,6 +1,6 @@
 use Rattle.std.proofs.Common.{◌<◌, length, refl, subst, sym, take, get_or, arith, ◌+◌}
 use Rattle.std.proofs.lemmas.Option.{slice_get_read}
-use Rattle.plant_more.specs.ShiftTags.{AreShiftTags}
+use Rattle.plant_more.specs.{AreShiftTags}
 use Rattle.plant_more.proofs.ShiftTags.{tags_more}
 use Rattle.plant_more.proofs.shift_contents.shift_tags.Goals as goal
 

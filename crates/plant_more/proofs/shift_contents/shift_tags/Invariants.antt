@@ -1,5 +1,5 @@
 use Rattle.std.proofs.Common.{take}
-use Rattle.plant_more.specs.ShiftTags.{AreShiftTags}
+use Rattle.plant_more.specs.{AreShiftTags}
 use Rattle.plant_more.proofs.shift_contents.shift_tags.Given as goal
 
 abbrev pub invariant-loop-place : goal.invariant-loop-place

@@ -1,10 +1,8 @@
 use Rattle.std.proofs.Common.{List, string_bytes, subst, w32}
 use Rattle.std.proofs.lemmas.Int.{to_z-of_z}
 use Rattle.std.proofs.lemmas.Result.{IfOk-weaker}
-use Rattle.shift_calendar.specs.Windows.{AreWindows, shifts_over}
-use Rattle.shift_calendar.specs.declared.window.ShiftWindow.{ShiftWindow}
-use Rattle.plant_more.specs.ShiftLines.{AreLines, AreShiftLines}
-use Rattle.plant_more.specs.ShiftTags.{AreShiftTags, tag_lines}
+use Rattle.shift_calendar.specs.{AreWindows, shifts_over, ShiftWindow}
+use Rattle.plant_more.specs.{AreLines, AreShiftLines, AreShiftTags, tag_lines}
 use Rattle.plant_more.proofs.ShiftTags.{lines_told}
 use Rattle.plant_more.proofs.shift_figures.shift_lines.Goals as goal
 

@@ -2,8 +2,8 @@ use Rattle.std.proofs.Common.{Err, inr, rules, refl, ap, string_bytes, subst, w3
 use Rattle.std.proofs.lemmas.Int.{to_z-of_z}
 use Rattle.std.proofs.lemmas.Result.{err_from_is_err_and}
 use Rattle.tag_core.specs.Core.{Core}
-use Rattle.shift_calendar.specs.Windows.{AreWindows, shifts_over}
-use Rattle.plant_more.specs.ShiftLines.{AreShiftLines}
+use Rattle.shift_calendar.specs.{AreWindows, shifts_over}
+use Rattle.plant_more.specs.{AreShiftLines}
 use Rattle.plant_more.specs.Shifts.{OfCalendar, OfMemory, OfTag}
 use Rattle.plant_store.proofs.MappedErrors.{new_error, still_ok}
 use Rattle.plant_store.proofs.OpenedBases.{tag_is_no_fault, of_tags}

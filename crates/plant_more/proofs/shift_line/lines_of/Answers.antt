@@ -1,5 +1,5 @@
 use Rattle.std.proofs.Common.{string_bytes}
-use Rattle.plant_more.specs.ShiftTags.{tag_lines}
+use Rattle.plant_more.specs.{tag_lines}
 use Rattle.plant_more.proofs.ShiftWindows.{window_more}
 use Rattle.plant_more.proofs.shift_line.lines_of.Goals as goal
 

@@ -1,6 +1,5 @@
 use Rattle.std.proofs.Common.{string_bytes, take}
-use Rattle.plant_more.specs.ShiftLines.{AreLines}
-use Rattle.plant_more.specs.ShiftTags.{tag_lines}
+use Rattle.plant_more.specs.{AreLines, tag_lines}
 use Rattle.plant_more.proofs.shift_line.lines_of.Given as goal
 
 abbrev pub invariant-loop-window : goal.invariant-loop-window

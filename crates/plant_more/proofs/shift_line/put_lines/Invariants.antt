@@ -1,6 +1,5 @@
 use Rattle.std.proofs.Common.{◌≡◌, ◌++◌, string_bytes, take}
-use Rattle.plant_more.specs.ShiftLines.{dated}
-use Rattle.plant_more.specs.ShiftTags.{tag_lines}
+use Rattle.plant_more.specs.{dated, tag_lines}
 use Rattle.plant_more.proofs.shift_line.put_lines.Given as goal
 
 abbrev pub invariant-loop-tag : goal.invariant-loop-tag

@@ -1,6 +1,6 @@
 use Rattle.std.proofs.Common.{◌≡◌, drop, inl, inr, ap, refl, ◌∙◌}
 use Rattle.std.specs.Vec.Iter.{into_iter_items}
-use Rattle.plant_status.specs.Status.{code_of}
+use Rattle.plant_status.specs.{code_of}
 use Rattle.plant_run.proofs.argument.run_args.Goals as goal
 use Rattle.plant_run.proofs.argument.run_args.Goals.{in-Ok+in-Ok-words_of, in-Ok+in-Err-words_of, in-Err}
 

@@ -1,8 +1,8 @@
 use Rattle.std.proofs.Common.{◌≡◌, Ok, Err, String, Global, string_bytes, refl, sym, ap, ◌∙◌}
-use Rattle.byte_io.specs.Files.{IsFaultOf}
-use Rattle.plant_status.specs.declared.file.FileId.{FileId}
+use Rattle.byte_io.specs.{IsFaultOf}
+use Rattle.plant_status.specs.{FileId}
 use Rattle.plant_status.specs.declared.status.Status.TheVariants.{Done, ReadFault, WriteFault}
-use Rattle.plant_files.specs.Faults.{IsFaultOfPlanned}
+use Rattle.plant_files.specs.{IsFaultOfPlanned}
 use Rattle.plant_files.proofs.Faults.{of_none}
 use Rattle.store_commands.specs.Commands.{IsCheckRefusal, IsChecked, IsTrend, IsTrendRefusal}
 use Rattle.plant_store.proofs.OpenedBases.{of_tags}
@@ -11,8 +11,7 @@ use Rattle.store_commands.specs.FrameCommands.{IsFrames, IsFramesRefusal}
 use Rattle.plant_files.proofs.Printing.{answered_so, done_so, ended_so}
 use Rattle.plant_more.proofs.Told.{counts_so, faults_so}
 use Rattle.plant_run.proofs.Refusals.{check_no_fault, check_not_done, check_rose, trend_no_fault, trend_not_done, trend_rose, frames_no_fault, frames_not_done, frames_rose}
-use Rattle.plant_run.specs.Run.{world}
-use Rattle.plant_run.specs.Sessions.{IsDrillEnd, IsRunEnd}
+use Rattle.plant_run.specs.{world, IsDrillEnd, IsRunEnd}
 use Rattle.plant_run.proofs.Sessions.{end_no_done, end_no_fault, of_refusal, of_text, run_no_done, run_no_fault}
 use Rattle.plant_run.proofs.program.run.Goals as goal
 

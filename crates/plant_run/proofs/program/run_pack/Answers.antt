@@ -1,6 +1,6 @@
 use Rattle.trend_model.proofs.BoundLaw.{bounded}
-use Rattle.pack_command.specs.Pack.{history_of, origin_of}
-use Rattle.plant_run.specs.Run.{IsNotPacked, IsPacked}
+use Rattle.pack_command.specs.{history_of, origin_of}
+use Rattle.plant_run.specs.{IsNotPacked, IsPacked}
 use Rattle.plant_files.proofs.Printing.{printed_so, written_so}
 use Rattle.plant_run.proofs.program.run_pack.Goals as goal
 

@@ -1,6 +1,6 @@
 use Rattle.std.proofs.Common.{◌≡◌, ◌∷◌, ◌∙◌, sym, length, map, ap, arith}
 use Rattle.std.specs.Vec.Iter.{into_iter_items}
-use Rattle.plant_status.specs.Pass.{sum_from}
+use Rattle.plant_status.specs.{sum_from}
 use Rattle.plant_status.proofs.Gathering.{one_moved}
 use Rattle.plant_status.proofs.worker.gather.Goals as goal
 

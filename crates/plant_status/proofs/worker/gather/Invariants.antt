@@ -1,6 +1,6 @@
 use Rattle.std.proofs.Common.{◌≡◌, ◌≤◌, ◌+◌, ◌++◌, map, length, vec_capacity, vec_len}
 use Rattle.std.specs.Vec.Iter.{into_iter_items, into_iter_len}
-use Rattle.plant_status.specs.Pass.{sum_from}
+use Rattle.plant_status.specs.{sum_from}
 use Rattle.plant_status.proofs.worker.gather.Given as goal
 
 abbrev pub invariant-loop-worker : goal.invariant-loop-worker

@@ -1,7 +1,6 @@
 use Rattle.std.proofs.Common.{◌≡◌, ℕ, List, get_or, ◌+◌, ◌^◌, ◌<◌, [], ◌∷◌, length, length-append, Vec, Err, refl, sym, ◌∙◌, ap, subst, arith}
 use Rattle.std.proofs.lemmas.List.Sums.{sum_by_push}
-use Rattle.trend_num.specs.declared.archive.Rec.{Rec}
-use Rattle.trend_num.specs.declared.tag_def.TagDef.{TagDef}
+use Rattle.trend_num.specs.{Rec, TagDef}
 use Rattle.std.specs.declared.alloc.Global.{Global}
 use Rattle.tag_core.specs.Core.{Core}
 use Rattle.plant_store.specs.Tags.{tag_records_in}

@@ -1,5 +1,5 @@
 use Rattle.std.proofs.Common.{◌≡◌, ◌^◌, ◌<◌, ◌≤◌, length}
-use Rattle.trend_num.specs.Limits.{most_stored}
+use Rattle.trend_num.specs.{most_stored}
 use Rattle.plant_store.specs.Tags.{tag_records_in}
 use Rattle.plant_store.proofs.TagTurns.{IsSoFar}
 use Rattle.plant_store.proofs.base_opening.open_base.Given as goal

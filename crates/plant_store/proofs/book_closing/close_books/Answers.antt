@@ -1,8 +1,8 @@
 use Rattle.std.proofs.Common.{◌≡◌, ◌∙◌, ◌≤◌, ◌∷◌, [], ap, arith, length, length-append, subst, sym}
 use Rattle.std.specs.Vec.Iter.{into_iter_items, into_iter_len}
 use Rattle.std.proofs.lemmas.Grind.{common_steps}
-use Rattle.group_book.specs.declared.history.GroupHistory.{GroupHistory}
-use Rattle.branded_disk.specs.Pasts.{branded}
+use Rattle.group_book.specs.{GroupHistory}
+use Rattle.branded_disk.specs.{branded}
 use Rattle.plant_store.specs.CellClosings.{HasRisen}
 use Rattle.plant_store.specs.BookEndings.{counts_after}
 use Rattle.plant_store.proofs.BookLoops.{begun, has_place, one_more}

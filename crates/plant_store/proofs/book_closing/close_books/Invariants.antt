@@ -1,6 +1,6 @@
 use Rattle.std.proofs.Common.{◌≡◌, ◌≤◌, ◌+◌, length, vec_capacity, vec_len}
 use Rattle.std.specs.Vec.Iter.{into_iter_items, into_iter_len}
-use Rattle.branded_disk.specs.Pasts.{branded}
+use Rattle.branded_disk.specs.{branded}
 use Rattle.plant_store.proofs.BookLoops.{AreGoingBack}
 use Rattle.plant_store.proofs.BookReturns.{AreTold}
 use Rattle.plant_store.proofs.book_closing.close_books.Given as goal

@@ -1,5 +1,5 @@
 use Rattle.std.specs.Vec.Iter.{into_iter_items, into_iter_len}
-use Rattle.branded_disk.specs.Pasts.{branded}
+use Rattle.branded_disk.specs.{branded}
 use Rattle.plant_store.proofs.BookLoops.{AreGoingBack}
 use Rattle.plant_store.proofs.book_closing.give_back_all.Given as goal
 

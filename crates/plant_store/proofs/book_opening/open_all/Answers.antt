@@ -1,8 +1,8 @@
 use Rattle.std.proofs.Common.{◌∙◌, ◌^◌, ◌<◌, ◌∷◌, [], ap, arith, length, length-append, map, subst, sym}
 use Rattle.std.proofs.lemmas.Result.{err_from_is_err_and}
 use Rattle.group_book.specs.declared.refusal.LoadNo.TheVariants.{DeviceFault}
-use Rattle.group_book.specs.Told.{ToldBook}
-use Rattle.branded_disk.specs.Pasts.{branded}
+use Rattle.group_book.specs.{ToldBook}
+use Rattle.branded_disk.specs.{branded}
 use Rattle.plant_store.proofs.Counts.{counted_since}
 use Rattle.plant_store.proofs.BookNames.{as_many, one_place}
 use Rattle.plant_store.proofs.BookTurns.{IsSoFar, at_place, cause_at, group_unused, next_at, others_at, others_same, rest_at}

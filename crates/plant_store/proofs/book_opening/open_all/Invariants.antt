@@ -1,7 +1,7 @@
 use Rattle.std.proofs.Common.{◌≡◌, ◌^◌, ◌<◌, ◌≤◌, ℕ, List, length, map, vec_capacity}
 use Rattle.std.specs.Prelude.{IsTrue}
-use Rattle.branded_disk.specs.Pasts.{branded}
-use Rattle.plant_store.specs.BookSteps.{HavePlaces}
+use Rattle.branded_disk.specs.{branded}
+use Rattle.plant_store.specs.{HavePlaces}
 use Rattle.plant_store.proofs.BookTurns.{IsSoFar}
 use Rattle.plant_store.proofs.book_opening.open_all.Given as goal
 

@@ -1,9 +1,9 @@
 use Rattle.std.proofs.Common.{◌≡◌, ◌∙◌, Err, ap, arith, get_or, length, map, subst, sym}
-use Rattle.disk_model.specs.Calls.{CountsFault, Rose}
+use Rattle.disk_model.specs.{CountsFault, Rose}
 use Rattle.group_book.specs.declared.refusal.LoadNo.TheVariants.{DeviceFault}
-use Rattle.branded_disk.specs.Pasts.{branded}
+use Rattle.branded_disk.specs.{branded}
 use Rattle.plant_store.specs.BookRefusals.{CountsStore, IsRefusal, status_of}
-use Rattle.plant_store.specs.BookSteps.{AreOtherNamesSame}
+use Rattle.plant_store.specs.{AreOtherNamesSame}
 use Rattle.plant_store.proofs.BookCauses.{all_faultless, all_same, counted, fails, told_all}
 use Rattle.plant_store.proofs.BookNames.{as_many, names_differ}
 use Rattle.plant_store.proofs.Counts.{stays_small}

@@ -1,9 +1,7 @@
 use Rattle.std.proofs.Common.{◌≡◌, Some, subst}
-use Rattle.disk_model.specs.Calls.{Rose}
-use Rattle.tag_cell.specs.Crashes.{BeganWell}
-use Rattle.tag_cell.specs.Devices.{device_name}
-use Rattle.tag_cell.specs.Told.{IsCellHistory}
-use Rattle.branded_disk.specs.Pasts.{branded}
+use Rattle.disk_model.specs.{Rose}
+use Rattle.tag_cell.specs.{BeganWell, device_name, IsCellHistory}
+use Rattle.branded_disk.specs.{branded}
 use Rattle.plant_store.proofs.DeviceNames.{own_name}
 use Rattle.plant_store.proofs.cell_closing.close_cell.Goals as goal
 

@@ -3,9 +3,9 @@ use Rattle.std.specs.Vec.Iter.{into_iter_items, into_iter_len}
 use Rattle.std.proofs.lemmas.List.{length-map}
 use Rattle.std.proofs.lemmas.List.Elements.{All-get_or}
 use Rattle.std.proofs.lemmas.Grind.{common_steps}
-use Rattle.branded_disk.specs.Pasts.{branded}
+use Rattle.branded_disk.specs.{branded}
 use Rattle.plant_store.specs.CellClosings.{AreGivenBack, AreHistoriesAt}
-use Rattle.plant_store.specs.CellNames.{texts}
+use Rattle.plant_store.specs.{texts}
 use Rattle.plant_store.proofs.CellBacks.{all_closed, begun, one_closed}
 use Rattle.plant_store.proofs.CellLabels.{text_at}
 use Rattle.plant_store.proofs.cell_closing.close_cells.Goals as goal

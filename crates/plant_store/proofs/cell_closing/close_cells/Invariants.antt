@@ -1,8 +1,8 @@
 use Rattle.std.proofs.Common.{◌≡◌, ℕ, ◌+◌, List, length, vec_capacity}
 use Rattle.std.specs.Prelude.{IsTrue}
 use Rattle.std.specs.Vec.Iter.{into_iter_items, into_iter_len}
-use Rattle.branded_disk.specs.Pasts.{branded}
-use Rattle.plant_store.specs.CellNames.{texts}
+use Rattle.branded_disk.specs.{branded}
+use Rattle.plant_store.specs.{texts}
 use Rattle.plant_store.proofs.CellBacks.{AreClosed}
 use Rattle.plant_store.proofs.cell_closing.close_cells.Given as goal
 

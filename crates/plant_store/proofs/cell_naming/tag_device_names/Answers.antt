@@ -1,6 +1,6 @@
 use Rattle.std.proofs.Common.{sym, subst, ◌∙◌, ap}
 use Rattle.std.proofs.lemmas.List.{take_all}
-use Rattle.plant_store.specs.CellNames.{AreApart, device_names_of}
+use Rattle.plant_store.specs.{AreApart, device_names_of}
 use Rattle.plant_store.proofs.CellLabels.{apart_names}
 use Rattle.plant_store.proofs.cell_naming.tag_device_names.Goals as goal
 

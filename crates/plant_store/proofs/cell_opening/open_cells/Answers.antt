@@ -1,6 +1,6 @@
 use Rattle.std.proofs.Common.{length, take, ◌∙◌, sym, arith}
 use Rattle.std.proofs.lemmas.List.{length-take-le}
-use Rattle.branded_disk.specs.Pasts.{branded}
+use Rattle.branded_disk.specs.{branded}
 use Rattle.plant_store.proofs.TagDevices.{still}
 use Rattle.plant_store.proofs.TagEndings.{of_all}
 use Rattle.plant_store.proofs.CellLabels.{apart_texts, as_many_names, places_front, places_whole}

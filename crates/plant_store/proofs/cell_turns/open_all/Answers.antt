@@ -3,22 +3,19 @@ use Rattle.std.specs.Option.{IsSome}
 use Rattle.std.specs.Arc.{arc_value}
 use Rattle.std.specs.Vec.Iter.{into_iter_items, into_iter_len}
 use Rattle.std.proofs.lemmas.List.{length-drop}
-use Rattle.trend_num.specs.declared.archive.Rec.{Rec}
+use Rattle.trend_num.specs.{Rec, TagDef}
 use Rattle.trend_model.specs.State.{State}
-use Rattle.trend_num.specs.declared.tag_def.TagDef.{TagDef}
-use Rattle.tag_cell.specs.Devices.{device_name}
-use Rattle.snapshot_table.specs.Boards.{new_posters}
+use Rattle.tag_cell.specs.{device_name, ToldCell}
+use Rattle.snapshot_table.specs.{new_posters}
 use Rattle.snapshot_table.proofs.Places.{length-new_posters}
-use Rattle.crash_recovery.specs.Opening.{StaysSame}
+use Rattle.crash_recovery.specs.{StaysSame}
 use Rattle.device_layout.specs.declared.failure.OpenNo.TheVariants.{DeviceFault}
-use Rattle.device_layout.specs.Readings.{IsCause}
-use Rattle.tag_cell.specs.Told.{ToldCell}
-use Rattle.branded_disk.specs.Pasts.{branded}
+use Rattle.device_layout.specs.{IsCause}
+use Rattle.branded_disk.specs.{branded}
 use Rattle.plant_store.specs.TagRefusals.{status_of}
 use Rattle.plant_store.proofs.Counts.{counted_since}
 use Rattle.plant_store.proofs.TagEndings.{of_all}
-use Rattle.plant_store.specs.CellOpenings.{records_opened}
-use Rattle.plant_store.specs.CellStops.{IsStopped}
+use Rattle.plant_store.specs.{records_opened, IsStopped}
 use Rattle.plant_store.proofs.TagTurns.{reached}
 use Rattle.plant_store.proofs.CellFronts.{posts_to}
 use Rattle.plant_store.proofs.CellHalts.{opened_more, opened_since, records_more, rooms_more, still_unused, stopped_full, stopped_there}

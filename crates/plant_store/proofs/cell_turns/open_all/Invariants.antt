@@ -2,11 +2,10 @@ use Rattle.std.proofs.Common.{◌≡◌, ℕ, List, map, length, take, drop, vec
 use Rattle.std.specs.Prelude.{IsTrue}
 use Rattle.std.specs.Arc.{arc_value}
 use Rattle.std.specs.Vec.Iter.{into_iter_items, into_iter_len}
-use Rattle.snapshot_table.specs.Boards.{new_posters}
-use Rattle.branded_disk.specs.Pasts.{branded}
+use Rattle.snapshot_table.specs.{new_posters}
+use Rattle.branded_disk.specs.{branded}
 use Rattle.plant_store.specs.Tags.{AreOtherTagsSame}
-use Rattle.plant_store.specs.CellNames.{HasPlaces, texts}
-use Rattle.plant_store.specs.CellOpenings.{records_opened}
+use Rattle.plant_store.specs.{HasPlaces, texts, records_opened}
 use Rattle.plant_store.proofs.CellHalts.{AreFirst}
 use Rattle.plant_store.proofs.cell_turns.open_all.Given as goal
 

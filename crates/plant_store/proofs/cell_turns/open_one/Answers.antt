@@ -1,9 +1,9 @@
 use Rattle.std.proofs.Common.{◌∙◌, ap, refl, subst}
-use Rattle.trend_num.specs.declared.tag_def.TagDef.{TagDef}
-use Rattle.branded_disk.specs.Pasts.{branded}
+use Rattle.trend_num.specs.{TagDef}
+use Rattle.branded_disk.specs.{branded}
 use Rattle.plant_store.proofs.Counts.{counts_of}
 use Rattle.plant_store.proofs.TagDevices.{given_back, opened_of, same_back, still, untouched}
-use Rattle.plant_store.specs.CellOpenings.{core_of, IsCellOpened}
+use Rattle.plant_store.specs.{core_of, IsCellOpened}
 use Rattle.plant_store.proofs.cell_turns.open_one.Goals as goal
 
 pub returns-in_default-clause-same : goal.returns-in_default-clause-same

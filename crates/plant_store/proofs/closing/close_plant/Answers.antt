@@ -2,11 +2,10 @@ use Rattle.std.proofs.Common.{◌≢◌, ap, arith, length, string_bytes, subst,
 use Rattle.std.specs.Prelude.{AllPairs, IsTrue, String}
 use Rattle.std.specs.declared.alloc.Global.{Global}
 use Rattle.std.proofs.lemmas.List.Elements.{All-weaker}
-use Rattle.branded_disk.specs.Pasts.{branded}
+use Rattle.branded_disk.specs.{branded}
 use Rattle.plant_store.specs.CellClosings.{AreGivenBack, AreHistoriesAt}
-use Rattle.plant_store.specs.CellNames.{AreApart, HasPlaces, texts}
+use Rattle.plant_store.specs.{AreApart, HasPlaces, texts, AreOtherNamesSame, HavePlaces}
 use Rattle.plant_store.specs.BookEndings.{AreGivenBack as AreBooksBack}
-use Rattle.plant_store.specs.BookSteps.{AreOtherNamesSame, HavePlaces}
 use Rattle.plant_store.proofs.Backs.{all_back, all_counted}
 use Rattle.plant_store.proofs.closing.close_plant.Goals as goal
 

@@ -1,8 +1,8 @@
 use Rattle.std.proofs.Common.{rules, subst}
 use Rattle.std.proofs.lemmas.List.Elements.{All-more}
 use Rattle.std.proofs.lemmas.Grind.{common_steps}
-use Rattle.trend_num.specs.Names.{IsName}
-use Rattle.tag_base.specs.declared.definition.GroupDef.{GroupDef}
+use Rattle.trend_num.specs.{IsName}
+use Rattle.tag_base.specs.{GroupDef}
 use Rattle.plant_store.proofs.group_parts.group_device_names.Goals as goal
 
 pub loop-group-preserved : goal.loop-group-preserved

@@ -1,5 +1,5 @@
 use Rattle.std.proofs.Common.{All, take}
-use Rattle.trend_num.specs.Names.{IsName}
+use Rattle.trend_num.specs.{IsName}
 use Rattle.plant_store.specs.Groups.{AreNamesOf}
 use Rattle.plant_store.proofs.group_parts.group_device_names.Given as goal
 

@@ -1,6 +1,5 @@
 use Rattle.std.proofs.Common.{◌≡◌, [], All, get_or, map, take}
-use Rattle.calc_refresh.specs.Lists.{lists_of}
-use Rattle.calc_refresh.specs.Sheet.{IsCopy}
+use Rattle.calc_refresh.specs.{lists_of, IsCopy}
 use Rattle.plant_store.proofs.group_parts.records_of.Given as goal
 
 abbrev pub invariant-loop-tag : goal.invariant-loop-tag

@@ -1,16 +1,15 @@
 use Rattle.std.proofs.Common.{◌≡◌, ◌∙◌, All, List, ap, get_or, length, map, refl, subst, sym}
 use Rattle.std.specs.Prelude.{IfErr, IfOk, OnErr, OnOk}
 use Rattle.std.proofs.lemmas.List.{length-map}
-use Rattle.trend_num.specs.declared.archive.Rec.{Rec}
-use Rattle.calc_refresh.specs.Sheet.{IsCopy}
-use Rattle.tag_base.specs.Groups.{IsSoundGroup}
-use Rattle.branded_disk.specs.Pasts.{branded}
+use Rattle.trend_num.specs.{Rec}
+use Rattle.calc_refresh.specs.{IsCopy}
+use Rattle.tag_base.specs.{IsSoundGroup}
+use Rattle.branded_disk.specs.{branded}
 use Rattle.plant_store.specs.Groups as group
 use Rattle.plant_store.specs.BookRefusals as groups
 use Rattle.plant_store.specs.BookRefusals.{OfMemory}
-use Rattle.plant_store.specs.BookSteps.{HavePlaces}
+use Rattle.plant_store.specs.{HavePlaces, cell_records_in}
 use Rattle.plant_store.proofs.BookTurns.{still}
-use Rattle.plant_store.specs.Openings.{cell_records_in}
 use Rattle.plant_store.proofs.opening.open_groups.Goals as goal
 
 pub returns-in_default-clause-refused : goal.returns-in_default-clause-refused

@@ -3,22 +3,19 @@ use Rattle.std.specs.Prelude.{IsTrue, String}
 use Rattle.std.specs.declared.alloc.Global.{Global}
 use Rattle.std.proofs.lemmas.List.Elements.{All-weaker}
 use Rattle.std.proofs.lemmas.Result.{err_from_is_err_and}
-use Rattle.trend_num.specs.declared.tag_def.TagDef.{TagDef}
-use Rattle.tag_base.specs.Groups.{IsSoundGroup}
-use Rattle.tag_cell.specs.Told.{ToldCell}
-use Rattle.branded_disk.specs.Pasts.{branded}
+use Rattle.trend_num.specs.{TagDef}
+use Rattle.tag_base.specs.{IsSoundGroup}
+use Rattle.tag_cell.specs.{ToldCell}
+use Rattle.branded_disk.specs.{branded}
 use Rattle.plant_store.specs.TagRefusals as tags
 use Rattle.plant_store.specs.Tags as tag
 use Rattle.plant_store.proofs.TagDevices.{still}
 use Rattle.plant_store.specs.CellClosings.{AreGivenBack}
-use Rattle.plant_store.specs.CellNames.{AreApart, HasPlaces, device_names_of, texts}
-use Rattle.plant_store.specs.CellOpenings.{AreCellsOpened}
+use Rattle.plant_store.specs.{AreApart, HasPlaces, device_names_of, texts, AreCellsOpened, HavePlaces, OfTags, cell_records_in}
 use Rattle.plant_store.specs.Groups as group
 use Rattle.plant_store.specs.BookRefusals as groups
-use Rattle.plant_store.specs.BookSteps.{HavePlaces}
 use Rattle.plant_store.proofs.BookDevices.{books_before, same_untouched}
 use Rattle.plant_store.proofs.BookTurns.{still as still_group}
-use Rattle.plant_store.specs.Openings.{OfTags, cell_records_in}
 use Rattle.plant_store.proofs.Endings.{count_kept, given_up_counts, given_up_groups, given_up_refused, others_kept, rest_same, tags_count, tags_kept}
 use Rattle.plant_store.proofs.Labels.{groups_same, groups_unused}
 use Rattle.plant_store.proofs.opening.open_plant.Goals as goal

@@ -2,8 +2,8 @@ use Rattle.std.proofs.Common.{◌≡◌, ◌∙◌, ◌++◌, [], ◌∷◌, All
 use Rattle.std.proofs.lemmas.Grind.{common_steps}
 use Rattle.std.proofs.lemmas.List.{map_push, take_more}
 use Rattle.std.proofs.lemmas.List.Elements.{All-push}
-use Rattle.calc_refresh.specs.Sheet.{IsCopy}
-use Rattle.plant_store.specs.Openings.{cell_records_in}
+use Rattle.calc_refresh.specs.{IsCopy}
+use Rattle.plant_store.specs.{cell_records_in}
 use Rattle.plant_store.proofs.opening.records_of.Goals as goal
 
 pub loop-cell-preserved : goal.loop-cell-preserved

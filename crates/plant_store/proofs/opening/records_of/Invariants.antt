@@ -1,6 +1,6 @@
 use Rattle.std.proofs.Common.{◌≡◌, All, map, take}
-use Rattle.calc_refresh.specs.Sheet.{IsCopy}
-use Rattle.plant_store.specs.Openings.{cell_records_in}
+use Rattle.calc_refresh.specs.{IsCopy}
+use Rattle.plant_store.specs.{cell_records_in}
 use Rattle.plant_store.proofs.opening.records_of.Given as goal
 
 abbrev pub invariant-loop-cell : goal.invariant-loop-cell

@@ -1,8 +1,8 @@
 use Rattle.std.proofs.Common.{◌∙◌, All, ap, arith, subst, sym}
-use Rattle.trend_num.specs.Names.{IsName}
-use Rattle.tag_base.specs.declared.definition.GroupDef.{GroupDef}
+use Rattle.trend_num.specs.{IsName}
+use Rattle.tag_base.specs.{GroupDef}
 use Rattle.plant_store.specs.Tags.{AreDistinct}
-use Rattle.plant_store.specs.CellNames.{device_names_of}
+use Rattle.plant_store.specs.{device_names_of}
 use Rattle.plant_store.specs.Groups.{AreNamesOf}
 use Rattle.plant_store.proofs.Labels.{shelf_is}
 use Rattle.plant_store.proofs.shelf.shelf_for.Goals as goal

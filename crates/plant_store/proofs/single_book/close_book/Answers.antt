@@ -1,8 +1,7 @@
 use Rattle.std.proofs.Common.{◌≡◌, ◌∙◌, Some, IfSome, sym, subst}
-use Rattle.disk_model.specs.Calls.{Rose}
-use Rattle.group_book.specs.Openings.{BookBeganWell}
-use Rattle.group_book.specs.Told.{IsBookHistory, IsOnDevice, IsOwnDevice, device_name_of, faults_of, moment_of, trace_of}
-use Rattle.branded_disk.specs.Pasts.{branded}
+use Rattle.disk_model.specs.{Rose}
+use Rattle.group_book.specs.{BookBeganWell, IsBookHistory, IsOnDevice, IsOwnDevice, device_name_of, faults_of, moment_of, trace_of}
+use Rattle.branded_disk.specs.{branded}
 use Rattle.plant_store.proofs.DeviceNames.{own_name}
 use Rattle.plant_store.proofs.single_book.close_book.Goals as goal
 

@@ -1,16 +1,10 @@
 use Rattle.std.proofs.Common.{◌≡◌, ◌∙◌, List, ℕ, ap, length, map, sym, subst}
-use Rattle.disk_model.specs.Calls.{Shows}
-use Rattle.disk_model.specs.Moments.{During}
-use Rattle.disk_model.specs.Traces.{Trace}
-use Rattle.calc_refresh.specs.declared.definition.GroupDefParts.{GroupDefParts}
-use Rattle.calc_refresh.specs.Lists.{lists_of}
-use Rattle.archive_file.specs.TextHeads.{TextOpensAt}
-use Rattle.group_layout.specs.Images.{IsUnsaved}
-use Rattle.group_layout.specs.Readings.{GainsGroupSync}
-use Rattle.group_book.specs.Openings.{StandsForGroup, BookStaysSame}
-use Rattle.group_book.specs.Tapes.{cut}
-use Rattle.group_book.specs.Told.{device_name_of}
-use Rattle.branded_disk.specs.Pasts.{branded}
+use Rattle.disk_model.specs.{Shows, During, Trace}
+use Rattle.calc_refresh.specs.{GroupDefParts, lists_of}
+use Rattle.archive_file.specs.{TextOpensAt}
+use Rattle.group_layout.specs.{IsUnsaved, GainsGroupSync}
+use Rattle.group_book.specs.{StandsForGroup, BookStaysSame, cut, device_name_of}
+use Rattle.branded_disk.specs.{branded}
 use Rattle.plant_store.specs.Groups.{group_parts_of, input_records_of, group_definition_text}
 use Rattle.plant_store.proofs.BookTurns.{held_by, still, untouched}
 use Rattle.plant_store.proofs.DeviceNames.{fits, text_names}

@@ -1,5 +1,5 @@
 use Rattle.std.proofs.Common.{sym, ap, take, ◌∙◌}
-use Rattle.point_text.specs.Row.{point_of_line}
+use Rattle.point_text.specs.{point_of_line}
 use Rattle.point_text.proofs.Split.{feed_found, feed_not_found}
 use Rattle.point_text.proofs.line_reader.point_of_any_line.Goals as goal
 

@@ -1,7 +1,7 @@
 use Rattle.std.proofs.Common.{◌+◌, ◌-◌, ◌<◌, ◌^◌, drop, length-take, take, refl, arith, ◌∙◌}
 use Rattle.core.proofs.dec2flt.Eight.{eight_at, word_at}
 use Rattle.point_text.proofs.DigitRun.{IsDigitRange, digit_range_is, one_word, spelt_lt}
-use Rattle.trend_num.specs.Numerals.{digits_value}
+use Rattle.trend_num.specs.{digits_value}
 use Rattle.point_text.proofs.plain_line.amount.Goals as goal
 use Rattle.point_text.proofs.plain_line.amount.Goals.{Then-count-lt8}
 

@@ -1,7 +1,7 @@
 use Rattle.std.proofs.Common.{◌<◌, ◌^◌, drop, length-take, take, refl, arith, ◌∙◌}
 use Rattle.core.proofs.dec2flt.Eight.{eight_at, word_at}
 use Rattle.point_text.proofs.DigitRun.{digit_range_is, spelt_lt, two_words}
-use Rattle.trend_num.specs.Numerals.{digits_value}
+use Rattle.trend_num.specs.{digits_value}
 use Rattle.point_text.proofs.plain_line.usual_time.Goals as goal
 
 pub returns : goal.returns

@@ -1,6 +1,6 @@
 use Rattle.std.proofs.Common.{◌≡◌, ◌+◌, ◌*◌, ◌-◌, ◌≤◌, length, drop}
 use Rattle.std.specs.List.{flat_map}
-use Rattle.point_text.specs.Text.{record_line}
+use Rattle.point_text.specs.{record_line}
 use Rattle.point_text.proofs.printer.print_records.Given as goal
 
 abbrev pub invariant-loop-rec : goal.invariant-loop-rec

@@ -3,7 +3,7 @@ use Rattle.std.proofs.lemmas.List.{take_all}
 use Rattle.std.proofs.lemmas.Result.{err_from_is_err_and, on_err_weaker, on_ok_weaker}
 use Rattle.std.specs.List.{flat_map}
 use Rattle.byte_io.specs.Outside.{IsWritten, IsCutShort}
-use Rattle.point_text.specs.Text.{archive_text, held_line, record_line}
+use Rattle.point_text.specs.{archive_text, held_line, record_line}
 use Rattle.point_text.proofs.Printing.{cut_more, lines_more, text_from, written_more}
 use Rattle.point_text.proofs.printer.write_archive.Goals as goal
 

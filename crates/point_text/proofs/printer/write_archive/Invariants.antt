@@ -1,7 +1,7 @@
 use Rattle.std.proofs.Common.{◌-◌, ◌≤◌, length, take}
 use Rattle.std.specs.List.{flat_map}
 use Rattle.byte_io.specs.Outside.{IsWritten}
-use Rattle.point_text.specs.Text.{record_line}
+use Rattle.point_text.specs.{record_line}
 use Rattle.point_text.proofs.printer.write_archive.Given as goal
 
 abbrev pub invariant-loop-done : goal.invariant-loop-done

@@ -1,8 +1,8 @@
 use Rattle.std.proofs.Common.{◌∙◌, All, arith, refl, subst, sym}
 use Rattle.std.specs.Prelude.{◌≢◌}
 use Rattle.std.proofs.lemmas.List.Elements.{All-map}
-use Rattle.tag_cell.specs.Devices.{device_name}
-use Rattle.branded_disk.specs.Pasts.{branded}
+use Rattle.tag_cell.specs.{device_name}
+use Rattle.branded_disk.specs.{branded}
 use Rattle.plant_store.specs.Groups as group
 use Rattle.plant_store.specs.CellClosings.{AreHistoriesAt}
 use Rattle.run_command.proofs.Zipped.{zip_length}

@@ -1,7 +1,7 @@
 use Rattle.std.proofs.Common.{◌<◌, ℕ, get_or}
-use Rattle.tag_base.specs.declared.definition.GroupDef.{GroupDef}
-use Rattle.group_book.specs.declared.history.GroupHistory.{GroupHistory}
-use Rattle.run_command.specs.Copies.{AreCopied}
+use Rattle.tag_base.specs.{GroupDef}
+use Rattle.group_book.specs.{GroupHistory}
+use Rattle.run_command.specs.{AreCopied}
 use Rattle.run_command.proofs.copies.compare_copies.Given as goal
 
 abbrev pub invariant-loop-group : goal.invariant-loop-group

@@ -1,5 +1,5 @@
 use Rattle.std.proofs.Common.{◌<◌, ℕ}
-use Rattle.run_command.specs.Copies.{IsCopied}
+use Rattle.run_command.specs.{IsCopied}
 use Rattle.run_command.proofs.copies.compare_inputs.Given as goal
 
 abbrev pub invariant-loop-input : goal.invariant-loop-input

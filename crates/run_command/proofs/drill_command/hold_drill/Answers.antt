@@ -1,13 +1,12 @@
 use Rattle.std.proofs.Common.{Vec, arith, length, subst, sym}
 use Rattle.std.specs.Prelude.{IfErr, OnOk}
 use Rattle.std.specs.declared.alloc.Global.{Global}
-use Rattle.collector_pool.specs.declared.note.WorkerNote.{WorkerNote}
-use Rattle.branded_disk.specs.Pasts.{branded}
-use Rattle.session_audit.specs.FirstPulls.{HaveFirstPulls}
+use Rattle.collector_pool.specs.{WorkerNote}
+use Rattle.branded_disk.specs.{branded}
+use Rattle.session_audit.specs.{HaveFirstPulls}
 use Rattle.run_command.proofs.Continued.{inputs_of_base}
 use Rattle.run_command.proofs.Told.{foreign_told, held_told, ran_told}
-use Rattle.run_command.specs.Endings.{HaveAllEnded}
-use Rattle.run_command.specs.DrillPhases.{AreNotesOfAllBoth, AreNotesOfBoth, IsUndoneOfBoth}
+use Rattle.run_command.specs.{HaveAllEnded, AreNotesOfAllBoth, AreNotesOfBoth, IsUndoneOfBoth}
 use Rattle.run_command.proofs.DrillUndone.{both_told, phases_told}
 use Rattle.run_command.proofs.drill_command.hold_drill.Goals as goal
 

@@ -1,10 +1,9 @@
 use Rattle.std.proofs.Common.{◌≡◌, ◌∙◌, ℕ, [], ap, subst, List}
-use Rattle.disk_model.specs.Stores.{Devices, named, trace_at}
-use Rattle.disk_model.specs.Traces.{Trace}
-use Rattle.branded_disk.specs.Pasts.{branded, told_of}
+use Rattle.disk_model.specs.{Devices, named, trace_at, Trace}
+use Rattle.branded_disk.specs.{branded, told_of}
 use Rattle.run_command.proofs.Results.{err_weaker}
 use Rattle.run_command.proofs.Told.{some_weaker}
-use Rattle.run_command.specs.Drills.{IsDrillUnopened, IsRunInPhases, device_seen}
+use Rattle.run_command.specs.{IsDrillUnopened, IsRunInPhases, device_seen}
 use Rattle.run_command.proofs.DrillUnopened.{wants_memory}
 use Rattle.run_command.proofs.drill_command.run_drill.Goals as goal
 

@@ -1,5 +1,5 @@
-use Rattle.disk_model.specs.Stores.{trace_at}
-use Rattle.branded_disk.specs.Pasts.{told_of}
+use Rattle.disk_model.specs.{trace_at}
+use Rattle.branded_disk.specs.{told_of}
 use Rattle.run_command.proofs.drill_command.run_drill.Given as goal
 
 -- what the devices were is what the store has now

@@ -1,10 +1,10 @@
 use Rattle.std.proofs.Common.{◌∙◌, ◌++◌, [], List, ap, arith, length, refl, subst, sym}
 use Rattle.std.proofs.lemmas.List.{append-nil}
-use Rattle.collector_pool.specs.declared.note.WorkerNote.{WorkerNote}
+use Rattle.collector_pool.specs.{WorkerNote}
 use Rattle.run_command.specs.Runs as runs
 use Rattle.run_command.specs.Sessions.{OfNone, AreNotesOfAll}
 use Rattle.run_command.proofs.Continued.{groups_still, still}
-use Rattle.run_command.specs.Endings.{HaveAllEnded}
+use Rattle.run_command.specs.{HaveAllEnded}
 use Rattle.run_command.proofs.Notes.{at_text, ended_both}
 use Rattle.std.proofs.lemmas.Result.{on_ok_weaker}
 use Rattle.run_command.proofs.Results.{err_weaker}

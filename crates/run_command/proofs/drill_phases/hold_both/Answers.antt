@@ -2,20 +2,18 @@ use Rattle.std.proofs.Common.{◌≡◌, ℕ, List, [], Result, Err, OnOk, inl, 
 use Rattle.std.specs.Prelude.{IfErr}
 use Rattle.std.proofs.lemmas.List.{append-nil}
 use Rattle.plant_status.specs.declared.status.Status.{Status}
-use Rattle.run_command.specs.Endings.{HaveAllEnded}
+use Rattle.run_command.specs.{HaveAllEnded, AreStepsMade, AreNotesOfAllBoth, OfFirst, OfFirstPull, OfSecond}
 use Rattle.run_command.specs.Refusals.{AdmitsForeign, IsOfOpening}
 use Rattle.run_command.specs.Runs.{IsUndone}
 use Rattle.run_command.specs.Sessions.{OfNone}
-use Rattle.run_command.specs.Steps.{AreStepsMade}
 use Rattle.run_command.proofs.Continued.{books_on, cells_on, inputs_continued}
 use Rattle.run_command.proofs.DrillPulls.{held_before, refused_by, still_refused}
 use Rattle.run_command.proofs.DrillUndone.{all_or_none}
 use Rattle.std.proofs.lemmas.Result.{on_ok_weaker}
-use Rattle.calc_refresh.specs.Lists.{lists_of}
-use Rattle.tag_cell.specs.Told.{ToldCell as Cell}
-use Rattle.session_audit.specs.FirstPulls.{IsFirstPullMismatch}
+use Rattle.calc_refresh.specs.{lists_of}
+use Rattle.tag_cell.specs.{ToldCell as Cell}
+use Rattle.session_audit.specs.{IsFirstPullMismatch}
 use Rattle.session_audit.specs.Pulls.{ArePulled}
-use Rattle.run_command.specs.DrillPhases.{AreNotesOfAllBoth, OfFirst, OfFirstPull, OfSecond}
 use Rattle.run_command.proofs.drill_phases.hold_both.Given as given
 use Rattle.run_command.proofs.drill_phases.hold_both.Goals as goal
 use Rattle.run_command.proofs.drill_phases.hold_both.Goals.{After-go_on-cells}

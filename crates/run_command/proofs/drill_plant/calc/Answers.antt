@@ -1,5 +1,5 @@
 use Rattle.std.proofs.Common.{Err, subst}
-use Rattle.calc_parser.specs.Formulas.{Gives}
+use Rattle.calc_parser.specs.{Gives}
 use Rattle.run_command.proofs.drill_plant.calc.Goals as goal
 
 pub unreachable-requires : goal.unreachable-requires

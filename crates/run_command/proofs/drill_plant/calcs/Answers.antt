@@ -1,5 +1,5 @@
 use Rattle.std.proofs.Common.{◌≡◌, List, [], ◌∷◌, ◌++◌, map, ap, ◌∙◌}
-use Rattle.calc_check.specs.declared.definition.CalcDef.{CalcDef}
+use Rattle.calc_check.specs.{CalcDef}
 use Rattle.calc_check.specs.Group.{calculation}
 use Rattle.run_command.proofs.DrillFormulas.{mean_formula, mean_tree, no_fault, spread_formula, spread_tree, two_calcs}
 use Rattle.run_command.proofs.drill_plant.calcs.Goals as goal

@@ -1,8 +1,7 @@
 use Rattle.std.proofs.Common.{◌≡◌, ◌≢◌, All, AllPairs, length, sym, subst, ◌∙◌, ap, arith}
 use Rattle.std.proofs.lemmas.List.Elements.{All-nil, All-push, All-same}
-use Rattle.trend_num.specs.Ranges.{TuningInRange}
-use Rattle.tag_base.specs.declared.definition.GroupDef.{GroupDef}
-use Rattle.tag_base.specs.Groups.{IsSoundGroup}
+use Rattle.trend_num.specs.{TuningInRange}
+use Rattle.tag_base.specs.{GroupDef, IsSoundGroup}
 use Rattle.run_command.proofs.DrillNaming.{as_many_tags, distinct_tags}
 use Rattle.run_command.proofs.DrillSound.{sound_group, tuned_tags}
 use Rattle.run_command.proofs.drill_plant.drill_base.Goals as goal

@@ -1,7 +1,7 @@
 use Rattle.std.proofs.Common.{◌≡◌, length, drop, map, ◌∙◌, ap}
 use Rattle.std.proofs.lemmas.List.Elements.{All-drop, All-same}
-use Rattle.trend_num.specs.Ranges.{InRange}
-use Rattle.run_command.specs.DrillRows.{drill_file, row_of}
+use Rattle.trend_num.specs.{InRange}
+use Rattle.run_command.specs.{drill_file, row_of}
 use Rattle.run_command.proofs.DrillSound.{as_many_rows, of_tag, rows_in_range}
 use Rattle.run_command.proofs.drill_plant.drill_file.Goals as goal
 

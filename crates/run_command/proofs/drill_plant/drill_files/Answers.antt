@@ -1,9 +1,9 @@
 use Rattle.std.proofs.Common.{◌≡◌, ◌-◌, ◌<◌, List, ◌∷◌, [], map, length, All, Vec, Global, ◌∙◌, ap, sym, subst, arith}
 use Rattle.std.proofs.lemmas.List.{map-append}
 use Rattle.std.proofs.lemmas.List.Elements.{All-push, All-same, All-weaker}
-use Rattle.trend_num.specs.Ranges.{InRange}
-use Rattle.value_rows.specs.declared.raw.RawRow.{RawRow}
-use Rattle.run_command.specs.DrillRows.{drill_file}
+use Rattle.trend_num.specs.{InRange}
+use Rattle.value_rows.specs.{RawRow}
+use Rattle.run_command.specs.{drill_file}
 use Rattle.run_command.proofs.DrillGrowing.{one_place_more}
 use Rattle.run_command.proofs.drill_plant.drill_files.Goals as goal
 

@@ -1,6 +1,6 @@
 use Rattle.std.proofs.Common.{◌≡◌, ◌<◌, ◌-◌, All, length, map, vec_len}
-use Rattle.trend_num.specs.Ranges.{InRange}
-use Rattle.run_command.specs.DrillRows.{drill_rows_of}
+use Rattle.trend_num.specs.{InRange}
+use Rattle.run_command.specs.{drill_rows_of}
 use Rattle.run_command.proofs.drill_plant.drill_files.Given as goal
 
 abbrev pub invariant-loop-tag : goal.invariant-loop-tag

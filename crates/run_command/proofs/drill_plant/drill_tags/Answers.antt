@@ -1,5 +1,5 @@
 use Rattle.std.proofs.Common.{◌≡◌, ◌∙◌, ap, arith}
-use Rattle.run_command.specs.DrillPlant.{drill_tag, drill_tags}
+use Rattle.run_command.specs.{drill_tag, drill_tags}
 use Rattle.run_command.proofs.DrillGrowing.{one_place_more}
 use Rattle.run_command.proofs.drill_plant.drill_tags.Goals as goal
 

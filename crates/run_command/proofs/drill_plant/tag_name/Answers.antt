@@ -1,6 +1,6 @@
 use Rattle.std.proofs.Common.{◌≡◌, ◌++◌, codes, rules, subst, sym}
 use Rattle.std.specs.Fmt.{decimal}
-use Rattle.trend_num.specs.Names.{IsName}
+use Rattle.trend_num.specs.{IsName}
 use Rattle.run_command.proofs.DrillNaming.{place_named}
 use Rattle.run_command.proofs.drill_plant.tag_name.Goals as goal
 

@@ -1,14 +1,12 @@
 use Rattle.std.proofs.Common.{List, sym, subst}
-use Rattle.collector_pool.specs.declared.note.WorkerNote.{WorkerNote}
-use Rattle.session_audit.specs.declared.cell_opening.Kept.{Kept}
-use Rattle.session_audit.specs.declared.book_opening.KeptGroup.{KeptGroup}
+use Rattle.collector_pool.specs.{WorkerNote}
+use Rattle.session_audit.specs.{Kept, KeptGroup, IsCellAsKept}
 use Rattle.session_audit.specs.Openings.{AreAsKept}
 use Rattle.session_audit.specs.BookOpenings.{IsBookAsKept}
 use Rattle.run_command.specs.Refusals.{IsSettlingRefusal, notes_of}
 use Rattle.std.specs.Prelude.{OnOk}
-use Rattle.run_command.specs.Endings.{HaveAllEnded}
+use Rattle.run_command.specs.{HaveAllEnded}
 use Rattle.run_command.specs.Sessions.{AreNotes, AreNotesOfAll}
-use Rattle.session_audit.specs.CellOpenings.{IsCellAsKept}
 use Rattle.run_command.proofs.Notes.{notes_are, ran_all}
 use Rattle.run_command.proofs.Results.{err_weaker}
 use Rattle.run_command.proofs.phase.hold.Goals as goal

@@ -2,10 +2,10 @@ use Rattle.std.proofs.Common.{List, Result, Vec, refl, subst, sym}
 use Rattle.std.specs.Prelude.{IfErr}
 use Rattle.std.specs.List.{AllZip}
 use Rattle.std.specs.declared.alloc.Global.{Global}
-use Rattle.tag_cell.specs.Told.{ToldCell as Cell}
-use Rattle.group_book.specs.Told.{ToldBook as Book}
+use Rattle.tag_cell.specs.{ToldCell as Cell}
+use Rattle.group_book.specs.{ToldBook as Book}
 use Rattle.plant_status.specs.declared.status.Status.{Status}
-use Rattle.session_audit.specs.CellOpenings.{IsCellCopied}
+use Rattle.session_audit.specs.{IsCellCopied}
 use Rattle.session_audit.specs.BookOpenings.{IsBookCopied}
 use Rattle.run_command.specs.Refusals.{AdmitsForeign}
 use Rattle.run_command.specs.Runs.{IsContinued, IsContinuedGroup, OfSettling}

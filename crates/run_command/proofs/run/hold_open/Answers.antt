@@ -1,10 +1,10 @@
 use Rattle.std.proofs.Common.{Vec, arith, length, sym, subst}
 use Rattle.std.specs.Prelude.{IfErr, OnOk}
 use Rattle.std.specs.declared.alloc.Global.{Global}
-use Rattle.collector_pool.specs.declared.note.WorkerNote.{WorkerNote}
-use Rattle.branded_disk.specs.Pasts.{branded}
+use Rattle.collector_pool.specs.{WorkerNote}
+use Rattle.branded_disk.specs.{branded}
 use Rattle.run_command.specs.Runs.{IsUndone}
-use Rattle.run_command.specs.Endings.{HaveAllEnded}
+use Rattle.run_command.specs.{HaveAllEnded}
 use Rattle.run_command.specs.Sessions.{AreNotes, AreNotesOfAll}
 use Rattle.run_command.proofs.Continued.{inputs_of_base}
 use Rattle.run_command.proofs.Told.{foreign_told, held_told, undone_told}

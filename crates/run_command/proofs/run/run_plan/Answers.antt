@@ -2,7 +2,7 @@ use Rattle.std.proofs.Common.{◌∙◌, Result, String, ap, inl, refl, subst, s
 use Rattle.std.specs.Prelude.{IfErr}
 use Rattle.std.specs.declared.alloc.Global.{Global}
 use Rattle.plant_status.specs.declared.status.Status.{Status}
-use Rattle.plant_files.specs.Faults.{IsFaultOfPlanned}
+use Rattle.plant_files.specs.{IsFaultOfPlanned}
 use Rattle.plant_files.specs.Reading.{faults_after}
 use Rattle.plant_files.proofs.Faults.{of_none}
 use Rattle.run_command.specs.Runs.{IsUnheld, OfFiles}

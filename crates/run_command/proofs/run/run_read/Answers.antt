@@ -1,9 +1,8 @@
 use Rattle.std.proofs.Common.{Vec, ap, map, ◌∙◌}
 use Rattle.std.specs.declared.alloc.Global.{Global}
-use Rattle.branded_disk.specs.Pasts.{branded, told_of}
-use Rattle.value_rows.specs.declared.asked.Query.{Query}
-use Rattle.value_rows.specs.declared.raw.RawRow.{RawRow}
-use Rattle.calc_refresh.specs.Lists.{lists_of}
+use Rattle.branded_disk.specs.{branded, told_of}
+use Rattle.value_rows.specs.{Query, RawRow}
+use Rattle.calc_refresh.specs.{lists_of}
 use Rattle.run_command.specs.Runs.{OfOpening}
 use Rattle.run_command.specs.Sessions.{planned_turn}
 use Rattle.run_command.proofs.Promises.{promised}

@@ -1,4 +1,4 @@
-use Rattle.branded_disk.specs.Pasts.{told_of}
+use Rattle.branded_disk.specs.{told_of}
 use Rattle.run_command.proofs.run.run_read.Given as goal
 
 -- what the devices were is what the store has now

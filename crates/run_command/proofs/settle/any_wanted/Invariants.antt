@@ -1,7 +1,7 @@
 use Rattle.std.proofs.Common.{ℕ, ◌<◌, get_or}
 use Rattle.std.specs.Prelude.{◌≢◌}
 use Rattle.collector_pool.specs.declared.note.Ending.TheVariants.{WantOfMemory}
-use Rattle.collector_pool.specs.declared.note.WorkerNote.{WorkerNote}
+use Rattle.collector_pool.specs.{WorkerNote}
 use Rattle.run_command.proofs.settle.any_wanted.Given as goal
 
 abbrev pub invariant-loop-place : goal.invariant-loop-place

@@ -1,7 +1,7 @@
 use Rattle.std.proofs.Common.{ℕ, List, Vec, ap, subst, length}
 use Rattle.std.proofs.lemmas.Result.{err_from_is_err_and, on_ok_weaker}
 use Rattle.std.specs.declared.alloc.Global.{Global}
-use Rattle.calc_refresh.specs.Lists.{lists_of}
+use Rattle.calc_refresh.specs.{lists_of}
 use Rattle.session_audit.specs.Pulls.{ArePulled, IsPullMismatch}
 use Rattle.run_command.specs.Refusals.{OfFinding, OfMaking, OfPull, OfStop}
 use Rattle.run_command.proofs.Making.{few_refreshes, inputs_kept}

@@ -1,9 +1,9 @@
 use Rattle.std.proofs.Common.{List, Vec, refl, sym, subst, length}
 use Rattle.std.specs.Prelude.{All}
 use Rattle.std.specs.declared.alloc.Global.{Global}
-use Rattle.value_rows.specs.declared.raw.RawRow.{RawRow}
+use Rattle.value_rows.specs.{RawRow}
 use Rattle.session_audit.specs.Agendas.{ask_item, row_item, phase_item}
-use Rattle.collector_pool.specs.Work.{IsRowOf}
+use Rattle.collector_pool.specs.{IsRowOf}
 use Rattle.run_command.specs.Refusals.{OfWant}
 use Rattle.run_command.proofs.Making.{known_asks, known_row_asks, over_again}
 use Rattle.run_command.proofs.settle.complete_all.Goals as goal

@@ -1,6 +1,6 @@
 use Rattle.std.proofs.Common.{List, ℕ, subst}
 use Rattle.std.proofs.lemmas.Result.{err_from_is_err_and, on_ok_weaker}
-use Rattle.session_audit.specs.GroupTurns.{IsTurnsMismatch, IsWithinTurns}
+use Rattle.session_audit.specs.{IsTurnsMismatch, IsWithinTurns}
 use Rattle.run_command.specs.Refusals.{OfAsk, OfRowAsk, OfTake, OfTurns}
 use Rattle.run_command.proofs.Making.{all_begun, asks_begun, takes_begun}
 use Rattle.run_command.proofs.Results.{at_ok, err_weaker}

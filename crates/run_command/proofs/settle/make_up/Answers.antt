@@ -1,25 +1,17 @@
 use Rattle.std.proofs.Common.{◌≡◌, ◌∙◌, ◌<◌, ℕ, List, Vec, ap, sym, subst, length, slice_index}
 use Rattle.std.specs.Prelude.{All}
 use Rattle.std.specs.declared.alloc.Global.{Global}
-use Rattle.calc_refresh.specs.Lists.{lists_of}
-use Rattle.value_rows.specs.declared.asked.Query.{Query}
-use Rattle.value_rows.specs.declared.raw.RawRow.{RawRow}
+use Rattle.calc_refresh.specs.{lists_of}
+use Rattle.value_rows.specs.{Query, RawRow}
 use Rattle.session_audit.specs.Agendas.{ask_item, row_item, phase_item}
-use Rattle.session_audit.specs.Tapes.{ask_of, take_of}
-use Rattle.collector_pool.specs.Work.{IsRowOf}
-use Rattle.session_audit.specs.Cells.{AreAllBegun, AreAllShown, IsAskEntry, IsCommitEntry, IsTakeEntry, cell_tape}
-use Rattle.session_audit.specs.CellRefusals.{IsTakeRefusal, tag_rows}
-use Rattle.session_audit.specs.Workers.{AreTapesBegun, AreTapesWhole}
-use Rattle.session_audit.specs.Books.{book_tape}
-use Rattle.session_audit.specs.Refreshing.{AreBooksRefreshed, durable_lists}
-use Rattle.session_audit.specs.BookRefusals.{IsRefreshRefusal}
-use Rattle.session_audit.specs.GroupTapes.{row_ask_of}
-use Rattle.session_audit.specs.GroupTurns.{IsWithinTurns}
-use Rattle.tag_cell.specs.Told.{ToldCell as Cell}
-use Rattle.group_book.specs.Told.{ToldBook as Book}
+use Rattle.session_audit.specs.{ask_of, take_of, AreAllBegun, AreAllShown, IsAskEntry, IsCommitEntry, IsTakeEntry, cell_tape, IsTakeRefusal, tag_rows, AreTapesBegun, AreTapesWhole, book_tape, AreBooksRefreshed, durable_lists}
+use Rattle.session_audit.specs.{IsRefreshRefusal, row_ask_of, IsWithinTurns}
+use Rattle.collector_pool.specs.{IsRowOf}
+use Rattle.tag_cell.specs.{ToldCell as Cell}
+use Rattle.group_book.specs.{ToldBook as Book}
 use Rattle.session_audit.proofs.Begun.{tapes_begun, whole_begun}
 use Rattle.run_command.specs.Refusals.{OfCommit, OfRefresh, OfTaking}
-use Rattle.run_command.specs.Steps.{AreTapesMade}
+use Rattle.run_command.specs.{AreTapesMade}
 use Rattle.run_command.proofs.Kept.{books_asked, books_joined, books_refreshed, cells_joined, cells_longer, cells_pulled, committed}
 use Rattle.run_command.proofs.Making.{inputs_kept, known_asks, known_row_asks}
 use Rattle.std.proofs.lemmas.Result.{err_from_is_err_and, on_ok_weaker}

@@ -1,19 +1,18 @@
 use Rattle.std.proofs.Common.{◌≡◌, ◌∙◌, List, ap, arith, is_ok, refl, rules, sym, subst, length, vec_len}
 use Rattle.std.proofs.lemmas.Result.{err_from_is_err_and, on_ok_weaker}
-use Rattle.collector_pool.specs.declared.note.WorkerNote.{WorkerNote}
-use Rattle.run_command.specs.Endings.{HaveAllEnded}
+use Rattle.collector_pool.specs.{WorkerNote}
+use Rattle.run_command.specs.{HaveAllEnded, AreGivenFor, AreInputsFor}
 use Rattle.run_command.specs.Refusals.{IsRefused, OfGroup, OfRest, OfTag, OfWant, notes_of}
 use Rattle.run_command.proofs.Kept.{books_as_kept, cells_as_kept}
 use Rattle.run_command.proofs.Making.{inputs_of_kept}
 use Rattle.plant_status.specs.declared.unit.Unit.TheVariants.{Group, Tag}
 use Rattle.session_audit.specs.BookOpenings.{IsBookAsKept, IsBookDifference, IsBookMismatch}
-use Rattle.session_audit.specs.CellOpenings.{IsCellAsKept, IsCellDifference, IsCellMismatch}
+use Rattle.session_audit.specs.{IsCellAsKept, IsCellDifference, IsCellMismatch}
 use Rattle.session_audit.specs.Openings.{AreAsKept}
-use Rattle.calc_refresh.specs.Lists.{lists_of}
-use Rattle.tag_cell.specs.Told.{ToldCell as Cell}
-use Rattle.group_book.specs.Told.{ToldBook as Book}
+use Rattle.calc_refresh.specs.{lists_of}
+use Rattle.tag_cell.specs.{ToldCell as Cell}
+use Rattle.group_book.specs.{ToldBook as Book}
 use Rattle.plant_status.proofs.Gathering.{whole_again}
-use Rattle.run_command.specs.Steps.{AreGivenFor, AreInputsFor}
 use Rattle.run_command.proofs.Mismatches.{mismatch_is_opening}
 use Rattle.run_command.proofs.Foreign.{opening_foreign}
 use Rattle.run_command.proofs.Results.{err_weaker}

@@ -1,5 +1,5 @@
 use Rattle.std.proofs.Common.{◌≡◌, map, take}
-use Rattle.calc_refresh.specs.Lists.{lists_of}
+use Rattle.calc_refresh.specs.{lists_of}
 use Rattle.run_command.proofs.work.inputs_of.Given as goal
 
 abbrev pub invariant-loop-group : goal.invariant-loop-group

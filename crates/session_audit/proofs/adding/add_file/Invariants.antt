@@ -1,6 +1,5 @@
 use Rattle.std.proofs.Common.{length}
-use Rattle.session_audit.specs.Workers.{AreOthersSame, AreTapesFound, IsCaughtTo, IsOver}
-use Rattle.session_audit.specs.Each.{AreEach}
+use Rattle.session_audit.specs.{AreOthersSame, AreTapesFound, IsCaughtTo, IsOver, AreEach}
 use Rattle.session_audit.proofs.adding.add_file.Given as goal
 
 abbrev pub invariant-loop-place : goal.invariant-loop-place

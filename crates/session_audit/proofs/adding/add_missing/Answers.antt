@@ -1,5 +1,5 @@
 use Rattle.std.proofs.Common.{arith, length, refl}
-use Rattle.calc_refresh.specs.Lists.{lists_of}
+use Rattle.calc_refresh.specs.{lists_of}
 use Rattle.session_audit.proofs.Each.{each_refl, each_trans}
 use Rattle.session_audit.proofs.Files.{IsFile, caught_file, file_read, known_file, over_again, over_file, shown_files}
 use Rattle.session_audit.proofs.adding.add_missing.Given as given

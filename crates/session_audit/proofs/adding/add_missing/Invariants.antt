@@ -1,7 +1,6 @@
 use Rattle.std.proofs.Common.{◌<◌, ℕ, [], length, get_or}
-use Rattle.calc_refresh.specs.Lists.{lists_of}
-use Rattle.session_audit.specs.Workers.{AreOver, AreTapesFound, IsCaughtTo}
-use Rattle.session_audit.specs.Each.{AreEach}
+use Rattle.calc_refresh.specs.{lists_of}
+use Rattle.session_audit.specs.{AreOver, AreTapesFound, IsCaughtTo, AreEach}
 use Rattle.session_audit.proofs.adding.add_missing.Given as goal
 
 abbrev pub invariant-loop-worker : goal.invariant-loop-worker

@@ -1,7 +1,6 @@
-use Rattle.calc_refresh.specs.Lists.{lists_of}
+use Rattle.calc_refresh.specs.{lists_of}
 use Rattle.session_audit.specs.Agendas.{ask_item, phase_item}
-use Rattle.session_audit.specs.Cells.{IsAskEntry, cell_tape}
-use Rattle.session_audit.specs.Tapes.{ask_of, take_of}
+use Rattle.session_audit.specs.{IsAskEntry, cell_tape, ask_of, take_of}
 use Rattle.session_audit.proofs.Begun.{tapes_begun}
 use Rattle.session_audit.proofs.EntryKinds.{asked_takes, longer_shown}
 use Rattle.session_audit.proofs.asking.ask_missing.Goals as goal

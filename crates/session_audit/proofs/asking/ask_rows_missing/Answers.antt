@@ -1,7 +1,6 @@
-use Rattle.calc_refresh.specs.Lists.{lists_of}
+use Rattle.calc_refresh.specs.{lists_of}
 use Rattle.session_audit.specs.Agendas.{row_item}
-use Rattle.session_audit.specs.Books.{book_tape}
-use Rattle.session_audit.specs.GroupTapes.{row_ask_of}
+use Rattle.session_audit.specs.{book_tape, row_ask_of}
 use Rattle.session_audit.proofs.Begun.{tapes_begun}
 use Rattle.session_audit.proofs.Refreshes.{asked_within}
 use Rattle.session_audit.proofs.asking.ask_rows_missing.Goals as goal

@@ -1,6 +1,6 @@
 use Rattle.std.proofs.Common.{◌≡◌, ◌∙◌, ◌∷◌, [], length, sym, arith, length-append}
 use Rattle.session_audit.specs.BookOpenings.{items_of, windows_of}
-use Rattle.calc_refresh.specs.Lists.{lists_of}
+use Rattle.calc_refresh.specs.{lists_of}
 use Rattle.session_audit.proofs.PullNumbers.{take_same_all, take_same_more}
 use Rattle.session_audit.proofs.book_opening.compare_numbers.Goals as goal
 

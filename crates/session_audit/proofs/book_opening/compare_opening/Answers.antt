@@ -1,5 +1,5 @@
 use Rattle.std.proofs.Common.{◌≡◌, ◌∙◌, length, OnOk, ap, sym, subst}
-use Rattle.calc_refresh.specs.Lists.{lists_of}
+use Rattle.calc_refresh.specs.{lists_of}
 use Rattle.session_audit.specs.BookOpenings.DifferSo.{InNumber}
 use Rattle.session_audit.proofs.Items.{opened_same, rows_counted}
 use Rattle.session_audit.proofs.book_opening.compare_opening.Goals as goal

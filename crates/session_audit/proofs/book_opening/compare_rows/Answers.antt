@@ -1,8 +1,8 @@
 use Rattle.std.proofs.Common.{List, sym, subst, arith, Vec}
 use Rattle.std.specs.declared.alloc.Global.{Global}
 use Rattle.std.proofs.lemmas.List.{length-map}
-use Rattle.trend_num.specs.declared.value.CalcValue.{CalcValue}
-use Rattle.calc_refresh.specs.Lists.{lists_of}
+use Rattle.trend_num.specs.{CalcValue}
+use Rattle.calc_refresh.specs.{lists_of}
 use Rattle.session_audit.specs.BookOpenings.{AgreeIn}
 use Rattle.session_audit.proofs.Marks.{agree_all}
 use Rattle.session_audit.proofs.book_opening.compare_rows.Goals as goal

@@ -3,8 +3,8 @@ use Rattle.std.specs.Prelude.{slice_get}
 use Rattle.std.proofs.lemmas.List.{get_or-map, length-map}
 use Rattle.std.proofs.lemmas.Option.{slice_get-get_or}
 use Rattle.std.specs.declared.alloc.Global.{Global}
-use Rattle.trend_num.specs.declared.value.CalcValue.{CalcValue}
-use Rattle.calc_refresh.specs.Lists.{lists_of}
+use Rattle.trend_num.specs.{CalcValue}
+use Rattle.calc_refresh.specs.{lists_of}
 use Rattle.session_audit.specs.BookOpenings.{AgreeIn}
 use Rattle.session_audit.proofs.Marks.{agree_more}
 use Rattle.session_audit.proofs.book_opening.count_same.Goals.{then-same_row, else-same_row}

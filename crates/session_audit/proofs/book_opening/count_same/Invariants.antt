@@ -1,5 +1,5 @@
 use Rattle.std.proofs.Common.{◌≤◌}
-use Rattle.calc_refresh.specs.Lists.{lists_of}
+use Rattle.calc_refresh.specs.{lists_of}
 use Rattle.session_audit.specs.BookOpenings.{AgreeIn}
 use Rattle.session_audit.proofs.book_opening.count_same.Given as goal
 

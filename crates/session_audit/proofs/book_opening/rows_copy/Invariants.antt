@@ -1,5 +1,5 @@
 use Rattle.std.proofs.Common.{◌≡◌, take}
-use Rattle.calc_refresh.specs.Lists.{lists_of}
+use Rattle.calc_refresh.specs.{lists_of}
 use Rattle.session_audit.proofs.book_opening.rows_copy.Given as goal
 
 abbrev pub invariant-loop-row : goal.invariant-loop-row

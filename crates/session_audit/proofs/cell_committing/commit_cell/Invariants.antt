@@ -1,5 +1,5 @@
-use Rattle.tag_cell.specs.Told.{takes_waiting}
-use Rattle.session_audit.specs.Cells.{IsCommitEntry, IsLonger}
+use Rattle.tag_cell.specs.{takes_waiting}
+use Rattle.session_audit.specs.{IsCommitEntry, IsLonger}
 use Rattle.session_audit.proofs.cell_committing.commit_cell.Given as goal
 
 abbrev pub invariant-loop-acked : goal.invariant-loop-acked

@@ -1,10 +1,8 @@
 use Rattle.std.proofs.Common.{◌<◌, length, sym, subst, inl, inr, arith, get_or, set}
 use Rattle.std.proofs.lemmas.Bool.{cases_eq}
 use Rattle.std.proofs.lemmas.List.{get_or-set_same, get_or-set_other}
-use Rattle.session_audit.specs.Cells.{IsCommitEntry}
-use Rattle.session_audit.specs.CellRefusals.{IsCellRefusal, IsCommittedCell}
+use Rattle.session_audit.specs.{IsCommitEntry, IsCellRefusal, IsCommittedCell, ask_of, take_of}
 use Rattle.session_audit.specs.Agendas.{ask_item, phase_item}
-use Rattle.session_audit.specs.Tapes.{ask_of, take_of}
 use Rattle.session_audit.proofs.EntryKinds.{committed_asks, committed_takes, longer_shown}
 use Rattle.session_audit.proofs.Longer.{commit_refused, longer_set}
 use Rattle.session_audit.proofs.cell_committing.commit_cells.Goals as goal

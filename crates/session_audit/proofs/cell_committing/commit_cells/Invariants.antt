@@ -1,7 +1,6 @@
 use Rattle.std.proofs.Common.{◌<◌, ℕ, get_or}
-use Rattle.tag_cell.specs.Told.{ToldCell}
-use Rattle.session_audit.specs.CellRefusals.{IsCommittedCell}
-use Rattle.session_audit.specs.Cells.{AreLonger, IsCommitEntry}
+use Rattle.tag_cell.specs.{ToldCell}
+use Rattle.session_audit.specs.{IsCommittedCell, AreLonger, IsCommitEntry}
 use Rattle.session_audit.proofs.cell_committing.commit_cells.Given as goal
 
 abbrev pub invariant-loop-tag : goal.invariant-loop-tag

@@ -1,5 +1,5 @@
 use Rattle.std.proofs.Common.{subst}
-use Rattle.session_audit.specs.Found.{AreFound, IsDifference, due_of}
+use Rattle.session_audit.specs.{AreFound, IsDifference, due_of}
 use Rattle.session_audit.proofs.FindingTurns.{found_next_tag, found_none, known_next, mismatch_here, rows_after, unfound_next}
 use Rattle.session_audit.proofs.finding.find_all.Goals as goal
 

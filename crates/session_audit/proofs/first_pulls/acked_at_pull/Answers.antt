@@ -1,5 +1,5 @@
 use Rattle.std.proofs.Common.{◌∙◌, ◌+◌, ap, drop, sym}
-use Rattle.session_audit.specs.FirstPulls.{acked_at_pull}
+use Rattle.session_audit.specs.{acked_at_pull}
 use Rattle.session_audit.proofs.TakeCounts.{counts, passes_on}
 use Rattle.session_audit.proofs.first_pulls.acked_at_pull.Goals.{in-Commit, in_default}
 use Rattle.session_audit.proofs.first_pulls.acked_at_pull.Goals as goal

@@ -1,5 +1,5 @@
 use Rattle.std.proofs.Common.{◌≡◌, drop}
-use Rattle.session_audit.specs.FirstPulls.{acked_at_pull}
+use Rattle.session_audit.specs.{acked_at_pull}
 use Rattle.session_audit.proofs.first_pulls.acked_at_pull.Given as goal
 
 abbrev pub invariant-loop-entry : goal.invariant-loop-entry

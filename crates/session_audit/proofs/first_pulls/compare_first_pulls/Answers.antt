@@ -2,8 +2,7 @@ use Rattle.std.proofs.Common.{◌≡◌, ◌∙◌, inl, inr, Some, ap, sym, sub
 use Rattle.std.proofs.lemmas.Bool.{cases_eq}
 use Rattle.std.proofs.lemmas.List.{get_or_default}
 use Rattle.std.proofs.lemmas.Option.{slice_get-get_or}
-use Rattle.session_audit.specs.CellRefusals.{takes_mismatch}
-use Rattle.session_audit.specs.FirstPulls.{takes_at_pull}
+use Rattle.session_audit.specs.{takes_mismatch, takes_at_pull}
 use Rattle.session_audit.proofs.first_pulls.compare_first_pulls.Goals as goal
 
 pub loop-tag-preserved : goal.loop-tag-preserved

@@ -1,6 +1,6 @@
 use Rattle.std.proofs.Common.{◌≡◌, ◌<◌, ℕ, get_or}
-use Rattle.tag_cell.specs.Told.{ToldCell}
-use Rattle.session_audit.specs.FirstPulls.{takes_at_pull}
+use Rattle.tag_cell.specs.{ToldCell}
+use Rattle.session_audit.specs.{takes_at_pull}
 use Rattle.session_audit.proofs.first_pulls.compare_first_pulls.Given as goal
 
 abbrev pub invariant-loop-tag : goal.invariant-loop-tag

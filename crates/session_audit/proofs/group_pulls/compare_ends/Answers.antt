@@ -1,6 +1,6 @@
 use Rattle.std.proofs.Common.{◌≡◌, ◌≢◌, ◌∙◌, None, ap, sym, subst, arith}
 use Rattle.session_audit.specs.Pulls.{IsNextOf}
-use Rattle.session_audit.specs.GroupTapes.{pulled, reached}
+use Rattle.session_audit.specs.{pulled, reached}
 use Rattle.session_audit.proofs.Cursors.{apart_next, drop_next, none_of, number_of, same_end, same_next}
 use Rattle.session_audit.proofs.group_pulls.compare_ends.Goals as goal
 

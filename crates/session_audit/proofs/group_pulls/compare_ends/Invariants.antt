@@ -1,5 +1,5 @@
 use Rattle.std.proofs.Common.{◌≡◌, ◌≤◌, ◌-◌, drop, length, take}
-use Rattle.session_audit.specs.GroupTapes.{pulled, reached}
+use Rattle.session_audit.specs.{pulled, reached}
 use Rattle.session_audit.proofs.group_pulls.compare_ends.Given as goal
 
 abbrev pub invariant-loop-pull : goal.invariant-loop-pull

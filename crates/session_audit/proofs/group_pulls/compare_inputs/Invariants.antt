@@ -1,5 +1,5 @@
 use Rattle.std.proofs.Common.{◌<◌, ℕ, get_or}
-use Rattle.tag_cell.specs.Told.{ToldCell as Cell}
+use Rattle.tag_cell.specs.{ToldCell as Cell}
 use Rattle.session_audit.specs.Pulls.{IsPulledFrom}
 use Rattle.session_audit.proofs.group_pulls.compare_inputs.Given as goal
 

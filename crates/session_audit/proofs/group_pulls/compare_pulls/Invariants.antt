@@ -1,6 +1,6 @@
 use Rattle.std.proofs.Common.{◌<◌, ℕ, [], get_or}
-use Rattle.calc_refresh.specs.Lists.{lists_of}
-use Rattle.group_book.specs.Told.{ToldBook}
+use Rattle.calc_refresh.specs.{lists_of}
+use Rattle.group_book.specs.{ToldBook}
 use Rattle.session_audit.specs.Pulls.{AreInputsPulled}
 use Rattle.session_audit.proofs.group_pulls.compare_pulls.Given as goal
 

@@ -1,5 +1,5 @@
 use Rattle.std.proofs.Common.{◌≡◌, ◌≤◌, drop}
-use Rattle.session_audit.specs.GroupTapes.{reached}
+use Rattle.session_audit.specs.{reached}
 use Rattle.session_audit.proofs.group_pulls.next_version.Given as goal
 
 abbrev pub invariant-loop-place : goal.invariant-loop-place

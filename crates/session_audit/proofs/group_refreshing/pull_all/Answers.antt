@@ -2,10 +2,9 @@ use Rattle.std.proofs.Common.{◌≡◌, ◌<◌, ◌+◌, ◌∙◌, [], ap, sy
 use Rattle.std.proofs.lemmas.List.{length-map}
 use Rattle.std.proofs.lemmas.List.Elements.{All-get_or}
 use Rattle.std.proofs.lemmas.Result.{err_from_is_err_and}
-use Rattle.group_book.specs.InputLists.{ArePullsOf, IsPullOf, IsPullRefusal, lists_at}
-use Rattle.group_book.specs.Told.{versions_of}
+use Rattle.group_book.specs.{ArePullsOf, IsPullOf, IsPullRefusal, lists_at, versions_of}
 use Rattle.group_book.proofs.InputLists.{list_ahead, list_at as input_list, pulls_all, pulls_more, pulls_none}
-use Rattle.session_audit.specs.Refreshing.{IsPulledMore, durable_lists}
+use Rattle.session_audit.specs.{IsPulledMore, durable_lists}
 use Rattle.session_audit.proofs.Each.{each_refl, each_trans}
 use Rattle.session_audit.proofs.Pulls.{lists_same, pulled_refl, pulled_trans}
 use Rattle.session_audit.proofs.group_refreshing.pull_all.Given as given

@@ -1,8 +1,6 @@
 use Rattle.std.proofs.Common.{take}
-use Rattle.group_book.specs.InputLists.{ArePullsOf, lists_at}
-use Rattle.group_book.specs.Told.{versions_of}
-use Rattle.session_audit.specs.Each.{AreEach}
-use Rattle.session_audit.specs.Refreshing.{IsPulledMore, durable_lists}
+use Rattle.group_book.specs.{ArePullsOf, lists_at, versions_of}
+use Rattle.session_audit.specs.{AreEach, IsPulledMore, durable_lists}
 use Rattle.session_audit.proofs.group_refreshing.pull_all.Given as goal
 
 abbrev pub invariant-loop-input : goal.invariant-loop-input

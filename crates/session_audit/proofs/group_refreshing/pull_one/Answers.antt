@@ -1,6 +1,6 @@
 use Rattle.std.proofs.Common.{◌∙◌, [], Err, ap, drop, length, sym, subst, get_or}
-use Rattle.session_audit.specs.Refreshing.{IsPulledMore, durable_lists}
-use Rattle.group_book.specs.InputLists.{IsPullRefusal}
+use Rattle.session_audit.specs.{IsPulledMore, durable_lists}
+use Rattle.group_book.specs.{IsPullRefusal}
 use Rattle.session_audit.proofs.Each.{each_refl, each_set}
 use Rattle.session_audit.proofs.MoreTurns.{pull_refused}
 use Rattle.session_audit.proofs.Pulls.{list_at, pulled_one, pulled_refl, pulled_trans}

@@ -1,9 +1,6 @@
 use Rattle.std.proofs.Common.{◌+◌, ◌∙◌, ap, sym, arith, length}
-use Rattle.group_book.specs.InputLists.{lists_at}
-use Rattle.group_book.specs.Tapes.{uncut}
-use Rattle.group_book.specs.Told.{versions_of}
-use Rattle.session_audit.specs.Refreshing.{IsPulledMore, durable_lists, durable_numbers}
-use Rattle.session_audit.specs.GroupTapes.{refreshes}
+use Rattle.group_book.specs.{lists_at, uncut, versions_of}
+use Rattle.session_audit.specs.{IsPulledMore, durable_lists, durable_numbers, refreshes}
 use Rattle.session_audit.proofs.Each.{each_refl, each_trans}
 use Rattle.session_audit.proofs.MoreTurns.{inputs_stay, published_count, published_more, refreshed_refl, refreshed_trans, refusal_stays}
 use Rattle.session_audit.specs.BookRefusals.IsBookRefusal.{OfRefresh}

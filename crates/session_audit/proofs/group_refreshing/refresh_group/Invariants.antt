@@ -1,11 +1,7 @@
 use Rattle.std.proofs.Common.{◌≡◌, ◌<◌, None, length}
-use Rattle.calc_refresh.specs.Refreshed.{fault_of}
-use Rattle.group_book.specs.Told.{versions_of}
-use Rattle.session_audit.specs.Each.{AreEach}
-use Rattle.session_audit.specs.Books.{IsRefreshedMore}
-use Rattle.session_audit.specs.Inputs.{IsInputsOf}
-use Rattle.session_audit.specs.Refreshing.{IsPulledMore, durable_lists, durable_numbers}
-use Rattle.session_audit.specs.GroupTapes.{refreshes}
+use Rattle.calc_refresh.specs.{fault_of}
+use Rattle.group_book.specs.{versions_of}
+use Rattle.session_audit.specs.{AreEach, IsRefreshedMore, IsInputsOf, IsPulledMore, durable_lists, durable_numbers, refreshes}
 use Rattle.session_audit.proofs.group_refreshing.refresh_group.Given as goal
 
 abbrev pub invariant-loop-turn : goal.invariant-loop-turn

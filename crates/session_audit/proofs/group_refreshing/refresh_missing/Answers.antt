@@ -4,13 +4,9 @@ use Rattle.std.proofs.lemmas.Bool.{cases_eq}
 use Rattle.std.proofs.lemmas.List.{get_or-set_other, get_or-set_same, length-map, length-set}
 use Rattle.std.proofs.lemmas.Option.{slice_get-get_or}
 use Rattle.std.proofs.lemmas.Result.{err_from_is_err_and}
-use Rattle.calc_refresh.specs.Lists.{lists_of}
+use Rattle.calc_refresh.specs.{lists_of}
 use Rattle.session_audit.proofs.Files.{file_at}
-use Rattle.session_audit.specs.Books.{IsRefreshedMore}
-use Rattle.session_audit.specs.Inputs.{IsInputsOf}
-use Rattle.session_audit.specs.Refreshing.{IsPulledMore, IsRefreshedTo, durable_lists}
-use Rattle.session_audit.specs.BookRefusals.{IsBookRefusal}
-use Rattle.session_audit.specs.GroupTapes.{refreshes}
+use Rattle.session_audit.specs.{IsRefreshedMore, IsInputsOf, IsPulledMore, IsRefreshedTo, durable_lists, IsBookRefusal, refreshes}
 use Rattle.session_audit.proofs.Each.{each_refl, each_set, each_trans}
 use Rattle.session_audit.proofs.MoreTurns.{questions_stay, refreshed_refl, refreshed_trans}
 use Rattle.session_audit.proofs.Pulls.{asks_stay, lists_same, pulled_refl, pulled_trans, takes_stay}

@@ -1,9 +1,7 @@
 use Rattle.std.proofs.Common.{◌≡◌, ◌<◌, ◌≤◌, ℕ, [], get_or}
-use Rattle.calc_refresh.specs.Lists.{lists_of}
-use Rattle.group_book.specs.Told.{ToldBook}
-use Rattle.session_audit.specs.Each.{AreEach}
-use Rattle.session_audit.specs.Books.{IsRefreshedMore}
-use Rattle.session_audit.specs.Refreshing.{IsPulledMore, IsRefreshedTo, durable_lists}
+use Rattle.calc_refresh.specs.{lists_of}
+use Rattle.group_book.specs.{ToldBook}
+use Rattle.session_audit.specs.{AreEach, IsRefreshedMore, IsPulledMore, IsRefreshedTo, durable_lists}
 use Rattle.session_audit.proofs.group_refreshing.refresh_missing.Given as goal
 
 abbrev pub invariant-loop-group : goal.invariant-loop-group

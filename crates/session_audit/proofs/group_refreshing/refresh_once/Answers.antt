@@ -1,10 +1,9 @@
 use Rattle.std.proofs.Common.{◌∙◌, refl, subst}
 use Rattle.std.proofs.lemmas.List.{length-map}
 use Rattle.std.proofs.lemmas.Result.{err_from_is_err_and}
-use Rattle.group_book.specs.InputLists.{lists_at}
-use Rattle.group_book.specs.Told.{IsPublished, pulled_records, versions_of}
+use Rattle.group_book.specs.{lists_at, IsPublished, pulled_records, versions_of}
 use Rattle.group_book.proofs.InputLists.{ahead_refuses, pulls_go_on, sheet_refuses_lists}
-use Rattle.session_audit.specs.Refreshing.{durable_lists}
+use Rattle.session_audit.specs.{durable_lists}
 use Rattle.session_audit.proofs.MoreTurns.{numbers_are}
 use Rattle.session_audit.proofs.group_refreshing.refresh_once.Goals as goal
 

@@ -3,7 +3,7 @@ use Rattle.std.proofs.lemmas.Bool.{cases_eq}
 use Rattle.std.proofs.lemmas.List.{get_or_default}
 use Rattle.std.proofs.lemmas.Option.{slice_get-get_or}
 use Rattle.plant_status.specs.declared.mismatch.Seen.TheVariants.{Number}
-use Rattle.session_audit.specs.GroupTapes.{refreshes}
+use Rattle.session_audit.specs.{refreshes}
 use Rattle.session_audit.proofs.group_turns.compare_turns.Goals as goal
 
 pub returns-then-made-turns-clause-differs : goal.returns-then-made-turns-clause-differs

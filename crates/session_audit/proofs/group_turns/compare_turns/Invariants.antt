@@ -1,6 +1,6 @@
 use Rattle.std.proofs.Common.{◌<◌, ◌≤◌, ℕ, length, get_or}
-use Rattle.group_book.specs.Told.{ToldBook}
-use Rattle.session_audit.specs.GroupTapes.{refreshes}
+use Rattle.group_book.specs.{ToldBook}
+use Rattle.session_audit.specs.{refreshes}
 use Rattle.session_audit.proofs.group_turns.compare_turns.Given as goal
 
 abbrev pub invariant-loop-group : goal.invariant-loop-group

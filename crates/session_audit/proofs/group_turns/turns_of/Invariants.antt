@@ -1,5 +1,5 @@
 use Rattle.std.proofs.Common.{◌≡◌, ◌<◌, ℕ, length, take, get_or}
-use Rattle.session_audit.specs.GroupTurns.{turns_for}
+use Rattle.session_audit.specs.{turns_for}
 use Rattle.session_audit.proofs.group_turns.turns_of.Given as goal
 
 abbrev pub invariant-loop-refresh : goal.invariant-loop-refresh

@@ -1,6 +1,6 @@
 use Rattle.std.proofs.Common.{◌≡◌, ◌≤◌, length}
 use Rattle.session_audit.specs.Agendas.{items_of}
-use Rattle.session_audit.specs.Found.{AreLinked}
+use Rattle.session_audit.specs.{AreLinked}
 use Rattle.session_audit.proofs.progress.link_all.Given as goal
 
 abbrev pub invariant-loop-place : goal.invariant-loop-place

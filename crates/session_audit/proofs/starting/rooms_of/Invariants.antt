@@ -1,6 +1,6 @@
 use Rattle.std.proofs.Common.{◌≡◌, ◌<◌, ℕ, length, take, get_or}
-use Rattle.calc_refresh.specs.Lists.{lists_of}
-use Rattle.session_audit.specs.CellRefusals.{tag_rows}
+use Rattle.calc_refresh.specs.{lists_of}
+use Rattle.session_audit.specs.{tag_rows}
 use Rattle.session_audit.proofs.starting.rooms_of.Given as goal
 
 abbrev pub invariant-loop-rows : goal.invariant-loop-rows

@@ -1,8 +1,8 @@
 use Rattle.std.proofs.Common.{◌≡◌, ◌∙◌, ◌+◌, ◌<◌, [], All, IfSome, None, ap, sym, subst, arith, get_or, length}
 use Rattle.std.proofs.lemmas.List.Elements.{All-get_or}
-use Rattle.calc_refresh.specs.Lists.{lists_of}
+use Rattle.calc_refresh.specs.{lists_of}
 use Rattle.session_audit.proofs.Numbers.{length-numbered}
-use Rattle.session_audit.specs.Starting.{IsDueWithin}
+use Rattle.session_audit.specs.{IsDueWithin}
 use Rattle.session_audit.proofs.Files.{each_file, file_at, file_within}
 use Rattle.session_audit.proofs.Starts.{AreStarted, known_rows, started_more}
 use Rattle.session_audit.proofs.starting.start.Goals as goal

@@ -1,13 +1,9 @@
 use Rattle.std.proofs.Common.{◌<◌, ◌∙◌, [], ap, arith, get_or, length, subst, sym}
 use Rattle.std.proofs.lemmas.Option.{get_or_from_slice_get, slice_get_within}
-use Rattle.calc_refresh.specs.Lists.{lists_of}
-use Rattle.tag_cell.specs.Tapes.{taken}
-use Rattle.tag_cell.specs.Told.{ToldCell}
+use Rattle.calc_refresh.specs.{lists_of}
+use Rattle.tag_cell.specs.{taken, ToldCell}
 use Rattle.session_audit.specs.Agendas.{phase_item}
-use Rattle.session_audit.specs.CellRefusals.{IsTakeRefusal}
-use Rattle.session_audit.specs.Cells.{IsTakeEntry, cell_tape}
-use Rattle.session_audit.specs.Tapes.{ask_of, take_of}
-use Rattle.session_audit.specs.Workers.{LacksRow}
+use Rattle.session_audit.specs.{IsTakeRefusal, IsTakeEntry, cell_tape, ask_of, take_of, LacksRow}
 use Rattle.session_audit.proofs.Begun.{tapes_begun}
 use Rattle.session_audit.proofs.EntryKinds.{longer_found, taken_asks}
 use Rattle.session_audit.proofs.FullTapes.{rows_lacking}

@@ -1,7 +1,6 @@
 use Rattle.std.proofs.Common.{◌∙◌, ap, length}
 use Rattle.std.proofs.lemmas.List.{get_or_default}
-use Rattle.tag_cell.specs.Tapes.{taken}
-use Rattle.tag_cell.specs.Told.{ToldCell as Cell}
+use Rattle.tag_cell.specs.{taken, ToldCell as Cell}
 use Rattle.session_audit.proofs.taking.takes_on.Goals as goal
 
 pub returns : goal.returns

@@ -1,6 +1,6 @@
 use Rattle.std.proofs.Common.{sym, subst}
 use Rattle.std.proofs.lemmas.Result.{err_from_is_err_and}
-use Rattle.session_audit.specs.Found.{IsDifference, due_of}
+use Rattle.session_audit.specs.{IsDifference, due_of}
 use Rattle.session_audit.proofs.Walking.{all_further, difference_turn, found_at_start, found_turn, further_turn, still_known}
 use Rattle.session_audit.proofs.walk.find.Goals as goal
 

@@ -1,5 +1,5 @@
 use Rattle.std.proofs.Common.{take}
-use Rattle.session_audit.specs.Found.{AreFound, AreFurther}
+use Rattle.session_audit.specs.{AreFound, AreFurther}
 use Rattle.session_audit.proofs.walk.find.Given as goal
 
 abbrev pub invariant-loop-place : goal.invariant-loop-place

@@ -1,7 +1,7 @@
 use Rattle.std.proofs.Common.{◌≡◌, ◌∙◌, Some, ap, sym, subst, rules}
 use Rattle.std.specs.Option.{unwrap_or}
 use Rattle.plant_status.specs.declared.mismatch.Seen.TheVariants.{Nothing}
-use Rattle.session_audit.specs.Found.{IsWork}
+use Rattle.session_audit.specs.{IsWork}
 use Rattle.session_audit.proofs.Walking.{followed_here, other_here}
 use Rattle.session_audit.proofs.walk.found_next.Goals as goal
 

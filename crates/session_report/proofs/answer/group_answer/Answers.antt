@@ -1,6 +1,5 @@
 use Rattle.std.proofs.Common.{◌∙◌, Some, ap, sym}
-use Rattle.session_report.specs.Askers.{group_asker}
-use Rattle.session_report.specs.Report.{answer_of_group}
+use Rattle.session_report.specs.{group_asker, answer_of_group}
 use Rattle.session_report.proofs.Answering.{no_group_answer}
 use Rattle.session_report.proofs.Filling.{first_none, first_there, none_of}
 use Rattle.session_report.proofs.answer.group_answer.Goals as goal

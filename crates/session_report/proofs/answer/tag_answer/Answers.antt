@@ -1,7 +1,6 @@
 use Rattle.std.proofs.Common.{◌≡◌, ◌+◌, ◌∙◌, IfOk, Some, ap, sym, subst, string_bytes}
-use Rattle.trend_report.specs.Lines.{reply_text}
-use Rattle.session_report.specs.Askers.{tag_asker}
-use Rattle.session_report.specs.Report.{answer_of_tag}
+use Rattle.trend_report.specs.{reply_text}
+use Rattle.session_report.specs.{tag_asker, answer_of_tag}
 use Rattle.session_report.proofs.Answering.{no_tag_answer}
 use Rattle.session_report.proofs.Filling.{first_none, first_there, none_of}
 use Rattle.session_report.proofs.answer.tag_answer.Goals.{in-Some+in_default-tape, in_default}

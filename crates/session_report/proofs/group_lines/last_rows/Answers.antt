@@ -2,8 +2,8 @@ use Rattle.std.proofs.Common.{◌≡◌, ◌+◌, ◌∙◌, ◌++◌, ◌∷◌
 use Rattle.std.proofs.lemmas.Grind.{common_steps}
 use Rattle.std.proofs.lemmas.List.{length-map, length-take-le, map_push, take_all, take_more}
 use Rattle.calc_check.specs.Group.{calculation}
-use Rattle.calc_refresh.specs.Lists.{lists_of}
-use Rattle.session_report.specs.Report.{last_row, last_rows}
+use Rattle.calc_refresh.specs.{lists_of}
+use Rattle.session_report.specs.{last_row, last_rows}
 use Rattle.session_report.proofs.Placed.{placed_push}
 use Rattle.session_report.proofs.group_lines.last_rows.Goals as goal
 

@@ -1,7 +1,7 @@
 use Rattle.std.proofs.Common.{◌≡◌, map, take}
 use Rattle.calc_check.specs.Group.{calculation}
-use Rattle.calc_refresh.specs.Lists.{lists_of}
-use Rattle.session_report.specs.Report.{last_rows}
+use Rattle.calc_refresh.specs.{lists_of}
+use Rattle.session_report.specs.{last_rows}
 use Rattle.session_report.proofs.group_lines.last_rows.Given as goal
 
 abbrev pub invariant-loop-place : goal.invariant-loop-place

@@ -1,6 +1,6 @@
 use Rattle.std.proofs.Common.{◌≡◌, ℕ, None, take}
-use Rattle.calc_refresh.specs.Lists.{lists_of}
-use Rattle.session_report.specs.Places.{HasPlaceOfEach, place_in}
+use Rattle.calc_refresh.specs.{lists_of}
+use Rattle.session_report.specs.{HasPlaceOfEach, place_in}
 use Rattle.session_report.proofs.places.empty_table.Given as goal
 
 abbrev pub invariant-loop-queries : goal.invariant-loop-queries

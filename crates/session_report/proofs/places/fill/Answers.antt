@@ -1,6 +1,6 @@
 use Rattle.std.proofs.Common.{◌+◌, ◌∙◌, sym, subst, take}
-use Rattle.calc_refresh.specs.Lists.{lists_of}
-use Rattle.session_report.specs.Places.{HasPlaceOfEach, ArePlacesFilled}
+use Rattle.calc_refresh.specs.{lists_of}
+use Rattle.session_report.specs.{HasPlaceOfEach, ArePlacesFilled}
 use Rattle.session_report.proofs.Filling.{filled_answer, filled_other, none_of}
 use Rattle.session_report.proofs.places.fill.Goals.{in-Some, in_default}
 use Rattle.session_report.proofs.places.fill.Goals as goal

@@ -1,6 +1,6 @@
 use Rattle.std.proofs.Common.{take}
-use Rattle.calc_refresh.specs.Lists.{lists_of}
-use Rattle.session_report.specs.Places.{HasPlaceOfEach, ArePlacesFilled}
+use Rattle.calc_refresh.specs.{lists_of}
+use Rattle.session_report.specs.{HasPlaceOfEach, ArePlacesFilled}
 use Rattle.session_report.proofs.places.fill.Given as goal
 
 abbrev pub invariant-loop-place : goal.invariant-loop-place

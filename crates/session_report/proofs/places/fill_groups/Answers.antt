@@ -1,10 +1,9 @@
 use Rattle.std.proofs.Common.{◌≡◌, ◌∙◌, ap, sym, subst, arith}
 use Rattle.std.proofs.lemmas.List.{take_all}
-use Rattle.calc_refresh.specs.Lists.{lists_of}
-use Rattle.group_book.specs.declared.history.GroupHistory.{GroupHistory}
+use Rattle.calc_refresh.specs.{lists_of}
+use Rattle.group_book.specs.{GroupHistory}
 use Rattle.plant_status.specs.declared.unit.Unit.TheVariants.{Group}
-use Rattle.session_report.specs.Askers.{group_asker}
-use Rattle.session_report.specs.Places.{ArePlacesFilled, answer_place_of, query_in}
+use Rattle.session_report.specs.{group_asker, ArePlacesFilled, answer_place_of, query_in}
 use Rattle.session_report.proofs.Filling.{groups_more}
 use Rattle.session_report.proofs.places.fill_groups.Goals as goal
 

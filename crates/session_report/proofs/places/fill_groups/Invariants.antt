@@ -1,7 +1,7 @@
 use Rattle.std.proofs.Common.{[], List, take}
-use Rattle.tag_cell.specs.declared.history.TagHistory.{TagHistory}
-use Rattle.calc_refresh.specs.Lists.{lists_of}
-use Rattle.session_report.specs.Places.{ArePlaces, HasPlaceOfEach}
+use Rattle.tag_cell.specs.{TagHistory}
+use Rattle.calc_refresh.specs.{lists_of}
+use Rattle.session_report.specs.{ArePlaces, HasPlaceOfEach}
 use Rattle.session_report.proofs.places.fill_groups.Given as goal
 
 abbrev pub invariant-loop-group : goal.invariant-loop-group

@@ -1,9 +1,8 @@
 use Rattle.std.proofs.Common.{◌≡◌, ◌∙◌, ap, sym, subst}
-use Rattle.tag_cell.specs.declared.history.TagHistory.{TagHistory}
-use Rattle.calc_refresh.specs.Lists.{lists_of}
+use Rattle.tag_cell.specs.{TagHistory}
+use Rattle.calc_refresh.specs.{lists_of}
 use Rattle.plant_status.specs.declared.unit.Unit.TheVariants.{Tag}
-use Rattle.session_report.specs.Askers.{tag_asker}
-use Rattle.session_report.specs.Places.{ArePlacesFilled}
+use Rattle.session_report.specs.{tag_asker, ArePlacesFilled}
 use Rattle.session_report.proofs.Filling.{tags_more}
 use Rattle.session_report.proofs.places.fill_tags.Goals as goal
 

@@ -1,6 +1,6 @@
 use Rattle.std.proofs.Common.{[], take}
-use Rattle.calc_refresh.specs.Lists.{lists_of}
-use Rattle.session_report.specs.Places.{ArePlaces, HasPlaceOfEach}
+use Rattle.calc_refresh.specs.{lists_of}
+use Rattle.session_report.specs.{ArePlaces, HasPlaceOfEach}
 use Rattle.session_report.proofs.places.fill_tags.Given as goal
 
 abbrev pub invariant-loop-tag : goal.invariant-loop-tag

@@ -1,8 +1,8 @@
 use Rattle.std.proofs.Common.{◌≡◌, [], set, ◌<◌, ◌+◌, ◌&&◌, None, Some, sym, subst, get_or, length, nat_eq, cond, arith}
 use Rattle.std.specs.Option.{option_or}
 use Rattle.std.proofs.lemmas.List.{length-map, length-set}
-use Rattle.calc_refresh.specs.Lists.{lists_of}
-use Rattle.session_report.specs.Places.{HasPlaceOfEach, kept_first, place_in, query_in}
+use Rattle.calc_refresh.specs.{lists_of}
+use Rattle.session_report.specs.{HasPlaceOfEach, kept_first, place_in, query_in}
 use Rattle.session_report.proofs.Keeping.{kept_some, lists_kept}
 use Rattle.session_report.proofs.Tables.{HasShape_set}
 use Rattle.session_report.proofs.places.keep.Goals as goal

@@ -1,10 +1,10 @@
 use Rattle.std.proofs.Common.{ℕ, ◌+◌, List, get_or, string_bytes}
 use Rattle.std.proofs.lemmas.List.{get_or_default}
 use Rattle.trend_num.specs.declared.query.TagQuery.TheVariants.{At}
-use Rattle.value_rows.specs.declared.asked.Query.{Query}
+use Rattle.value_rows.specs.{Query}
 use Rattle.value_rows.specs.declared.asked.Query.TheVariants.{Tag}
-use Rattle.trend_report.specs.Lines.{reply_text}
-use Rattle.session_report.specs.Report.{reply_to}
+use Rattle.trend_report.specs.{reply_text}
+use Rattle.session_report.specs.{reply_to}
 use Rattle.session_report.proofs.Placed.{text_more}
 use Rattle.session_report.proofs.replies.put_reader.Goals as goal
 

@@ -1,5 +1,5 @@
 use Rattle.std.proofs.Common.{◌≡◌, ◌++◌, take, string_bytes}
-use Rattle.session_report.specs.Report.{replies_to}
+use Rattle.session_report.specs.{replies_to}
 use Rattle.session_report.proofs.replies.put_reader.Given as goal
 
 abbrev pub invariant-loop-place : goal.invariant-loop-place

@@ -2,14 +2,12 @@ use Rattle.std.proofs.Common.{◌≡◌, ◌<◌, ◌∙◌, [], List, Vec, None
 use Rattle.std.specs.declared.alloc.Global.{Global}
 use Rattle.std.specs.List.{slice_get}
 use Rattle.std.proofs.lemmas.List.{get_or_default, length-map}
-use Rattle.value_rows.specs.declared.asked.Query.{Query}
-use Rattle.calc_refresh.specs.Lists.{lists_of}
-use Rattle.session_report.specs.Places.{answer_place_of}
-use Rattle.session_report.specs.Report.{replies_to}
+use Rattle.value_rows.specs.{Query}
+use Rattle.calc_refresh.specs.{lists_of}
+use Rattle.session_report.specs.{answer_place_of, replies_to, IsHeldFor, held_lists}
 use Rattle.session_report.proofs.Keeping.{as_many_found, found_at, list_at}
 use Rattle.session_report.proofs.Placed.{text_more}
 use Rattle.session_report.proofs.Snapped.{as_many_held, held_for}
-use Rattle.session_report.specs.Places.{IsHeldFor, held_lists}
 use Rattle.session_report.proofs.replies.put_replies.Goals as goal
 
 pub put_reader-requires-clause-as_many : goal.put_reader-requires-clause-as_many

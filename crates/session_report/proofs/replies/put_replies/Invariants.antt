@@ -1,6 +1,6 @@
 use Rattle.std.proofs.Common.{◌≡◌, ◌++◌, take, string_bytes}
-use Rattle.calc_refresh.specs.Lists.{lists_of}
-use Rattle.session_report.specs.Report.{reply_lines}
+use Rattle.calc_refresh.specs.{lists_of}
+use Rattle.session_report.specs.{reply_lines}
 use Rattle.session_report.proofs.replies.put_replies.Given as goal
 
 abbrev pub invariant-loop-reader : goal.invariant-loop-reader

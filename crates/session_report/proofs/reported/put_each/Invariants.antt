@@ -1,5 +1,5 @@
 use Rattle.std.proofs.Common.{◌≡◌, ◌++◌, take, string_bytes}
-use Rattle.session_report.specs.Report.{lines_of_each}
+use Rattle.session_report.specs.{lines_of_each}
 use Rattle.session_report.proofs.reported.put_each.Given as goal
 
 abbrev pub invariant-loop-place : goal.invariant-loop-place

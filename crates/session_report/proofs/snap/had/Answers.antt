@@ -1,6 +1,6 @@
 use Rattle.std.proofs.Common.{◌-◌, ◌<◌, ◌∙◌, sym, refl, arith, get_or, length, pos}
 use Rattle.std.proofs.lemmas.List.{get_or_default}
-use Rattle.trend_num.specs.declared.point.Point.{Point}
+use Rattle.trend_num.specs.{Point}
 use Rattle.session_report.proofs.Had.{had_after, had_past}
 use Rattle.session_report.proofs.snap.had.Goals as goal
 

@@ -2,12 +2,10 @@ use Rattle.std.proofs.Common.{◌≡◌, ℕ, false, ◌∙◌, ◌++◌, ◌∷
 use Rattle.std.specs.declared.alloc.Global.{Global}
 use Rattle.std.proofs.lemmas.Grind.{common_steps}
 use Rattle.std.proofs.lemmas.List.{get_or_default, map_push}
-use Rattle.trend_num.specs.declared.point.Point.{Point}
-use Rattle.tag_cell.specs.declared.history.TagHistory.{TagHistory}
-use Rattle.calc_refresh.specs.Lists.{lists_of}
-use Rattle.session_report.specs.Places.{is_snapped}
-use Rattle.session_report.specs.Report.{placed_answers}
-use Rattle.session_report.specs.Snaps.{held_points}
+use Rattle.trend_num.specs.{Point}
+use Rattle.tag_cell.specs.{TagHistory}
+use Rattle.calc_refresh.specs.{lists_of}
+use Rattle.session_report.specs.{is_snapped, placed_answers, held_points}
 use Rattle.session_report.proofs.Placed.{placed_more}
 use Rattle.session_report.proofs.snap.held_lists.Goals as goal
 

@@ -1,6 +1,6 @@
 use Rattle.std.proofs.Common.{◌≡◌, take}
-use Rattle.calc_refresh.specs.Lists.{lists_of}
-use Rattle.session_report.specs.Places.{held_lists}
+use Rattle.calc_refresh.specs.{lists_of}
+use Rattle.session_report.specs.{held_lists}
 use Rattle.session_report.proofs.snap.held_lists.Given as goal
 
 abbrev pub invariant-loop-place : goal.invariant-loop-place

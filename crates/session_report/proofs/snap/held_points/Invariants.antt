@@ -1,5 +1,5 @@
 use Rattle.std.proofs.Common.{◌≡◌, take}
-use Rattle.session_report.specs.Snaps.{held_points}
+use Rattle.session_report.specs.{held_points}
 use Rattle.session_report.proofs.snap.held_points.Given as goal
 
 abbrev pub invariant-loop-entry : goal.invariant-loop-entry

@@ -1,6 +1,6 @@
 use Rattle.std.proofs.Common.{subst}
 use Rattle.std.specs.List.{list_any}
-use Rattle.session_report.specs.Places.{AreMarked, is_snap}
+use Rattle.session_report.specs.{AreMarked, is_snap}
 use Rattle.session_report.proofs.Marks.{none_marked, reader_marked}
 use Rattle.session_report.proofs.snap.mark_all.Goals as goal
 

@@ -1,6 +1,6 @@
 use Rattle.std.proofs.Common.{take}
-use Rattle.calc_refresh.specs.Lists.{lists_of}
-use Rattle.session_report.specs.Places.{AreMarked, is_snapped}
+use Rattle.calc_refresh.specs.{lists_of}
+use Rattle.session_report.specs.{AreMarked, is_snapped}
 use Rattle.session_report.proofs.snap.mark_all.Given as goal
 
 abbrev pub invariant-loop-queries : goal.invariant-loop-queries

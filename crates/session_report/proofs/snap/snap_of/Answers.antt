@@ -1,10 +1,9 @@
 use Rattle.std.proofs.Common.{◌≡◌, ◌<◌, ◌∙◌, [], length, None, Some, ap, sym, arith}
 use Rattle.std.specs.Option.{option_map_or}
 use Rattle.std.proofs.lemmas.Option.{slice_get-get_or, slice_get_past}
-use Rattle.trend_num.specs.declared.archive.Snap.{Snap}
-use Rattle.tag_cell.specs.declared.history.TagHistory.{TagHistory}
-use Rattle.session_report.specs.Report.{tag_tape}
-use Rattle.session_report.specs.Snaps.{checked, held_points}
+use Rattle.trend_num.specs.{Snap}
+use Rattle.tag_cell.specs.{TagHistory}
+use Rattle.session_report.specs.{tag_tape, checked, held_points}
 use Rattle.session_report.proofs.Keeping.{list_at}
 use Rattle.session_report.proofs.snap.snap_of.Goals as goal
 

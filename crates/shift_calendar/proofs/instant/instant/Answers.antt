@@ -1,7 +1,7 @@
 use Rattle.std.proofs.Common.{◌≡◌, ◌≤◌, true, false, ap, sym, subst, arith, FitsSigned, w32, to_z-of_z}
 use Rattle.jiff.specs.Words.{plain_zone, picked_instant}
-use Rattle.trend_num.specs.Ranges.{last_time}
-use Rattle.shift_calendar.specs.Instants.{IsInstant, IsLocalTime}
+use Rattle.trend_num.specs.{last_time}
+use Rattle.shift_calendar.specs.{IsInstant, IsLocalTime}
 use Rattle.shift_calendar.proofs.Moments.{moment_at, moment_in_range, told, cast_fits}
 use Rattle.shift_calendar.proofs.instant.instant.Goals as goal
 use lib.IntN.{nat_abs}

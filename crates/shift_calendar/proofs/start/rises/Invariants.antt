@@ -1,5 +1,5 @@
 use Rattle.std.proofs.Common.{◌≡◌, map, drop}
-use Rattle.shift_calendar.specs.Calendars.{rises_from}
+use Rattle.shift_calendar.specs.{rises_from}
 use Rattle.shift_calendar.proofs.start.rises.Given as goal
 
 abbrev pub invariant-loop-start : goal.invariant-loop-start

@@ -1,6 +1,6 @@
 use Rattle.std.proofs.Common.{◌≡◌, [], map, drop, vec_len}
 use Rattle.toml.specs.View.{items_view}
-use Rattle.shift_calendar.specs.Calendars.{starts_after}
+use Rattle.shift_calendar.specs.{starts_after}
 use Rattle.shift_calendar.proofs.start.times_of.Given as goal
 
 abbrev pub invariant-loop-item : goal.invariant-loop-item

@@ -1,5 +1,5 @@
 use Rattle.std.proofs.Common.{◌<◌, ◌≤◌, ◌+◌, length, slice_index, subst, arith, FitsSigned, w32, to_z-of_z}
-use Rattle.shift_calendar.specs.Instants.{IsInstant}
+use Rattle.shift_calendar.specs.{IsInstant}
 use Rattle.shift_calendar.proofs.DayNumbers.{day_after}
 use Rattle.shift_calendar.proofs.Lists.{end_inside, end_outside}
 use Rattle.shift_calendar.proofs.window.end_instant.Goals as goal

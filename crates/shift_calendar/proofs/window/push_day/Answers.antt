@@ -1,7 +1,7 @@
 use Rattle.std.proofs.Common.{◌≡◌, ◌∙◌, ◌++◌, ◌∷◌, ◌+◌, [], map, length, All, ap, sym, subst, arith, append_assoc, FitsSigned, w32, to_z, of_z, to_z-of_z}
 use Rattle.std.proofs.lemmas.Grind.{common_steps}
 use Rattle.std.proofs.lemmas.List.Elements.{All-push}
-use Rattle.shift_calendar.specs.Windows.{shift_at, below, AreWindows, IsWindowTimed}
+use Rattle.shift_calendar.specs.{shift_at, below, AreWindows, IsWindowTimed}
 use Rattle.shift_calendar.proofs.Lists.{AreWindows-push, shifts-more}
 use Rattle.shift_calendar.proofs.window.push_day.Goals as goal
 

@@ -1,5 +1,5 @@
 use Rattle.std.proofs.Common.{List, ◌++◌, map, All}
-use Rattle.shift_calendar.specs.Windows.{Shift, shift_at, below, AreWindows, IsWindowTimed}
+use Rattle.shift_calendar.specs.{Shift, shift_at, below, AreWindows, IsWindowTimed}
 use Rattle.shift_calendar.proofs.window.push_day.Given as goal
 
 abbrev pub invariant-loop-place : goal.invariant-loop-place

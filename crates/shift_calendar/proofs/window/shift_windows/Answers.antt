@@ -1,5 +1,5 @@
 use Rattle.std.proofs.Common.{◌<◌, ◌++◌, sym, subst, arith, FitsSigned, w32, to_z, of_z}
-use Rattle.shift_calendar.specs.Windows.{shifts_of, shifts_over, AreWindows}
+use Rattle.shift_calendar.specs.{shifts_of, shifts_over, AreWindows}
 use Rattle.shift_calendar.proofs.DayNumbers.{days_after}
 use Rattle.shift_calendar.proofs.Lists.{shifts_over-more}
 use Rattle.shift_calendar.proofs.window.shift_windows.Goals as goal

@@ -1,5 +1,5 @@
 use Rattle.std.proofs.Common.{All}
-use Rattle.shift_calendar.specs.Windows.{shifts_over, AreWindows, IsWindowTimed}
+use Rattle.shift_calendar.specs.{shifts_over, AreWindows, IsWindowTimed}
 use Rattle.shift_calendar.proofs.window.shift_windows.Given as goal
 
 abbrev pub invariant-loop-k : goal.invariant-loop-k

@@ -1,6 +1,5 @@
 use Rattle.std.proofs.Common.{slice_index, refl, subst, FitsSigned, w32, to_z-of_z}
-use Rattle.shift_calendar.specs.Instants.{IsInstant}
-use Rattle.shift_calendar.specs.Windows.{shift_at}
+use Rattle.shift_calendar.specs.{IsInstant, shift_at}
 use Rattle.shift_calendar.proofs.window.window_of.Goals as goal
 
 pub returns-clause-window : goal.returns-clause-window

@@ -1,6 +1,6 @@
 use Rattle.std.proofs.Common.{◌≡◌, ◌∙◌, ◌++◌, [], ◌∷◌, ◌+◌, ℕ, List, sym, ap, length, arith, length-append}
 use Rattle.atomic_table.specs.Seated.{TableId}
-use Rattle.snapshot_table.specs.Boards.{Posting, new_posters, new_poster}
+use Rattle.snapshot_table.specs.{Posting, new_posters, new_poster}
 use Rattle.snapshot_table.proofs.Places.{new_posters-push}
 use Rattle.snapshot_table.proofs.board.tags_of.Goals as goal
 

@@ -1,5 +1,5 @@
 use Rattle.std.proofs.Common.{◌≡◌, length}
-use Rattle.snapshot_table.specs.Boards.{new_posters}
+use Rattle.snapshot_table.specs.{new_posters}
 use Rattle.snapshot_table.proofs.board.tags_of.Given as goal
 
 abbrev pub invariant-loop-tag : goal.invariant-loop-tag

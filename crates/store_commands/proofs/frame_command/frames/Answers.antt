@@ -2,13 +2,12 @@ use Rattle.std.proofs.Common.{◌<◌, ◌^◌, ◌∙◌, List, ap, arith, inl,
 use Rattle.std.proofs.lemmas.List.{length-map}
 use Rattle.std.proofs.lemmas.Option.{slice_get_within}
 use Rattle.std.proofs.lemmas.Result.{err_from_is_err_and}
-use Rattle.trend_num.specs.declared.value.CalcValue.{CalcValue}
-use Rattle.disk_model.specs.Calls.{Rose}
+use Rattle.trend_num.specs.{CalcValue}
+use Rattle.disk_model.specs.{Rose}
 use Rattle.calc_check.specs.Group.{Calculation, names_of}
-use Rattle.group_layout.specs.Readings.{GainsGroupSync}
+use Rattle.group_layout.specs.{GainsGroupSync}
 use Rattle.tag_core.specs.Core.{Core}
-use Rattle.tag_base.specs.Groups.{IsSoundGroup}
-use Rattle.tag_base.specs.declared.definition.GroupDef.{GroupDef}
+use Rattle.tag_base.specs.{IsSoundGroup, GroupDef}
 use Rattle.plant_status.specs.declared.unit.Unit.TheVariants.{Group, Tag}
 use Rattle.plant_store.specs.Groups.{AreNamesOf, device_name, group_definition_text, input_records_of, group_trace_at}
 use Rattle.plant_store.proofs.BookNames.{as_many, named_at}
@@ -18,7 +17,7 @@ use Rattle.plant_store.proofs.MappedErrors.{new_error, still_ok}
 use Rattle.plant_store.proofs.OpenedBases.{tag_is_no_fault}
 use Rattle.store_commands.proofs.Stores.{groups_same, left_after}
 use Rattle.store_commands.specs.FrameCommands.{OfGroup, OfMemory, OfName, OfTag}
-use Rattle.store_commands.specs.FrameLines.{TellsFrames}
+use Rattle.store_commands.specs.{TellsFrames}
 use Rattle.store_commands.specs.FrameRows.{AreFrameRows, IsFrameRowsRefusal}
 use Rattle.store_commands.proofs.FrameEnds.{have_stayed, refusal_before, rows_before, rows_no_read, stayed_at, tags_same}
 use Rattle.store_commands.proofs.FramePlaces.{named_group}

@@ -1,5 +1,5 @@
 use Rattle.std.proofs.Common.{◌≡◌, ◌++◌, flat_map, string_bytes, take}
-use Rattle.store_commands.specs.FrameLines.{edit_text}
+use Rattle.store_commands.specs.{edit_text}
 use Rattle.store_commands.proofs.frame_lines.put_edits.Given as goal
 
 abbrev pub invariant-loop-edit : goal.invariant-loop-edit

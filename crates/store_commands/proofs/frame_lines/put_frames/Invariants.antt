@@ -1,5 +1,5 @@
 use Rattle.std.proofs.Common.{◌≡◌, ◌++◌, codes, flat_map, string_bytes, take}
-use Rattle.store_commands.specs.FrameLines.{frame_text}
+use Rattle.store_commands.specs.{frame_text}
 use Rattle.store_commands.proofs.frame_lines.put_frames.Given as goal
 
 abbrev pub invariant-loop-frame : goal.invariant-loop-frame

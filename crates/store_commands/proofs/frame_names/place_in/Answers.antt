@@ -2,7 +2,7 @@ use Rattle.std.proofs.Common.{◌≡◌, ◌≢◌, ◌∙◌, All, Some, ap, le
 use Rattle.std.specs.Prelude.{slice_get}
 use Rattle.std.proofs.lemmas.Option.{slice_get_read}
 use Rattle.calc_check.specs.Group.{Calculation, names_of}
-use Rattle.store_commands.specs.FrameNames.{NoCalculation}
+use Rattle.store_commands.specs.{NoCalculation}
 use Rattle.store_commands.proofs.FramePlaces.{calc_named, no_calc}
 use Rattle.store_commands.proofs.frame_names.place_in.Goals as goal
 

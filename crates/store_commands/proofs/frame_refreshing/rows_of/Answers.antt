@@ -1,25 +1,21 @@
 use Rattle.std.proofs.Common.{◌≡◌, ◌≢◌, ◌∙◌, [], All, List, ap, arith, get_or, IfSome, length, map, subst, sym}
 use Rattle.std.proofs.lemmas.List.{length-map}
 use Rattle.std.proofs.lemmas.List.Elements.{All-map}
-use Rattle.trend_num.specs.declared.archive.Rec.{Rec}
-use Rattle.calc_refresh.specs.Sheet.{IsCopy}
-use Rattle.group_layout.specs.Readings.{GainsGroupSync}
+use Rattle.trend_num.specs.{Rec}
+use Rattle.calc_refresh.specs.{IsCopy}
+use Rattle.group_layout.specs.{GainsGroupSync}
 use Rattle.group_book.specs.declared.refusal.LoadNo.TheVariants.{DeviceFault, WantOfMemory}
-use Rattle.group_book.specs.InputLists.{lists_at}
-use Rattle.group_book.specs.Openings.{IsBookCause}
-use Rattle.disk_model.specs.Moments.{During}
-use Rattle.disk_model.specs.Traces.{Trace}
-use Rattle.group_book.specs.Openings.{BookStaysSame}
-use Rattle.branded_disk.specs.Pasts.{branded, untold}
+use Rattle.group_book.specs.{lists_at, IsBookCause, BookStaysSame, device_name_of}
+use Rattle.disk_model.specs.{During, Trace}
+use Rattle.branded_disk.specs.{branded, untold}
 use Rattle.plant_store.specs.BookEndings.{IsBackUnder, trace_after}
 use Rattle.plant_store.specs.Groups.{IsBookOpened, group_definition_text, group_parts_of, group_trace_at, input_records_of}
 use Rattle.plant_store.proofs.BookCauses.{fails}
 use Rattle.plant_store.proofs.BookTurns.{still}
 use Rattle.store_commands.specs.FrameRows.{AreFrameRows, IsFrameRowsRefusal}
 use Rattle.store_commands.specs.GroupRows.{tag_records}
-use Rattle.store_commands.specs.Refreshing.{IsOverIn, IsRefreshedOnce, book_cells}
+use Rattle.store_commands.specs.{IsOverIn, IsRefreshedOnce, book_cells}
 use Rattle.store_commands.proofs.FrameBooks.{all_times, given_back, inputs_copied, not_opened, over_book, refreshed_back, rows_of_book}
-use Rattle.group_book.specs.Told.{device_name_of}
 use Rattle.store_commands.proofs.frame_refreshing.rows_of.Goals as goal
 
 pub returns-in_default-clause-same : goal.returns-in_default-clause-same

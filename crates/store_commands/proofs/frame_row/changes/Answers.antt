@@ -1,6 +1,6 @@
 use Rattle.std.proofs.Common.{◌≡◌, pos, get_or, refl}
 use Rattle.std.proofs.lemmas.List.{get_or_default}
-use Rattle.trend_num.specs.declared.value.CalcValue.{CalcValue}
+use Rattle.trend_num.specs.{CalcValue}
 use Rattle.trend_num.specs.declared.value.CalcValue.TheVariants.{Num}
 use Rattle.store_commands.proofs.Changing.{changes_more, changes_same}
 use Rattle.store_commands.proofs.frame_row.changes.Goals.{then-not-is_at+in_ok-push, else-not-is_at}

@@ -1,7 +1,7 @@
 use Rattle.std.proofs.Common.{◌≡◌, ◌∙◌, All, Bool, ap, arith, length, subst, sym}
 use Rattle.std.proofs.lemmas.List.{length-map}
-use Rattle.event_frames.specs.Row.{is_true, row_with, truths_of}
-use Rattle.store_commands.specs.FrameLines.{IsFrameTimed, frame_of}
+use Rattle.event_frames.specs.{is_true, row_with, truths_of}
+use Rattle.store_commands.specs.{IsFrameTimed, frame_of}
 use Rattle.store_commands.proofs.FrameTiming.{timed_edits, timed_frames}
 use Rattle.store_commands.proofs.frame_telling.tell_frames.Goals as goal
 

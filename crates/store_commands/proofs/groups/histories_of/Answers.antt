@@ -2,16 +2,16 @@ use Rattle.std.proofs.Common.{◌<◌, ◌^◌, ◌∙◌, All, ap, arith, get_o
 use Rattle.std.specs.Prelude.{String}
 use Rattle.std.specs.declared.alloc.Global.{Global}
 use Rattle.std.proofs.lemmas.Result.{IfErr-weaker, err_from_is_err_and}
-use Rattle.calc_refresh.specs.Sheet.{IsCopy}
-use Rattle.branded_disk.specs.Pasts.{branded, untold}
+use Rattle.calc_refresh.specs.{IsCopy}
+use Rattle.branded_disk.specs.{branded, untold}
 use Rattle.plant_store.specs.BookEndings.{AreGivenBack}
 use Rattle.plant_store.specs.Groups.{AreBooksOpened, AreNamesOf}
 use Rattle.plant_store.specs.BookRefusals.{IsRefusal}
-use Rattle.plant_store.specs.BookSteps.{HavePlaces}
+use Rattle.plant_store.specs.{HavePlaces}
 use Rattle.plant_store.proofs.BookNames.{as_many, names_differ}
 use Rattle.plant_store.proofs.BookTurns.{others_same, still}
 use Rattle.store_commands.specs.GroupRows.{OfOpening, tag_records}
-use Rattle.store_commands.specs.Refreshing.{AreRefreshedOnce, IsOverSome}
+use Rattle.store_commands.specs.{AreRefreshedOnce, IsOverSome}
 use Rattle.store_commands.proofs.Books.{all_back, all_told, counts_same, cut_books, all_synced, err_and, none_counted, ok_always, ok_and, over_some}
 use Rattle.store_commands.proofs.Commands.{rows_no_fault}
 use Rattle.store_commands.proofs.groups.histories_of.Goals as goal

@@ -1,5 +1,5 @@
 use Rattle.std.proofs.Common.{◌≡◌, All, map, take}
-use Rattle.calc_refresh.specs.Sheet.{IsCopy}
+use Rattle.calc_refresh.specs.{IsCopy}
 use Rattle.store_commands.specs.GroupRows.{tag_records}
 use Rattle.store_commands.proofs.groups.records_of.Given as goal
 

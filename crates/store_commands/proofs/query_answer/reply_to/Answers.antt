@@ -1,6 +1,6 @@
 use Rattle.std.proofs.Common.{◌∙◌, ap, sym}
-use Rattle.trend_report.specs.Lines.{value_text}
-use Rattle.store_commands.specs.Replies.{rows_in}
+use Rattle.trend_report.specs.{value_text}
+use Rattle.store_commands.specs.{rows_in}
 use Rattle.store_commands.proofs.Answering.{row_told, snap_told, tag_told}
 use Rattle.store_commands.proofs.Listing.{content_there}
 use Rattle.store_commands.proofs.query_answer.reply_to.Goals as goal

@@ -9,7 +9,7 @@ use Rattle.plant_files.specs.Reading.{faults_after, faults_told}
 use Rattle.plant_files.proofs.Faults.{of_base, of_none, of_plan, of_reader}
 use Rattle.plant_store.specs.Groups as group
 use Rattle.plant_store.proofs.BookDevices.{same_untouched}
-use Rattle.store_commands.specs.Replies.{rows_in, trend_text}
+use Rattle.store_commands.specs.{rows_in, trend_text}
 use Rattle.store_commands.specs.Commands.{OfGroup, OfMemory, OfPlan, OfReader, OfTag}
 use Rattle.store_commands.specs.GroupRows.{AllGainSync, AreGroupsTold, IsGroupRowsRefusal, tag_records}
 use Rattle.store_commands.proofs.Commands.{as_many_lists}

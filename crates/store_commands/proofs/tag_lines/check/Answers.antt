@@ -1,6 +1,6 @@
 use Rattle.std.proofs.Common.{inl, inr, rules, ◌∙◌, ap}
 use Rattle.std.proofs.lemmas.Result.{err_from_is_err_and}
-use Rattle.trend_report.specs.CheckLines.{check_text}
+use Rattle.trend_report.specs.{check_text}
 use Rattle.plant_store.proofs.MappedErrors.{new_error, still_ok}
 use Rattle.plant_store.proofs.OpenedBases.{tag_is_no_fault}
 use Rattle.store_commands.proofs.tag_lines.check.Goals as goal

@@ -1,7 +1,7 @@
 use Rattle.std.proofs.Common.{◌+◌, ◌++◌, ◌∙◌, ap, ap₂, get_or, sym, append_assoc, string_bytes, take}
 use Rattle.trend_num.specs.declared.query.TagQuery.TheVariants.{At}
 use Rattle.value_rows.specs.declared.asked.Query.TheVariants.{Tag}
-use Rattle.store_commands.specs.Replies.{replies_from, reply_line, rows_in}
+use Rattle.store_commands.specs.{replies_from, reply_line, rows_in}
 use Rattle.store_commands.proofs.ReplyNumbers.{line_told, replies_more}
 use Rattle.store_commands.proofs.trend_lines.put_replies.Goals as goal
 

@@ -1,5 +1,5 @@
 use Rattle.std.proofs.Common.{◌≡◌, ◌++◌, take, string_bytes}
-use Rattle.store_commands.specs.Replies.{replies_from, rows_in}
+use Rattle.store_commands.specs.{replies_from, rows_in}
 use Rattle.store_commands.proofs.trend_lines.put_replies.Given as goal
 
 abbrev pub invariant-loop-place : goal.invariant-loop-place

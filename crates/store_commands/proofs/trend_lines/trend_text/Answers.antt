@@ -1,5 +1,5 @@
 use Rattle.std.proofs.Common.{◌+◌, ◌++◌, ◌∙◌, ap, ap₂, sym}
-use Rattle.store_commands.specs.Replies.{replies_from, rows_in}
+use Rattle.store_commands.specs.{replies_from, rows_in}
 use Rattle.store_commands.proofs.ReplyNumbers.{told_more}
 use Rattle.store_commands.proofs.trend_lines.trend_text.Goals as goal
 

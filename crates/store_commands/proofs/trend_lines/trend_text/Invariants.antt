@@ -1,5 +1,5 @@
 use Rattle.std.proofs.Common.{◌≡◌, map, take, string_bytes}
-use Rattle.store_commands.specs.Replies.{rows_in, told_from}
+use Rattle.store_commands.specs.{rows_in, told_from}
 use Rattle.store_commands.proofs.trend_lines.trend_text.Given as goal
 
 abbrev pub invariant-loop-place : goal.invariant-loop-place

@@ -1,6 +1,6 @@
 use Rattle.std.proofs.Common.{◌≡◌, [], map, drop}
 use Rattle.toml.specs.View.{table_view, items_view}
-use Rattle.tag_base.specs.Tables.{tables_after}
+use Rattle.tag_base.specs.{tables_after}
 use Rattle.tag_base.proofs.access.tables_of.Given as goal
 
 abbrev pub invariant-loop-item : goal.invariant-loop-item

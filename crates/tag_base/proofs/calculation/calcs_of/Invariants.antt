@@ -1,6 +1,6 @@
 use Rattle.std.proofs.Common.{◌≡◌, [], map, drop, vec_len}
 use Rattle.toml.specs.View.{table_view}
-use Rattle.tag_base.specs.Groups.{formula_text_of, calcs_after}
+use Rattle.tag_base.specs.{formula_text_of, calcs_after}
 use Rattle.tag_base.proofs.calculation.calcs_of.Given as goal
 
 abbrev pub invariant-loop-table : goal.invariant-loop-table

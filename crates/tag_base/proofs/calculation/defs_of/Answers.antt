@@ -1,11 +1,11 @@
 use Rattle.std.proofs.Common.{◌≡◌, ◌++◌, ◌∷◌, [], ◌∙◌, map, take, ap, sym, refl, subst, arith, ◌+◌}
 use Rattle.std.proofs.lemmas.Grind.{common_steps}
 use Rattle.std.proofs.lemmas.List.{map_push}
-use Rattle.calc_parser.specs.Formulas.{IsFormula, HasFormulaCause}
+use Rattle.calc_parser.specs.{IsFormula, HasFormulaCause}
 use Rattle.calc_parser.specs.Tree.{tree_of}
 use Rattle.calc_check.specs.Group.{calculation}
-use Rattle.calc_check.specs.declared.definition.CalcDef.{CalcDef}
-use Rattle.tag_base.specs.Groups.{formula_text_of, Define}
+use Rattle.calc_check.specs.{CalcDef}
+use Rattle.tag_base.specs.{formula_text_of, Define}
 use Rattle.tag_base.proofs.Calcs.{Define-more, first_refused}
 use Rattle.tag_base.proofs.calculation.defs_of.Goals as goal
 

@@ -1,6 +1,6 @@
 use Rattle.std.proofs.Common.{◌≡◌, map, take, vec_len}
 use Rattle.calc_check.specs.Group.{calculation}
-use Rattle.tag_base.specs.Groups.{formula_text_of, Define}
+use Rattle.tag_base.specs.{formula_text_of, Define}
 use Rattle.tag_base.proofs.calculation.defs_of.Given as goal
 
 abbrev pub invariant-loop-text : goal.invariant-loop-text

@@ -1,7 +1,7 @@
 use Rattle.std.proofs.Common.{◌≡◌, map, drop}
 use Rattle.std.specs.Prelude.{bytes_eq}
 use Rattle.std.specs.List.{list_any}
-use Rattle.tag_base.specs.Groups.{formula_text_of}
+use Rattle.tag_base.specs.{formula_text_of}
 use Rattle.tag_base.proofs.calculation.is_taken.Given as goal
 
 abbrev pub invariant-loop-calc : goal.invariant-loop-calc

@@ -3,7 +3,7 @@ use Rattle.std.proofs.lemmas.List.{drop_more}
 use Rattle.std.proofs.lemmas.List.Elements.{All-push}
 use Rattle.std.proofs.lemmas.Result.{err_from_is_err_and}
 use Rattle.toml.specs.View.{table_view}
-use Rattle.tag_base.specs.Groups.{GroupRead, GroupsRead, IsSoundGroup}
+use Rattle.tag_base.specs.{GroupRead, GroupsRead, IsSoundGroup}
 use Rattle.tag_base.proofs.group.groups_of.Goals as goal
 use Rattle.tag_base.proofs.group.groups_of.Goals.{After-group_of}
 

@@ -1,8 +1,6 @@
 use Rattle.std.proofs.Common.{◌≡◌, List, [], map, drop, length, vec_len, All, Result}
 use Rattle.toml.specs.View.{table_view}
-use Rattle.tag_base.specs.declared.definition.GroupDef.{GroupDef}
-use Rattle.tag_base.specs.declared.refusal.TextNo.{TextNo}
-use Rattle.tag_base.specs.Groups.{GroupsRead, IsSoundGroup}
+use Rattle.tag_base.specs.{GroupDef, TextNo, GroupsRead, IsSoundGroup}
 use Rattle.tag_base.proofs.group.groups_of.Given as goal
 
 abbrev pub invariant-loop-table : goal.invariant-loop-table

@@ -1,7 +1,7 @@
 use Rattle.std.proofs.Common.{◌≡◌, All, [], map, drop, vec_len}
 use Rattle.toml.specs.View.{table_view}
-use Rattle.trend_num.specs.Ranges.{TuningInRange}
-use Rattle.tag_base.specs.Tags.{tags_after}
+use Rattle.trend_num.specs.{TuningInRange}
+use Rattle.tag_base.specs.{tags_after}
 use Rattle.tag_base.proofs.tag.tags_of.Given as goal
 
 abbrev pub invariant-loop-table : goal.invariant-loop-table

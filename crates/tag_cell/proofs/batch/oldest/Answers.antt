@@ -1,8 +1,7 @@
 use Rattle.std.proofs.Common.{◌≡◌, ◌∙◌, ℕ, List, ◌++◌, ◌≤◌, [], ◌∷◌, ap, sym, length, take, drop, arith, length-append}
 use Rattle.std.proofs.lemmas.List.{take-append-drop}
-use Rattle.trend_num.specs.declared.point.Point.{Point}
-use Rattle.tag_cell.specs.declared.entry.Entry.{Entry}
-use Rattle.tag_cell.specs.Tapes.{taken}
+use Rattle.trend_num.specs.{Point}
+use Rattle.tag_cell.specs.{Entry, taken}
 use Rattle.tag_cell.proofs.Tapes.{taken-more, taken-append}
 use Rattle.tag_cell.proofs.batch.oldest.Goals as goal
 

@@ -1,5 +1,5 @@
 use Rattle.std.proofs.Common.{◌≡◌, ◌-◌, ◌≤◌, length, take}
-use Rattle.tag_cell.specs.Tapes.{taken}
+use Rattle.tag_cell.specs.{taken}
 use Rattle.tag_cell.proofs.batch.oldest.Given as goal
 
 abbrev pub invariant-loop-batch : goal.invariant-loop-batch

@@ -1,7 +1,6 @@
 use Rattle.std.proofs.Common.{◌≡◌, ◌∙◌, ℕ, ◌+◌, [], ◌∷◌, ap, sym, refl, take}
-use Rattle.trend_num.specs.declared.point.Point.{Point}
-use Rattle.tag_cell.specs.Tapes.{last_records}
-use Rattle.tag_cell.specs.declared.entry.Entry.{Entry}
+use Rattle.trend_num.specs.{Point}
+use Rattle.tag_cell.specs.{last_records, Entry}
 use Rattle.tag_cell.specs.declared.entry.Entry.TheVariants.{Take, Ask, Pull, Commit}
 use Rattle.tag_cell.proofs.Tapes.{last_records-more}
 use Rattle.tag_cell.proofs.batch.records_after.Goals.{in-Take, in_default}

@@ -1,12 +1,11 @@
 use Rattle.std.proofs.Common.{◌∙◌, sym, subst, map, take, length, List}
 use Rattle.std.proofs.lemmas.List.Elements.{All-take}
 use Rattle.std.specs.List.{All}
-use Rattle.trend_num.specs.declared.point.Point.{Point}
-use Rattle.trend_num.specs.Ranges.{InRange}
-use Rattle.trend_model.specs.History.{Raw}
+use Rattle.trend_num.specs.{Point, InRange}
+use Rattle.trend_model.specs.{Raw}
 use Rattle.trend_model.specs.State.{replay}
-use Rattle.crash_recovery.specs.Journals.{AllRecover}
-use Rattle.tag_cell.specs.Tapes.{taken}
+use Rattle.crash_recovery.specs.{AllRecover}
+use Rattle.tag_cell.specs.{taken}
 use Rattle.tag_cell.proofs.Crashes.{batch_fits, during_all, during_batch, goes_from, taken-take}
 use Rattle.tag_cell.proofs.batch.write_waiting.Goals as goal
 

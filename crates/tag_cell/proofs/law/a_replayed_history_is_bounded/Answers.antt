@@ -1,8 +1,8 @@
 use Rattle.std.proofs.Common.{map}
-use Rattle.trend_model.specs.History.{Raw}
+use Rattle.trend_model.specs.{Raw}
 use Rattle.trend_model.specs.State.{followed}
 use Rattle.trend_model.proofs.BoundLaw.{bounded}
-use Rattle.tag_cell.specs.Tapes.{taken}
+use Rattle.tag_cell.specs.{taken}
 use Rattle.tag_cell.proofs.Laws.{legal}
 use Rattle.tag_cell.proofs.law.a_replayed_history_is_bounded.Goals as goal
 

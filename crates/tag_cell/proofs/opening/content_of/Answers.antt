@@ -1,7 +1,6 @@
 use Rattle.std.proofs.Common.{◌≡◌, ℕ, ◌+◌, ◌≤◌, List, Result, Ok, Err, IfOk, length, arith, ap}
-use Rattle.trend_num.specs.declared.archive.Rec.{Rec}
-use Rattle.trend_num.specs.declared.refusal.WantOfMemory.{WantOfMemory}
-use Rattle.trend_model.specs.Contents.{ContentState, listed}
+use Rattle.trend_num.specs.{Rec, WantOfMemory}
+use Rattle.trend_model.specs.{ContentState, listed}
 use Rattle.tag_cell.proofs.Takes.{length-listed}
 use Rattle.tag_cell.proofs.opening.content_of.Goals as goal
 

@@ -1,16 +1,12 @@
 use Rattle.std.proofs.Common.{◌≡◌, ◌∙◌, ◌<◌, ◌^◌, [], ap, sym, subst, arith}
 use Rattle.std.specs.Prelude.{vec_capacity}
 use Rattle.std.specs.Arc.{arc_value}
-use Rattle.trend_num.specs.declared.archive.Summary.{Summary}
+use Rattle.trend_num.specs.{Summary}
 use Rattle.trend_model.specs.State.{State}
-use Rattle.crash_recovery.specs.Journals.{AllRecover}
-use Rattle.device_layout.specs.Recovery.{Recovers}
-use Rattle.crash_recovery.specs.Opening.{IsOpenedAs, RecoversThen}
-use Rattle.disk_model.specs.Calls.{Shows}
-use Rattle.disk_model.specs.Traces.{FitsName}
-use Rattle.tag_cell.specs.Devices.{device_name}
-use Rattle.tag_cell.specs.declared.history.TagOpening.{TagOpening}
-use Rattle.tag_cell.specs.Tapes.{opened}
+use Rattle.crash_recovery.specs.{AllRecover, IsOpenedAs, RecoversThen}
+use Rattle.device_layout.specs.{Recovers}
+use Rattle.disk_model.specs.{Shows, FitsName}
+use Rattle.tag_cell.specs.{device_name, TagOpening, opened}
 use Rattle.tag_cell.proofs.Openings.{same_state, open_replayed, open_in_step, open_has_room, open_waits, open_kept, open_safe, open_posted}
 use Rattle.tag_cell.proofs.Begun.{began_well}
 use Rattle.tag_cell.proofs.opening.open_cell.Goals as goal

@@ -1,5 +1,5 @@
 use Rattle.std.proofs.Common.{◌≡◌, ◌+◌, ◌≤◌, fold, take}
-use Rattle.trend_model.specs.Contents.{placed}
+use Rattle.trend_model.specs.{placed}
 use Rattle.tag_cell.proofs.value.put_all.Given as goal
 
 abbrev pub invariant-loop-rec : goal.invariant-loop-rec

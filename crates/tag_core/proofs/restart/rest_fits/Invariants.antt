@@ -1,8 +1,6 @@
 use Rattle.std.proofs.Common.{◌≡◌, ◌↔◌, ◌∷◌, drop}
-use Rattle.trend_num.specs.declared.archive.Rec.{Rec}
-use Rattle.trend_num.specs.Ranges.{InRange}
-use Rattle.trend_model.specs.Lists.{Each}
-use Rattle.trend_model.specs.Parts.{IsLateBefore, PointsRise, kept_points, last_point}
+use Rattle.trend_num.specs.{Rec, InRange}
+use Rattle.trend_model.specs.{Each, IsLateBefore, PointsRise, kept_points, last_point}
 use Rattle.tag_core.proofs.restart.rest_fits.Given as goal
 
 abbrev pub invariant-loop-rec : goal.invariant-loop-rec

@@ -1,6 +1,5 @@
 use Rattle.std.proofs.Common.{ℕ, ◌<◌, get_or}
-use Rattle.trend_num.specs.declared.archive.Rec.{Rec}
-use Rattle.trend_num.specs.Ranges.{InRange}
+use Rattle.trend_num.specs.{Rec, InRange}
 use Rattle.tag_tests.proofs.contents.all_in_range.Given as goal
 
 abbrev pub invariant-loop-i : goal.invariant-loop-i

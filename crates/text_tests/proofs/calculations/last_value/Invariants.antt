@@ -1,5 +1,5 @@
 use Rattle.std.proofs.Common.{◌≡◌, take}
-use Rattle.sheet_law.specs.Value.{points_in, values}
+use Rattle.sheet_law.specs.{points_in, values}
 use Rattle.text_tests.proofs.calculations.last_value.Given as goal
 
 abbrev pub invariant-loop-i : goal.invariant-loop-i

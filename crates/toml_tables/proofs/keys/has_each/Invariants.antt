@@ -1,7 +1,7 @@
 use Rattle.std.proofs.Common.{◌≡◌, map, drop}
 use Rattle.std.specs.List.{list_all}
 use Rattle.toml.specs.View.{table_view}
-use Rattle.toml_tables.specs.Tables.{has_key}
+use Rattle.toml_tables.specs.{has_key}
 use Rattle.toml_tables.proofs.keys.has_each.Given as goal
 
 abbrev pub invariant-loop-key : goal.invariant-loop-key

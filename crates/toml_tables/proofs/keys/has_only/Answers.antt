@@ -1,6 +1,6 @@
 use Rattle.std.proofs.Common.{◌∙◌, ◌||◌, ℕ, Bool, List, map, ap, string_bytes}
 use Rattle.std.specs.List.{list_all}
-use Rattle.toml_tables.specs.Tables.{is_key_among}
+use Rattle.toml_tables.specs.{is_key_among}
 use Rattle.toml_tables.proofs.Entries.{all_keys-view}
 use Rattle.toml_tables.proofs.keys.has_only.Goals as goal
 

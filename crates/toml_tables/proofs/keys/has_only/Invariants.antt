@@ -1,7 +1,7 @@
 use Rattle.std.proofs.Common.{◌≡◌, ◌||◌, map, string_bytes}
 use Rattle.std.specs.List.{list_all}
 use Rattle.toml.specs.View.{table_view}
-use Rattle.toml_tables.specs.Tables.{is_key_among, all_keys}
+use Rattle.toml_tables.specs.{is_key_among, all_keys}
 use Rattle.toml_tables.proofs.keys.has_only.Given as goal
 
 abbrev pub invariant-loop-key : goal.invariant-loop-key

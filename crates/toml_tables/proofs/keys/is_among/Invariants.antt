@@ -1,5 +1,5 @@
 use Rattle.std.proofs.Common.{◌≡◌, map, drop}
-use Rattle.toml_tables.specs.Tables.{is_key_among}
+use Rattle.toml_tables.specs.{is_key_among}
 use Rattle.toml_tables.proofs.keys.is_among.Given as goal
 
 abbrev pub invariant-loop-k : goal.invariant-loop-k

@@ -1,6 +1,6 @@
 use Rattle.std.proofs.Common.{◌≡◌, All, [], drop, vec_len}
 use Rattle.toml.specs.View.{items_view}
-use Rattle.toml_tables.specs.Tables.{places_after}
+use Rattle.toml_tables.specs.{places_after}
 use Rattle.toml_tables.proofs.places.places_of.Given as goal
 
 abbrev pub invariant-loop-item : goal.invariant-loop-item

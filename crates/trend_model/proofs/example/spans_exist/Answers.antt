@@ -1,5 +1,5 @@
 use Rattle.std.proofs.Common.{◌≤◌, pos, inl, refl, arith, lit<}
-use Rattle.trend_model.specs.Examples.{at}
+use Rattle.trend_model.specs.{at}
 use Rattle.trend_model.proofs.example.spans_exist.Goals as goal
 
 pub returns-clause-not_clean : goal.returns-clause-not_clean

@@ -1,6 +1,5 @@
 use Rattle.std.proofs.Common.{◌≡◌, ◌≤◌, pos, inl, inr, Some, [], refl, arith, lit<}
-use Rattle.trend_model.specs.Content.{IsCleanSpan}
-use Rattle.trend_model.specs.Examples.{at, untested}
+use Rattle.trend_model.specs.{IsCleanSpan, at, untested}
 use Rattle.trend_model.proofs.example.untested_value_is_refused.Goals as goal
 
 -- the span from (0,0) to (2,3) is clean

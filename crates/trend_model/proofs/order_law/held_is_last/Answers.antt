@@ -1,4 +1,4 @@
-use Rattle.trend_num.specs.Ranges.{InRange}
+use Rattle.trend_num.specs.{InRange}
 use Rattle.trend_model.proofs.Held.{held_last, history_held_last}
 use Rattle.trend_model.proofs.order_law.held_is_last.Goals as goal
 

@@ -1,9 +1,8 @@
-use Rattle.std.proofs.Common.{◌≡◌, [], ◌∷◌, ◌++◌, length, length-append, sym, ap}
-use Rattle.std.proofs.Common.{ap₂, ◌∙◌, ℕ, List}
+use Rattle.std.proofs.Common.{◌≡◌, [], ◌∷◌, ◌++◌, length, length-append, sym, ap, ap₂, ◌∙◌, ℕ, List}
 use Rattle.std.specs.Iterator.Adapters.{zip_first, zip_second}
 use Rattle.std.specs.Slice.Iter.{iter_rest}
 use Rattle.std.proofs.lemmas.Slice.Zip.{zip_turn, zip_end}
-use Rattle.trend_report.specs.Lines.{tag_line_of, tag_text}
+use Rattle.trend_report.specs.{tag_line_of, tag_text}
 use Rattle.trend_report.proofs.CheckLines.{lines_before, one_line, all_lines}
 use Rattle.trend_report.proofs.check_lines.check_text.Goals as goal
 

@@ -1,7 +1,7 @@
 use Rattle.std.proofs.Common.{◌≡◌, ◌∙◌, ap, arith}
 use Rattle.std.proofs.lemmas.List.Elements.{All-push, All-same}
-use Rattle.trend_num.specs.Ranges.{InRange}
-use Rattle.trend_report.specs.Drill.{drill_points}
+use Rattle.trend_num.specs.{InRange}
+use Rattle.trend_report.specs.{drill_points}
 use Rattle.trend_report.proofs.Drilling.{next_signal, one_event_more}
 use Rattle.trend_report.proofs.drill.drill_rows.Goals as goal
 

@@ -1,6 +1,6 @@
 use Rattle.std.proofs.Common.{◌≡◌, All}
-use Rattle.trend_num.specs.Ranges.{InRange}
-use Rattle.trend_report.specs.Drill.{drill_points, IsNear, signal_at}
+use Rattle.trend_num.specs.{InRange}
+use Rattle.trend_report.specs.{drill_points, IsNear, signal_at}
 use Rattle.trend_report.proofs.drill.drill_rows.Given as goal
 
 abbrev pub invariant-loop-place : goal.invariant-loop-place

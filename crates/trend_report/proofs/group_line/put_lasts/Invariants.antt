@@ -1,5 +1,5 @@
 use Rattle.std.proofs.Common.{◌≡◌, ◌++◌, flat_map, string_bytes, take}
-use Rattle.trend_report.specs.Lines.{last_text}
+use Rattle.trend_report.specs.{last_text}
 use Rattle.trend_report.proofs.group_line.put_lasts.Given as goal
 
 abbrev pub invariant-loop-last : goal.invariant-loop-last

@@ -1,6 +1,6 @@
 use Rattle.std.proofs.Common.{◌≡◌, ◌++◌, codes, take, string_bytes}
 use Rattle.std.specs.List.{flat_map}
-use Rattle.trend_report.specs.Lines.{point_text}
+use Rattle.trend_report.specs.{point_text}
 use Rattle.trend_report.proofs.reply_line.put_points.Given as goal
 
 abbrev pub invariant-loop-p : goal.invariant-loop-p

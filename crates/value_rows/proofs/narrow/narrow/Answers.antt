@@ -1,5 +1,5 @@
 use Rattle.std.proofs.Common.{◌≡◌, true, false, rules}
-use Rattle.value_rows.specs.RowReader.{has_mark}
+use Rattle.value_rows.specs.{has_mark}
 use Rattle.value_rows.proofs.Mark.{marked_part_records, marked_records, unmarked_part_records, unmarked_records}
 use Rattle.value_rows.proofs.narrow.narrow.Goals as goal
 

@@ -1,7 +1,6 @@
 use Rattle.std.proofs.Common.{All, ◌≡◌, ◌+◌, get_or, length, take, subst, rules, arith}
 use Rattle.csv.specs.declared.parser.State.TheVariants.{StartRecord}
-use Rattle.value_rows.specs.Narrow.{IsNarrow, ended_after, part_after}
-use Rattle.value_rows.specs.RowReader.{records_left}
+use Rattle.value_rows.specs.{IsNarrow, ended_after, part_after, records_left}
 use Rattle.value_rows.proofs.Scanned.{IsScanned, all_narrow, cut_there, ends_few, scan_begins, scans_on}
 use Rattle.value_rows.proofs.narrow.narrow_len.Goals as goal
 

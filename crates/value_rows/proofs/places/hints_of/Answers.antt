@@ -1,8 +1,7 @@
 use Rattle.std.proofs.Common.{All, ◌≡◌, replicate, Some, sym, ◌∙◌, subst, rules, arith}
 use Rattle.std.proofs.lemmas.List.{length-set}
 use Rattle.std.proofs.lemmas.List.Elements.{All-replicate, All-set}
-use Rattle.value_rows.specs.Raw.{first_place_of}
-use Rattle.value_rows.specs.RowReader.{IsHint}
+use Rattle.value_rows.specs.{first_place_of, IsHint}
 use Rattle.value_rows.proofs.NameMap.{no_hint, place_hint}
 use Rattle.value_rows.proofs.places.hints_of.Goals as goal
 use Rattle.value_rows.proofs.places.hints_of.Goals.{in-Some, in_default}

@@ -1,5 +1,5 @@
 use Rattle.std.proofs.Common.{All, ◌≡◌, length}
-use Rattle.value_rows.specs.RowReader.{IsHint}
+use Rattle.value_rows.specs.{IsHint}
 use Rattle.value_rows.proofs.places.hints_of.Given as goal
 
 abbrev pub invariant-loop-name : goal.invariant-loop-name

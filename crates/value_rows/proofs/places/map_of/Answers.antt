@@ -4,7 +4,7 @@ use Rattle.std.specs.BTreeMap.{get_by}
 use Rattle.std.specs.Cmp.Lexicographic.{slice_cmp}
 use Rattle.std.specs.Option.{is_some}
 use Rattle.std.specs.Ordering.{nat_cmp}
-use Rattle.trend_num.specs.Names.{IsName}
+use Rattle.trend_num.specs.{IsName}
 use Rattle.value_rows.proofs.NameMap.{there_already, put_next}
 use Rattle.value_rows.proofs.places.map_of.Goals as goal
 use Rattle.value_rows.proofs.places.map_of.Goals.{then-not-contains_key+in_ok-insert, else-not-contains_key}

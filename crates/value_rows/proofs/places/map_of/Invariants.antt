@@ -1,6 +1,6 @@
 use Rattle.std.proofs.Common.{All, take}
-use Rattle.trend_num.specs.Names.{IsName}
-use Rattle.value_rows.specs.RowReader.{ArePlaces}
+use Rattle.trend_num.specs.{IsName}
+use Rattle.value_rows.specs.{ArePlaces}
 use Rattle.value_rows.proofs.places.map_of.Given as goal
 
 abbrev pub invariant-loop-i : goal.invariant-loop-i

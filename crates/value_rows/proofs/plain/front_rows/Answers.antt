@@ -1,6 +1,5 @@
 use Rattle.std.proofs.Common.{◌≡◌, false, rules}
-use Rattle.value_rows.specs.Raw.{raw_row}
-use Rattle.value_rows.specs.RowReader.{has_mark}
+use Rattle.value_rows.specs.{raw_row, has_mark}
 use Rattle.value_rows.proofs.Mark.{rows_unmarked}
 use Rattle.value_rows.proofs.plain.front_rows.Goals as goal
 

@@ -1,6 +1,5 @@
 use Rattle.std.proofs.Common.{All, ◌≤◌, length}
-use Rattle.value_rows.specs.Raw.{IsRawRow, raw_row}
-use Rattle.value_rows.specs.RowReader.{AreFirstRows}
+use Rattle.value_rows.specs.{IsRawRow, raw_row, AreFirstRows}
 use Rattle.value_rows.proofs.plain.plain_rows.Given as goal
 
 abbrev pub invariant-loop-front : goal.invariant-loop-front

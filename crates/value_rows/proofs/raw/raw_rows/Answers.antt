@@ -1,6 +1,5 @@
 use Rattle.std.proofs.Common.{ℕ, List, IfErr, subst}
-use Rattle.value_rows.specs.Raw.{raw_rows}
-use Rattle.value_rows.specs.Reading.{AreRefusedFor}
+use Rattle.value_rows.specs.{raw_rows, AreRefusedFor}
 use Rattle.value_rows.proofs.raw.raw_rows.Goals as goal
 
 pub returns-in-Ok-clause-refused : goal.returns-in-Ok-clause-refused

@@ -1,5 +1,5 @@
 use Rattle.std.proofs.Common.{◌≡◌, IfErr, IfOk, Ok}
-use Rattle.value_rows.specs.Reading.{AreRefusedFor}
+use Rattle.value_rows.specs.{AreRefusedFor}
 use Rattle.value_rows.proofs.Wide.{rows_of_cut}
 use Rattle.value_rows.proofs.reading.rows_behind.Goals as goal
 

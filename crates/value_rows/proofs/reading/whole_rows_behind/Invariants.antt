@@ -1,4 +1,4 @@
-use Rattle.value_rows.specs.RowReader.{reads_behind}
+use Rattle.value_rows.specs.{reads_behind}
 use Rattle.value_rows.proofs.SoFar.{AreSoFar}
 use Rattle.value_rows.proofs.reading.whole_rows_behind.Given as goal
 

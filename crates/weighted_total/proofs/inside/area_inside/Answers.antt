@@ -2,8 +2,7 @@ use Rattle.std.proofs.Common.{[], refl, rules}
 use Rattle.std.specs.Prelude.{FitsSigned, slice_range}
 use Rattle.std.specs.Int.{w128}
 use Rattle.std.proofs.lemmas.Int.{to_z-of_z}
-use Rattle.trend_model.specs.Contents.{points_of}
-use Rattle.trend_model.specs.Windows.{area}
+use Rattle.trend_model.specs.{points_of, area}
 use Rattle.weighted_total.proofs.Walking.{IsRunOf, IsStep, inner_range, taken_none, walk_step, walk_more, walk_all}
 use Rattle.weighted_total.proofs.inside.area_inside.Goals as goal
 use Rattle.weighted_total.proofs.inside.area_inside.Goals.{After-area}

@@ -1,7 +1,7 @@
 use Rattle.std.proofs.Common.{length}
 use Rattle.std.specs.Prelude.{slice_range}
-use Rattle.trend_num.specs.Ranges.{InRange}
-use Rattle.trend_model.specs.Contents.{points_of}
+use Rattle.trend_num.specs.{InRange}
+use Rattle.trend_model.specs.{points_of}
 use Rattle.weighted_total.proofs.Walking.{IsWalked}
 use Rattle.weighted_total.proofs.inside.area_inside.Given as goal
 

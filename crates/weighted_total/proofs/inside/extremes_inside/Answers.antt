@@ -2,7 +2,7 @@ use Rattle.std.proofs.Common.{[], refl, rules}
 use Rattle.std.specs.Prelude.{FitsSigned, slice_range}
 use Rattle.std.specs.Int.{w64}
 use Rattle.std.proofs.lemmas.Int.{to_z-of_z}
-use Rattle.trend_model.specs.Contents.{points_of}
+use Rattle.trend_model.specs.{points_of}
 use Rattle.interp_read.proofs.ReadsNextTo.{value_back}
 use Rattle.weighted_total.proofs.Walking.{IsSpread, taken_none, spread_more, spread_all}
 use Rattle.weighted_total.proofs.inside.extremes_inside.Goals as goal

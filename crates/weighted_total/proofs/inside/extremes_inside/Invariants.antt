@@ -1,6 +1,6 @@
 use Rattle.std.proofs.Common.{length}
 use Rattle.std.specs.Prelude.{slice_range}
-use Rattle.trend_model.specs.Contents.{points_of}
+use Rattle.trend_model.specs.{points_of}
 use Rattle.weighted_total.proofs.Walking.{IsSpread}
 use Rattle.weighted_total.proofs.inside.extremes_inside.Given as goal
 

@@ -1,9 +1,8 @@
 use Rattle.std.proofs.Common.{[], Some, ap, sym, ◌∙◌}
 use Rattle.std.proofs.lemmas.Int.{to_z-of_z}
 use mir.Syntax.{w64}
-use Rattle.trend_model.specs.Contents.{points_of}
-use Rattle.trend_model.specs.Windows.{greater, lesser}
-use Rattle.weighted_total.specs.Shapes.{inner}
+use Rattle.trend_model.specs.{points_of, greater, lesser}
+use Rattle.weighted_total.specs.{inner}
 use Rattle.weighted_total.proofs.Measuring.{end_in_range, greatest_of_stair, least_of_stair}
 use Rattle.interp_read.proofs.Readable.{value_fits}
 use Rattle.weighted_total.proofs.Sums.{greatest_joined, least_joined}

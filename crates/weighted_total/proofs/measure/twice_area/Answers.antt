@@ -1,8 +1,7 @@
 use Rattle.std.proofs.Common.{◌≡◌, [], ◌∷◌, ◌+ℤ◌, ◌∙◌, arith}
 use Rattle.std.proofs.lemmas.Int.{ints}
-use Rattle.trend_model.specs.Contents.{points_of}
-use Rattle.trend_model.specs.Windows.{area}
-use Rattle.weighted_total.specs.Shapes.{inner, outline}
+use Rattle.trend_model.specs.{points_of, area}
+use Rattle.weighted_total.specs.{inner, outline}
 use Rattle.weighted_total.proofs.Measuring.{AreSums, end_in_range, sums_of}
 use Rattle.interp_read.proofs.Readable.{num_back}
 use Rattle.weighted_total.proofs.Walking.{rises_front}

@@ -2,10 +2,9 @@ use Rattle.std.proofs.Common.{◌≡◌, ◌*◌, ◌-◌, [], ap, Some, sym, �
 use Rattle.std.specs.Prelude.{FitsSigned}
 use Rattle.std.proofs.lemmas.Int.{to_z-of_z}
 use mir.Syntax.{w128}
-use Rattle.trend_model.specs.Contents.{points_of}
-use Rattle.trend_model.specs.Reads.{rounded}
+use Rattle.trend_model.specs.{points_of, rounded}
 use Rattle.trend_model.proofs.Rounding.{rounded_only}
-use Rattle.weighted_total.specs.Shapes.{inner}
+use Rattle.weighted_total.specs.{inner}
 use Rattle.interp_read.proofs.Readable.{num_back}
 use Rattle.weighted_total.proofs.Sums.{last_joined}
 use Rattle.weighted_total.proofs.measure.value_between.Goals as goal

@@ -1,11 +1,10 @@
-use Rattle.std.proofs.Common.{refl, sym, ap, Some, ◌∙◌, arith, rules}
+use Rattle.std.proofs.Common.{refl, sym, ap, Some, ◌∙◌, arith, rules, Option, None}
 use Rattle.std.specs.Prelude.{FitsSigned, IfNone}
-use Rattle.std.proofs.Common.{Option, None}
-use Rattle.weighted_total.specs.declared.shape.Ends.{Ends}
+use Rattle.weighted_total.specs.{Ends}
 use Rattle.std.proofs.lemmas.Int.{to_z-of_z}
 use mir.Syntax.{w64}
-use Rattle.trend_model.specs.Windows.{is_covered}
-use Rattle.interp_read.specs.Closing.{points_closed_by}
+use Rattle.trend_model.specs.{is_covered}
+use Rattle.interp_read.specs.{points_closed_by}
 use Rattle.weighted_total.proofs.EndsOf.{covered_by, found_shape, not_true, uncovered_end, value_there}
 use Rattle.weighted_total.proofs.shape.ends_of.Goals as goal
 

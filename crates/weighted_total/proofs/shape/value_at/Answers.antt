@@ -1,8 +1,7 @@
 use Rattle.std.proofs.Common.{ap, ◌∙◌}
-use Rattle.trend_model.specs.Reads.{value_read}
-use Rattle.trend_model.specs.Contents.{points_of}
+use Rattle.trend_model.specs.{value_read, points_of}
 use Rattle.trend_model.proofs.ReadLaw.{points_rise}
-use Rattle.interp_read.specs.Closing.{points_closed_by}
+use Rattle.interp_read.specs.{points_closed_by}
 use Rattle.interp_read.proofs.ClosedPoints.{closed, closed_in_range, closed_rise}
 use Rattle.interp_read.proofs.Readable.{readable}
 use Rattle.weighted_total.proofs.shape.value_at.Goals as goal

@@ -1,5 +1,5 @@
 use Rattle.std.proofs.Common.{ap, Some, ◌∙◌, arith}
-use Rattle.interp_read.specs.Readable.{IsRoundable}
+use Rattle.interp_read.specs.{IsRoundable}
 use Rattle.interp_read.proofs.Readable.{cast_back, num_back, rounded_is, value_fits}
 use Rattle.weighted_total.proofs.shape.value_of.Goals as goal
 

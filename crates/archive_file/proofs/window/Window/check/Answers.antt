@@ -1,5 +1,5 @@
 use Rattle.std.proofs.Common.{◌∙◌, subst}
-use Rattle.archive_file.specs.LayoutFields.{BreaksFirst}
+use Rattle.archive_file.specs.{BreaksFirst}
 use Rattle.archive_file.proofs.Windows.{window_first}
 use Rattle.archive_file.proofs.window.Window.check.Goals as goal
 

@@ -1,6 +1,5 @@
 use Rattle.std.proofs.Common.{◌≡◌, ◌+◌, ◌≤◌, ◌∙◌, length, take, ap, subst, arith, length-take}
-use Rattle.archive_file.specs.Fields.{number_bytes}
-use Rattle.archive_file.specs.LayoutFields.{Spells, short_at}
+use Rattle.archive_file.specs.{number_bytes, Spells, short_at}
 use Rattle.archive_file.proofs.Windows.{window_short, window_spells}
 use Rattle.archive_file.proofs.window.Window.short_at.Goals as goal
 

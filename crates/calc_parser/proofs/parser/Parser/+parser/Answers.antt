@@ -3,7 +3,8 @@ use Rattle.std.proofs.Common.{◌∙◌, ap, sym, rules}
 use Rattle.std.proofs.lemmas.Result.{IfOk-weaker}
 use Rattle.calc_parser.specs.declared.token.Sum.TheVariants.{Minus}
 use Rattle.calc_parser.specs.declared.token.Token.TheVariants.{Number, Measuring, Calculation, Absolute, Summing, Multiplying, Comparing}
-use Rattle.calc_parser.proofs.Steps.{passed, spells_number, spells_group, spells_measure, spells_calculation, spells_absolute, spells_negated, spells_picked, spells_chosen, spells_compared, spells_plain, first_term, next_term, first_factor, next_factor, formula_ends, sum_ends}
+use Rattle.calc_parser.proofs.Steps.{passed, spells_number, spells_group, spells_measure, spells_calculation, spells_absolute, spells_negated, spells_picked, spells_chosen, spells_compared, spells_plain, first_term, next_term, first_factor}
+use Rattle.calc_parser.proofs.Steps.{next_factor, formula_ends, sum_ends}
 use Rattle.calc_parser.proofs.parser.Parser.+parser.Goals as goal
 
 pub chosen-returns-clause-parsed : goal.chosen-returns-clause-parsed

@@ -1,9 +1,8 @@
 -- Each call is at a looser level of the grammar, or one level deeper.
 use Rattle.std.proofs.Common.{◌+◌, ◌-◌, ◌*◌, length}
 use Rattle.calc_parser.proofs.Steps.{IsReadSoFar}
-use Rattle.calc_parser.specs.Grammar.{sums, terms}
+use Rattle.calc_parser.specs.{sums, terms, EndsTerms}
 use Rattle.calc_parser.specs.Tree.{tree_of}
-use Rattle.calc_parser.specs.Scan.{EndsTerms}
 use Rattle.calc_parser.proofs.parser.Parser.+parser.Given as goal
 
 abbrev pub decreases-formula : goal.decreases-formula

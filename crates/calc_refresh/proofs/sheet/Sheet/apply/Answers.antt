@@ -3,14 +3,9 @@ use Rattle.std.specs.Prelude.{Vec}
 use Rattle.std.specs.declared.alloc.Global.{Global}
 use Rattle.std.specs.Vec.{with_items}
 use Rattle.std.proofs.lemmas.List.{length-map, with_items_is}
-use Rattle.trend_num.specs.declared.archive.Rec.{Rec}
-use Rattle.trend_num.specs.declared.value.CalcValue.{CalcValue}
-use Rattle.sheet_law.specs.Windows.{complete_windows}
-use Rattle.sheet_law.specs.Touched.{longer}
-use Rattle.sheet_law.specs.Scratch.{IsScratch, column, due_below, is_due, values_at}
-use Rattle.calc_refresh.specs.Lists.{lists_of, total_length}
-use Rattle.calc_refresh.specs.Refreshed.{IsSheetAfter, cells_after, due_windows, evaluated, fault_after, limit_fault, most_cells}
-use Rattle.calc_refresh.specs.Sheet.{IsCopy, SheetState}
+use Rattle.trend_num.specs.{Rec, CalcValue}
+use Rattle.sheet_law.specs.{complete_windows, longer, IsScratch, column, due_below, is_due, values_at}
+use Rattle.calc_refresh.specs.{lists_of, total_length, IsSheetAfter, cells_after, due_windows, evaluated, fault_after, limit_fault, most_cells, IsCopy, SheetState}
 use Rattle.calc_refresh.proofs.Inputs.{length-longer}
 use Rattle.calc_refresh.proofs.Applying.{cells_fit, copies_longer, due_counted, due_few, few_windows, limits_hold, part_fits, ranges_longer}
 use Rattle.calc_refresh.proofs.sheet.Sheet.apply.Goals as goal

@@ -1,8 +1,7 @@
 use Rattle.std.proofs.Common.{◌≡◌, ◌<◌, length, subst, ap, ◌∙◌}
 use Rattle.std.specs.Prelude.{◌↔◌, IsSome, option_and_then, slice_get}
-use Rattle.sheet_law.specs.Windows.{complete_windows}
-use Rattle.calc_refresh.specs.Lists.{lists_of}
-use Rattle.calc_refresh.specs.Sheet.{SheetState}
+use Rattle.sheet_law.specs.{complete_windows}
+use Rattle.calc_refresh.specs.{lists_of, SheetState}
 use Rattle.calc_refresh.proofs.Beginning.{row_there}
 use Rattle.calc_refresh.proofs.sheet.Sheet.row.Goals as goal
 

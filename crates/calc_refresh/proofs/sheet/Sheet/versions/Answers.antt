@@ -1,6 +1,6 @@
 use Rattle.std.proofs.Common.{◌<◌, length, ap, arith}
 use Rattle.std.proofs.lemmas.List.{length-map}
-use Rattle.calc_refresh.specs.Sheet.{IsCopy, SheetState}
+use Rattle.calc_refresh.specs.{IsCopy, SheetState}
 use Rattle.calc_refresh.proofs.Inputs.{each_read}
 use Rattle.calc_refresh.proofs.sheet.Sheet.versions.Goals as goal
 

@@ -1,7 +1,6 @@
 use Rattle.std.proofs.Common.{◌≡◌, ◌+◌, ◌*◌, ◌≤◌, ◌∷◌, ◌++◌, [], true, length, refl, subst, arith, lit<}
 use Rattle.std.proofs.lemmas.Result.{err_from_is_err_and}
-use Rattle.archive_file.specs.Fields.{number_bytes}
-use Rattle.archive_file.specs.LayoutFields.{BreaksFirst, Keeps, Spells}
+use Rattle.archive_file.specs.{number_bytes, BreaksFirst, Keeps, Spells}
 use Rattle.archive_file.proofs.FieldLaws.{field_of, told_through}
 use Rattle.commit_log.proofs.BlockLaws.{block_added, front_breaks, gate_breaks, rows_break}
 use Rattle.commit_log.proofs.block_reader.LogReaderBlockReader.add.Goals as goal

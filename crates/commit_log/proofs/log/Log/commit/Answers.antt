@@ -1,17 +1,8 @@
 use Rattle.std.proofs.Common.{◌≡◌, ℕ, ◌+◌, ◌-◌, ◌≤◌, true, false, List, [], ◌∷◌, ◌++◌, length, min, take, drop, refl, sym, ap, ◌∙◌, subst, arith}
 use Rattle.std.specs.Prelude.{vec_capacity}
-use Rattle.disk_model.specs.Calls.{Sees}
-use Rattle.disk_model.specs.Gates.{open_byte}
-use Rattle.disk_model.specs.Traces.{FitsName, seen, written, moment}
-use Rattle.commit_log.specs.Devices.{log_name}
-use Rattle.commit_log.specs.declared.history.LogAcked.{LogAcked}
-use Rattle.commit_log.specs.declared.history.LogTurn.{LogTurn}
+use Rattle.disk_model.specs.{Sees, open_byte, FitsName, seen, written, moment}
+use Rattle.commit_log.specs.{log_name, LogAcked, LogTurn, log_block_size, most_in_block, puts, AreRowsAcknowledged, IsKept, ToldLog, IsBlockOf, LogBeganWell}
 use Rattle.commit_log.specs.declared.history.LogTurn.TheVariants.{Commit}
-use Rattle.commit_log.specs.Blocks.{log_block_size, most_in_block}
-use Rattle.commit_log.specs.Tapes.{puts}
-use Rattle.commit_log.specs.Told.{AreRowsAcknowledged, IsKept, ToldLog}
-use Rattle.commit_log.specs.Writes.{IsBlockOf}
-use Rattle.commit_log.specs.Openings.{LogBeganWell}
 use Rattle.commit_log.proofs.Begun.{still_well}
 use Rattle.commit_log.proofs.Acks.{oldest_are}
 use Rattle.commit_log.proofs.Beginnings.{length-block_image}

@@ -1,12 +1,9 @@
 use Rattle.std.proofs.Common.{◌+◌, ◌<◌, List, sym, subst, arith}
 use Rattle.std.specs.Prelude.{vec_capacity}
-use Rattle.disk_model.specs.Moments.{LeftSince}
-use Rattle.commit_log.specs.declared.history.LogTurn.{LogTurn}
-use Rattle.commit_log.specs.Histories.{IsLogLegal, IsLogSafe}
-use Rattle.commit_log.specs.Told.{HasRoomForPuts, IsKept, Waits}
+use Rattle.disk_model.specs.{LeftSince, moment}
+use Rattle.commit_log.specs.{LogTurn, IsLogLegal, IsLogSafe, HasRoomForPuts, IsKept, Waits}
 use Rattle.commit_log.proofs.Puts.{put_kept, put_legal, put_room, put_safe, put_waits}
 use Rattle.commit_log.proofs.log.Log.put.Goals as goal
-use Rattle.disk_model.specs.Traces.{moment}
 
 pub invariant_of-self : goal.invariant_of-self
 invariant_of-self g c =

@@ -1,7 +1,7 @@
 use Rattle.std.proofs.Common.{◌≡◌, Result, arith}
-use Rattle.trend_num.specs.declared.tag_def.TagDef.{TagDef}
+use Rattle.trend_num.specs.{TagDef}
 use Rattle.trend_model.specs.State.{State}
-use Rattle.disk_model.specs.Traces.{Trace, Device}
+use Rattle.disk_model.specs.{Trace, Device}
 use Rattle.crash_recovery.specs.{AllRecover, LeavesEither}
 use Rattle.crash_recovery.proofs.Turns.{either_kept}
 use Rattle.crash_recovery.proofs.journal.Journal.commit.Goals as goal

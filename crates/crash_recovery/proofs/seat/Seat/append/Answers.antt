@@ -1,16 +1,13 @@
 use Rattle.std.proofs.Common.{arith}
 use Rattle.std.specs.Prelude.{map}
-use Rattle.trend_num.specs.declared.tag_def.TagDef.{TagDef}
+use Rattle.trend_num.specs.{TagDef}
 use Rattle.trend_model.specs.{History.Raw, State.State, State.replay}
-use Rattle.disk_model.specs.Moments.{During}
+use Rattle.disk_model.specs.{During}
 use Rattle.disk_model.proofs.Moments.{after_both, during_now}
 use Rattle.crash_recovery.specs.{AllRecover, RecoversEither}
-use Rattle.device_layout.specs.Recovery.{AllFit, Recovers}
-use Rattle.crash_recovery.proofs.{Places.laid_on, Places.overrun_on, Places.moved, Appends.IsCleared}
-use Rattle.crash_recovery.proofs.{Appends.IsTaken, Appends.cleared, Appends.taken_cleared}
-use Rattle.crash_recovery.proofs.{Appends.append_moments, Appends.append_durable, Appends.append_seated}
-use Rattle.crash_recovery.proofs.{Restarts.room_now, Turns.either_first, Turns.then_either}
-use Rattle.crash_recovery.proofs.{seat.Seat.append.Goals.After-append_batch}
+use Rattle.device_layout.specs.{AllFit, Recovers}
+use Rattle.crash_recovery.proofs.{Places.laid_on, Places.overrun_on, Places.moved, Appends.IsCleared, Appends.IsTaken, Appends.cleared, Appends.taken_cleared, Appends.append_moments, Appends.append_durable, Appends.append_seated}
+use Rattle.crash_recovery.proofs.{Restarts.room_now, Turns.either_first, Turns.then_either, seat.Seat.append.Goals.After-append_batch}
 use Rattle.crash_recovery.proofs.seat.Seat.append.Given as given
 use Rattle.crash_recovery.proofs.seat.Seat.append.Goals as goal
 

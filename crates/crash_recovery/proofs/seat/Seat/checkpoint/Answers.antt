@@ -1,14 +1,13 @@
-use Rattle.trend_num.specs.declared.tag_def.TagDef.{TagDef}
+use Rattle.trend_num.specs.{TagDef}
 use Rattle.trend_model.specs.State.{State}
 use Rattle.disk_model.specs.{Traces.Trace, Traces.moment, Moments.ComesAfter, Moments.During, Calls.Shows}
 use Rattle.disk_model.proofs.Moments.{after_both, after_self, during_now}
-use Rattle.device_layout.specs.Recovery.{Recovers}
+use Rattle.device_layout.specs.{Recovers}
 use Rattle.crash_recovery.specs.{AllRecover, GoesOnFrom, RecoversEither, log_calls}
 use Rattle.std.proofs.Common.{◌≡◌, ◌+◌, ap, arith, subst, length}
 use Rattle.crash_recovery.proofs.Turns.{either_kept, either_first, then_same, then_either, then_second}
 use Rattle.crash_recovery.proofs.seat.Seat.checkpoint.Goals.{After-close_stale-2, After-log_records}
-use Rattle.crash_recovery.proofs.{Calls.checkpoint_counted, Done.done_recovers, Places.laid_on}
-use Rattle.crash_recovery.proofs.{Places.overrun_on, Places.seated_on}
+use Rattle.crash_recovery.proofs.{Calls.checkpoint_counted, Done.done_recovers, Places.laid_on, Places.overrun_on, Places.seated_on}
 use Rattle.crash_recovery.proofs.seat.Seat.checkpoint.Given as given
 use Rattle.crash_recovery.proofs.seat.Seat.checkpoint.Goals as goal
 

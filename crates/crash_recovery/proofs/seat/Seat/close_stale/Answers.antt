@@ -1,6 +1,6 @@
 use Rattle.std.proofs.Common.{false, arith}
 use Rattle.disk_model.proofs.Moments.{after_self, started}
-use Rattle.device_layout.specs.Recovery.{Recovers}
+use Rattle.device_layout.specs.{Recovers}
 use Rattle.crash_recovery.proofs.Restarts.{gates_now, restart_moments, restart_laid, room_now}
 use Rattle.crash_recovery.proofs.seat.Seat.close_stale.Goals as goal
 

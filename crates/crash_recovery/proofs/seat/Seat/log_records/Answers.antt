@@ -1,11 +1,9 @@
 use Rattle.std.proofs.Common.{◌∙◌, refl, ap, arith, length, drop, rules}
-use Rattle.archive_file.specs.Records.{recs_image}
+use Rattle.archive_file.specs.{recs_image}
 use Rattle.disk_model.proofs.Moments.{after_both}
-use Rattle.device_layout.specs.Recovery.{summary_gate}
+use Rattle.device_layout.specs.{summary_gate}
 use Rattle.crash_recovery.specs.{log_end, spare_slot}
-use Rattle.crash_recovery.proofs.{DeviceReads.shown_now, Places.reaches_on, Logged.put_moments}
-use Rattle.crash_recovery.proofs.{Logged.gates_torn, Logged.log_moments, Logged.log_laid, Logged.ready_on}
-use Rattle.crash_recovery.proofs.{Calls.log_counted, Calls.log_front, Calls.log_gates}
+use Rattle.crash_recovery.proofs.{DeviceReads.shown_now, Places.reaches_on, Logged.put_moments, Logged.gates_torn, Logged.log_moments, Logged.log_laid, Logged.ready_on, Calls.log_counted, Calls.log_front, Calls.log_gates}
 use Rattle.crash_recovery.proofs.seat.Seat.log_records.Goals as goal
 
 pub returns-in_err-put_new_records-clause-any_moment : goal.returns-in_err-put_new_records-clause-any_moment

@@ -1,13 +1,11 @@
 use Rattle.std.proofs.Common.{◌∙◌, length, sym, ap, subst, rules, arith}
 use Rattle.std.proofs.lemmas.Bool.{ltb-true}
 use Rattle.std.specs.Prelude.{nat_lt}
-use Rattle.archive_file.specs.Summaries.{summary_image}
-use Rattle.device_layout.specs.Recovery.{summary_place, summary_gate}
+use Rattle.archive_file.specs.{summary_image}
+use Rattle.device_layout.specs.{summary_place, summary_gate}
 use Rattle.crash_recovery.specs.{LaidOn, OverrunOn}
-use Rattle.crash_recovery.proofs.Checkpoints.{IsFit, fit_of, none_used, summed_as, summary_moments}
-use Rattle.crash_recovery.proofs.Checkpoints.{summary_durable, summary_overrun, summary_laid}
-use Rattle.crash_recovery.proofs.{DeviceReads.now_shown, Places.settled_on, Calls.put_gates}
-use Rattle.crash_recovery.proofs.{seat.Seat.put_summary.Goals.After-write_guarded}
+use Rattle.crash_recovery.proofs.Checkpoints.{IsFit, fit_of, none_used, summed_as, summary_moments, summary_durable, summary_overrun, summary_laid}
+use Rattle.crash_recovery.proofs.{DeviceReads.now_shown, Places.settled_on, Calls.put_gates, seat.Seat.put_summary.Goals.After-write_guarded}
 use Rattle.device_layout.proofs.SlotNumbers.{length-summary_image}
 use Rattle.crash_recovery.proofs.seat.Seat.put_summary.Given as given
 use Rattle.crash_recovery.proofs.seat.Seat.put_summary.Goals as goal

@@ -1,10 +1,5 @@
 use Rattle.std.proofs.Common.{◌≡◌, true, false, [], List, Bool, length, subst, ap, ◌∙◌, arith}
-use Rattle.event_frames.specs.declared.frame.Edit.{Edit}
-use Rattle.event_frames.specs.declared.frame.Frame.{Frame}
-use Rattle.event_frames.specs.Edits.{AreEdits}
-use Rattle.event_frames.specs.Frames.{FramesState}
-use Rattle.event_frames.specs.Near.{AddsMissing}
-use Rattle.event_frames.specs.Row.{truths_with}
+use Rattle.event_frames.specs.{Edit, Frame, AreEdits, FramesState, AddsMissing, truths_with}
 use Rattle.event_frames.proofs.Changing.{truths_of-row_with, window_bound}
 use Rattle.event_frames.proofs.Differing.{edits_are}
 use Rattle.event_frames.proofs.frames.Frames.apply.Goals as goal

@@ -1,5 +1,5 @@
 use Rattle.std.proofs.Common.{◌≡◌, length, ap, arith}
-use Rattle.event_frames.specs.Levels.{LevelsState}
+use Rattle.event_frames.specs.{LevelsState}
 use Rattle.event_frames.proofs.Blocks.{behind_all, behind_gap}
 use Rattle.event_frames.proofs.levels.Levels.behind.Goals as goal
 

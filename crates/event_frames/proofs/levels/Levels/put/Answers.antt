@@ -1,7 +1,6 @@
 use Rattle.std.proofs.Common.{◌≡◌, ◌<◌, ◌∙◌, List, Bool, true, length, set, sym, ap, arith}
 use Rattle.std.specs.Prelude.{vec_capacity}
-use Rattle.event_frames.specs.Levels.{LevelsState}
-use Rattle.event_frames.specs.Row.{put_at}
+use Rattle.event_frames.specs.{LevelsState, put_at}
 use Rattle.event_frames.proofs.Blocks.{levels_pushed}
 use Rattle.event_frames.proofs.Putting.{put_at-within, put_pushed}
 use Rattle.event_frames.proofs.levels.Levels.put.Goals as goal

@@ -1,7 +1,7 @@
 use Rattle.std.proofs.Common.{◌≡◌, ◌/◌, ◌++◌, ℕ, List, Bool, true, drop, length, set, take, subst, sym, ap, ◌∙◌, arith}
 use Rattle.std.specs.Prelude.{IsTrue, ◌↔◌}
 use Rattle.std.proofs.lemmas.List.{length-set, with_items_is}
-use Rattle.event_frames.specs.Levels.{AreLevels, LevelsState, is_set}
+use Rattle.event_frames.specs.{AreLevels, LevelsState, is_set}
 use Rattle.event_frames.proofs.Blocks.{levels_written}
 use Rattle.event_frames.proofs.levels.Levels.write.Goals as goal
 

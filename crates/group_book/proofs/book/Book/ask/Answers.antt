@@ -1,14 +1,10 @@
 use Rattle.std.proofs.Common.{◌≡◌, ◌↔◌, ◌<◌, ◌++◌, ◌∷◌, [], IsSome, length, sym, ap, ◌∙◌, subst}
-use Rattle.calc_refresh.specs.Lists.{lists_of}
-use Rattle.calc_refresh.specs.Sheet.{grid_of}
-use Rattle.group_layout.specs.Rows.{cell_of}
+use Rattle.calc_refresh.specs.{lists_of, grid_of}
+use Rattle.group_layout.specs.{cell_of}
 use Rattle.group_book.specs.declared.turn.Turn.TheVariants.{Ask}
-use Rattle.group_book.specs.Crashes.{IsBookSafe}
-use Rattle.group_book.specs.Histories.{AreRowsEvaluated, IsBookLegal}
-use Rattle.group_book.specs.Told.{IsKept, LeftOf, Saved, faults_of, moment_of, trace_of}
+use Rattle.group_book.specs.{IsBookSafe, AreRowsEvaluated, IsBookLegal, IsKept, LeftOf, Saved, faults_of, moment_of, trace_of}
 use Rattle.calc_check.specs.Group.{Group}
-use Rattle.sheet_law.specs.declared.grid.Grid.{Grid}
-use Rattle.sheet_law.specs.Windows.{complete_windows}
+use Rattle.sheet_law.specs.{Grid, complete_windows}
 use Rattle.group_book.proofs.Evaluations.{evaluated_asked}
 use Rattle.group_book.proofs.LegalTurns.{kept_asked, legal_asked, safe_asked}
 use Rattle.group_book.proofs.book.Book.ask.Goals as goal

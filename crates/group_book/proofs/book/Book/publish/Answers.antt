@@ -1,14 +1,10 @@
 use Rattle.std.proofs.Common.{◌≡◌, ℕ, ◌+◌, ◌++◌, ◌∷◌, [], Bool, List, map, length, refl, sym, ap, ◌∙◌, subst, arith}
 use Rattle.std.proofs.lemmas.List.{length-map, with_items_is}
-use Rattle.calc_refresh.specs.Lists.{lists_of}
-use Rattle.calc_refresh.specs.Refreshed.{IsRefreshed, evaluated}
-use Rattle.group_book.specs.declared.turn.Turn.{Turn}
+use Rattle.calc_refresh.specs.{lists_of, IsRefreshed, evaluated, grid_of}
+use Rattle.group_book.specs.{Turn, AreFlagged, GoesOn, is_unsaved, ToldBook, pulled_records, AreRowsEvaluated}
 use Rattle.group_book.specs.declared.turn.Turn.TheVariants.{Refresh}
-use Rattle.group_book.specs.Told.{AreFlagged, GoesOn, is_unsaved, ToldBook, pulled_records}
-use Rattle.calc_refresh.specs.Sheet.{grid_of}
-use Rattle.group_book.specs.Histories.{AreRowsEvaluated}
 use Rattle.group_book.proofs.Evaluations.{evaluated_refreshed}
-use Rattle.sheet_law.specs.declared.grid.Grid.{Grid}
+use Rattle.sheet_law.specs.{Grid}
 use Rattle.group_book.proofs.Flags.{flagged_refreshed}
 use Rattle.group_book.proofs.Pulls.{book_refreshed, published_by, versions_reached}
 use Rattle.group_book.proofs.book.Book.publish.Given as given

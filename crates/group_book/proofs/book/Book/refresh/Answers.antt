@@ -1,9 +1,7 @@
 use Rattle.std.proofs.Common.{◌≡◌, List, ℕ, length, sym, ap, ◌∙◌, subst}
-use Rattle.calc_refresh.specs.Refreshed.{cells_after}
-use Rattle.calc_refresh.specs.Lists.{total_length}
-use Rattle.sheet_law.specs.Touched.{longer}
-use Rattle.group_book.specs.Refusals.{IsPullCause}
-use Rattle.group_book.specs.Told.{GivesNone, GoesOn, ToldBook, pulled_records, versions_of}
+use Rattle.calc_refresh.specs.{cells_after, total_length}
+use Rattle.sheet_law.specs.{longer}
+use Rattle.group_book.specs.{IsPullCause, GivesNone, GoesOn, ToldBook, pulled_records, versions_of}
 use Rattle.group_book.proofs.Causes.{goes_from, pull_refused, sheet_refuses, with_pulls}
 use Rattle.group_book.proofs.book.Book.refresh.Goals as goal
 

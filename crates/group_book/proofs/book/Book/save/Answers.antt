@@ -3,24 +3,15 @@ use Rattle.std.specs.Prelude.{Vec}
 use Rattle.std.specs.declared.alloc.Global.{Global}
 use Rattle.std.specs.Vec.{with_items}
 use Rattle.std.proofs.lemmas.List.{length-map, with_items_is}
-use Rattle.trend_num.specs.declared.value.CalcValue.{CalcValue}
+use Rattle.trend_num.specs.{CalcValue}
 use Rattle.calc_check.specs.Group.{Group}
-use Rattle.disk_model.specs.Gates.{IsShut}
-use Rattle.disk_model.specs.Images.{Now}
-use Rattle.disk_model.specs.Moments.{LeftSince}
-use Rattle.disk_model.specs.Traces.{FitsName, moment}
-use Rattle.sheet_law.specs.declared.grid.Grid.{Grid}
-use Rattle.sheet_law.specs.Windows.{complete_windows}
-use Rattle.calc_refresh.specs.Lists.{lists_of}
-use Rattle.calc_refresh.specs.Sheet.{AreRowsWhole, grid_of}
+use Rattle.disk_model.specs.{IsShut, Now, LeftSince, FitsName, moment}
+use Rattle.sheet_law.specs.{Grid, complete_windows}
+use Rattle.calc_refresh.specs.{lists_of, AreRowsWhole, grid_of}
 use Rattle.calc_refresh.proofs.Refreshing.{long_vecs}
-use Rattle.group_layout.specs.Blocks.{block_size, parts_of}
+use Rattle.group_layout.specs.{block_size, parts_of}
 use Rattle.group_book.specs.declared.turn.Turn.TheVariants.{Save}
-use Rattle.group_book.specs.Crashes.{IsBookSafe}
-use Rattle.group_book.specs.Histories.{AreRowsEvaluated}
-use Rattle.group_book.specs.Openings.{BookBeganWell}
-use Rattle.group_book.specs.Saves.{HasAllChanges, IsSaved, ListsChanges}
-use Rattle.group_book.specs.Told.{IsKept, IsOwnDevice, IsWellHeld, LeftOf, Saved, ToldBook, device_name_of, faults_of, moment_of, trace_of}
+use Rattle.group_book.specs.{IsBookSafe, AreRowsEvaluated, BookBeganWell, HasAllChanges, IsSaved, ListsChanges, IsKept, IsOwnDevice, IsWellHeld, LeftOf, Saved, ToldBook, device_name_of, faults_of, moment_of, trace_of}
 use Rattle.group_book.proofs.Begun.{still_well}
 use Rattle.group_book.proofs.Evaluations.{evaluated_saved}
 use Rattle.group_book.proofs.Flags.{flagged_changes, flagged_saved}

@@ -1,8 +1,8 @@
 use Rattle.std.proofs.Common.{◌≡◌, ◌+◌, ◌*◌, length, map, refl, sym, ap, ◌∙◌, subst}
 use Rattle.std.proofs.lemmas.Result.{err_from_is_err_and}
-use Rattle.archive_file.specs.LayoutFields.{BreaksFirst, short_at}
+use Rattle.archive_file.specs.{BreaksFirst, short_at}
 use Rattle.archive_file.proofs.FieldLaws.{told_through}
-use Rattle.group_layout.specs.Blocks.{MayFollow, block_fields, last_of, last_read, parts_of}
+use Rattle.group_layout.specs.{MayFollow, block_fields, last_of, last_read, parts_of}
 use Rattle.group_layout.proofs.Walks.{last_read-push}
 use Rattle.group_layout.proofs.block_reader.GroupReaderBlockReader.add.Goals as goal
 use Rattle.group_layout.proofs.block_reader.GroupReaderBlockReader.add.Goals.{After-last_or-before}

@@ -2,7 +2,7 @@ use Rattle.std.proofs.Common.{◌≡◌, ◌-◌, [], length, get_or, fold, take
 use Rattle.std.proofs.Math.Seq.{take-add}
 use Rattle.std.proofs.lemmas.List.{length-drop, take_all}
 use Rattle.std.proofs.lemmas.List.Sums.{fold-append}
-use Rattle.trend_model.specs.Contents.{placed, listed}
+use Rattle.trend_model.specs.{placed, listed}
 use Rattle.trend_model.proofs.Placing.{time, AllBefore}
 use Rattle.late_insert.proofs.Filling.{listed_in_order, next_behind}
 use Rattle.late_insert.proofs.Finding.{no_rec}

@@ -1,6 +1,6 @@
 use Rattle.std.proofs.Common.{◌≡◌, ◌+◌, ◌-◌, ◌≤◌, length, take}
-use Rattle.trend_model.specs.Contents.{IsRising, listed}
-use Rattle.late_insert.specs.PageLengths.{AreFull}
+use Rattle.trend_model.specs.{IsRising, listed}
+use Rattle.late_insert.specs.{AreFull}
 use Rattle.late_insert.proofs.content.Content.from_records.Given as goal
 
 abbrev pub invariant-loop-done : goal.invariant-loop-done

@@ -1,5 +1,5 @@
 use Rattle.std.proofs.Common.{ap, subst}
-use Rattle.trend_model.specs.Contents.{IsRising}
+use Rattle.trend_model.specs.{IsRising}
 use Rattle.late_insert.proofs.content.Content.gap.Goals as goal
 
 pub returns-clause-rising : goal.returns-clause-rising

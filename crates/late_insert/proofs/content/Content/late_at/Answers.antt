@@ -1,6 +1,6 @@
 use Rattle.std.proofs.Common.{◌≡◌, Bool, true, false, pos, cond, Option, Some, None, IsSome, IsTrue, refl}
 use Rattle.std.specs.Prelude.{◌↔◌}
-use Rattle.trend_model.specs.Content.{is_late_record}
+use Rattle.trend_model.specs.{is_late_record}
 use Rattle.late_insert.proofs.Nearest.{late_there, late_nowhere}
 use Rattle.late_insert.proofs.content.Content.late_at.Goals as goal
 

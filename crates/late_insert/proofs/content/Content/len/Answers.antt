@@ -1,6 +1,6 @@
 use Rattle.std.proofs.Common.{◌≤◌, All, sum, sym, ap, ◌∙◌, subst}
-use Rattle.trend_num.specs.Ranges.{InRange}
-use Rattle.trend_model.specs.Contents.{points_of}
+use Rattle.trend_num.specs.{InRange}
+use Rattle.trend_model.specs.{points_of}
 use Rattle.late_insert.proofs.Growing.{sum_lengths, most_lengths}
 use Rattle.late_insert.proofs.Keeping.{points_in_range}
 use Rattle.late_insert.proofs.content.Content.len.Goals as goal

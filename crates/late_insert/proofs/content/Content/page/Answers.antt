@@ -1,20 +1,15 @@
-use Rattle.std.proofs.Common.{false, ℕ, ◌+◌, ◌-◌, ◌<◌, ◌≤◌, take, drop, ap, sym, ◌∙◌, get_or}
-use Rattle.std.proofs.Common.{length, subst, rules}
+use Rattle.std.proofs.Common.{false, ℕ, ◌+◌, ◌-◌, ◌<◌, ◌≤◌, take, drop, ap, sym, ◌∙◌, get_or, length, subst, rules}
 use Rattle.std.specs.Prelude.{FitsSigned}
 use Rattle.std.specs.Int.{w64, w128}
 use Rattle.std.proofs.lemmas.Int.{to_z-of_z}
-use Rattle.trend_model.specs.Contents.{points_of}
-use Rattle.trend_model.specs.Windows.{area}
-use Rattle.page_pool.specs.declared.frame.Frame.{Frame}
+use Rattle.trend_model.specs.{points_of, area}
+use Rattle.page_pool.specs.{Frame}
 use Rattle.late_insert.specs.declared.content.PageTotals.{PageTotals}
-use Rattle.late_insert.specs.Totals.{least_of, greatest_of}
+use Rattle.late_insert.specs.{least_of, greatest_of, lengths_of, IsPageOf, IsOneOf}
 use Rattle.late_insert.proofs.Finding.{no_page, firsts_rise}
-use Rattle.late_insert.specs.Pages.{lengths_of}
 use Rattle.late_insert.proofs.Growing.{length_at, first_at}
 use Rattle.late_insert.proofs.Reading.{frame_page, page_from, page_upto, end_within, points_read}
 use mir.Val.{of_z, to_z}
-use Rattle.late_insert.specs.PageTotals.{IsPageOf}
-use Rattle.late_insert.specs.PageLengths.{IsOneOf}
 use Rattle.late_insert.proofs.content.Content.page.Goals as goal
 
 -- the totals that are handed out

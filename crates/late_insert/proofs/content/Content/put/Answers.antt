@@ -1,7 +1,7 @@
 use Rattle.std.proofs.Common.{◌≡◌, [], ◌∷◌, ◌++◌, fold, take, subst, sym, ap, ◌∙◌, arith}
-use Rattle.trend_model.specs.Contents.{IsContentOf, placed}
+use Rattle.trend_model.specs.{IsContentOf, placed}
 use Rattle.trend_model.proofs.ContentList.{content_more}
-use Rattle.late_insert.specs.PageLengths.{ArePagesFilled}
+use Rattle.late_insert.specs.{ArePagesFilled}
 use Rattle.late_insert.proofs.content.Content.put.Goals as goal
 
 pub returns-clause-content : goal.returns-clause-content

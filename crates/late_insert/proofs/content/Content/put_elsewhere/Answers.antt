@@ -1,10 +1,9 @@
 use Rattle.std.proofs.Common.{◌-◌, ◌∷◌, [], ◌++◌, get_or, length, fold, take, subst, sym, ap, ◌∙◌, arith}
 use Rattle.std.proofs.lemmas.List.{get_or_default, length-take-le}
-use Rattle.late_insert.specs.Pages.{page_records_of, lengths_of}
-use Rattle.late_insert.specs.PageLengths.{ArePagesFilled, IsPutAmong, place_in}
+use Rattle.late_insert.specs.{page_records_of, lengths_of, ArePagesFilled, IsPutAmong, place_in}
 use Rattle.late_insert.proofs.Growing.{filled_fresh, one_among, one_behind}
 use Rattle.trend_model.proofs.Placing.{time, AllBefore}
-use Rattle.trend_model.specs.Contents.{placed}
+use Rattle.trend_model.specs.{placed}
 use Rattle.late_insert.proofs.Filling.{listed_run, run_behind}
 use Rattle.late_insert.proofs.Finding.{no_rec}
 use Rattle.late_insert.proofs.Keeping.{frame_spare}

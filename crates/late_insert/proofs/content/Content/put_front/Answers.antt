@@ -1,7 +1,6 @@
 use Rattle.std.proofs.Common.{get_or, subst, ap, inl, refl}
 use Rattle.std.proofs.lemmas.List.{get_or_default}
-use Rattle.late_insert.specs.Pages.{lengths_of}
-use Rattle.late_insert.specs.PageLengths.{ArePagesFilled}
+use Rattle.late_insert.specs.{lengths_of, ArePagesFilled}
 use Rattle.trend_model.proofs.Placing.{time, AllBefore}
 use Rattle.late_insert.proofs.Finding.{no_rec}
 use Rattle.late_insert.proofs.Growing.{one_behind}

@@ -1,6 +1,5 @@
 use Rattle.std.proofs.Common.{◌<◌, length, get_or, ap, sym, ◌∙◌, subst, arith}
-use Rattle.late_insert.specs.declared.directory.Page.{Page}
-use Rattle.late_insert.specs.Moves.{Listed, AreOrdered}
+use Rattle.late_insert.specs.{Page, Listed, AreOrdered}
 use Rattle.late_insert.proofs.Listing.{listed_length, listed_read}
 use Rattle.late_insert.proofs.directory.Directory.first.Goals as goal
 

@@ -1,5 +1,5 @@
 use Rattle.std.proofs.Common.{ap}
-use Rattle.late_insert.specs.declared.directory.Leaf.{Leaf}
+use Rattle.late_insert.specs.{Leaf}
 use Rattle.late_insert.proofs.directory.Directory.id.Goals as goal
 
 pub returns-clause-value : goal.returns-clause-value

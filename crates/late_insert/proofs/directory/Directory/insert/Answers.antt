@@ -3,8 +3,7 @@ use Rattle.std.specs.Prelude.{insert, FitsSigned}
 use Rattle.std.specs.Int.{w128}
 use Rattle.std.proofs.lemmas.Int.{to_z-of_z}
 use Rattle.std.proofs.lemmas.List.{length-map}
-use Rattle.late_insert.specs.declared.directory.Leaf.{Leaf}
-use Rattle.late_insert.specs.Moves.{Listed, AreOrdered, no_leaf, picked, placed_pages}
+use Rattle.late_insert.specs.{Leaf, Listed, AreOrdered, no_leaf, picked, placed_pages}
 use Rattle.late_insert.proofs.Listing.{even_length, listed_length, placed_pages-insert, picked-insert, ordered-insert}
 use Rattle.late_insert.proofs.directory.Directory.insert.Goals as goal
 use Rattle.late_insert.proofs.directory.Directory.insert.Goals.{After-push_reserved}

@@ -1,6 +1,6 @@
 use Rattle.std.proofs.Common.{get_or, ap, sym, ◌∙◌, arith}
 use Rattle.std.proofs.lemmas.List.{get_or_default}
-use Rattle.late_insert.specs.Moves.{Listed, AreOrdered, leaf_of, no_leaf}
+use Rattle.late_insert.specs.{Listed, AreOrdered, leaf_of, no_leaf}
 use Rattle.late_insert.proofs.Listing.{in_seen, number_there, leaf_there, listed_read, number_read, number_within}
 use Rattle.late_insert.proofs.directory.Directory.leaf.Goals as goal
 

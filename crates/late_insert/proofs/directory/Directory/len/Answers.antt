@@ -1,5 +1,5 @@
 use Rattle.std.proofs.Common.{length, ap, arith}
-use Rattle.late_insert.specs.Moves.{Listed}
+use Rattle.late_insert.specs.{Listed}
 use Rattle.late_insert.proofs.Listing.{listed_length}
 use Rattle.late_insert.proofs.directory.Directory.len.Goals as goal
 

@@ -1,7 +1,6 @@
 use Rattle.std.proofs.Common.{◌≡◌, ◌+◌, ◌^◌, ◌<◌, length, map, take, drop, ◌++◌, All, ap, ap₂, sym, ◌∙◌, subst, arith, length-append}
 use Rattle.std.proofs.lemmas.List.{take_at, length-map, length-take-le, length-drop}
-use Rattle.late_insert.specs.declared.directory.Page.{Page}
-use Rattle.late_insert.specs.Moves.{Listed, AreOrdered, picked, placed_pages, moved}
+use Rattle.late_insert.specs.{Page, Listed, AreOrdered, picked, placed_pages, moved}
 use Rattle.late_insert.proofs.Listing.{even_length, listed_length, listed_small, placed_pages-move}
 use Rattle.late_insert.proofs.directory.Directory.move_on.Goals as goal
 

@@ -1,5 +1,5 @@
 use Rattle.std.proofs.Common.{◌-◌, ◌<◌, ◌≤◌, subst, sym, arith, get_or}
-use Rattle.late_insert.specs.Moves.{begin_of}
+use Rattle.late_insert.specs.{begin_of}
 use Rattle.late_insert.proofs.Halving.{all_early, halved_up, halved_down}
 use Rattle.late_insert.proofs.Finding.{no_page}
 use Rattle.late_insert.proofs.directory.Directory.page_by.Goals as goal

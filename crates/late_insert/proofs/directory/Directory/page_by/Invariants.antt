@@ -1,5 +1,5 @@
 use Rattle.std.proofs.Common.{◌-◌}
-use Rattle.late_insert.specs.Moves.{begin_of}
+use Rattle.late_insert.specs.{begin_of}
 use Rattle.late_insert.proofs.Halving.{IsHalved}
 use Rattle.late_insert.proofs.directory.Directory.page_by.Given as goal
 

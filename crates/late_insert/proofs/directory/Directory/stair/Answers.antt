@@ -2,7 +2,7 @@ use Rattle.std.proofs.Common.{ap, sym, ◌∙◌, rules}
 use Rattle.std.specs.Prelude.{FitsSigned}
 use Rattle.std.specs.Int.{w128}
 use Rattle.std.proofs.lemmas.Int.{to_z-of_z}
-use Rattle.late_insert.specs.declared.directory.Leaf.{Leaf}
+use Rattle.late_insert.specs.{Leaf}
 use Rattle.late_insert.proofs.directory.Directory.stair.Goals as goal
 
 pub returns : goal.returns

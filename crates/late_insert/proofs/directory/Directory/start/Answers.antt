@@ -1,5 +1,5 @@
 use Rattle.std.proofs.Common.{ap}
-use Rattle.late_insert.specs.declared.directory.Leaf.{Leaf}
+use Rattle.late_insert.specs.{Leaf}
 use Rattle.late_insert.proofs.directory.Directory.start.Goals as goal
 
 pub returns : goal.returns

@@ -3,8 +3,7 @@ use Rattle.std.specs.Prelude.{FitsSigned}
 use Rattle.std.specs.Int.{w128}
 use Rattle.std.proofs.lemmas.Int.{to_z-of_z}
 use Rattle.std.proofs.lemmas.List.{get_or_default, get_or-map, length-map}
-use Rattle.late_insert.specs.declared.directory.Leaf.{Leaf}
-use Rattle.late_insert.specs.Moves.{Listed, AreOrdered, no_leaf, picked, placed_pages, rewritten}
+use Rattle.late_insert.specs.{Leaf, Listed, AreOrdered, no_leaf, picked, placed_pages, rewritten}
 use Rattle.late_insert.proofs.Listing.{number_there, leaf_there, even_length, has_number, number_read, number_within, placed_pages-set, picked-set}
 use Rattle.late_insert.proofs.directory.Directory.write.Goals as goal
 

@@ -2,7 +2,7 @@ use Rattle.std.proofs.Common.{true, false, sym, ap, ◌∙◌, rules, arith, len
 use Rattle.std.specs.Prelude.{FitsSigned}
 use Rattle.std.specs.Int.{w128}
 use Rattle.std.proofs.lemmas.Int.{to_z-of_z}
-use Rattle.trend_model.specs.Windows.{area}
+use Rattle.trend_model.specs.{area}
 use Rattle.late_insert.proofs.Summing.{points_in, length-points_in, points_range, all_range}
 use Rattle.late_insert.proofs.Areas.{area_fits}
 use Rattle.late_insert.proofs.walk.Run.area.Goals as goal

@@ -1,7 +1,7 @@
 use Rattle.std.proofs.Common.{◌≡◌, ◌-◌, take, drop, sym, ap, ◌∙◌, rules, arith}
 use Rattle.std.specs.Int.{w64}
 use Rattle.std.proofs.lemmas.Int.{to_z-of_z}
-use Rattle.late_insert.specs.Totals.{least_of, greatest_of}
+use Rattle.late_insert.specs.{least_of, greatest_of}
 use Rattle.late_insert.proofs.Summing.{points_in, all_range}
 use Rattle.late_insert.proofs.walk.Run.extreme.Goals as goal
 use Rattle.late_insert.proofs.walk.Run.extreme.Goals.{Else-self}

@@ -1,5 +1,5 @@
 use Rattle.std.proofs.Common.{◌≤◌, ◌-◌, Some, sym, ap, ◌∙◌, arith}
-use Rattle.trend_model.specs.Parts.{last_point}
+use Rattle.trend_model.specs.{last_point}
 use Rattle.late_insert.proofs.Summing.{points_in, length-points_in, get_or-points_in}
 use Rattle.late_insert.proofs.Ranges.{range_last}
 use Rattle.late_insert.proofs.walk.Run.last.Goals as goal

@@ -1,7 +1,7 @@
 use Rattle.std.proofs.Common.{◌≡◌, ◌<◌, ℕ, List, [], true, false, length, sym, subst, arith}
 use Rattle.std.proofs.lemmas.Bool.Decides.{nat_tests}
 use Rattle.std.proofs.lemmas.List.{nil_from_length}
-use Rattle.pack_command.specs.Coming.{HasCome, IsNextRow}
+use Rattle.pack_command.specs.{HasCome, IsNextRow}
 use Rattle.pack_command.proofs.Coming.{come_end, next_last}
 use Rattle.pack_command.proofs.intake.Intake.take_last.Goals as goal
 

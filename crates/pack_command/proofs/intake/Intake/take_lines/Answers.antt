@@ -1,5 +1,5 @@
 use Rattle.std.proofs.Common.{ℕ, List, true, subst, arith}
-use Rattle.pack_command.specs.Coming.{HasCome}
+use Rattle.pack_command.specs.{HasCome}
 use Rattle.pack_command.proofs.Coming.{end_further, end_more, next_fed}
 use Rattle.pack_command.proofs.intake.Intake.take_lines.Goals as goal
 

@@ -1,6 +1,6 @@
 use Rattle.std.proofs.Common.{◌≡◌, ◌-◌, ◌≤◌, ℕ, List, true, length, drop}
-use Rattle.trend_model.specs.History.{Origin}
-use Rattle.pack_command.specs.Coming.{HasCome, IsReady}
+use Rattle.trend_model.specs.{Origin}
+use Rattle.pack_command.specs.{HasCome, IsReady}
 use Rattle.pack_command.proofs.intake.Intake.take_lines.Given as goal
 
 abbrev pub invariant-loop-read : goal.invariant-loop-read

@@ -1,10 +1,8 @@
 use Rattle.std.proofs.Common.{◌≡◌, ◌+◌, ◌-◌, ℕ, List, true, min, Ok, subst, sym, arith}
 use Rattle.std.proofs.lemmas.Bool.{false≢true}
 use Rattle.tag_core.specs.Core.{Core}
-use Rattle.trend_model.specs.History.{Origin}
-use Rattle.pack_command.specs.Coming.{HasCome, IsReady}
-use Rattle.pack_command.specs.declared.intake.Intake.{Intake}
-use Rattle.pack_command.specs.Pack.{most_rows}
+use Rattle.trend_model.specs.{Origin}
+use Rattle.pack_command.specs.{HasCome, IsReady, Intake, most_rows}
 use Rattle.pack_command.specs.declared.intake.Standing.TheVariants.{Taken}
 use Rattle.pack_command.proofs.Coming.{end_more, next_fed, ready_more, row_here, row_taken}
 use Rattle.pack_command.proofs.intake.Intake.take_plain_lines.Goals as goal

@@ -1,7 +1,6 @@
 use Rattle.std.proofs.Common.{◌≡◌, ◌-◌, ◌≤◌, ℕ, List, true, length, drop}
-use Rattle.trend_model.specs.History.{Origin}
-use Rattle.pack_command.specs.Coming.{HasCome, IsReady}
-use Rattle.pack_command.specs.Pack.{most_rows}
+use Rattle.trend_model.specs.{Origin}
+use Rattle.pack_command.specs.{HasCome, IsReady, most_rows}
 use Rattle.pack_command.specs.declared.intake.Standing.TheVariants.{Taken}
 use Rattle.pack_command.proofs.intake.Intake.take_plain_lines.Given as goal
 

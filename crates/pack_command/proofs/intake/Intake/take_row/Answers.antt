@@ -1,5 +1,5 @@
 use Rattle.std.proofs.Common.{ℕ, sym, subst}
-use Rattle.pack_command.specs.Coming.{HasCome}
+use Rattle.pack_command.specs.{HasCome}
 use Rattle.pack_command.proofs.intake.Intake.take_row.Goals as goal
 
 pub returns-clause-come : goal.returns-clause-come

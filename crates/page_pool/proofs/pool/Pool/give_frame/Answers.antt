@@ -1,5 +1,5 @@
 use Rattle.std.proofs.Common.{false, ap, ◌∙◌, arith}
-use Rattle.page_pool.specs.Pool.{spare_of}
+use Rattle.page_pool.specs.{spare_of}
 use Rattle.page_pool.proofs.Stored.{held_there, frame_within, has_room, stored-given, pool-set, spare-given}
 use Rattle.page_pool.proofs.pool.Pool.give_frame.Goals as goal
 

@@ -1,9 +1,7 @@
 use Rattle.std.proofs.Common.{◌≡◌, ◌<◌, ◌∙◌, ℕ, List, map, slice_index, length, ap, sym, subst, FitsSigned, w32, to_z-of_z}
 use Rattle.std.proofs.lemmas.List.{get_or-map, length-map}
 use Rattle.jiff.specs.Words.{plain_zone}
-use Rattle.shift_calendar.specs.declared.start.Start.{Start}
-use Rattle.shift_calendar.specs.Calendars.{CalendarParts}
-use Rattle.shift_calendar.specs.Instants.{IsInstant}
+use Rattle.shift_calendar.specs.{Start, CalendarParts, IsInstant}
 use Rattle.shift_calendar.proofs.calendar.Calendar.start_instant.Goals as goal
 
 -- The minute of the start at a place is the one that a clause sees there.

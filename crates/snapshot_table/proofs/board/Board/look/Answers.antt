@@ -4,13 +4,11 @@ use Rattle.std.proofs.Math.Seq.{map-set_same}
 use Rattle.crossbeam_utils.specs.Seq.{cell_view}
 use Rattle.crossbeam_utils.specs.declared.atomic.seq_cell.Doing.{Doing}
 use Rattle.atomic_table.specs.declared.shared.Seat.{Seat}
-use Rattle.snapshot_table.specs.declared.words.Shown.{Shown}
+use Rattle.snapshot_table.specs.{Shown, View, Looking}
 use Rattle.atomic_table.specs.Seated.{TableId}
-use Rattle.trend_num.specs.declared.archive.Snap.{Snap}
-use Rattle.snapshot_table.specs.declared.rule.View.{View}
+use Rattle.trend_num.specs.{Snap}
 use Rattle.snapshot_table.proofs.Steps.{look_turns}
 use Rattle.snapshot_table.proofs.Places.{seen_at, stands_at}
-use Rattle.snapshot_table.specs.Boards.{Looking}
 use Rattle.snapshot_table.proofs.board.Board.look.Goals as goal
 
 -- a pass of a board

@@ -1,13 +1,9 @@
 use Rattle.std.proofs.Common.{◌≡◌, ◌∙◌, ◌<◌, ◌+◌, ◌++◌, [], ◌∷◌, List, ap, subst, get_or, map, take, length, arith, replicate}
-use Rattle.std.proofs.lemmas.List.{length-map}
-use Rattle.std.proofs.lemmas.List.{set-get_or, map_push, replicate_more}
+use Rattle.std.proofs.lemmas.List.{length-map, set-get_or, map_push, replicate_more}
 use Rattle.crossbeam_utils.specs.Seq.{cell_view}
 use Rattle.crossbeam_utils.specs.declared.atomic.seq_cell.Doing.{Doing}
 use Rattle.atomic_table.specs.declared.shared.Seat.{Seat}
-use Rattle.snapshot_table.specs.declared.rule.View.{View}
-use Rattle.snapshot_table.specs.declared.words.Shown.{Shown}
-use Rattle.snapshot_table.specs.Snaps.{nothing}
-use Rattle.snapshot_table.specs.Boards.{Posting, new_posters}
+use Rattle.snapshot_table.specs.{View, Shown, nothing, Posting, new_posters}
 use Rattle.snapshot_table.proofs.Places.{posts_at, poster_at, take_at, length-new_posters}
 use Rattle.snapshot_table.proofs.board.Board.looker.Goals as goal
 

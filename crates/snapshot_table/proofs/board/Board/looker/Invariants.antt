@@ -1,8 +1,6 @@
 use Rattle.std.proofs.Common.{◌≡◌, map, take, replicate}
 use Rattle.crossbeam_utils.specs.Seq.{cell_view}
-use Rattle.snapshot_table.specs.declared.rule.View.{View}
-use Rattle.snapshot_table.specs.declared.words.Shown.{Shown}
-use Rattle.snapshot_table.specs.Snaps.{nothing}
+use Rattle.snapshot_table.specs.{View, Shown, nothing}
 use Rattle.snapshot_table.proofs.board.Board.looker.Given as goal
 
 abbrev pub invariant-loop-i : goal.invariant-loop-i

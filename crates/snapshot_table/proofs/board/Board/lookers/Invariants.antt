@@ -1,5 +1,5 @@
 use Rattle.std.proofs.Common.{◌≡◌, replicate}
-use Rattle.snapshot_table.specs.Boards.{new_looker}
+use Rattle.snapshot_table.specs.{new_looker}
 use Rattle.snapshot_table.proofs.board.Board.lookers.Given as goal
 
 abbrev pub invariant-loop : goal.invariant-loop

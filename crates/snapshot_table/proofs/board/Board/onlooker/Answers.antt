@@ -2,7 +2,7 @@ use Rattle.std.proofs.Common.{rules, List, ◌≡◌, ◌∙◌, sym, ap, slice_
 use Rattle.atomic_table.specs.Seated.{TableId}
 use Rattle.snapshot_table.proofs.Steps.{forks}
 use Rattle.snapshot_table.proofs.Places.{seen_at}
-use Rattle.snapshot_table.specs.Boards.{Posting}
+use Rattle.snapshot_table.specs.{Posting}
 use Rattle.snapshot_table.proofs.board.Board.onlooker.Goals as goal
 
 pub split_pass-requires : goal.split_pass-requires

@@ -1,10 +1,9 @@
 use Rattle.std.proofs.Common.{rules, ap, sym, ◌≡◌, ◌≤◌, List, subst, slice_get, Some, arith}
 use Rattle.atomic_table.specs.Seated.{TableId}
-use Rattle.trend_num.specs.declared.archive.Snap.{Snap}
-use Rattle.snapshot_table.specs.declared.rule.View.{View}
+use Rattle.trend_num.specs.{Snap}
+use Rattle.snapshot_table.specs.{View, Posting}
 use Rattle.snapshot_table.proofs.Steps.{post_turns}
 use Rattle.snapshot_table.proofs.Places.{seen_at}
-use Rattle.snapshot_table.specs.Boards.{Posting}
 use Rattle.snapshot_table.proofs.board.Board.post.Goals as goal
 
 pub swap_as-requires : goal.swap_as-requires

@@ -1,15 +1,11 @@
 use Rattle.std.proofs.Common.{◌≡◌, ◌∙◌, List, [], ◌∷◌, ◌++◌, Option, ap, subst, arith}
 use Rattle.std.proofs.lemmas.List.{append-nil}
 use Rattle.std.specs.Prelude.{vec_capacity}
-use Rattle.trend_num.specs.declared.archive.Rec.{Rec}
-use Rattle.trend_num.specs.declared.point.Point.{Point}
-use Rattle.disk_model.specs.Moments.{LeftSince}
-use Rattle.interp_read.specs.Closing.{points_closed_by}
-use Rattle.interp_read.specs.Replies.{Answers}
-use Rattle.tag_cell.specs.declared.entry.Entry.{Entry}
+use Rattle.trend_num.specs.{Rec, Point}
+use Rattle.disk_model.specs.{LeftSince}
+use Rattle.interp_read.specs.{points_closed_by, Answers}
+use Rattle.tag_cell.specs.{Entry, taken, IsAnswer, shown_of}
 use Rattle.tag_cell.specs.declared.entry.Entry.TheVariants.{Ask}
-use Rattle.tag_cell.specs.Tapes.{taken}
-use Rattle.tag_cell.specs.Replays.{IsAnswer, shown_of}
 use Rattle.tag_cell.proofs.Tapes.{taken-append}
 use Rattle.tag_cell.proofs.Entries.{ask_replayed, waits_entry, kept_entry, safe_entry}
 use Rattle.tag_cell.proofs.Takes.{entry_in_step, entry_has_room}

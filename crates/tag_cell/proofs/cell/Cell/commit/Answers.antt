@@ -1,15 +1,9 @@
 use Rattle.std.proofs.Common.{◌≡◌, ◌∙◌, ℕ, ◌+◌, ◌-◌, ◌<◌, ◌≤◌, false, List, [], ◌∷◌, ◌++◌, length, take, drop, ap, sym, subst, refl, arith, length-drop}
 use Rattle.std.proofs.lemmas.List.{append-nil}
 use Rattle.std.specs.Prelude.{vec_capacity}
-use Rattle.disk_model.specs.Moments.{LeftSince}
-use Rattle.disk_model.specs.Traces.{FitsName, moment}
-use Rattle.tag_cell.specs.Devices.{device_name}
-use Rattle.tag_cell.specs.declared.entry.Entry.{Entry}
+use Rattle.disk_model.specs.{LeftSince, FitsName, moment}
+use Rattle.tag_cell.specs.{device_name, Entry, taken, last_records, IsSafe, count_written, IsTapeReplayed, IsCommitted, IsKept, ToldCell, Waits, takes_waiting}
 use Rattle.tag_cell.specs.declared.entry.Entry.TheVariants.{Commit}
-use Rattle.tag_cell.specs.Tapes.{taken, last_records}
-use Rattle.tag_cell.specs.Crashes.{IsSafe, count_written}
-use Rattle.tag_cell.specs.Replays.{IsTapeReplayed}
-use Rattle.tag_cell.specs.Told.{IsCommitted, IsKept, ToldCell, Waits, takes_waiting}
 use Rattle.tag_cell.proofs.Tapes.{taken-append}
 use Rattle.tag_cell.proofs.Takes.{entry_in_step, entry_has_room}
 use Rattle.tag_cell.proofs.Begun.{still_well}

@@ -1,15 +1,11 @@
 use Rattle.std.proofs.Common.{◌≡◌, ◌∙◌, ℕ, ◌-◌, ◌≤◌, List, [], ◌∷◌, ◌++◌, length, take, drop, Result, Ok, Err, ap, arith, length-append, length-take, length-drop}
 use Rattle.std.proofs.lemmas.List.{append-nil}
 use Rattle.std.specs.Prelude.{vec_capacity, IsErrAnd}
-use Rattle.trend_num.specs.declared.archive.Rec.{Rec}
-use Rattle.disk_model.specs.Moments.{LeftSince}
-use Rattle.tag_cell.specs.declared.entry.Entry.{Entry}
+use Rattle.trend_num.specs.{Rec}
+use Rattle.disk_model.specs.{LeftSince}
+use Rattle.tag_cell.specs.{Entry, Pulled, PullNo, taken, done, cell_walked, cell_start, state_after, ToldCell, durable_records}
 use Rattle.tag_cell.specs.declared.entry.Entry.TheVariants.{Pull}
-use Rattle.tag_cell.specs.declared.entry.Pulled.{Pulled}
-use Rattle.tag_cell.specs.declared.entry.PullNo.{PullNo}
 use Rattle.tag_cell.specs.declared.entry.PullNo.TheVariants.{Ahead, WantOfMemory}
-use Rattle.tag_cell.specs.Tapes.{taken, done, cell_walked, cell_start, state_after}
-use Rattle.tag_cell.specs.Told.{ToldCell, durable_records}
 use Rattle.tag_cell.proofs.Tapes.{taken-append}
 use Rattle.tag_cell.proofs.Entries.{pull_replayed, waits_entry, kept_entry, safe_entry}
 use Rattle.tag_cell.proofs.Takes.{entry_in_step, entry_has_room}

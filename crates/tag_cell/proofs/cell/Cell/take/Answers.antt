@@ -1,15 +1,13 @@
 use Rattle.std.proofs.Common.{◌≡◌, ◌∙◌, ℕ, ◌+◌, ◌≤◌, Bool, [], ◌∷◌, ◌++◌, length, ap, sym, subst, refl, arith}
 use Rattle.std.specs.Prelude.{vec_capacity}
 use Rattle.std.specs.Arc.{arc_value}
-use Rattle.trend_num.specs.Limits.{most_records}
-use Rattle.trend_model.specs.History.{Raw}
+use Rattle.trend_num.specs.{most_records}
+use Rattle.trend_model.specs.{Raw}
 use Rattle.trend_model.specs.State.{after}
-use Rattle.disk_model.specs.Moments.{LeftSince}
+use Rattle.disk_model.specs.{LeftSince}
 use Rattle.crash_recovery.proofs.Takes.{few_enough}
-use Rattle.tag_cell.specs.declared.entry.Entry.{Entry}
+use Rattle.tag_cell.specs.{Entry, taken, HasRoomForTakes}
 use Rattle.tag_cell.specs.declared.entry.Entry.TheVariants.{Take}
-use Rattle.tag_cell.specs.Tapes.{taken}
-use Rattle.tag_cell.specs.Told.{HasRoomForTakes}
 use Rattle.tag_cell.proofs.Entries.{take_replayed, waits_entry, kept_entry, safe_entry}
 use Rattle.tag_cell.proofs.Takes.{taken-take, take_in_step, take_has_room, take_posted}
 use Rattle.tag_cell.proofs.cell.Cell.take.Goals as goal

@@ -1,5 +1,5 @@
 use Rattle.std.proofs.Common.{◌∷◌}
-use Rattle.trend_model.specs.History.{Tune, Tuned}
+use Rattle.trend_model.specs.{Tune, Tuned}
 use Rattle.trend_model.specs.State.{pushed_out}
 use Rattle.trend_model.proofs.RulesLaw.{turned_few}
 use Rattle.tag_core.proofs.Taking.{adds_two, after_both}

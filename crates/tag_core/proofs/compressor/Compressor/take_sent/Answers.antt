@@ -1,5 +1,5 @@
 use Rattle.std.proofs.Common.{◌≡◌, ◌∷◌, rules}
-use Rattle.trend_model.specs.History.{InOrder}
+use Rattle.trend_model.specs.{InOrder}
 use Rattle.trend_model.specs.State.{gained, pushed_out}
 use Rattle.trend_model.proofs.RulesLaw.{gained_few}
 use Rattle.tag_core.proofs.Taking.{adds_two, after_both}

@@ -1,7 +1,6 @@
 use Rattle.std.proofs.Common.{subst}
-use Rattle.trend_num.specs.Ranges.{InRange}
-use Rattle.trend_model.specs.Contents.{IsNotBefore, listed}
-use Rattle.trend_model.specs.Lists.{IfThere}
+use Rattle.trend_num.specs.{InRange}
+use Rattle.trend_model.specs.{IsNotBefore, listed, IfThere}
 use Rattle.tag_core.specs.Core.{Core}
 use Rattle.trend_model.proofs.Held.{held_last}
 use Rattle.tag_core.proofs.tag.TagCore.held.Goals as goal

@@ -1,5 +1,5 @@
 use Rattle.std.proofs.Common.{◌+◌, ◌≤◌, ◌≡◌, length, sym, ap, ◌∙◌, subst, arith}
-use Rattle.trend_model.specs.History.{Tune}
+use Rattle.trend_model.specs.{Tune}
 use Rattle.trend_model.specs.State.{Stands}
 use Rattle.tag_core.specs.Core.{Core}
 use Rattle.tag_core.proofs.Taking.{core_turned, stands_turned, tune_turns}

@@ -1,7 +1,6 @@
 use Rattle.std.proofs.Common.{◌+◌, ◌≤◌, ◌≡◌, length, sym, ap, ◌∙◌, subst, arith}
-use Rattle.trend_model.specs.History.{Raw}
-use Rattle.trend_model.specs.State.{Stands}
-use Rattle.trend_model.specs.State.{gained}
+use Rattle.trend_model.specs.{Raw}
+use Rattle.trend_model.specs.State.{Stands, gained}
 use Rattle.trend_model.proofs.RulesLaw.{gained_few}
 use Rattle.tag_core.specs.Compressed.{archive_with}
 use Rattle.tag_core.specs.Core.{Core}

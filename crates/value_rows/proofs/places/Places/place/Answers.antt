@@ -1,5 +1,5 @@
 use Rattle.std.proofs.Common.{◌≡◌, ◌<◌, length, get_or, [], rules, subst, Some, List, ℕ}
-use Rattle.value_rows.specs.Raw.{first_place_of}
+use Rattle.value_rows.specs.{first_place_of}
 use Rattle.value_rows.proofs.NameMap.{hint_holds}
 use Rattle.value_rows.proofs.places.Places.place.Goals as goal
 

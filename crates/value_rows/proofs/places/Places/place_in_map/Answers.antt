@@ -1,5 +1,5 @@
 use Rattle.std.proofs.Common.{◌≡◌, rules}
-use Rattle.value_rows.specs.Raw.{first_place_of}
+use Rattle.value_rows.specs.{first_place_of}
 use Rattle.value_rows.proofs.NameMap.{place_named, place_within}
 use Rattle.value_rows.proofs.places.Places.place_in_map.Goals as goal
 
