@@ -123,7 +123,7 @@ impl<R: Files<File = File> + AllocGlobal> DirStore<R> {
         let own = String::from_str(self.folder.rt.alloc(), name)?;
         let file = self.folder.open(name, file_of(&self.places, name))?;
         match take(&mut self.places, name) {
-            Some((log, bytes)) => Ok(DirDisk::new(own, Host { file, log }, bytes)),
+            Some((log, bytes)) => Ok(DirDisk::new(own, Host::new(file, log), bytes)),
             None => Err(ErrorKind::NotFound.into()),
         }
     }
@@ -197,7 +197,7 @@ impl<R: Files<File = File> + AllocGlobal> Store for DirStore<R> {
             mirror,
             counts,
         } = dev;
-        let Host { file, log } = calls;
+        let Host { file, log, .. } = calls;
         drop(file);
         if counts.is_stopped {
             self.folder.settle(&own, &mirror, counts.is_unsynced);

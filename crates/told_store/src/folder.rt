@@ -54,12 +54,18 @@ fn again<T: Drop, Call: Fn() -> io::Result<T>>(call: Call) -> io::Result<T>
 pub(crate) struct Folder<R> {
     pub(crate) rt: R,
     locked: Option<File>,
+    // Whether its own name was synced.
+    is_named: bool,
 }
 
 impl<R: Files<File = File> + AllocGlobal> Folder<R> {
     /// The folder, which is not locked yet.
     pub(crate) fn new(rt: R) -> Folder<R> {
-        Folder { rt, locked: None }
+        Folder {
+            rt,
+            locked: None,
+            is_named: false,
+        }
     }
 
     /// Locks the folder if there is one, and returns whether there is. It fails if another process has the folder.
@@ -104,17 +110,25 @@ impl<R: Files<File = File> + AllocGlobal> Folder<R> {
 
     /// Opens the file of a device that was read, or makes the file of one that had none. It fails if it is no longer the
     /// file that was read, or no longer of that length, or if a file is there that was not read.
-    pub(crate) fn open(&self, name: &str, read: Option<FileId>) -> io::Result<File> {
+    pub(crate) fn open(&mut self, name: &str, read: Option<FileId>) -> io::Result<File> {
         let file = match read {
             Some(id) => self.reopen(name, id)?,
             None => File::create_new(&self.rt, self.path(name, "")?.as_str())?,
         };
         if read.is_none_or(|id| id.len == 0) {
-            file.sync_all()?;
             self.sync_names()?;
-            File::open(&self.rt, ".")?.sync_all()?;
+            self.sync_own_name()?;
         }
         Ok(file)
+    }
+
+    // Syncs the working folder once, which brings the folder's own name to the disk.
+    fn sync_own_name(&mut self) -> io::Result<()> {
+        if !self.is_named {
+            File::open(&self.rt, ".")?.sync_all()?;
+            self.is_named = true;
+        }
+        Ok(())
     }
 
     /// Writes the file of a device anew after a call on it has failed. If that fails too, and a sync was among the
