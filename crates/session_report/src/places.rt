@@ -28,6 +28,10 @@ pub(crate) fn places_of(
     ensures shape { IfOk result (λ table. HasPlaceOfEach (lists_of readers.now) (lists_of table.items)) }
 {
     let mut table = empty_table(alloc, readers)?;
+    // Without readers no tape need be read.
+    if readers.is_empty() {
+        return Ok(table);
+    }
     fill_tags(&mut table, readers, tags);
     fill_groups(&mut table, readers, groups);
     Ok(table)
