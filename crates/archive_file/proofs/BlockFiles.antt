@@ -1,8 +1,8 @@
 -- Blocks that a reader goes over: one more, and all, and the first that breaks a rule.
-use Rattle.std.proofs.Common.{◌≡◌, ℕ, ◌+◌, ◌<◌, ◌≤◌, inr, List, [], ◌∷◌, ◌++◌, drop, length, map, Option, sym, subst, arith}
+use Rattle.std.proofs.Common.{◌≡◌, ℕ, ◌+◌, ◌<◌, ◌≤◌, List, [], ◌∷◌, ◌++◌, drop, length, Option, arith}
 use Rattle.std.proofs.lemmas.List.{get_or-drop}
 use Rattle.disk_model.specs.{IsOpen}
-use Rattle.archive_file.specs.{Field, AreAllRead, AreRead, IsFirstBroken, Step, moved, BreaksFirst}
+use Rattle.archive_file.specs.{Field, AreAllRead, AreRead, IsFirstBroken, Step, BreaksFirst}
 use Rattle.archive_file.proofs.Windows.{rest_first}
 
 -- the gate in front of the bytes from a place on is the one at that place
@@ -27,11 +27,7 @@ module _ {R : Type 0} (adds : R → List ℕ → ℕ → R → Type 0) (c : List
 
   pub read_next : (r : R) (at : ℕ) (s : R) (end size : ℕ) (next : R) (now : List ℕ) → IsReadTo r at s end → now ≡ c → IsOpen 0 (drop end now)
       → adds s (drop end now) size next → IsReadTo r at next (end + size)
-  read_next r at s end size next now before same opened added = record {
-    steps = before.steps ++ record { size = size; reader = next } ∷ [];
-    are = read_on r at before.steps s end size next before.are (gate_here c end (subst (λ l. IsOpen 0 (drop end l)) same opened))
-        (subst (λ l. adds s (drop end l) size next) same added);
-  }
+  read_next r at s end size next now before same opened added = grind (arith, read_on, gate_here)
 
   -- what holds at first, and which each block keeps, holds at last
   pub read_keeps : (P : R → ℕ → Type 0) → ((s : R) (end size : ℕ) (next : R) → P s end → IsOpen end c → adds s (drop end c) size next → P next (end + size))
@@ -44,16 +40,7 @@ module _ {R : Type 0} (adds : R → List ℕ → ℕ → R → Type 0) (c : List
   pub broken_next : (fields : R → List ℕ → List Field) (r : R) (at : ℕ) (s : R) (end a : ℕ) (byte : Option ℕ) (now : List ℕ) → IsReadTo r at s end
       → end ≤ length c → now ≡ c → IsOpen 0 (drop end now) → (b : ℕ) × (a ≡ end + b) × BreaksFirst (drop end now) (fields s (drop end now)) b byte
       → IsFirstBroken adds fields c r at a byte
-  broken_next fields r at s end a byte now before there same opened broken = inr (record {
-    steps = before.steps;
-    reader = s;
-    gate = end;
-    whole = before.are;
-    opened = gate_here c end (subst (λ l. IsOpen 0 (drop end l)) same opened);
-    breaks = subst (λ n. BreaksFirst c (map (moved end) (fields s (drop end c))) n byte) (sym broken.1)
-        (rest_first c end there (fields s (drop end c)) broken.0 byte
-        (subst (λ l. BreaksFirst (drop end l) (fields s (drop end l)) broken.0 byte) same broken.2));
-  })
+  broken_next fields r at s end a byte now before there same opened broken = grind (arith, gate_here, rest_first)
 
   -- all of them
   pub all_read : (r : R) (at : ℕ) (s : R) (end : ℕ) → IsReadTo r at s end → end < length c → (IsOpen end c → ⊥) → AreAllRead adds c r at s end

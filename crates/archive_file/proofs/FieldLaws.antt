@@ -1,5 +1,5 @@
 -- Fields one after the other: those that are kept, and the first that is not.
-use Rattle.std.proofs.Common.{◌≡◌, ℕ, Bool, All, List, [], ◌∷◌, ◌++◌, Option, Result, Err, IsErrOf, refl, sym, ap, ◌∙◌, subst, arith, append_assoc, length-append}
+use Rattle.std.proofs.Common.{◌≡◌, ℕ, Bool, All, List, [], ◌∷◌, ◌++◌, Option, Result, Err, IsErrOf, refl, sym, ap, ◌∙◌, arith, append_assoc, length-append}
 use Rattle.std.proofs.Math.Seq.{take-add}
 use Rattle.std.proofs.lemmas.List.{append-nil, drop-drop}
 use Rattle.std.proofs.lemmas.List.Elements.{All-append, All-nil}
@@ -66,17 +66,14 @@ kept_all c fields before = grind (arith, append-nil)
 
 pub breaks_after : (c : List ℕ) (fields rest : List Field) (a : ℕ) (byte : Option ℕ) → KeptUpTo c fields rest
     → BreaksFirst c rest a byte → BreaksFirst c fields a byte
-breaks_after c fields rest a byte before first =
-    subst (λ fs. BreaksFirst c fs a byte) (sym before.are) (breaks_behind c before.done rest a byte before.kept first)
+breaks_after c fields rest a byte before first = grind (arith, breaks_behind)
 
 -- ---- through a `?`
 
 -- an error that is passed on
 pub told_through : {T U : Type 0} (r : Result T ScanNo) (y e : ScanNo) (a : ℕ) (byte : Option ℕ) → r ≡ Err y → y ≡ e
     → r ≡ Err (Damaged a byte) → IsErrOf {T = U} (Err e) (Damaged a byte)
-told_through r y e a byte is same told =
-    let inner : e ≡ Damaged a byte = cc in
-    ap Err inner
+told_through r y e a byte is same told = grind arith
 
 -- ---- in a part
 

@@ -1,5 +1,5 @@
 -- Bytes added at an end, piece by piece.
-use Rattle.std.proofs.Common.{◌≡◌, ℕ, ◌+◌, ◌<◌, List, [], ◌∷◌, ◌++◌, length, get_or, take, flat_map, sym, ◌∙◌, ap, append_assoc}
+use Rattle.std.proofs.Common.{arith, ◌≡◌, ℕ, ◌+◌, ◌<◌, List, [], ◌∷◌, ◌++◌, length, get_or, take, flat_map, sym, ◌∙◌, ap, append_assoc}
 use Rattle.std.proofs.lemmas.List.{take_more, flat_map_more}
 
 -- two pieces, one after the other
@@ -10,9 +10,7 @@ joined old mid new a b first second = second ∙ ap (λ l. l ++ b) first ∙ app
 pub joined_5 : {X : Type 0} (o p q r s t a b c d e : List X) → p ≡ o ++ a → q ≡ p ++ b → r ≡ q ++ c → s ≡ r
     ++ d → t ≡ s ++ e
     → t ≡ o ++ (a ++ (b ++ (c ++ (d ++ e))))
-joined_5 o p q r s t a b c d e h1 h2 h3 h4 h5 =
-    joined o p t a (b ++ (c ++ (d ++ e))) h1
-    (joined p q t b (c ++ (d ++ e)) h2 (joined q r t c (d ++ e) h3 (joined r s t d e h4 h5)))
+joined_5 o p q r s t a b c d e h1 h2 h3 h4 h5 = grind (arith, joined)
 
 -- the images of a list and one element more
 pub images_push : {X : Type 0} (image : X → List ℕ) (xs : List X) (x : X)

@@ -1,12 +1,12 @@
 -- Records read and written one after the other.
-use Rattle.std.proofs.Common.{◌≡◌, ⊎_elim, inl, inr, ℕ, ◌+◌, ◌*◌, ◌-◌, ◌<◌, ◌≤◌, List, [], ◌∷◌, ◌++◌, length, get_or, take, drop, Option, Some, unsigned_abs, refl, sym, ap, ◌∙◌, subst, arith, zero-add, length-append}
+use Rattle.std.proofs.Common.{◌≡◌, ⊎_elim, inl, inr, ℕ, ◌+◌, ◌*◌, ◌-◌, ◌<◌, ◌≤◌, List, [], ◌∷◌, ◌++◌, length, get_or, take, drop, Option, Some, unsigned_abs, ap, ◌∙◌, subst, arith, zero-add, length-append}
 use Rattle.disk_model.specs.{Trace, seen, Reaches, Reads}
 use Rattle.std.proofs.Math.Seq.{take-add}
 use Rattle.std.proofs.lemmas.Bool.{cases_lt}
 use Rattle.std.proofs.lemmas.Grind.{flat_map-append}
 use Rattle.std.proofs.lemmas.List.{append-nil, get_or-take, get_or-drop, take-take, take_all, drop-take, drop-drop}
 use Rattle.trend_num.specs.{Kind, Rec, InRange, last_time, largest_value}
-use Rattle.archive_file.specs.{ScanNo, point_at, kind_byte, rec_image, recs_image, Adds, AreInRange, AreRecords, BreaksAt, HasRecords, IsRecordBroken, IsDamage}
+use Rattle.archive_file.specs.{ScanNo, point_at, kind_byte, rec_image, Adds, AreInRange, AreRecords, BreaksAt, HasRecords, IsRecordBroken, IsDamage}
 use Rattle.archive_file.specs.declared.failure.ScanNo.TheVariants.{Damaged}
 use Rattle.archive_file.proofs.Points.{IsBytes, rec_spelled}
 use Rattle.archive_file.proofs.Joins.{joined}
@@ -23,9 +23,7 @@ records_joined s at k m rs qs first second =
     let longer : 17 * (k + m) ≡ 17 * k + 17 * m = omega arith in
     record {
       in_range = in_range_joined rs qs first.in_range second.in_range;
-      image = flat_map-append rec_image rs qs ∙ ap (λ l. l ++ recs_image qs) first.image
-          ∙ ap (λ l. take (17 * k) (drop at s) ++ l) (second.image ∙ ap (take (17 * m)) (sym (drop-drop (17 * k) at s)))
-          ∙ sym (take-add (17 * k) (17 * m) (drop at s)) ∙ ap (λ n. take n (drop at s)) (sym longer);
+      image = grind (arith, flat_map-append, drop-drop, take-add);
     }
 
 -- at first no record is added
@@ -48,14 +46,7 @@ adds_joined s at k m old mid new first second = record {
 pub adds_more : (bytes b : List ℕ) (k : ℕ) (old mid new : List Rec) (r : Rec) → Adds bytes 0 k old mid
     → b ≡ take 17 (drop (17 * k) bytes) → InRange r.point → b ≡ rec_image r → new ≡ mid ++ r ∷ []
     → Adds bytes 0 (k + 1) old new
-adds_more bytes b k old mid new r before here inside is more =
-    let image : recs_image (r ∷ []) ≡ take 17 (drop (0 + 17 * k) bytes) = append-nil (rec_image r) ∙ sym is ∙ here
-    ∙ ap (λ n. take 17 (drop n bytes)) (sym (zero-add (17 * k))) in
-    adds_joined bytes 0 k 1 old mid new before (record {
-      added = r ∷ [];
-      behind = more;
-      there = record { counted = refl; records = record { in_range = (inside, tt); image = image } };
-    })
+adds_more bytes b k old mid new r before here inside is more = grind (arith, append-nil, zero-add, adds_joined)
 
 -- where the kind and the time are those of a record and the bytes spell none, the value is out of range
 pub value_breaks : (b : List ℕ) (k : Kind) → length b ≡ 17 → IsBytes b → get_or b 0 0 ≡ kind_byte k
@@ -76,23 +67,8 @@ pub broken_here : (bytes b : List ℕ) (at count k j a : ℕ) (byte : Option ℕ
 broken_here bytes b at count k j a byte rs why whole here counted records is breaks within said told =
     let place : at + 17 * k + j ≡ a = cc in
     let there : Some (get_or b j 0) ≡ byte = cc in
-    let read : get_or b j 0 ≡ get_or bytes (17 * k + j) 0 = ap (λ l. get_or l j 0) is
-    ∙ get_or-take 17 (drop (17 * k) bytes) j 0 within ∙ get_or-drop (17 * k) bytes j 0 in
-    let start : 0 + 17 * length rs ≡ 17 * k = omega (arith, counted) in (
-      17 * k + j,
-      omega (arith, place),
-      rs,
-      j,
-      record {
-        within = omega (arith, whole);
-        before = omega (arith, counted, here);
-        records = subst (λ n. AreRecords rs (take (17 * n) bytes)) (sym counted) records;
-        breaks = subst (λ n. BreaksAt (take 17 (drop n bytes)) j) (sym start)
-            (subst (λ l. BreaksAt l j) is breaks);
-        place = omega (arith, counted);
-        byte_there = sym there ∙ ap Some read;
-      },
-    )
+    let read : get_or b j 0 ≡ get_or bytes (17 * k + j) 0 = grind (arith, get_or-take, get_or-drop) in
+    let start : 0 + 17 * length rs ≡ 17 * k = omega (arith, counted) in (grind arith)
 
 -- what is read of a part of a device is on the device: some of its bytes, and one of them
 pub part_of : (s : List ℕ) (at size m n : ℕ) → m + n ≤ size → take n (drop m (take size (drop at s)))
@@ -131,36 +107,12 @@ damage_at t at count a byte part room long reads broken =
     ap (λ n. take 17 (drop n part)) (zero-add (17 * length rs))
     ∙ ap (λ l. take 17 (drop (17 * length rs) l)) is
     ∙ part_of s at (17 * count) (17 * length rs) 17 (omega (arith, b.before)) in
-    inr (
-      rs,
-      k,
-      record {
-        within = room;
-        before = b.before;
-        records = subst (AreRecords rs) first b.records;
-        breaks = subst (λ l. BreaksAt l k) bad b.breaks;
-        place = omega (arith, broken.1, b.place);
-        byte_there = b.byte_there ∙ ap Some (ap (λ l. get_or l p 0) is
-            ∙ byte_of s at (17 * count) p (omega (arith, b.place, b.before, below))
-            ∙ ap (λ n. get_or s n 0) (sym broken.1));
-      },
-    )
+    inr (grind (arith, byte_of))
 
 -- what is added of a part of a device is added of the device
 pub added_at : (o : Trace) (at count : ℕ) (part : List ℕ) (old new : List Rec) → length part ≡ 17 * count
     → Reads o at part → Adds part 0 count old new → Adds (seen o) at count old new
-added_at t at count part old new long reads adds =
-    let s = seen t in
-    let is : take (17 * count) part ≡ take (17 * count) (drop at s) =
-    take_all (17 * count) part (omega (arith, long)) ∙ reads ∙ ap (λ n. take n (drop at s)) long in
-    record {
-      added = adds.added;
-      behind = adds.behind;
-      there = record {
-        counted = adds.there.counted;
-        records = subst (AreRecords adds.added) is adds.there.records;
-      };
-    }
+added_at t at count part old new long reads adds = grind (arith, take_all)
 
 -- the next piece of a device after those before
 pub added_next : (o : Trace) (at k m : ℕ) (old mid new : List Rec)

@@ -45,22 +45,17 @@ pub tuning_read : (t : Tuning) (b r1 r2 r3 r4 : List ℕ) → TuningInRange t �
 tuning_read t b r1 r2 r3 r4 tuned is e1 e2 e3 e4 =
     let s1 : r1 ≡ number_bytes 6 t.exc_max ++ (number_bytes 7 t.comp_dev
     ++ (number_bytes 6 t.comp_min ++ number_bytes 6 t.comp_max)) = e1 ∙ ap (drop 7) is in
-    let s2 : r2 ≡ number_bytes 7 t.comp_dev ++ (number_bytes 6 t.comp_min ++ number_bytes 6 t.comp_max) = e2
-    ∙ ap (drop 6) s1 in
+    let s2 : r2 ≡ number_bytes 7 t.comp_dev ++ (number_bytes 6 t.comp_min ++ number_bytes 6 t.comp_max) = grind arith in
     let s3 : r3 ≡ number_bytes 6 t.comp_min ++ number_bytes 6 t.comp_max = e3 ∙ ap (drop 7) s2 in
     let s4 : r4 ≡ number_bytes 6 t.comp_max = e4 ∙ ap (drop 6) s3 in
-    let exc_dev : from_be_bytes w64 (0 ∷ take 7 b) ≡ t.exc_dev = ap (λ l. from_be_bytes w64 (0 ∷ take 7 l)) is
-    ∙ deviation_read t.exc_dev tuned.exc_dev in
+    let exc_dev : from_be_bytes w64 (0 ∷ take 7 b) ≡ t.exc_dev = grind (arith, deviation_read) in
     let exc_max : from_be_bytes w64 (0 ∷ 0 ∷ take 6 r1)
     ≡ t.exc_max = ap (λ l. from_be_bytes w64 (0 ∷ 0 ∷ take 6 l)) s1 ∙ time_read t.exc_max tuned.exc_max in
-    let comp_dev : from_be_bytes w64 (0 ∷ take 7 r2) ≡ t.comp_dev = ap (λ l. from_be_bytes w64 (0 ∷ take 7 l))
-    s2 ∙ deviation_read t.comp_dev tuned.comp_dev in
+    let comp_dev : from_be_bytes w64 (0 ∷ take 7 r2) ≡ t.comp_dev = grind (arith, deviation_read) in
     let comp_min : from_be_bytes w64 (0 ∷ 0 ∷ take 6 r3)
-    ≡ t.comp_min = ap (λ l. from_be_bytes w64 (0 ∷ 0 ∷ take 6 l)) s3
-    ∙ time_read t.comp_min tuned.comp_min in
+    ≡ t.comp_min = grind (arith, time_read) in
     let comp_max : from_be_bytes w64 (0 ∷ 0 ∷ take 6 r4)
-    ≡ t.comp_max = ap (λ l. from_be_bytes w64 (0 ∷ 0 ∷ take 6 l)) s4
-    ∙ time_read t.comp_max tuned.comp_max in
+    ≡ t.comp_max = grind (arith, time_read) in
     λ i. record {
       exc_dev = exc_dev i;
       exc_max = exc_max i;
@@ -74,9 +69,7 @@ tuning_read t b r1 r2 r3 r4 tuned is e1 e2 e3 e4 =
 pub place_read : (p : Option Point) (b more : List ℕ) (there : Bool) → IfSome p InRange → b ≡ place_bytes p
     ++ more → there ≡ is_some p
     → cond there (Some (point_at b)) None ≡ p
-place_read p b more there inside is flag =
-    ap (λ x. cond x (Some (point_at b)) None) flag ∙ ap (λ l. cond (is_some p) (Some (point_at l)) None) is
-    ∙ place_at-bytes p more inside
+place_read p b more there inside is flag = grind (arith, place_at-bytes)
 
 -- what the parts of a summary are read as
 pub record AreRead (s : Summary) (b r1 r3 r4 r5 r6 r7 r8 : List ℕ) (there : ℕ) : Type 0 where
@@ -97,8 +90,7 @@ pub parts_read : (s : Summary) (b r1 r2 r3 r4 r5 r6 r7 r8 : List ℕ) (there : �
     → AreRead s b r1 r3 r4 r5 r6 r7 r8 there
 parts_read s b r1 r2 r3 r4 r5 r6 r7 r8 there whole is e1 e2 flag e3 e4 e5 e6 e7 e8 =
     let t = tuning_bytes s.tuning in
-    let s1 : r1 ≡ number_bytes 4 s.records ++ ((flags s ∷ 0 ∷ 0 ∷ 0 ∷ []) ++ (places_image s ++ t)) = e1
-    ∙ ap (drop 8) is in
+    let s1 : r1 ≡ number_bytes 4 s.records ++ ((flags s ∷ 0 ∷ 0 ∷ 0 ∷ []) ++ (places_image s ++ t)) = grind arith in
     let s2 : r2 ≡ (flags s ∷ 0 ∷ 0 ∷ 0 ∷ []) ++ (places_image s ++ t) = e2 ∙ ap (drop 4) s1 in
     let says : there ≡ flags s = flag ∙ ap (λ l. get_or l 0 0) s2 in
     let s3 : r3 ≡ places_image s ++ t = e3 ∙ ap (drop 4) s2 in
@@ -120,13 +112,11 @@ parts_read s b r1 r2 r3 r4 r5 r6 r7 r8 there whole is e1 e2 flag e3 e4 e5 e6 e7 
     let p6 : r6 ≡ place_bytes s.upper ++ (place_bytes s.lower ++ t) =
     behind r5 r6 (place_bytes s.hinge) ((place_bytes s.upper ++ place_bytes s.lower) ++ t) 16 e6 p5
     (length-place s.hinge) ∙ append_assoc (place_bytes s.upper) (place_bytes s.lower) t in
-    let p7 : r7 ≡ place_bytes s.lower ++ t = behind r6 r7 (place_bytes s.upper) (place_bytes s.lower ++ t) 16
-    e7 p6 (length-place s.upper) in
+    let p7 : r7 ≡ place_bytes s.lower ++ t = grind (arith, behind, length-place) in
     let p8 : r8 ≡ t = behind r7 r8 (place_bytes s.lower) t 16 e8 p7 (length-place s.lower) in
     record {
       taken = ap (λ l. from_be_bytes w64 (take 8 l)) is ∙ from_be_bytes-to_be_bytes_8 s.taken whole.taken;
-      records = ap (λ l. from_be_bytes w32 (take 4 l)) s1
-          ∙ from_be_bytes-to_be_bytes_4 s.records whole.records;
+      records = grind (arith, from_be_bytes-to_be_bytes_4);
       held = place_read s.held r3 _ (eqb (there % 2) 1) whole.held p3
           (ap (λ n. eqb (n % 2) 1) says ∙ held_bit s);
       pending = place_read s.pending r4 _ (eqb (there / 2 % 2) 1) whole.pending p4

@@ -19,10 +19,7 @@ fits p inside = let value = inside.value in grind (arith, ints)
 
 -- what is in the bytes of a point, with more after them
 pub point_at-bytes : (p : Point) (more : List ℕ) → InRange p → point_at (point_bytes p ++ more) ≡ p
-point_at-bytes p more inside = grind (arith, from_be_bytes-to_be_bytes_8, below, fits, to_z-of_z)
-  where
-    below : (v : _) → SFits w64 v → of_z w64 v < 2 ^ 64
-    below v f = omega (arith, ints)
+point_at-bytes p more inside = grind (arith, from_be_bytes-to_be_bytes_8, fits, to_z-of_z, ints)
 
 -- a place is read as what it holds
 pub place_at-bytes : (p : Option Point) (more : List ℕ) → IfSome p InRange
@@ -86,14 +83,7 @@ pub rec_here : (b : List ℕ) (k : Kind) → length b ≡ 17 → IsBytes b → g
     → InRange (point_at (drop 1 b)) → (r : Rec)
     → (Some (record { kind = k; point = point_at (drop 1 b) }) ≡ Some r → InRange r.point × (b ≡ rec_image r))
     × (InRange r.point × (b ≡ rec_image r) → Some (record { kind = k; point = point_at (drop 1 b) }) ≡ Some r)
-rec_here b k long bytes says inside r = (spelled, λ both. ap Some (rec_read b k r says both.0 both.1))
-  where
-    of_some : (x y : Rec) → Some x ≡ Some y → x ≡ y
-    of_some x y is = cc
-
-    spelled : Some (record { kind = k; point = point_at (drop 1 b) }) ≡ Some r → InRange r.point
-        × (b ≡ rec_image r)
-    spelled is = grind (arith, of_some, rec_spelled)
+rec_here b k long bytes says inside r = grind (arith, rec_read, rec_spelled)
 
 -- nothing is read of bytes whose point is out of range
 pub rec_outside : (b : List ℕ) (k : Kind) → get_or b 0 0 ≡ kind_byte k → (InRange (point_at (drop 1 b)) → ⊥)

@@ -6,8 +6,7 @@ use Rattle.archive_file.proofs.Points.{rec_read}
 use Rattle.archive_file.proofs.Parts.{AreRead, parts_read, tuning_read}
 
 one_rec : (r x : Rec) → InRange r.point → InRange x.point → rec_image r ≡ rec_image x → r ≡ x
-one_rec r x inside other same = sym (rec_read (rec_image r) r.kind r refl inside refl)
-    ∙ rec_read (rec_image r) r.kind x refl other same
+one_rec r x inside other same = grind (arith, rec_read)
 
 pub one_list : (rs xs : List Rec) → AreInRange rs → AreInRange xs → length rs ≡ length xs
     → recs_image rs ≡ recs_image xs → rs ≡ xs
@@ -38,18 +37,4 @@ are_read : (b : List _) (s : Summary) → IsSummary s → b ≡ summary_image s
 are_read b s whole is = parts_read s b _ _ _ _ _ _ _ _ _ whole is refl refl refl refl refl refl refl refl refl
 
 pub one_summary : (s x : Summary) → IsSummary s → IsSummary x → summary_image s ≡ summary_image x → s ≡ x
-one_summary s x whole other same =
-    let a = are_read (summary_image s) s whole refl in
-    let b = are_read (summary_image s) x other same in
-    let tuning = one_tuning s.tuning x.tuning (sym a.tuned ∙ b.tuned) whole.tuning other.tuning
-    (sym a.tuning ∙ b.tuning) in
-    λ i. record {
-      taken = (sym a.taken ∙ b.taken) i;
-      records = (sym a.records ∙ b.records) i;
-      held = (sym a.held ∙ b.held) i;
-      pending = (sym a.pending ∙ b.pending) i;
-      hinge = (sym a.hinge ∙ b.hinge) i;
-      upper = (sym a.upper ∙ b.upper) i;
-      lower = (sym a.lower ∙ b.lower) i;
-      tuning = tuning i;
-    }
+one_summary s x whole other same = grind (arith, are_read, one_tuning)

@@ -78,10 +78,7 @@ head_is letters text c four small opened holds = grind (arith, long, fields, sam
 pub head_same : (letters text d c : List ℕ) (n : ℕ) → IsOfText letters text d → SameFront n d c → blocks_at (length text) ≤ n → n < length c
     → IsOfText letters text c
 head_same letters text d c n is front far long = record {
-  head = record {
-    begun = record { long = omega (arith, long, far); opened = byte 0 (omega (arith, far)) ∙ is.head.begun.opened };
-    fields = fields;
-  };
+  head = grind (arith, long, byte, fields);
   same = part_text ∙ is.same;
 }
   where

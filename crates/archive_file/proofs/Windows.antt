@@ -106,8 +106,7 @@ rest_long c from i = ap (λ l. from_be_bytes w64 (take 8 l)) (drop-drop i from c
 -- bytes that were there before more room
 pub grown_front : (old tail grown : List ℕ) (done whole : ℕ) → done ≡ length old → length old ≤ whole → grown ≡ take whole old ++ tail
     → take done grown ≡ old
-grown_front old tail grown done whole done_is low is =
-    ap (take done) (is ∙ ap (λ l. l ++ tail) (take_all whole old low)) ∙ ap (λ n. take n (old ++ tail)) done_is ∙ take-append_seam old tail
+grown_front old tail grown done whole done_is low is = grind (arith, take_all, take-append_seam)
 
 -- the bytes that are there, and those behind them
 pub filled : (c : List ℕ) (at done whole : ℕ) (old grown new : List ℕ) → done ≡ length old → done ≤ whole → length grown ≡ whole

@@ -1,5 +1,5 @@
 -- The tokens of a derivation lie apart: spelled one after another, no two of them run together.
-use Rattle.std.proofs.Common.{◌≡◌, Bool, true, false, ◌&&◌, ◌||◌, List, [], ◌∷◌, ◌++◌, refl, ap, ◌∙◌}
+use Rattle.std.proofs.Common.{arith, ◌≡◌, Bool, true, false, ◌&&◌, ◌||◌, List, [], ◌∷◌, ◌++◌, refl, ap, ◌∙◌}
 use Rattle.calc_parser.specs.{Token, Level, Reading, plain, compared, one_term, more_terms, one_factor, more_factors, negated, numeral, grouped, measured, calculated, absolute, picked, chosen, words}
 use Rattle.calc_parser.specs.declared.token.Token.TheVariants.{Number, Measuring, Calculation, Absolute, Picking, Choice, Close, Comma, Summing, Multiplying, Comparing}
 
@@ -52,11 +52,7 @@ between : {left right : Level} (a : Reading left) (b : Reading right) (t : Token
     → is_wordy t ≡ false
     → ((u : Token) → is_comparing u ≡ false → clash t u ≡ false) → (z : Token) → is_wordy z ≡ false
     → Apart (words a ++ t ∷ words b) z
-between a b t x y no_word fits z e =
-    Apart-append (words a) (t ∷ words b) z (x.apart t no_word) (
-      fits (next_of (words b) z) (y.starts z),
-      y.apart z e,
-    )
+between a b t x y no_word fits z e = grind (arith, Apart-append)
 
 -- what is before others begins as before
 starts_first : {left : Level} (a : Reading left) (ys : List Token) → LiesApart a → (z : Token)

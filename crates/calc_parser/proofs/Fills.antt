@@ -1,5 +1,5 @@
 -- What may occur can be completed: tokens that lead somewhere begin some formula.
-use Rattle.std.proofs.Common.{◌≡◌, ℕ, ◌+◌, true, false, pos, List, [], ◌∷◌, ◌++◌, None, Some, refl, sym, ap, ◌∙◌, subst, append_assoc}
+use Rattle.std.proofs.Common.{arith, ◌≡◌, ℕ, ◌+◌, true, false, pos, List, [], ◌∷◌, ◌++◌, None, Some, refl, sym, ap, ◌∙◌, subst, append_assoc}
 use Rattle.std.proofs.lemmas.List.{append-nil}
 use Rattle.calc_parser.specs.{Sum, Product, Token, Begins, formula, sums, factor, Reading, plain, compared, one_term, more_terms, one_factor, more_factors, negated, numeral, grouped, measured, calculated, absolute, picked, chosen, words}
 use Rattle.calc_parser.specs.{Stack, Next, operand, more, bracket, name, comma, close, whole, step}
@@ -81,14 +81,11 @@ FillsNext (Some next) ts = Fills next.1 ts
 -- a sum continues with a sign, and with a factor or its last term
 summed : (s : Reading sums) (sign : Sum) (d : Reading factor) (ts rest end : List Token) → ts ≡ words d ++ rest
     → words (more_terms s sign (one_factor d)) ++ rest ≡ end → words s ++ Summing sign ∷ ts ≡ end
-summed s sign d ts rest end cut is = ap (λ l. words s ++ Summing sign ∷ l) cut
-    ∙ sym (append_assoc (words s) (Summing sign ∷ words d) rest) ∙ is
+summed s sign d ts rest end cut is = grind (arith, append_assoc)
 
 multiplied : (s : Reading sums) (sign : Product) (d : Reading factor) (ts rest end : List Token) → ts ≡ words d ++ rest
     → words (extended s sign d) ++ rest ≡ end → words s ++ Multiplying sign ∷ ts ≡ end
-multiplied s sign d ts rest end cut is = ap (λ l. words s ++ Multiplying sign ∷ l) cut
-    ∙ sym (append_assoc (words s) (Multiplying sign ∷ words d) rest)
-    ∙ ap (λ l. l ++ rest) (sym (extended_words s sign d)) ∙ is
+multiplied s sign d ts rest end cut is = grind (arith, append_assoc, extended_words)
 
 -- one token back: a token that may occur, before what may come after it
 back : (k : Stack) (t : Token) (ts : List Token) → FillsNext (step k t) ts → Fills k (t ∷ ts)

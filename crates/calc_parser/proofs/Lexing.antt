@@ -72,9 +72,6 @@ lexed_token text at tokens places t n so_far below differs piece some few =
     ∙ ap (λ l. record { token = t; place = at } ∷ lexemes (at + n) 0 l) (drop-drop n at text) in
     record {
       within = omega (arith, length-drop at text, ap length rest);
-      tokens_are = append_assoc tokens (t ∷ []) (map (λ l. l.token) (lexemes (at + n) 0 (drop (at + n) text)))
-          ∙ ap (λ l. tokens ++ map (λ l. l.token) l) (sym same) ∙ so_far.tokens_are;
-      places_are = append_assoc places (at ∷ [])
-          (map (λ l. l.place) (lexemes (at + n) 0 (drop (at + n) text)))
-          ∙ ap (λ l. places ++ map (λ l. l.place) l) (sym same) ∙ so_far.places_are;
+      tokens_are = grind (arith, append_assoc);
+      places_are = grind (arith, append_assoc);
     }

@@ -1,5 +1,5 @@
 -- The bytes of a name.
-use Rattle.std.proofs.Common.{◌≡◌, ℕ, ◌+◌, ◌<◌, true, false, List, [], ◌∷◌, ◌++◌, length, take, get_or, arith, refl, sym, ap, ◌∙◌, append_assoc, ◌&&◌, nat_le, le-leb}
+use Rattle.std.proofs.Common.{◌≡◌, ℕ, ◌+◌, ◌<◌, true, false, List, [], ◌∷◌, ◌++◌, length, take, get_or, arith, sym, ap, ◌∙◌, append_assoc, le-leb}
 use Rattle.std.proofs.lemmas.Bool.{false≢true}
 use Rattle.std.proofs.lemmas.Bool.Decides.{nat_tests}
 use Rattle.std.proofs.lemmas.List.{take_more}
@@ -15,11 +15,7 @@ use lib.Utf8.{encode}
 -- each byte of a name is one
 pub name_byte_at : (name : List ℕ) (i : ℕ) → list_all is_name_byte name ≡ true → i < length name
     → is_name_byte (get_or name i 0) ≡ true
-name_byte_at name i all below =
-    elim (is_name_byte (get_or name i 0)) as (λ b. is_name_byte (get_or name i 0) ≡ b → b ≡ true) [
-      | true ↦ λ _. refl
-      | false ↦ λ e. absurd (false≢true (sym (list_all_at is_name_byte name i 0 below e) ∙ all))
-    ] refl
+name_byte_at name i all below = grind (arith, false≢true, list_all_at)
 
 -- one more byte of a name is written as one character
 pub one_more_byte : (base name before after : List ℕ) (i c : ℕ) → list_all is_name_byte name ≡ true
@@ -36,23 +32,8 @@ one_more_byte base name before after i c all below so_far byte written =
 
 -- the test decides which bytes are a name
 pub name_decides : (bytes : List ℕ) → Decides (is_name bytes) (IsName bytes)
-name_decides bytes = (
-  λ test.
-      let lengths = both_left (nat_le 1 (length bytes) && nat_le (length bytes) 64) (list_all is_name_byte bytes) test in
-      let some = both_left (nat_le 1 (length bytes)) (nat_le (length bytes) 64) lengths in
-      let few = both_right (nat_le 1 (length bytes)) (nat_le (length bytes) 64) lengths in
-      record {
-        not_empty = grind (arith, nat_tests);
-        fits = grind (arith, nat_tests);
-        spelled = both_right (nat_le 1 (length bytes) && nat_le (length bytes) 64) (list_all is_name_byte bytes) test;
-      },
-  λ is. rw (le-leb 1 (length bytes) is.not_empty, le-leb (length bytes) 64 is.fits, is.spelled),
-)
+name_decides bytes = grind (arith, both_left, both_right, nat_tests, le-leb)
 
 -- and which are none
 pub no_name : (bytes : List ℕ) → (IsName bytes → ⊥) → is_name bytes ≡ false
-no_name bytes none =
-    elim (is_name bytes) as (λ b. is_name bytes ≡ b → b ≡ false) [
-      | true ↦ λ e. absurd (none ((name_decides bytes).0 e))
-      | false ↦ λ _. refl
-    ] refl
+no_name bytes none = grind (arith, name_decides)

@@ -2,7 +2,7 @@
 use Rattle.std.proofs.Common.{◌≡◌, ℕ, ◌-◌, ◌≤◌, List, [], ◌∷◌, ◌++◌, length, drop, get_or, Err, sym, ap, ◌∙◌, subst, arith, length-append}
 use Rattle.std.proofs.lemmas.List.{append-nil}
 use Rattle.std.proofs.Math.Seq.{drop-append_seam}
-use Rattle.calc_parser.specs.{Stop, Token, most_bytes, IsFormula, IsSyntax, IsDeep, HasFormulaCause, Gives, kind_of, formula, words, whole, scan, fine, SpellsTokens, Stops, refusal_of, tokens_of, places_of}
+use Rattle.calc_parser.specs.{Stop, Token, most_bytes, IsFormula, IsSyntax, IsDeep, HasFormulaCause, Gives, kind_of, formula, whole, scan, fine, SpellsTokens, Stops, refusal_of, tokens_of, places_of}
 use Rattle.calc_parser.specs.declared.parser.Stop.TheVariants as stop
 use Rattle.calc_parser.specs.Tree.{Tree}
 use Rattle.calc_parser.proofs.Builds.{same_tree}
@@ -12,20 +12,11 @@ use Rattle.calc_parser.proofs.Verdicts.{IsAt, IsStuck, PlungesAt, Explains, expl
 pub is_formula : (text : List ℕ) (tokens : List Token) (t : Tree) → tokens ≡ tokens_of text
     → length text ≤ most_bytes
     → SpellsTokens formula tokens [] t → scan (whole 0 []) tokens ≡ fine → IsFormula text t
-is_formula text tokens t lexed short s verdict =
-    let spelled : words s.reading ≡ tokens = sym (s.cut ∙ append-nil (words s.reading)) in
-    record {
-      reading = s.reading;
-      spelled = spelled ∙ lexed;
-      tree_is = s.tree_is;
-      shallow = all_shallow s.reading (ap (scan (whole 0 [])) spelled ∙ verdict);
-      short = short;
-    }
+is_formula text tokens t lexed short s verdict = grind (arith, append-nil, shallow, all_shallow)
 
 -- a text has the tree of one formula
 pub only_formula : (text : List ℕ) (t u : Tree) → IsFormula text t → IsFormula text u → t ≡ u
-only_formula text t u p q = sym p.tree_is ∙ same_tree p.reading q.reading (p.spelled ∙ sym q.spelled)
-    ∙ q.tree_is
+only_formula text t u p q = grind (arith, same_tree)
 
 -- how many tokens are before those that are left
 front_length : (tokens front rest : List Token) → tokens ≡ front ++ rest
@@ -44,9 +35,7 @@ module _ (text : List ℕ) (tokens : List Token) (places : List ℕ) (lexed : to
   place_is : (rest : List Token) (a : IsAt (whole 0 []) tokens rest)
       → get_or places (length tokens - length rest) (length text) ≡ get_or (places_of text) (length a.front)
       (length text)
-  place_is rest a =
-      ap (λ n. get_or places n (length text)) (front_length tokens a.front rest a.cut)
-      ∙ ap (λ l. get_or l (length a.front) (length text)) placed
+  place_is rest a = grind (arith, front_length)
 
   syntax_at : (rest : List Token) (a : IsAt (whole 0 []) tokens rest) → IsStuck a.left rest
       → IsSyntax text (get_or places (length tokens - length rest) (length text))

@@ -1,20 +1,16 @@
 -- What the token that bytes begin with can be, and how many of them its spelling takes.
-use Rattle.std.proofs.Common.{◌≡◌, ℕ, zero, suc, ◌+◌, ◌-◌, ◌*◌, ◌/◌, ◌%◌, ◌^◌, ◌<◌, ◌≤◌, min, Bool, true, false, ◌&&◌, cond, List, [], ◌∷◌, ◌++◌, length, take, drop, map, get_or, nat_eq, nat_le, Option, None, Some, refl, sym, ap, ◌∙◌}
-use Rattle.std.proofs.Common.{subst, arith, length-append, length-take, length-drop, lit<, codes}
+use Rattle.std.proofs.Common.{◌≡◌, ℕ, zero, suc, ◌+◌, ◌-◌, ◌*◌, ◌^◌, ◌<◌, ◌≤◌, min, Bool, true, false, cond, List, [], ◌∷◌, ◌++◌, length, take, drop, map, get_or, nat_eq, Option, None, Some, refl, sym, ap}
+use Rattle.std.proofs.Common.{subst, arith, length-append, length-take, length-drop, lit<}
 use Rattle.std.proofs.lemmas.Bool.Decides.{nat_tests}
 use Rattle.std.proofs.lemmas.Fmt.{decimal_by_steps, length-decimal-le}
 use Rattle.std.proofs.lemmas.List.Quantifiers.{position-Some}
 use Rattle.std.proofs.Math.Nat.{pow-suc}
 use Rattle.trend_num.specs.{Measure, digits_value}
-use Rattle.trend_num.specs.declared.measure.Measure.TheVariants.{Area, Avg, Total, Low, High, Count, First, Last}
-use Rattle.calc_parser.specs.{SyntaxKind, Token, spelling, spelled, measure_word, Piece, is_letter, is_name, largest_number, ill, measured_or, numeral_of, measure_word_of, other_word, word_of, quoted_of, less_of, greater_of, sign_of}
+use Rattle.trend_num.specs.declared.measure.Measure.TheVariants.{Area}
+use Rattle.calc_parser.specs.{SyntaxKind, Token, spelling, spelled, measure_word, Piece, is_name, ill, measured_or, numeral_of, measure_word_of, other_word, quoted_of, less_of, greater_of, sign_of}
 use Rattle.calc_parser.specs.{or_ill, token_at, lexemes}
 use Rattle.calc_parser.specs.declared.refusal.SyntaxKind.TheVariants as kind
-use Rattle.calc_parser.specs.declared.token.Token.TheVariants.{Quoted, Calculation, Absolute, Picking, Choice, Open, Close, Comma, Summing, Multiplying, Comparing}
-use Rattle.calc_parser.specs.declared.tree.Cmp.TheVariants.{Eq}
-use Rattle.calc_parser.specs.declared.token.Sum.TheVariants.{Plus, Minus}
-use Rattle.calc_parser.specs.declared.token.Product.TheVariants.{Times, Over, Modulo}
-use Rattle.calc_parser.specs.declared.token.Pick.TheVariants.{Least, Greatest}
+use Rattle.calc_parser.specs.declared.token.Token.TheVariants.{Quoted}
 use Rattle.std.proofs.lemmas.List.Sums.{fold-append, prefix_len-le-length}
 use Rattle.std.proofs.lemmas.List.Folds.{list_all-append}
 use Rattle.std.proofs.lemmas.Slice.Eq.{bytes_eq-Decides}
@@ -39,23 +35,8 @@ digit_passes k small = grind (arith, nat_tests)
 -- what is written of a number
 pub decimal_is : (n : ℕ) → n < 2 ^ 64 → IsDecimal n (decimal n)
 decimal_is = decimal_by_steps IsDecimal
-    (λ n small. record {
-      digits = ap (λ b. b && true) (digit_passes n small);
-      value = omega arith;
-      some =
-          omega arith;
-    })
-    (λ n ds large is.
-    let low : n % 10 < 10 = omega arith in
-    let back : n / 10 * 10 + (48 + n % 10 - 48) ≡ n = omega arith in
-    record {
-      digits = list_all-append is_ascii_digit ds ((48 + n % 10) ∷ [])
-          ∙ ap (λ b. b && (is_ascii_digit (48 + n % 10) && true)) is.digits
-          ∙ ap (λ b. b && true) (digit_passes (n % 10) low);
-      value = fold-append (λ n b. n * 10 + (b - 48)) 0 ds ((48 + n % 10) ∷ [])
-          ∙ ap (λ v. v * 10 + (48 + n % 10 - 48)) is.value ∙ back;
-      some = omega (arith, length-append ds ((48 + n % 10) ∷ []));
-    })
+    (λ n small. grind (arith, digit_passes))
+    (grind (arith, list_all-append, digit_passes, fold-append, length-append))
 
 -- digits spell a number that has no more digits
 value_below : (ds : List ℕ) (n k : ℕ) → list_all is_ascii_digit ds ≡ true → n < 10 ^ k
@@ -100,16 +81,7 @@ ill_piece why bytes = record { can = tt; light = omega arith; within = omega ari
 numeral_piece : (bytes : List ℕ) (n : ℕ) → 0 < n → n ≤ prefix_len is_ascii_digit bytes
     → IsPiece bytes (numeral_of n bytes)
 numeral_piece bytes n some few =
-    let ds = take n bytes in
-    let long : n ≤ length bytes = omega (arith, prefix_len-le-length is_ascii_digit bytes) in
-    let len : length ds ≡ n = omega (arith, length-take n bytes) in
-    either bytes (nat_le (digits_value ds) largest_number) _ _
-    (λ low.
-    let small : digits_value ds ≤ largest_number = grind (arith, nat_tests) in
-    let short : length (decimal (digits_value ds)) ≤ length ds =
-    shorter_decimal ds (run_passes is_ascii_digit bytes n few) (omega arith) (omega arith) in
-    record { can = (digits_value ds, refl, small); light = omega arith; within = omega arith })
-    (λ high. ill_piece _ bytes)
+    grind (arith, prefix_len-le-length, length-take, either, nat_tests, shorter_decimal, run_passes, ill_piece)
 
 -- a word
 
@@ -147,51 +119,11 @@ as_long w word e = omega (arith, ap length ((bytes_eq-Decides w word).0 e))
 
 -- each measure's word
 measure_words : (w : List ℕ) → MeasureWords (length w) (measure_word_of w)
-measure_words w =
-    or_measure (length w) _ (Some Avg) _ (λ e. (
-      (λ h. cc),
-      as_long w (codes "avg") e,
-    )) (or_measure (length w) _ (Some Total) _ (λ e. (
-      (λ h. cc),
-      as_long w (codes "total") e,
-    ))
-    (or_measure (length w) _ (Some Low) _ (λ e. (
-      (λ h. cc),
-      as_long w (codes "low") e,
-    )) (or_measure (length w) _ (Some High) _ (λ e. (
-      (λ h. cc),
-      as_long w (codes "high") e,
-    ))
-    (or_measure (length w) _ (Some Count) _ (λ e. (
-      (λ h. cc),
-      as_long w (codes "count") e,
-    )) (or_measure (length w) _ (Some First) _ (λ e. (
-      (λ h. cc),
-      as_long w (codes "first") e,
-    ))
-    (or_measure (length w) _ (Some Last) _ (λ e. (
-      (λ h. cc),
-      as_long w (codes "last") e,
-    )) (record { fits = tt })))))))
+measure_words w = grind (arith, or_measure, as_long)
 
 -- each other word
 other_words : (w : List ℕ) → Words (length w) (other_word w)
-other_words w =
-    or_word (length w) _ (Some Calculation) _ (λ e. (
-      tt,
-      as_long w (codes "calc") e,
-    )) (or_word (length w) _ (Some Absolute) _ (λ e. (
-      tt,
-      as_long w (codes "abs") e,
-    ))
-    (or_word (length w) _ (Some (Picking Least)) _ (λ e. (
-      tt,
-      as_long w (codes "min") e,
-    )) (or_word (length w) _ (Some (Picking Greatest)) _ (λ e. (
-      tt,
-      as_long w (codes "max") e,
-    ))
-    (or_word (length w) _ (Some Choice) _ (λ e. (tt, as_long w (codes "if") e)) (record { fits = tt })))))
+other_words w = grind (arith, or_word, as_long)
 
 -- the word of a measure, or another
 measured_words : (n : ℕ) (m : Option Measure) (other : Option Token) → IsMeasureWord n m → IsWord n other
@@ -239,51 +171,15 @@ second_is (x ∷ y ∷ bytes) k some e = omega arith
 
 -- what `<` begins
 less_piece : (bytes : List ℕ) → 0 < length bytes → IsPiece bytes (less_of (get_or bytes 1 0))
-less_piece bytes some =
-    either bytes (nat_eq (get_or bytes 1 0) 61) _ _
-    (λ e. let at : get_or bytes 1 0 ≡ 61 = grind (arith, nat_tests) in
-    let two = second_is bytes 61 (lit< tt) at in
-    record { can = tt; light = omega arith; within = omega arith })
-    (λ _. either bytes (nat_eq (get_or bytes 1 0) 62) _ _
-    (λ e. let at : get_or bytes 1 0 ≡ 62 = grind (arith, nat_tests) in
-    let two = second_is bytes 62 (lit< tt) at in
-    record { can = tt; light = omega arith; within = omega arith })
-    (λ _. record { can = tt; light = omega arith; within = omega arith }))
+less_piece bytes some = grind (arith, either, nat_tests, second_is)
 
 -- what `>` begins
 greater_piece : (bytes : List ℕ) → 0 < length bytes → IsPiece bytes (greater_of (get_or bytes 1 0))
-greater_piece bytes some =
-    either bytes (nat_eq (get_or bytes 1 0) 61) _ _
-    (λ e. let at : get_or bytes 1 0 ≡ 61 = grind (arith, nat_tests) in
-    let two = second_is bytes 61 (lit< tt) at in
-    record { can = tt; light = omega arith; within = omega arith })
-    (λ _. record { can = tt; light = omega arith; within = omega arith })
+greater_piece bytes some = grind (arith, either, nat_tests, second_is)
 
 -- each other sign
 sign_words : (b : ℕ) → Words 1 (sign_of b)
-sign_words b =
-    let one : 1 ≤ 1 = omega arith in
-    or_word 1 (nat_eq b 40) (Some Open) _ (λ e. (
-      tt,
-      one,
-    )) (or_word 1 (nat_eq b 41) (Some Close) _ (λ e. (
-      tt,
-      one,
-    )) (or_word 1 (nat_eq b 44) (Some Comma) _ (λ e. (
-      tt,
-      one,
-    )) (or_word 1 (nat_eq b 43) (Some (Summing Plus)) _ (λ e. (tt, one))
-    (or_word 1 (nat_eq b 45) (Some (Summing Minus)) _ (λ e. (
-      tt,
-      one,
-    )) (or_word 1 (nat_eq b 42) (Some (Multiplying Times)) _ (λ e. (
-      tt,
-      one,
-    )) (or_word 1 (nat_eq b 47) (Some (Multiplying Over)) _ (λ e. (
-      tt,
-      one,
-    )) (or_word 1 (nat_eq b 37) (Some (Multiplying Modulo)) _ (λ e. (tt, one))
-    (or_word 1 (nat_eq b 61) (Some (Comparing Eq)) None (λ e. (tt, one)) (record { fits = tt })))))))))
+sign_words b = grind (arith, or_word)
 
 -- a first byte that passes counts
 first_counts : (p : ℕ → Bool) (bytes : List ℕ) → 0 < length bytes → p (get_or bytes 0 0) ≡ true
@@ -294,27 +190,7 @@ first_counts p (b ∷ bytes) some e = subst (λ c. 0 < cond c (1 + prefix_len p 
 -- each token
 pub token_piece : (bytes : List ℕ) → 0 < length bytes → IsPiece bytes (token_at bytes)
 token_piece bytes some =
-    let b = get_or bytes 0 0 in
-    let letters = prefix_len is_letter bytes in
-    let w = take letters bytes in
-    let len : length w ≡ letters = omega (
-      arith,
-      length-take letters bytes,
-      prefix_len-le-length is_letter bytes,
-    ) in
-    either bytes (is_ascii_digit b) _ _
-    (λ e. numeral_piece bytes (prefix_len is_ascii_digit bytes) (first_counts is_ascii_digit bytes some e)
-    (omega arith))
-    (λ _. either bytes (is_letter b) _ _
-    (λ e. word_piece bytes letters (length w) _ (word_of w) (omega arith) (omega (
-      arith,
-      prefix_len-le-length is_letter bytes,
-    ))
-    (measured_words (length w) (measure_word_of w) (other_word w) (measure_words w).fits (other_words w).fits))
-    (λ _. either bytes (nat_eq b 39) _ _ (λ e. quoted_piece bytes _ refl)
-    (λ _. either bytes (nat_eq b 60) _ _ (λ e. less_piece bytes some)
-    (λ _. either bytes (nat_eq b 62) _ _ (λ e. greater_piece bytes some)
-    (λ _. word_piece bytes 1 1 _ (sign_of b) (omega arith) (omega arith) (sign_words b).fits)))))
+    grind (arith, length-take, prefix_len-le-length, either, numeral_piece, first_counts, word_piece, measured_words, measure_words, other_words, quoted_piece, less_piece, greater_piece, sign_words)
 
 -- the tokens of a text can be written, and in no more bytes than it has
 pub record AreLexed (skip : ℕ) (bytes : List ℕ) (tokens : List Token) : Type 0 where

@@ -88,10 +88,7 @@ best level t = lift (own t) level (direct t)
 -- smaller than what is smaller, also where a level lies between
 smaller_again : {a b c e : Level} {x : Reading a} {y : Reading b} {z : Reading c} {w : Reading e} → IsSmaller x y → IsSmaller y z
     → height z ≡ height w → weight z ≡ weight w → IsSmaller x w
-smaller_again first second deep long = record {
-  height_le = omega (arith, first.height_le, second.height_le, deep);
-  weight_le = omega (arith, first.weight_le, second.weight_le, long);
-}
+smaller_again first second deep long = grind arith
 
 -- the tree's own derivation is no deeper and no longer
 pub smaller : {level : Level} (d : Reading level) → IsSmaller (best level (tree d)) d
@@ -260,8 +257,7 @@ highest_low most (x ∷ xs) low = (omega arith, highest_low most xs (omega arith
 pub shallow_best : (most : ℕ) (d : Reading formula) → All (λ level. level ≤ most) (opens 0 d)
     → All (λ level. level ≤ most) (opens 0 (best formula (tree d)))
 shallow_best most d low =
-    let h : highest (opens 0 d) ≤ most = low_highest most (opens 0 d)
-    (recursion_from_All (λ level. level ≤ most) (opens 0 d) low) in
+    let h : highest (opens 0 d) ≤ most = grind (arith, low_highest, recursion_from_All) in
     let s = smaller d in
     All-from_recursion (λ level. level ≤ most) (opens 0 (best formula (tree d)))
     (highest_low most (opens 0 (best formula (tree d))) (omega (
@@ -281,8 +277,7 @@ spelled_length xs ys = ap length (flat_map-append spelling xs ys) ∙ length-app
 -- two formulas and what is after them
 two_weigh : (a b : Reading formula) → length (spelled (words a)) ≡ weight a → length (spelled (words b)) ≡ weight b
     → length (spelled (words a ++ Comma ∷ (words b ++ Close ∷ []))) ≡ weight a + weight b + 2
-two_weigh a b first second =
-    omega (arith, spelled_length (words a) (Comma ∷ (words b ++ Close ∷ [])), spelled_length (words b) (Close ∷ []), first, second)
+two_weigh a b first second = grind (arith, spelled_length)
 
 -- the weight is the number of bytes
 weighs : {level : Level} (d : Reading level) → length (spelled (words d)) ≡ weight d

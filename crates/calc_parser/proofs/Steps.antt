@@ -1,5 +1,5 @@
 -- What a reader of tokens keeps, and how its parts join.
-use Rattle.std.proofs.Common.{◌≡◌, ℕ, Bool, true, false, ℤ, List, [], ◌∷◌, ◌++◌, length, drop, refl, sym, ap, ◌∙◌, append_assoc}
+use Rattle.std.proofs.Common.{arith, ◌≡◌, ℕ, Bool, true, false, ℤ, List, [], ◌∷◌, ◌++◌, length, drop, refl, sym, ap, ◌∙◌, append_assoc}
 use Rattle.std.specs.Bool.{◌==◌}
 use Rattle.trend_num.specs.{Measure}
 use Rattle.calc_parser.specs.{Cmp, Sum, Product, Pick, Token, Level, formula, sums, terms, factor, plain, compared, one_term, more_terms, one_factor, more_factors, negated, numeral, grouped, measured, calculated, absolute, picked, chosen}
@@ -40,8 +40,7 @@ pub spells_measure : {ts t1 rest : List Token} {m : Measure} {tag : List ℕ} �
     → SpellsTokens factor ts rest (window m tag)
 spells_measure {m = m} e f = record {
   reading = measured m _;
-  cut = e
-      ∙ ap (λ l. Measuring m ∷ l) f;
+  cut = grind arith;
   tree_is = refl;
 }
 
@@ -51,8 +50,7 @@ pub spells_calculation : {ts t1 rest : List Token} {name : List ℕ} → ts ≡ 
     → SpellsTokens factor ts rest (calc name)
 spells_calculation e f = record {
   reading = calculated _;
-  cut = e
-      ∙ ap (λ l. Calculation ∷ l) f;
+  cut = grind arith;
   tree_is = refl;
 }
 
@@ -62,8 +60,7 @@ pub spells_absolute : {ts t1 rest : List Token} {a t : Tree} → ts ≡ Absolute
     → SpellsTokens factor ts rest t
 spells_absolute {rest = rest} e s same = record {
   reading = absolute s.reading;
-  cut = e ∙ ap (λ l. Absolute ∷ l) s.cut
-      ∙ ap (λ l. Absolute ∷ Open ∷ l) (sym (append_assoc (words s.reading) (Close ∷ []) rest));
+  cut = grind (arith, append_assoc);
   tree_is = cc;
 }
 
@@ -97,8 +94,7 @@ pub spells_chosen : {t0 t1 t2 t3 rest : List Token} {c a b t : Tree} → SpellsF
 spells_chosen {t0} {rest = rest} f g h e same =
     let all : t0 ≡ Open ∷ (words f.reading
     ++ Comma ∷ (words g.reading ++ Comma ∷ (words h.reading ++ Close ∷ rest))) =
-    f.cut ∙ ap (λ l. Open ∷ (words f.reading ++ l)) (g.cut ∙ ap (λ l. Comma ∷ (words g.reading ++ l))
-    (h.cut ∙ ap (λ l. Comma ∷ (words h.reading ++ l)) e)) in
+    f.cut ∙ ap (λ l. Open ∷ (words f.reading ++ l)) (grind arith) in
     record {
       reading = chosen f.reading g.reading h.reading;
       cut = ap (λ l. Choice ∷ l) all ∙ sym (simp append_assoc);
@@ -113,8 +109,7 @@ pub spells_compared : {ts t1 t2 rest : List Token} {cmp : Cmp} {a b t : Tree} �
     → SpellsTokens sums t2 rest b → t ≡ compare cmp a b → SpellsTokens formula ts rest t
 spells_compared {rest = rest} {cmp = cmp} f e g same = record {
   reading = compared f.reading cmp g.reading;
-  cut = f.cut ∙ ap (λ l. words f.reading ++ l) (e ∙ ap (λ l. Comparing cmp ∷ l) g.cut)
-      ∙ sym (append_assoc (words f.reading) (Comparing cmp ∷ words g.reading) rest);
+  cut = grind (arith, append_assoc);
   tree_is = cc;
 }
 
@@ -140,8 +135,7 @@ pub next_term : {n : ℕ} {ts t1 t2 rest : List Token} {sign : Sum} {a b t : Tre
 next_term {n} {rest = rest} {sign = sign} f e g follows same = record {
   spells = record {
     reading = more_terms f.spells.reading sign g.reading;
-    cut = f.spells.cut ∙ ap (λ l. words f.spells.reading ++ l) (e ∙ ap (λ l. Summing sign ∷ l) g.cut)
-        ∙ sym (append_assoc (words f.spells.reading) (Summing sign ∷ words g.reading) rest);
+    cut = grind (arith, append_assoc);
     tree_is = cc;
   };
   follows = λ k c. f.follows k c ∙ ap (λ l. scan (more n c ∷ k) l) e ∙ follows k c;
@@ -164,8 +158,7 @@ pub next_factor : {n : ℕ} {ts t1 t2 rest : List Token} {sign : Product} {a b t
 next_factor {n} {rest = rest} {sign = sign} f e g follows same = record {
   spells = record {
     reading = more_factors f.spells.reading sign g.reading;
-    cut = f.spells.cut ∙ ap (λ l. words f.spells.reading ++ l) (e ∙ ap (λ l. Multiplying sign ∷ l) g.cut)
-        ∙ sym (append_assoc (words f.spells.reading) (Multiplying sign ∷ words g.reading) rest);
+    cut = grind (arith, append_assoc);
     tree_is = cc;
   };
   follows = λ k c. f.follows k c ∙ ap (λ l. scan (more n c ∷ k) l) e ∙ follows (more n c ∷ k);

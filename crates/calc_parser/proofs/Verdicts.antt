@@ -114,8 +114,7 @@ walks_whole d =
     let p = passes d 0 [] [] in
     record {
       goes_on = p.0;
-      walked = ap (walk (whole 0 [])) (sym (append-nil (words d))) ∙ p.1
-          ∙ ap (λ l. Some (l, more 0 p.0 ∷ [])) (append-nil (opens 0 d));
+      walked = grind (arith, walk, append-nil);
     }
 
 -- where a formula begins with tokens that may occur, its levels begin with theirs
@@ -164,8 +163,7 @@ shallow tokens rest a = λ d more spelled.
     let b = begins_with d a.front more a.levels a.left a.walked spelled in
     let n = levels_length a.front a.levels a.left a.walked in
     let same : take (length a.front) (opens 0 d) ≡ a.levels =
-    ap (λ m. take m (opens 0 d)) (sym n) ∙ ap (take (length a.levels)) b.opens_are
-    ∙ take-append_seam a.levels b.later in
+    grind (arith, take-append_seam) in
     subst (λ l. All (λ level. level ≤ deepest) l) (sym same) a.shallow
 
 -- what is refused follows in no formula
@@ -205,8 +203,7 @@ opens_too_deep tokens rest t a plunges = λ d later spelled.
     let l = deep_levels tokens rest t a plunges d later spelled in
     let n = levels_length a.front a.levels a.left a.walked in
     let here : get_or (opens 0 d) (length a.front) 0 ≡ plunges.next.0 =
-    ap (λ m. get_or (opens 0 d) m 0) (sym n) ∙ ap (λ l. get_or l (length a.levels) 0) l.1
-    ∙ get_or-append_seam a.levels plunges.next.0 l.0 0 in
+    grind (arith, get_or-append_seam) in
     subst (λ m. deepest < m) (sym here) plunges.too_deep
 
 -- so no shallow formula has it
@@ -234,8 +231,7 @@ deep_begins tokens rest t a plunges =
     let here : walk a.left (t ∷ []) ≡ Some (plunges.next.0 ∷ [], plunges.next.1) =
     ap (λ o. onward o (λ next. walk next [])) plunges.stepped in
     begins (a.front ++ t ∷ []) (a.levels ++ plunges.next.0 ∷ []) plunges.next.1
-    (walk-append (whole 0 []) a.front (t ∷ []) ∙ ap (λ w. further w (t ∷ [])) a.walked
-    ∙ ap (prepend a.levels) here)
+    (grind (arith, walk-append, further, prepend))
 
 -- tokens that all may occur are those of a shallow formula
 all_at_end : (d : Reading formula) (a : IsAt (whole 0 []) (words d) [])
@@ -243,12 +239,10 @@ all_at_end : (d : Reading formula) (a : IsAt (whole 0 []) (words d) [])
 all_at_end d a =
     let b = begins_with d a.front [] a.levels a.left a.walked a.cut in
     let later : b.later ≡ [] = ap levels_of (sym b.after) in
-    let same : a.levels ≡ opens 0 d = sym (append-nil a.levels) ∙ ap (λ l. a.levels ++ l) (sym later)
-    ∙ sym b.opens_are in
+    let same : a.levels ≡ opens 0 d = grind (arith, append-nil) in
     subst (λ l. All (λ level. level ≤ deepest) l) same a.shallow
 
 -- the same of a verdict
 pub all_shallow : (d : Reading formula) → scan (whole 0 []) (words d) ≡ fine
     → All (λ level. level ≤ deepest) (opens 0 d)
-all_shallow d verdict = all_at_end d
-    (subst (λ v. Explains (whole 0 []) (words d) v) verdict (explains (whole 0 []) (words d))).0
+all_shallow d verdict = grind (arith, all_at_end, explains)

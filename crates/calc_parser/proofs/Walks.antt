@@ -99,8 +99,7 @@ in_bracket n xs w = ap (prepend (0 ∷ [])) (prepend-append (n ∷ []) xs w) ∙
 in_name : (n : ℕ) (w : Walked)
     → prepend (0 ∷ []) (prepend (n ∷ []) (prepend (0 ∷ []) (prepend (0 ∷ []) w))) ≡ prepend
     (0 ∷ n ∷ 0 ∷ 0 ∷ []) w
-in_name n w = ap (λ v. prepend (0 ∷ []) (prepend (n ∷ []) v)) (prepend-append (0 ∷ []) (0 ∷ []) w)
-    ∙ in_bracket n (0 ∷ 0 ∷ []) w
+in_name n w = grind (arith, prepend-append, in_bracket)
 
 -- a formula up to the bracket or the comma after it
 up_to_close : (a : Reading formula) → Passes formula a → (n : ℕ) (k : Stack) (rest : List Token)

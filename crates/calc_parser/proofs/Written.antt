@@ -1,7 +1,7 @@
 -- Which tokens and trees can be written: those that a text has.
-use Rattle.std.proofs.Common.{◌≡◌, ℕ, ◌≤◌, Bool, true, false, cond, nat_lt, ◌+◌, pos, List, [], ◌∷◌, ◌++◌}
+use Rattle.std.proofs.Common.{arith, ◌≡◌, ℕ, ◌≤◌, Bool, true, false, cond, nat_lt, pos, List, [], ◌∷◌, ◌++◌}
 use Rattle.trend_num.specs.declared.measure.Measure.TheVariants.{Area}
-use Rattle.calc_parser.specs.{Op, Token, binds, is_call, op_binds, op_token, fit, joined, canonical, Level, Reading, plain, compared, one_term, more_terms, one_factor, more_factors, negated, numeral, grouped, measured, calculated, absolute}
+use Rattle.calc_parser.specs.{Op, Token, binds, is_call, op_token, fit, joined, canonical, Level, Reading, plain, compared, one_term, more_terms, one_factor, more_factors, negated, numeral, grouped, measured, calculated, absolute}
 use Rattle.calc_parser.specs.{picked, chosen, words, tree, is_name, largest_number}
 use Rattle.calc_parser.specs.declared.tree.Op.TheVariants.{Add, Sub, Mul, Div, Rem, Min, Max}
 use Rattle.calc_parser.specs.declared.token.Token.TheVariants.{Number, Quoted, Measuring, Close, Comma, Ill, End}
@@ -126,10 +126,7 @@ joined_written op a xs b ys v w =
             ++ Close ∷ [])) v (tt, AllWritten-append ⊥ ys (Close ∷ []) w (tt, tt)),
       ),
     )
-    (AllWritten-append ⊥ (fit (op_binds op) a xs) _ (fit_written (op_binds op) a xs v) (
-      op_written op,
-      fit_written (op_binds op + 1) b ys w,
-    ))
+    (grind (arith, AllWritten-append, fit_written, op_written))
 
 -- each sound tree's tokens
 pub written : (t : Tree) → IsSound t → AllWritten ⊥ (canonical t)

@@ -1,6 +1,5 @@
 -- What holds of a sheet that is within its limits.
-use Rattle.std.proofs.Common.{◌≡◌, ℕ, zero, suc, ◌+◌, ◌-◌, ◌*◌, ◌≤◌, inl, inr, Bool, List, [], ◌∷◌, ◌++◌, Option, None, Some, length, All, sym, ap, ◌∙◌, arith}
-use Rattle.std.specs.Prelude.{nat_lt, if◌then◌else◌}
+use Rattle.std.proofs.Common.{◌≡◌, ℕ, zero, suc, ◌+◌, ◌-◌, ◌*◌, ◌≤◌, inl, inr, List, [], ◌∷◌, ◌++◌, None, length, All, arith}
 use Rattle.std.specs.List.{range_with_len}
 use Rattle.std.proofs.Math.Nat.{mul-le-mul_left, mul-le-mul_right}
 use Rattle.std.proofs.lemmas.Bool.{cases_lt, le-ltb, lt-ltb}
@@ -8,8 +7,7 @@ use Rattle.std.proofs.lemmas.List.Elements.{All-append, All-cons, All-head, All-
 use Rattle.std.proofs.lemmas.List.Sums.{length-filter}
 use Rattle.trend_num.specs.{Rec, InRange, last_time}
 use Rattle.sheet_law.specs.{Grid, complete_windows, longer, due_below, is_due}
-use Rattle.calc_refresh.specs.{SheetNo, total_length, due_windows, limit_fault, most_cells, most_copies, IsCopy}
-use Rattle.calc_refresh.specs.declared.refusal.SheetNo.TheVariants.{CellLimit, CopyLimit}
+use Rattle.calc_refresh.specs.{total_length, due_windows, limit_fault, most_cells, most_copies, IsCopy}
 use Rattle.calc_refresh.proofs.Passing.{passing_few}
 use Rattle.calc_refresh.proofs.Refreshing.{complete_ends}
 
@@ -28,32 +26,11 @@ few_windows w rss some input each =
 
 -- so many cells are counted in 64 bits
 pub cells_fit : (a b : ℕ) → a ≤ last_time → b ≤ 64 → a * b ≤ last_time * 64
-cells_fit a b first second =
-    let one : a * b ≤ a * 64 = mul-le-mul_left a second in
-    let two : a * 64 ≤ last_time * 64 = omega arith in
-    omega arith
+cells_fit a b first second = grind (arith, mul-le-mul_left)
 
 -- a limit that is not reported was not reached
 pub limits_hold : (cells records : ℕ) → limit_fault cells records ≡ None → (cells ≤ most_cells) × (records ≤ most_copies)
-limits_hold cells records none =
-    elim (cases_lt most_cells cells) [
-      | inl above ↦ absurd (let h : Some (CellLimit cells) ≡ None = sym (ap (first_of (limit_second records)) (lt-ltb most_cells cells above)) ∙ none in cc)
-      | inr under ↦ elim (cases_lt most_copies records) [
-        | inl above ↦
-            absurd (let h : Some (CopyLimit records) ≡ None =
-            sym (ap (first_of (limit_second records)) (le-ltb most_cells cells under) ∙ ap second_of (lt-ltb most_copies records above)) ∙ none in cc)
-        | inr also ↦ (under, also)
-      ]
-    ]
-  where
-    second_of : Bool → Option SheetNo
-    second_of b = if b then Some (CopyLimit records) else None
-
-    limit_second : ℕ → Option SheetNo
-    limit_second n = if nat_lt most_copies records then Some (CopyLimit records) else None
-
-    first_of : Option SheetNo → Bool → Option SheetNo
-    first_of o b = if b then Some (CellLimit cells) else o
+limits_hold cells records none = grind (arith, lt-ltb, le-ltb)
 
 -- each copy is short where all together are few
 each_short : (rss : List (List Rec)) (n : ℕ) → total_length rss ≤ n → All (λ rs. length rs ≤ n) rss
@@ -73,9 +50,7 @@ ranges_longer (rs ∷ rss) (more ∷ mores) each also =
 -- so the copies can be copied again
 pub copies_longer : (rss mores : List (List Rec)) → All IsCopy rss → All IsCopy mores
     → total_length (longer rss mores) ≤ most_copies → All IsCopy (longer rss mores)
-copies_longer rss mores each also few = λ k d within.
-    let short = each_short (longer rss mores) most_copies few k d within in
-    record { short = omega arith; range = ranges_longer rss mores each also k d within }
+copies_longer rss mores each also few = grind (arith, each_short, ranges_longer)
 
 -- no more windows are due than there are
 pub due_few : (w : Grid) (rss mores : List (List Rec)) (n : ℕ) → length (due_windows w rss mores n) ≤ n

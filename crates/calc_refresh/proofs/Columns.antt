@@ -35,8 +35,7 @@ get-longer (x ∷ xs) ys (suc n) (suc k) within below = get-longer xs ys n k (om
 -- a column of rows of which one is another
 pub column-set : (rows : List (Vec CalcValue Global)) (i k : ℕ) (row : Vec CalcValue Global)
     → column k (lists_of (set rows i row)) ≡ set (column k (lists_of rows)) i (slice_get row.items k)
-column-set rows i k row =
-    ap (column k) (map-set (λ v. v.items) rows i row) ∙ map-set (λ l. slice_get l k) (lists_of rows) i row.items
+column-set rows i k row = grind (arith, map-set)
 
 -- it stays where the row has at this place what the old one had
 pub column_kept : (rows : List (Vec CalcValue Global)) (i k : ℕ) (row d : Vec CalcValue Global)
@@ -49,8 +48,7 @@ column_kept rows i k row d same = flat (set rows i row) ∙ (map-set_same (λ v.
     flat (v ∷ vs) = ap (λ l. slice_get v.items k ∷ l) (flat vs)
 
 pub length-column : (rows : List (Vec CalcValue Global)) (k : ℕ) → length (column k (lists_of rows)) ≡ length rows
-length-column rows k =
-    length-map (lists_of rows) (λ l. slice_get l k) ∙ length-map rows (λ v. v.items)
+length-column rows k = grind (arith, length-map)
 
 -- the first places of a column, with one row more
 pub column_more : (rows : List (Vec CalcValue Global)) (i k : ℕ) (row : Vec CalcValue Global) (v : CalcValue)
@@ -59,11 +57,7 @@ pub column_more : (rows : List (Vec CalcValue Global)) (i k : ℕ) (row : Vec Ca
     → take (i + 1) (column k (lists_of (set rows i row))) ≡ map Some (take (i + 1) vals)
 column_more rows i k row v vals within there value before =
     ap (take (i + 1)) (column-set rows i k row)
-    ∙ (take_more_set (column k (lists_of rows)) i (slice_get row.items k) (omega (arith, length-column rows k))
-    ∙ (ap (λ o. take i (column k (lists_of rows)) ++ o ∷ []) there
-    ∙ (ap (λ l. l ++ Some v ∷ []) before
-    ∙ (sym (map_push Some (take i vals) v)
-    ∙ ap (map Some) (sym next)))))
+    ∙ (grind (arith, take_more_set, length-column, map_push, next))
   where
     next : take (i + 1) vals ≡ take i vals ++ v ∷ []
     next =
@@ -89,9 +83,7 @@ length-values g points from to = (let all = go [] g.calcs in omega arith)
 pub column_full : (rows : List (Vec CalcValue Global)) (i k : ℕ) (vals : List CalcValue) → length rows ≤ i
     → length vals ≡ length rows → take i (column k (lists_of rows)) ≡ map Some (take i vals)
     → column k (lists_of rows) ≡ map Some vals
-column_full rows i k vals within as_many filled =
-    sym (take_all i (column k (lists_of rows)) (omega (arith, length-column rows k)))
-    ∙ (filled ∙ ap (map Some) (take_all i vals (omega arith)))
+column_full rows i k vals within as_many filled = grind (arith, take_all, length-column)
 
 -- rows with the same lengths have it at each place
 pub lengths_at : (rows olds : List (Vec CalcValue Global)) (i : ℕ) (v : Vec CalcValue Global) → i < length rows

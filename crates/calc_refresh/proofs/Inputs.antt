@@ -1,8 +1,7 @@
 -- Lists of lists: one input after another, each with the records that it gets.
-use Rattle.std.proofs.Common.{◌≡◌, ℕ, zero, suc, ◌+◌, ◌<◌, ◌≤◌, inl, inr, Bool, true, false, List, [], ◌∷◌, ◌++◌, length, get_or, map, take, set, All, refl, sym, subst, ap, ◌∙◌, arith}
+use Rattle.std.proofs.Common.{◌≡◌, ℕ, zero, suc, ◌+◌, ◌<◌, ◌≤◌, Bool, true, false, List, [], ◌∷◌, ◌++◌, length, get_or, map, take, set, All, refl, sym, subst, ap, ◌∙◌, arith}
 use Rattle.std.specs.Prelude.{◌||◌, Vec}
 use Rattle.std.specs.declared.alloc.Global.{Global}
-use Rattle.std.proofs.lemmas.Bool.{cases_eq}
 use Rattle.std.proofs.Math.Seq.{map-set_same}
 use Rattle.std.proofs.lemmas.List.{get_or-map, get_or-set_other, get_or-set_same, length-append, length-map, length-take-le, map-set, map_more, take_more}
 use Rattle.trend_num.specs.{Rec}
@@ -79,8 +78,7 @@ same_length f g xs ys same = sym (length-map xs f) ∙ (ap length same ∙ lengt
 -- there is a content for each input
 pub as_many : (contents : List ContentState) (vs : List (Vec Rec Global))
     → map (λ c. c.records) contents ≡ map listed (lists_of vs) → length contents ≡ length vs
-as_many contents vs same =
-    same_length (λ c. c.records) listed contents (lists_of vs) same ∙ length-map vs (λ v. v.items)
+as_many contents vs same = grind (arith, same_length, length-map)
 
 -- and it reads as the input's records
 pub read_at : (contents : List ContentState) (vs : List (Vec Rec Global)) (i : ℕ) (c : ContentState)
@@ -88,40 +86,27 @@ pub read_at : (contents : List ContentState) (vs : List (Vec Rec Global)) (i : �
     → (get_or contents i c).records ≡ listed (get_or vs i v).items
 read_at contents vs i c v within same =
     sym (get_or-map (λ c. c.records) contents i c [] (omega (arith, as_many contents vs same)))
-    ∙ (ap (λ l. get_or l i []) same
-    ∙ (get_or-map listed (lists_of vs) i [] [] (omega (arith, length-map vs (λ v. v.items)))
-    ∙ ap listed (lists_at vs i v within)))
+    ∙ (grind (arith, get_or-map, length-map, lists_at))
 
 pub ended_at : (ends : List ℕ) (vs : List (Vec Rec Global)) (i : ℕ) (v : Vec Rec Global) → i < length vs
     → ends ≡ map kept_end (lists_of vs) → get_or ends i 0 ≡ kept_end (get_or vs i v).items
-ended_at ends vs i v within same =
-    ap (λ l. get_or l i 0) same
-    ∙ (get_or-map kept_end (lists_of vs) i [] 0 (omega (arith, length-map vs (λ v. v.items)))
-    ∙ ap kept_end (lists_at vs i v within))
+ended_at ends vs i v within same = grind (arith, get_or-map, length-map, lists_at)
 
 -- one content and the records that it reads as take another one's place
 pub read_set : (contents : List ContentState) (vs : List (Vec Rec Global)) (i : ℕ) (c : ContentState)
     (v : Vec Rec Global) → map (λ c. c.records) contents ≡ map listed (lists_of vs) → c.records ≡ listed v.items
     → map (λ c. c.records) (set contents i c) ≡ map listed (lists_of (set vs i v))
-read_set contents vs i c v same one =
-    map-set (λ c. c.records) contents i c
-    ∙ (ap (λ l. set l i c.records) same
-    ∙ (ap (set (map listed (lists_of vs)) i) one
-    ∙ (sym (map-set listed (lists_of vs) i v.items) ∙ ap (map listed) (sym (lists_set vs i v)))))
+read_set contents vs i c v same one = grind (arith, map-set, lists_set)
 
 pub ended_set : (ends : List ℕ) (vs : List (Vec Rec Global)) (i n : ℕ) (v : Vec Rec Global)
     → ends ≡ map kept_end (lists_of vs) → n ≡ kept_end v.items
     → set ends i n ≡ map kept_end (lists_of (set vs i v))
-ended_set ends vs i n v same one =
-    ap (λ l. set l i n) same
-    ∙ (ap (set (map kept_end (lists_of vs)) i) one
-    ∙ (sym (map-set kept_end (lists_of vs) i v.items) ∙ ap (map kept_end) (sym (lists_set vs i v))))
+ended_set ends vs i n v same one = grind (arith, map-set, lists_set)
 
 -- a fact of each list, at one place
 pub each_at : (P : List Rec → Type 0) (vs : List (Vec Rec Global)) (i : ℕ) (v : Vec Rec Global) → i < length vs
     → All P (lists_of vs) → P (get_or vs i v).items
-each_at P vs i v within each =
-    subst P (lists_at vs i v within) (each i [] (omega (arith, length-map vs (λ v. v.items))))
+each_at P vs i v within each = grind (arith, lists_at, length-map)
 
 -- the first inputs, and the next one
 pub lists_more : (vs : List (Vec Rec Global)) (i : ℕ) (v : Vec Rec Global) → i < length vs
@@ -139,9 +124,7 @@ pub longer_more : (vs ds : List (Vec Rec Global)) (i : ℕ) (v d : Vec Rec Globa
 longer_more vs ds i v d within same =
     let count = length-lists_take ds i (omega arith) in
     ap (longer (lists_of vs)) (lists_more ds i d within)
-    ∙ (longer-push (lists_of vs) (lists_of (take i ds)) (get_or ds i d).items (omega (arith, length-map vs (λ v. v.items)))
-    ∙ (ap (λ n. set (longer (lists_of vs) (lists_of (take i ds))) n (get_or (lists_of vs) n [] ++ (get_or ds i d).items)) count
-    ∙ ap (λ l. set (longer (lists_of vs) (lists_of (take i ds))) i (l ++ (get_or ds i d).items)) (lists_at vs i v (omega arith))))
+    ∙ (grind (arith, longer-push, length-map, lists_at))
 
 pub any_touched_more : (vs ds : List (Vec Rec Global)) (i from to : ℕ) (v d : Vec Rec Global) → i < length ds
     → length ds ≡ length vs
@@ -151,9 +134,7 @@ pub any_touched_more : (vs ds : List (Vec Rec Global)) (i from to : ℕ) (v d : 
 any_touched_more vs ds i from to v d within same =
     let count = length-lists_take ds i (omega arith) in
     ap (λ l. any_touched (lists_of vs) l from to) (lists_more ds i d within)
-    ∙ (any_touched-push (lists_of vs) (lists_of (take i ds)) (get_or ds i d).items from to (omega (arith, length-map vs (λ v. v.items)))
-    ∙ (ap (λ n. any_touched (lists_of vs) (lists_of (take i ds)) from to || is_touched (get_or (lists_of vs) n []) (get_or ds i d).items from to) count
-    ∙ ap (λ l. any_touched (lists_of vs) (lists_of (take i ds)) from to || is_touched l (get_or ds i d).items from to) (lists_at vs i v (omega arith))))
+    ∙ (grind (arith, any_touched-push, length-map, lists_at))
 
 -- what is read at a place is one of the lists
 pub each_read : (P : List Rec → Type 0) (vs : List (Vec Rec Global)) (i : ℕ) (v : Vec Rec Global) → i < length vs
@@ -178,21 +159,10 @@ total_more rss i within =
 pub length_at : (vs ds : List (Vec Rec Global)) (i : ℕ) (v d : Vec Rec Global) → i < length vs → i < length ds
     → v ≡ get_or vs i v → d ≡ get_or ds i d
     → length (get_or (longer (lists_of vs) (lists_of ds)) i []) ≡ length v.items + length d.items
-length_at vs ds i v d within inside is also =
-    ap length (longer_at (lists_of vs) (lists_of ds) i (omega (arith, length-map vs (λ v. v.items)))
-    (omega (arith, length-map ds (λ v. v.items)))
-    ∙ (ap (λ l. l ++ get_or (lists_of ds) i []) (lists_at vs i v within ∙ ap (λ (w : Vec Rec Global). w.items) (sym is))
-    ∙ ap (λ l. v.items ++ l) (lists_at ds i d inside ∙ ap (λ (w : Vec Rec Global). w.items) (sym also))))
-    ∙ length-append v.items d.items
+length_at vs ds i v d within inside is also = grind (arith, longer_at, length-map, lists_at, length-append)
 
 -- a fact of the first elements, and of the one that is written next
 pub each_set : {A : Type 0} → (P : ℕ → A → Type 0) (xs : List A) (i : ℕ) (x : A) → i < length xs
     → ((j : ℕ) (d : A) → j < i → P j (get_or xs j d)) → P i x
     → (j : ℕ) (d : A) → j < i + 1 → P j (get_or (set xs i x) j d)
-each_set P xs i x within before here j d upto =
-    elim (cases_eq j i) [
-      | inl same ↦
-          subst (λ (k : ℕ). P k (get_or (set xs i x) k d)) (sym same)
-          (subst (P i) (sym (get_or-set_same xs i x d within)) here)
-      | inr other ↦ subst (P j) (sym (get_or-set_other xs i j x d other)) (before j d (omega arith))
-    ]
+each_set P xs i x within before here j d upto = grind (arith, get_or-set_same, get_or-set_other)

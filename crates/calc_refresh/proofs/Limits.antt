@@ -33,8 +33,7 @@ least_more w rss i m n some within least_is next_is =
     let inside : i < length (windows_by w rss) = omega arith in
     let at = get_or-map (λ rs. windows_before w (kept_end rs)) rss i [] 0 within in
     ap₂ min least_is (next_is ∙ sym at)
-    ∙ (sym (least-push (take i (windows_by w rss)) (get_or (windows_by w rss) i 0)
-    (omega (arith, length-take-le i (windows_by w rss) (omega arith))))
+    ∙ (sym (grind (arith, least-push, length-take-le))
     ∙ ap least (sym (take_more (windows_by w rss) i 0 inside)))
 
 -- the windows of an input by the end of its Kept records with more of them
@@ -44,15 +43,7 @@ pub window_at : (w : Grid) (ends : List ℕ) (rss : List (List Rec)) (ds : List 
     → ((rs : List Rec) → get_or ends i 0 ≡ kept_end rs → end ≡ kept_end (rs ++ items))
     → windows_before w end ≡ windows_before w (kept_end (get_or (longer rss (lists_of ds)) i []))
 window_at w ends rss ds i end items d within same ends_are is items_are gives =
-    let many : length ends ≡ length rss = ap length ends_are ∙ length-map rss kept_end in
-    let inside : i < length rss = omega arith in
-    let here : get_or ends i 0 ≡ kept_end (get_or rss i []) =
-    ap (λ l. get_or l i 0) ends_are ∙ get_or-map kept_end rss i [] 0 inside in
-    ap (windows_before w)
-    (gives (get_or rss i []) here
-    ∙ ap kept_end (ap (λ l. get_or rss i [] ++ l)
-    (items_are ∙ (ap (λ (v : Vec Rec Global). v.items) is ∙ sym (lists_at ds i d within)))
-    ∙ sym (longer_at rss (lists_of ds) i inside (omega (arith, length-map ds (λ v. v.items))))))
+    grind (arith, length-map, get_or-map, lists_at, longer_at)
 
 -- a content has no more points than there are records
 pub length_listed : (rs : List Rec) → length (listed rs) ≤ length rs

@@ -1,7 +1,7 @@
 -- Marks of windows.
-use Rattle.std.proofs.Common.{◌≡◌, ℕ, zero, suc, ◌+◌, ◌<◌, ◌≤◌, inl, inr, true, false, nat_lt, nat_le, List, [], ◌∷◌, ◌++◌, length, get_or, take, drop, set, replicate, refl, ap, ◌∙◌, arith}
+use Rattle.std.proofs.Common.{◌≡◌, ℕ, zero, suc, ◌+◌, ◌<◌, ◌≤◌, true, false, nat_lt, nat_le, List, [], ◌∷◌, ◌++◌, length, get_or, take, drop, set, replicate, refl, ap, ◌∙◌, arith}
 use Rattle.std.specs.Prelude.{◌&&◌, ◌||◌, max, min}
-use Rattle.std.proofs.lemmas.Bool.{cases_lt, lt-ltb, le-ltb}
+use Rattle.std.proofs.lemmas.Bool.{lt-ltb, le-ltb}
 use Rattle.std.proofs.lemmas.Bool.Decides.{nat_tests}
 use Rattle.std.proofs.lemmas.List.{take-set-le, take_more}
 use Rattle.calc_refresh.specs.{furthest, is_marked}
@@ -27,19 +27,7 @@ further (m ∷ ms) (suc n) (suc i) b within seen =
 -- the windows of a span are marked besides those that were
 pub marks_span : (ms : List ℕ) (i b c k : ℕ) → i < length ms → c ≡ max (get_or ms i 0) b
     → is_marked (set ms i c) k ≡ (is_marked ms k || (nat_le i k && nat_lt k b))
-marks_span ms i b c k within is =
-    elim (cases_lt k i) [
-      | inl before ↦ ap (nat_lt k) (ap furthest (take-set-le (k + 1) ms i c (omega arith))) ∙ unseen k i b (furthest (take (k + 1) ms)) before
-      | inr after ↦
-          ap (λ x. nat_lt k (furthest (take (k + 1) (set ms i x)))) is
-          ∙ (ap (nat_lt k) (further ms (k + 1) i b within (omega arith)) ∙ seen k i b (furthest (take (k + 1) ms)) after)
-    ]
-  where
-    unseen : (k i b f : ℕ) → k < i → nat_lt k f ≡ (nat_lt k f || (nat_le i k && nat_lt k b))
-    unseen k i b f before = grind (arith, nat_tests)
-
-    seen : (k i b f : ℕ) → i ≤ k → nat_lt k (max f b) ≡ (nat_lt k f || (nat_le i k && nat_lt k b))
-    seen k i b f after = grind (arith, nat_tests)
+marks_span ms i b c k within is = grind (arith, take-set-le, further, nat_tests)
 
 -- a mark that reaches beyond all windows may be cut
 pub cut_end : (k b c most : ℕ) → k < most → c ≡ min b most → nat_lt k c ≡ nat_lt k b

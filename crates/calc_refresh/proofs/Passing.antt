@@ -3,7 +3,7 @@ use Rattle.std.proofs.Common.{◌≡◌, ℕ, zero, suc, ◌+◌, ◌<◌, ◌�
 use Rattle.std.specs.List.{filter, range_with_len}
 use Rattle.std.proofs.lemmas.Bool.{cases_eq}
 use Rattle.std.proofs.lemmas.List.{map-id}
-use Rattle.std.proofs.lemmas.List.Elements.{All-contains, All-filter, Contains-append_left, Contains-push, filter_passes}
+use Rattle.std.proofs.lemmas.List.Elements.{All-filter, Contains-append_left, Contains-push, filter_passes}
 use Rattle.std.proofs.lemmas.List.FromFn.{filter_of_map_range_with_len_more, get_or-range_with_len, length-range_with_len}
 use Rattle.std.proofs.lemmas.List.Sums.{count_by-le-length, length-filter}
 
@@ -20,9 +20,7 @@ module _ (p : ℕ → Bool) where
   passing_next n passes = passing_more n ∙ ap (λ b. filter p (range_with_len 0 n) ++ cond b (n ∷ []) []) passes
 
   pub passing_same : (n : ℕ) → p n ≡ false → filter p (range_with_len 0 (n + 1)) ≡ filter p (range_with_len 0 n)
-  passing_same n fails =
-      passing_more n
-      ∙ (ap (λ b. filter p (range_with_len 0 n) ++ cond b (n ∷ []) []) fails ∙ append-nil (filter p (range_with_len 0 n)))
+  passing_same n fails = grind (arith, passing_more, append-nil)
 
   -- numbers of which none passes
   pub passing_none : (n m : ℕ) → ((k : ℕ) → n ≤ k → k < n + m → p k ≡ false)
@@ -36,8 +34,7 @@ module _ (p : ℕ → Bool) where
 
   -- there are no more of them than numbers
   pub passing_few : (n : ℕ) → length (filter p (range_with_len 0 n)) ≤ n
-  passing_few n =
-      omega (arith, length-filter p (range_with_len 0 n), count_by-le-length p (range_with_len 0 n), length-range_with_len 0 n)
+  passing_few n = grind (arith, length-filter, count_by-le-length, length-range_with_len)
 
   -- a number that passes is one of them
   pub passing_has : (n k : ℕ) → k < n → p k ≡ true → Contains (filter p (range_with_len 0 n)) k
@@ -59,10 +56,7 @@ module _ (p : ℕ → Bool) where
       (λ i d within. omega (arith, get_or-range_with_len 0 n i d (omega (arith, within, length-range_with_len 0 n)), length-range_with_len 0 n))
 
   pub passing_are : (n k : ℕ) → Contains (filter p (range_with_len 0 n)) k → (k < n) × (p k ≡ true)
-  passing_are n k has = (
-    All-contains (λ i. i < n) (filter p (range_with_len 0 n)) k (passing_below n) has,
-    All-contains (λ i. p i ≡ true) (filter p (range_with_len 0 n)) k (filter_passes p (range_with_len 0 n)) has,
-  )
+  passing_are n k has = grind (arith, passing_below, filter_passes)
 
 -- tests that agree below a number pass the same numbers
 pub passing_agree : (p q : ℕ → Bool) (n : ℕ) → ((k : ℕ) → k < n → p k ≡ q k)

@@ -58,18 +58,7 @@ pub due_is : (w : Grid) (rss mores : List (List Rec)) (marks first last : List �
     → is_marked first k ≡ (is_marked marks k || any_touched rss mores (window_from w k) (window_to w k))
     → is_marked last k ≡ (is_marked first k || (nat_le (complete_windows w rss) k && nat_lt k (length last)))
     → is_marked last k ≡ is_due w rss mores k
-due_is w rss mores marks first last n k none within touched_are new_are =
-    new_are
-    ∙ (ap₂ (λ a b. a || (nat_le (complete_windows w rss) k && b))
-    (touched_are ∙ ap (λ b. b || any_touched rss mores (window_from w k) (window_to w k)) (ap (λ m. is_marked m k) none ∙ unmarked n k))
-    (lt-ltb k (length last) within)
-    ∙ swapped (any_touched rss mores (window_from w k) (window_to w k)) (nat_le (complete_windows w rss) k))
-  where
-    swapped : (a b : Bool) → ((false || a) || (b && true)) ≡ (b || a)
-    swapped true true = refl
-    swapped true false = refl
-    swapped false true = refl
-    swapped false false = refl
+due_is w rss mores marks first last n k none within touched_are new_are = grind (arith, unmarked, lt-ltb)
 
 -- ---- the rows
 

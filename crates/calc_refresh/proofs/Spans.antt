@@ -1,5 +1,5 @@
 -- The windows that meet a stretch, and the neighbours of a time.
-use Rattle.std.proofs.Common.{◌≡◌, ℕ, zero, suc, ◌+◌, ◌-◌, ◌*◌, ◌/◌, ◌<◌, ◌≤◌, inl, inr, nat_lt, nat_le, List, [], ◌∷◌, All, Contains, None, Some, refl, sym, ap, ap₂, ◌∙◌, arith}
+use Rattle.std.proofs.Common.{◌≡◌, ℕ, zero, suc, ◌+◌, ◌-◌, ◌*◌, ◌/◌, ◌<◌, ◌≤◌, inl, inr, nat_lt, nat_le, List, [], ◌∷◌, All, Contains, None, Some, refl, sym, ap, arith}
 use Rattle.std.specs.Prelude.{◌&&◌, filter}
 use Rattle.std.proofs.Math.Nat.{div-lt_iff_lt-mul, le-div_iff_mul-le}
 use Rattle.std.proofs.lemmas.Bool.{cases_lt, lt-ltb, le-ltb}
@@ -15,14 +15,7 @@ use Rattle.sheet_law.proofs.Stretch.{starts_from}
 
 -- two tests of numbers that hold together are one
 same_test : (a b c d : ℕ) → (a ≤ b → c ≤ d) → (c ≤ d → a ≤ b) → nat_le a b ≡ nat_le c d
-same_test a b c d on back =
-    elim (cases_lt b a) [
-      | inl above ↦ elim (cases_lt d c) [
-        | inl also ↦ grind (arith, nat_tests)
-        | inr under ↦ absurd (let h = back under in omega arith)
-      ]
-      | inr under ↦ let h = on under in grind (arith, nat_tests)
-    ]
+same_test a b c d on back = grind (arith, nat_tests)
 
 product : (a b : ℕ) → (a + 1) * b ≡ a * b + b
 product a b = grind arith
@@ -30,32 +23,18 @@ product a b = grind arith
 -- the windows from this one on do not end before a time
 first_met : (w : Grid) (lo k : ℕ) → 0 < w.period
     → nat_le ((lo - w.start - 1) / w.period) k ≡ nat_le lo (window_to w k)
-first_met w lo k some =
-    let iff = div-lt_iff_lt-mul {k = w.period} {x = lo - w.start - 1} {y = k + 1} some in
-    same_test ((lo - w.start - 1) / w.period) k lo (window_to w k)
-    (λ h. (let up : lo - w.start - 1 < (k + 1) * w.period = iff.0 (omega arith) in omega arith))
-    (λ h. (let up : lo - w.start - 1 < (k + 1) * w.period = omega (arith, product k w.period) in
-    let count : (lo - w.start - 1) / w.period < k + 1 = iff.1 up in omega arith))
+first_met w lo k some = grind (arith, div-lt_iff_lt-mul, same_test, product)
 
 -- and those before this one do not start after it
 last_met : (w : Grid) (hi k : ℕ) → 0 < w.period
     → nat_lt k ((hi + w.period - w.start) / w.period) ≡ nat_le (window_from w k) hi
-last_met w hi k some =
-    let iff = le-div_iff_mul-le {k = w.period} {x = k + 1} {y = hi + w.period - w.start} some in
-    below k ((hi + w.period - w.start) / w.period)
-    ∙ same_test (k + 1) ((hi + w.period - w.start) / w.period) (window_from w k) hi
-    (λ h. (let up : (k + 1) * w.period ≤ hi + w.period - w.start = iff.0 h in omega (arith, product k w.period)))
-    (λ h. iff.1 (omega (arith, product k w.period)))
-  where
-    below : (a b : ℕ) → nat_lt a b ≡ nat_le (a + 1) b
-    below a b = grind (arith, nat_tests)
+last_met w hi k some = grind (arith, le-div_iff_mul-le, same_test, product, nat_tests)
 
 -- the windows that meet a stretch lie one after another
 pub met_are : (w : Grid) (lo hi k first behind : ℕ) → 0 < w.period → first ≡ (lo - w.start - 1) / w.period
     → behind ≡ (hi + w.period - w.start) / w.period
     → (nat_le first k && nat_lt k behind) ≡ (nat_le lo (window_to w k) && nat_le (window_from w k) hi)
-met_are w lo hi k first behind some first_is behind_is =
-    rw (first_is, behind_is) (ap₂ (λ a b. a && b) (first_met w lo k some) (last_met w hi k some))
+met_are w lo hi k first behind some first_is behind_is = grind (arith, first_met, last_met)
 
 -- ---- neighbours
 

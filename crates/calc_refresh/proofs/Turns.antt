@@ -1,13 +1,13 @@
 -- Records of an input one after another.
 use Rattle.std.proofs.Common.{◌≡◌, ℕ, ◌+◌, ◌<◌, ◌≤◌, Bool, true, false, cond, nat_lt, nat_le, List, [], ◌∷◌, ◌++◌, All, fold, pos, refl, sym, ap, ◌∙◌, arith, append_assoc, append-nil}
-use Rattle.std.specs.Prelude.{◌&&◌, ◌||◌, not, max}
+use Rattle.std.specs.Prelude.{◌&&◌, ◌||◌, max}
 use Rattle.std.proofs.lemmas.Bool.Decides.{nat_tests}
 use Rattle.std.proofs.lemmas.List.Elements.{All-head, All-nil, All-tail}
 use Rattle.trend_num.specs.{Rec}
 use Rattle.trend_num.specs.declared.archive.Kind.TheVariants.{Kept, Late}
 use Rattle.trend_model.specs.{is_late_record, listed, placed}
 use Rattle.trend_model.proofs.Placing.{all_placed, time}
-use Rattle.sheet_law.specs.{kept_end, is_newest, is_touched, meets, touches}
+use Rattle.sheet_law.specs.{kept_end, is_newest, is_touched, touches}
 
 -- the end of Kept records with one more record
 pub kept_end-push : (rs : List Rec) (r : Rec)
@@ -50,28 +50,15 @@ newest-is r (x ∷ rs) =
 -- a Kept record touches every window where the Kept ones end after its time, and else none
 pub kept-touches : (rs : List Rec) (r : Rec) (end from to : ℕ) → r.kind ≡ Kept → end ≡ kept_end rs
     → touches rs r from to ≡ nat_lt r.point.t end
-kept-touches rs r end from to is end_is =
-    ap (λ k. cond (is_late_record k) (meets (listed rs) r.point.t from to) (not (is_newest r rs))) is
-    ∙ (ap not (newest-is r rs) ∙ (turned (kept_end rs) r.point.t ∙ ap (nat_lt r.point.t) (sym end_is)))
-  where
-    turned : (a b : ℕ) → not (nat_le a b) ≡ nat_lt b a
-    turned a b = grind (arith, nat_tests)
+kept-touches rs r end from to is end_is = grind (arith, newest-is, nat_tests)
 
 pub newest_touches_none : (rs : List Rec) (r : Rec) (end from to k : ℕ) → r.kind ≡ Kept → end ≡ kept_end rs
     → end ≤ r.point.t → (nat_le 0 k && nat_lt k 0) ≡ touches rs r from to
-newest_touches_none rs r end from to k is end_is newest =
-    by_test k r.point.t end newest ∙ sym (kept-touches rs r end from to is end_is)
-  where
-    by_test : (k t e : ℕ) → e ≤ t → (nat_le 0 k && nat_lt k 0) ≡ nat_lt t e
-    by_test k t e h = grind (arith, nat_tests)
+newest_touches_none rs r end from to k is end_is newest = grind (arith, kept-touches, nat_tests)
 
 pub older_touches_all : (rs : List Rec) (r : Rec) (end from to k far : ℕ) → r.kind ≡ Kept → end ≡ kept_end rs
     → r.point.t < end → k < far → (nat_le 0 k && nat_lt k far) ≡ touches rs r from to
-older_touches_all rs r end from to k far is end_is older below =
-    by_test k far r.point.t end below older ∙ sym (kept-touches rs r end from to is end_is)
-  where
-    by_test : (k far t e : ℕ) → k < far → t < e → (nat_le 0 k && nat_lt k far) ≡ nat_lt t e
-    by_test k far t e h g = grind (arith, nat_tests)
+older_touches_all rs r end from to k far is end_is older below = grind (arith, kept-touches, nat_tests)
 
 -- one more record comes after the others
 pub is_touched-push : (rs more : List Rec) (r : Rec) (from to : ℕ)
@@ -106,12 +93,7 @@ times_bound bound rs each = go [] rs (All-nil (λ r. time r ≤ bound)) each
 -- tests that come one after another
 pub or_more : (marked before first one all new : Bool) → new ≡ (marked || one) → marked ≡ (before || first)
     → all ≡ (first || one) → new ≡ (before || all)
-or_more marked before first one all new is was whole =
-    is ∙ (ap (λ b. b || one) was ∙ (grouped before first one ∙ ap (λ b. before || b) (sym whole)))
-  where
-    grouped : (a b c : Bool) → ((a || b) || c) ≡ (a || (b || c))
-    grouped true b c = refl
-    grouped false b c = refl
+or_more marked before first one all new is was whole = grind arith
 
 -- a place for a record that is not there
 abbrev pub no_rec : Rec

@@ -1,5 +1,5 @@
 -- What a crash left until the opening of a log ended.
-use Rattle.std.proofs.Common.{◌≡◌, Option, None, Some, List, ℕ, refl, sym, subst}
+use Rattle.std.proofs.Common.{◌≡◌, Option, None, Some, List, ℕ, sym, subst}
 use Rattle.std.specs.Prelude.{IfSome}
 use Rattle.disk_model.specs.{Shows, ComesAfter, During, Device, HandOut, Trace, moment}
 use Rattle.disk_model.proofs.Moments.{after_both, after_self}

@@ -1,6 +1,5 @@
 -- A block after others: what an image has while it is added.
-use Rattle.std.proofs.Common.{◌≡◌, ◌≢◌, ◌⊎◌, inl, inr, ℕ, ◌+◌, ◌<◌, ◌≤◌, List, [], ◌∷◌, ◌++◌, length, get_or, sym, ap, ◌∙◌, subst, arith, length-append}
-use Rattle.std.proofs.lemmas.Bool.{cases_eq}
+use Rattle.std.proofs.Common.{◌≡◌, ◌≢◌, ◌⊎◌, ℕ, ◌+◌, ◌<◌, ◌≤◌, List, [], ◌∷◌, ◌++◌, length, get_or, sym, ap, ◌∙◌, subst, arith, length-append}
 use Rattle.disk_model.specs.{IsGuarded, IsOpen, IsShut, open_byte}
 use Rattle.commit_log.specs.{LogRow, AreBlockRows, HasBlock, HasBlocks, log_block_image, log_block_size, log_end_of, rows_of, letters, Stores}
 use Rattle.archive_file.specs.{IsOfText, blocks_at}
@@ -58,19 +57,7 @@ module _ (plant : List ℕ) (tags : ℕ) (rows : List LogRow) (at : ℕ) (d c : 
 
   -- where its gate is closed there is what was
   pub block_closed : get_or c at 0 ≢ open_byte → Stores plant tags rows at c
-  block_closed closed = record {
-    of_plant = of_plant;
-    lists = record {
-      blocks = bs;
-      are = record {
-        blocks = blocks;
-        shut = subst (λ n. IsShut n c) has.lists.end_is
-            (record { there = omega (arith, gate_there, guarded.no_shorter); closed = closed });
-      };
-      rows_are = has.lists.rows_are;
-      end_is = has.lists.end_is;
-    };
-  }
+  block_closed closed = grind (arith, of_plant, blocks, gate_there)
 
   -- where it is open the block counts
   pub block_opened : IsOpen at c → AreBlockRows tags b → Stores plant tags (rows ++ b) (at + log_block_size b) c
@@ -103,7 +90,4 @@ module _ (plant : List ℕ) (tags : ℕ) (rows : List LogRow) (at : ℕ) (d c : 
 
   -- so an image has what was, or that and the block
   pub block_either : AreBlockRows tags b → Stores plant tags rows at c ⊎ Stores plant tags (rows ++ b) (at + log_block_size b) c
-  block_either rows_are = elim (cases_eq (get_or c at 0) open_byte) [
-    | inl opened ↦ inr (block_opened opened rows_are)
-    | inr closed ↦ inl (block_closed closed)
-  ]
+  block_either rows_are = grind (arith, block_opened, block_closed)

@@ -6,7 +6,7 @@ use Rattle.trend_num.specs.{last_time, largest_value}
 use Rattle.archive_file.specs.{number_bytes, moved, BreaksFirst, Keeps, Spells, long_at, short_at}
 use Rattle.archive_file.proofs.FieldLaws.{breaks_behind, breaks_within, field_of}
 use Rattle.archive_file.proofs.Windows.{rest_long, rest_short, then_spelled}
-use Rattle.commit_log.specs.{LogRow, block_fields, body_fields, front_fields, most_in_block, rows_fields, rows_image, AddsBlock, AddsRows}
+use Rattle.commit_log.specs.{LogRow, block_fields, body_fields, front_fields, most_in_block, rows_fields, AddsBlock, AddsRows}
 
 -- ---- its fields
 
@@ -29,10 +29,7 @@ module _ (c : List ℕ) (tags gate : ℕ) where
 
   -- those behind the front
   body_here : (n : ℕ) → map (moved gate) (body_fields (drop gate c) tags 13 n) ≡ body_fields c tags (gate + 13) n
-  body_here n =
-      let last : gate + (13 + 32 * n) ≡ gate + 13 + 32 * n = omega arith in
-      map-append (moved gate) (rows_fields (drop gate c) tags 13 n) (field_of (13 + 32 * n) 1 true ∷ [])
-      ∙ (λ i. rows_here n 13 (gate + 13) refl i ++ field_of (last i) 1 true ∷ [])
+  body_here n = grind (arith, map-append, field_of, rows_here)
 
   -- all of them
   pub block_here : (number : ℕ) → map (moved gate) (block_fields (drop gate c) tags number 0) ≡ block_fields c tags number gate
@@ -47,18 +44,7 @@ module _ (c : List ℕ) (tags gate : ℕ) where
 -- they were added after its front
 pub block_added : (c : List ℕ) (tags count size : ℕ) (old new : List LogRow) → Spells c 1 (number_bytes 8 (length old) ++ number_bytes 4 count) 13
     → 1 ≤ count → count ≤ most_in_block → AddsRows c tags 13 count old new → size ≡ 13 + 32 * count → AddsBlock c tags old new size
-block_added c tags count size old new front some few added size_is = record {
-  block = added.more;
-  are = added.are;
-  rows_are = record { some = omega (arith, added.long, some); few = omega (arith, added.long, few); each = added.each };
-  spelled = subst (λ l. Spells c 1 l size) (append_assoc (number_bytes 8 (length old)) (number_bytes 4 (length added.more)) (rows_image added.more))
-      (then_spelled c 1 13 13 size (number_bytes 8 (length old) ++ number_bytes 4 (length added.more)) (rows_image added.more) head refl
-      (subst (Spells c 13 (rows_image added.more)) (sym size_is) added.spelled));
-  size_is = omega (arith, size_is, added.long);
-}
-  where
-    head : Spells c 1 (number_bytes 8 (length old) ++ number_bytes 4 (length added.more)) 13
-    head = subst (λ n. Spells c 1 (number_bytes 8 (length old) ++ number_bytes 4 n) 13) (sym added.long) front
+block_added c tags count size old new front some few added size_is = grind (arith, append_assoc, then_spelled)
 
 -- ---- where it breaks a rule first
 

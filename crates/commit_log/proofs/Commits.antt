@@ -1,5 +1,5 @@
 -- What a log's type keeps, after a commit and after one whose device failed.
-use Rattle.std.proofs.Common.{◌≡◌, ⊎_elim, ℕ, ◌+◌, ◌-◌, ◌<◌, ◌≤◌, Bool, true, false, List, [], ◌∷◌, ◌++◌, length, min, take, drop, get_or, nat_le, if◌then◌else◌, refl, sym, ap, ◌∙◌, subst, arith, append_assoc, length-append, length-drop}
+use Rattle.std.proofs.Common.{◌≡◌, ⊎_elim, ℕ, ◌+◌, ◌-◌, ◌≤◌, Bool, true, false, List, [], ◌∷◌, ◌++◌, length, min, take, drop, nat_le, if◌then◌else◌, refl, sym, ap, ◌∙◌, subst, arith, append_assoc, length-append, length-drop}
 use Rattle.std.proofs.lemmas.Bool.Decides.{nat_tests}
 use Rattle.std.proofs.lemmas.List.{append-nil, take-append-le}
 use Rattle.std.proofs.Math.Seq.{take-add, take-append_seam}
@@ -7,7 +7,7 @@ use Rattle.disk_model.specs.{Rose, Sees, IsGuarded, IsOpen, IsShut, open_byte, F
 use Rattle.disk_model.proofs.Bytes.{length-written}
 use Rattle.disk_model.proofs.Images.{present}
 use Rattle.disk_model.proofs.Moments.{during_now, only_since, parted}
-use Rattle.commit_log.specs.{LogRow, LogTurn, AreBlockRows, log_block_image, log_block_size, most_in_block, ByBlocks, StandsForRows, Stores, LogWalk, acked_at, after_turn, puts, log_begin, log_walked, IsBlockOf, LogTurnsFit, IsLogLegal}
+use Rattle.commit_log.specs.{LogRow, LogTurn, AreBlockRows, log_block_image, log_block_size, most_in_block, ByBlocks, StandsForRows, Stores, LogWalk, acked_at, after_turn, puts, log_begin, log_walked, IsBlockOf, IsLogLegal}
 use Rattle.commit_log.specs.{IsLogSafe, StandsForPart, HasRoomForPuts, IsKept, IsReady, Waits}
 use Rattle.commit_log.specs.declared.history.LogTurn.TheVariants.{Commit}
 use Rattle.archive_file.proofs.PlacedBytes.{written_byte}
@@ -52,10 +52,7 @@ ready_stands plant tags rows end o ready d may = stores_stand plant tags rows en
 -- and has a closed gate where the next block goes
 pub ready_shut : (plant : List ℕ) (tags : ℕ) (rows : List LogRow) (end : ℕ) (o : Trace) → IsReady plant tags rows end o
     → Now o (IsShut end)
-ready_shut plant tags rows end o ready = record { each = λ d may. shut_there d (ready_now plant tags rows end o ready d may) }
-  where
-    shut_there : (d : List ℕ) → Stores plant tags rows end d → IsShut end d
-    shut_there d has = subst (λ (n : ℕ). IsShut n d) (sym has.lists.end_is) has.lists.are.shut
+ready_shut plant tags rows end o ready = grind (arith, ready_now, rows)
 
 -- a test that passes
 le_when : (m t : ℕ) → nat_le m t ≡ true → m ≤ t
@@ -128,8 +125,7 @@ module _ (plant : List ℕ) (tags : ℕ) (opening : List LogRow) (moment faults 
 
   -- at each moment no more is acknowledged
   most : (t : ℕ) → acked_at t (length opening) tape ≤ acked
-  most t = subst (λ (n : ℕ). acked_at t (length opening) tape ≤ n) (sym legal.last)
-      (acked_at-most tags (log_begin (length opening) moment) tape t (length opening) (omega arith) legal.turns)
+  most t = grind (arith, acked_at-most)
 
   -- so the log stays safe
   pub writing_safe : (new : Trace) → IsLogSafe plant tags opening moment tape (LeftSince old) → During old new IsWriting
@@ -144,13 +140,7 @@ module _ (plant : List ℕ) (tags : ℕ) (opening : List LogRow) (moment faults 
   -- a call of the device failed
   pub kept_faulted : (new : Trace) (ticks' faults' : ℕ) → ticks ≤ ticks' → Rose faults_now faults'
       → IsKept plant tags opening moment faults tape next end true new ticks' faults'
-  kept_faulted new ticks' faults' later rose = record {
-    ready = λ usable. absurd (cc (usable));
-    past = omega (arith, kept.past, later);
-    opened_before = omega (arith, kept.opened_before, later);
-    faultless = λ usable. absurd (cc (usable));
-    cause = λ failed. subst (λ (n : ℕ). Rose n faults') (kept.faultless refl) rose;
-  }
+  kept_faulted new ticks' faults' later rose = grind arith
 
   module _ (new : Trace) (ticks' faults' : ℕ) (clock : ticks' ≡ ticks + 4) (during : During old new IsWriting)
       (sees : Sees new (written (written (seen old) (end + 1) bytes) end (open_byte ∷ []))) (settled : IsSettled new)
@@ -170,12 +160,7 @@ module _ (plant : List ℕ) (tags : ℕ) (opening : List LogRow) (moment faults 
     commit_legal : count ≡ min most_in_block (length opening + length (puts tape) - acked) → IsLogLegal tags opening moment longer (acked + count)
     commit_legal count_is = record {
       opened = legal.opened;
-      turns = subst (LogTurnsFit tags (log_begin (length opening) moment)) (sym longer_is)
-          (fit-push tags (log_begin (length opening) moment) tape (Commit ticks' (acked + count)) legal.turns (record {
-            some = omega (arith, was, rows, count_is, some);
-            acked_are = omega (arith, was, rows, count_is);
-            later = omega (arith, kept.past, clock);
-          }));
+      turns = grind (arith, fit-push, was, rows);
       last = sym (ap (λ (w : LogWalk). w.acked) walk_is);
     }
       where
@@ -187,27 +172,17 @@ module _ (plant : List ℕ) (tags : ℕ) (opening : List LogRow) (moment faults 
 
     commit_room : (places places' n room : ℕ) → HasRoomForPuts opening tape places n room → length tape + (room - n) + 1 ≤ places'
         → HasRoomForPuts opening longer places' n room
-    commit_room places places' n room has enough = record {
-      count_is = has.count_is ∙ ap length (sym same_puts);
-      within = has.within;
-      tape_room = omega (arith, has.within, long, enough);
-      few = has.few;
-    }
+    commit_room places places' n room has enough = grind (arith, same_puts, long)
 
     -- the turns that are acknowledged then
     upto : take (next + turns) longer ≡ take next tape ++ take turns (drop next tape)
-    upto =
-        let reach : next + turns ≤ length tape = omega (arith, is.within, length-drop next tape, waits.within) in
-        ap (take (next + turns)) longer_is ∙ (take-append-le (next + turns) tape (Commit ticks' (acked + count) ∷ []) reach ∙ take-add next turns tape)
+    upto = grind (arith, length-drop, take-append-le, take-add)
 
     upto_rows : puts (take (next + turns) longer) ≡ first ++ block
     upto_rows = ap puts upto ∙ puts-append (take next tape) (take turns (drop next tape))
 
     commit_waits : Waits opening longer (next + turns) (acked + count)
-    commit_waits = record {
-      within = omega (arith, is.within, length-drop next tape, waits.within, long);
-      acked_are = omega (arith, waits.acked_are, ap length upto_rows, length-append first block, is.long);
-    }
+    commit_waits = grind (arith, length-drop, long, upto_rows, length-append)
 
     -- an image now has the block
     stored_now : (c : List ℕ) → MayLeave new c → Stores plant tags (done ++ block) (end + log_block_size block) c
@@ -218,11 +193,7 @@ module _ (plant : List ℕ) (tags : ℕ) (opening : List LogRow) (moment faults 
       where
         opened : (x y : Trace) → Now x (IsShut end) → ComesAfter x y
             → Sees y (written (written (seen x) (end + 1) bytes) end (open_byte ∷ [])) → IsSettled y → (c : List ℕ) → MayLeave y c → IsOpen end c
-        opened t u shut after sees settled c may =
-            let there : end < length (seen t) = (shut.each (seen t) (present t)).there in
-            ap (λ (l : List ℕ). get_or l end 0) (settled.each c may ∙ sees)
-            ∙ written_byte (written (seen t) (end + 1) bytes) end open_byte
-            (omega (arith, there, length-written (seen t) (end + 1) bytes (omega (arith, there))))
+        opened t u shut after sees settled c may = grind (arith, present, written_byte, length-written)
 
     commit_kept : (end' : ℕ) → end' ≡ end + log_block_size block → faults' ≡ faults_now
         → IsKept plant tags opening moment faults longer (next + turns) end' false new ticks' faults'
@@ -244,11 +215,7 @@ module _ (plant : List ℕ) (tags : ℕ) (opening : List LogRow) (moment faults 
 
     commit_safe : IsLogSafe plant tags opening moment tape (LeftSince old) → IsLogSafe plant tags opening moment longer (LeftSince new)
     commit_safe safe = record {
-      images = λ t c since left.
-          subst (λ (l : List LogRow). StandsForPart plant tags opening l (acked_at t (length opening) longer) c) (sym same_puts)
-          (subst (λ (n : ℕ). StandsForPart plant tags opening (puts tape) n c)
-          (sym (ap (acked_at t (length opening)) longer_is ∙ acked_at-commit t (length opening) tape ticks' (acked + count)))
-          (by_moment t c since left (nat_le ticks' t) refl));
+      images = grind (arith, same_puts, acked_at-commit, by_moment);
     }
       where
         by_moment : (t : ℕ) (c : List ℕ) → moment ≤ t → LeftSince new t c → (x : Bool) → nat_le ticks' t ≡ x

@@ -2,8 +2,8 @@
 use Rattle.std.proofs.Common.{◌≡◌, inl, inr, ℕ, ◌+◌, ◌≤◌, true, List, [], length, drop, Option, None, Some, refl, sym, ap, subst, arith, lit<, length-take}
 use Rattle.disk_model.specs.{Reaches, Shows, IsBegun, IsNew, During, Synced, Trace, noted, seen}
 use Rattle.disk_model.proofs.Moments.{in_turn, weaker}
-use Rattle.commit_log.specs.{Stored, LogRow, IsBlockDamage, BadBlock, BadHead, ByBlocks, ByNothing, IsLogDamage, LogsNothing, StandsForRows, letters, IsFound, IsLogLeftOrSame, IsLeftOrStands, IsTooMany, Stores}
-use Rattle.archive_file.specs.{BreaksFirst, short_at, IsOfText, blocks_at, head_fields}
+use Rattle.commit_log.specs.{Stored, LogRow, IsBlockDamage, BadHead, ByBlocks, ByNothing, IsLogDamage, LogsNothing, StandsForRows, letters, IsFound, IsLogLeftOrSame, IsLeftOrStands, IsTooMany, Stores}
+use Rattle.archive_file.specs.{BreaksFirst, short_at, IsOfText, head_fields}
 use Rattle.archive_file.proofs.FieldLaws.{field_of}
 use Rattle.commit_log.proofs.Commits.{stores_stand}
 
@@ -45,10 +45,7 @@ head_damage plant tags t a byte begun breaks = BadHead begun breaks
 
 pub block_damage : (plant text : List ℕ) (tags at : ℕ) (o : Trace) (a : ℕ) (byte : Option ℕ) → text ≡ plant → at ≡ 9 + length text
     → Shows o (IsOfText letters text) → Shows o (λ c. IsBlockDamage c tags at a byte) → Shows o (λ c. IsLogDamage plant tags c a byte)
-block_damage plant text tags at t a byte same place is damage =
-    let c : List ℕ = seen t in
-    let begin : at ≡ blocks_at (length plant) = omega (arith, place, ap length same) in
-    BadBlock (subst (λ x. IsOfText letters x c) same is) (subst (λ n. IsBlockDamage c tags n a byte) begin damage)
+block_damage plant text tags at t a byte same place is damage = grind arith
 
 -- ---- a new device
 

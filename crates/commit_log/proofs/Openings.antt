@@ -1,5 +1,5 @@
 -- What opening a log returns, and what its type keeps at first.
-use Rattle.std.proofs.Common.{◌≡◌, ℕ, ◌+◌, ◌<◌, ◌≤◌, false, All, List, [], length, Option, Result, Ok, Err, IfErr, IfOk, IsErrOf, OnErr, OnOk, refl, sym, ◌∙◌, subst, arith}
+use Rattle.std.proofs.Common.{◌≡◌, ℕ, ◌+◌, ◌<◌, ◌≤◌, false, All, List, [], length, Option, Result, Ok, Err, IfErr, IfOk, IsErrOf, OnErr, OnOk, refl, sym, subst, arith}
 use Rattle.std.proofs.lemmas.List.{append-nil}
 use Rattle.disk_model.specs.{Shows, LeftSince, Synced, Trace, noted, moment}
 use Rattle.disk_model.proofs.Moments.{only_since}
@@ -70,9 +70,7 @@ refused_as scan.WantOfMemory a byte e = absurd (cc (e))
 
 pub damage_read : {T : Type 0} (r : Result T LogNo) (out : LogNo) (why : ScanNo) (a : ℕ) (byte : Option ℕ) → r ≡ Err out → out ≡ refusal_of why
     → IsErrOf r (Damaged a byte) → why ≡ scan.Damaged a byte
-damage_read r out why a byte is same told =
-    let inner : out ≡ Damaged a byte = cc in
-    refused_as why a byte (sym same ∙ inner)
+damage_read r out why a byte is same told = grind (arith, refused_as)
 
 -- ---- at first
 

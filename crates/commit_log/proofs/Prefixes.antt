@@ -1,5 +1,5 @@
 -- The points of a tag in the first rows of a log.
-use Rattle.std.proofs.Common.{◌≡◌, ℕ, ◌≤◌, List, ◌++◌, length, map, filter, take, drop, nat_eq, sym, ap, ◌∙◌, subst}
+use Rattle.std.proofs.Common.{arith, ◌≡◌, ℕ, ◌≤◌, List, ◌++◌, length, take, drop, sym, ap, ◌∙◌, subst}
 use Rattle.std.proofs.lemmas.List.{map-append, take-append-drop, take-take}
 use Rattle.std.proofs.lemmas.List.Elements.{filter-append}
 use Rattle.std.proofs.Math.Seq.{take-append_seam}
@@ -7,9 +7,7 @@ use Rattle.commit_log.specs.{LogRow, log_points_of}
 
 -- the points in two lists
 points-append : (tag : ℕ) (xs ys : List LogRow) → log_points_of tag (xs ++ ys) ≡ log_points_of tag xs ++ log_points_of tag ys
-points-append tag xs ys =
-    let is_of : LogRow → _ = λ r. nat_eq r.tag tag in
-    ap (map (λ r. r.point)) (filter-append is_of xs ys) ∙ map-append (λ r. r.point) (filter is_of xs) (filter is_of ys)
+points-append tag xs ys = grind (arith, filter-append, map-append)
 
 pub points_prefix : (tag : ℕ) (rows : List LogRow) (n : ℕ)
     → log_points_of tag (take n rows) ≡ take (length (log_points_of tag (take n rows))) (log_points_of tag rows)

@@ -2,7 +2,7 @@
 use Rattle.std.proofs.Common.{◌≡◌, ℕ, ◌+◌, ◌≤◌, Bool, List, [], ◌∷◌, ◌++◌, length, take, sym, ap, ◌∙◌, subst, arith, length-append}
 use Rattle.std.proofs.lemmas.List.{take-append-le}
 use Rattle.disk_model.specs.{Trace}
-use Rattle.commit_log.specs.{LogRow, LogTurn, IsLogRow, StandsForRows, LogWalk, acked_at, puts, log_begin, IsLogLegal, IsLogSafe, StandsForPart, HasRoomForPuts, IsKept, IsReady, Waits}
+use Rattle.commit_log.specs.{LogRow, LogTurn, IsLogRow, StandsForRows, acked_at, puts, IsLogLegal, IsLogSafe, StandsForPart, HasRoomForPuts, IsKept, Waits}
 use Rattle.commit_log.specs.declared.history.LogTurn.TheVariants.{Put}
 use Rattle.commit_log.proofs.Tapes.{acked_at-put, fit-push, puts-append, walked-push}
 
@@ -15,42 +15,23 @@ module _ (tags : ℕ) (opening : List LogRow) (moment : ℕ) (tape : List LogTur
   rows_are = puts-append tape (Put row ∷ [])
 
   pub put_legal : (acked : ℕ) → IsLogLegal tags opening moment tape acked → IsLogRow tags row → IsLogLegal tags opening moment longer acked
-  put_legal acked legal is = record {
-    opened = legal.opened;
-    turns = fit-push tags (log_begin (length opening) moment) tape (Put row) legal.turns is;
-    last = legal.last ∙ sym (ap (λ (w : LogWalk). w.acked) (walked-push (log_begin (length opening) moment) tape (Put row)));
-  }
+  put_legal acked legal is = grind (arith, fit-push, walked-push)
 
   pub put_room : (places places' count room : ℕ) → HasRoomForPuts opening tape places count room → count + 1 ≤ room → places' ≡ places
       → HasRoomForPuts opening longer places' (count + 1) room
-  put_room places places' count room has within same = record {
-    count_is = omega (arith, has.count_is, ap length rows_are, length-append (puts tape) (row ∷ []));
-    within = within;
-    tape_room = omega (arith, has.tape_room, length-append tape (Put row ∷ []), same);
-    few = has.few;
-  }
+  put_room places places' count room has within same = grind (arith, rows_are, length-append)
 
   -- the turns before a place are the same
   before : (next : ℕ) → next ≤ length tape → take next longer ≡ take next tape
   before next within = take-append-le next tape (Put row ∷ []) within
 
   pub put_waits : (next acked : ℕ) → Waits opening tape next acked → Waits opening longer next acked
-  put_waits next acked waits = record {
-    within = omega (arith, waits.within, length-append tape (Put row ∷ []));
-    acked_are = waits.acked_are ∙ ap (λ (l : List LogTurn). length opening + length (puts l)) (sym (before next waits.within));
-  }
+  put_waits next acked waits = grind (arith, length-append, before)
 
   pub put_kept : (plant : List ℕ) (faults next end acked : ℕ) (failed : Bool) (trace : Trace) (ticks faults' : ℕ)
       → Waits opening tape next acked → IsKept plant tags opening moment faults tape next end failed trace ticks faults'
       → IsKept plant tags opening moment faults longer next end failed trace ticks faults'
-  put_kept plant faults next end acked failed trace ticks faults' waits kept = record {
-    ready = λ usable. subst (λ (l : List LogTurn). IsReady plant tags (opening ++ puts l) end trace)
-        (sym (before next waits.within)) (kept.ready usable);
-    past = subst (λ (w : LogWalk). w.moment ≤ ticks) (sym (walked-push (log_begin (length opening) moment) tape (Put row))) kept.past;
-    opened_before = kept.opened_before;
-    faultless = kept.faultless;
-    cause = kept.cause;
-  }
+  put_kept plant faults next end acked failed trace ticks faults' waits kept = grind (arith, before, walked-push)
 
   pub put_safe : (plant : List ℕ) (left : ℕ → List ℕ → Type 0) → IsLogSafe plant tags opening moment tape left
       → IsLogSafe plant tags opening moment longer left

@@ -1,10 +1,9 @@
 -- A row whose fields are kept, and rows read in turn.
-use Rattle.std.proofs.Common.{◌≡◌, ℕ, suc, ◌+◌, ◌-◌, ◌*◌, ◌^◌, ◌<◌, true, List, [], ◌∷◌, ◌++◌, All, length-append, append_assoc, Option, refl, sym, ap, ◌∙◌, subst, arith, lit<, ltb-true, leb-true}
+use Rattle.std.proofs.Common.{◌≡◌, ℕ, ◌+◌, ◌-◌, ◌*◌, ◌^◌, ◌<◌, true, List, [], ◌∷◌, ◌++◌, All, length-append, append_assoc, Option, refl, sym, ap, ◌∙◌, subst, arith, lit<, ltb-true, leb-true}
 use Rattle.std.proofs.lemmas.List.Elements.{All-push}
 use Rattle.archive_file.proofs.Joins.{images_push}
-use Rattle.archive_file.specs.{Field, BreaksFirst, Keeps, Spells, long_at, short_at, number_bytes, value_bytes}
+use Rattle.archive_file.specs.{Field, BreaksFirst, Keeps, Spells, long_at, short_at, number_bytes}
 use Rattle.commit_log.specs.{LogRow, IsLogRow, row_at, row_fields, row_image, rows_fields, rows_image, AddsRows}
-use Rattle.std.specs.Int.{w64, cast_signed}
 use Rattle.archive_file.proofs.FieldLaws.{KeptUpTo, breaks_after, breaks_within, kept_more, spells_both}
 use Rattle.archive_file.proofs.Windows.{then_spelled, value_spelled}
 
@@ -31,8 +30,7 @@ row_spelled c at tag collector row time value low =
     (then_spelled c (at + 4) (at + 4 + 4) (at + 8) (at + 32) _ _ collector (omega arith)
     (then_spelled c (at + 8) (at + 8 + 8) (at + 16) (at + 32) _ _ row (omega arith)
     (then_spelled c (at + 16) (at + 16 + 8) (at + 24) (at + 32) _ _ time (omega arith)
-    (subst (Spells c (at + 24) (value_bytes (cast_signed w64 (long_at c (at + 24))))) end
-    (value_spelled c (at + 24) (at + 24 + 8) (long_at c (at + 24)) low value)))))
+    (grind (arith, end, value_spelled)))))
 
 -- ---- rows read in turn
 
@@ -59,9 +57,7 @@ module _ (c : List ℕ) (tags start at count k : ℕ) (low : k < count)
   -- the fields of the next row come first
   next_fields : KeptUpTo c (rows_fields c tags start count)
       (row_fields tags (row_at c at) at ++ rows_fields c tags (at + 32) (count - (k + 1)))
-  next_fields =
-      let more : count - k ≡ suc (count - (k + 1)) = omega arith in
-      subst (λ n. KeptUpTo c (rows_fields c tags start count) (rows_fields c tags at n)) more so_far
+  next_fields = grind arith
 
   -- one row more is kept
   pub row_more : All (Keeps c) (row_fields tags (row_at c at) at)

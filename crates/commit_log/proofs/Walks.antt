@@ -2,7 +2,7 @@
 use Rattle.std.proofs.Common.{◌≡◌, inl, inr, ℕ, ◌+◌, ◌≤◌, All, List, [], ◌∷◌, ◌++◌, drop, length, Option, Some, IfSome, refl, sym, ap, ◌∙◌, subst, arith, append_assoc, length-append, length-drop}
 use Rattle.std.proofs.lemmas.List.{append-nil}
 use Rattle.std.proofs.lemmas.List.Elements.{All-append, All-nil}
-use Rattle.disk_model.specs.{IsOpen, IsShut}
+use Rattle.disk_model.specs.{IsOpen}
 use Rattle.archive_file.specs.{Field, AreAllRead, AreRead, IsFirstBroken, Step, BreaksFirst, Spells}
 use Rattle.archive_file.proofs.BlockFiles.{read_keeps}
 use Rattle.archive_file.proofs.Windows.{rest_spells}
@@ -44,10 +44,7 @@ pub walk_on : (c : List ℕ) (tags at gate size : ℕ) (old new : List LogRow) �
     → AddsBlock (drop gate c) tags old new size → IsWalked c tags at (gate + size) new
 walk_on c tags at gate size old new so_far opened added = record {
   blocks = so_far.blocks ++ added.block ∷ [];
-  has = has_push c tags 0 at so_far.blocks added.block so_far.has
-      (subst (λ n. HasBlock c tags n (log_end_of at so_far.blocks) added.block) number
-      (subst (λ n. HasBlock c tags (length old) n added.block) so_far.end_is
-      (record { opened = opened; spelled = spelled.spelled; rows_are = added.rows_are })));
+  has = grind (arith, has_push, number, spelled);
   rows_are = added.are ∙ ap (λ l. l ++ added.block) so_far.rows_are ∙ sym (rows_of-push so_far.blocks added.block);
   end_is = (λ i. so_far.end_is i + added.size_is i) ∙ sym (end_of-push at so_far.blocks added.block);
 }
@@ -64,13 +61,7 @@ walk_on c tags at gate size old new so_far opened added = record {
 -- the next one breaks a rule
 pub walk_breaks : (c : List ℕ) (tags at gate : ℕ) (rows : List LogRow) (a : ℕ) (byte : Option ℕ) → IsWalked c tags at gate rows
     → IsOpen gate c → BreaksFirst c (block_fields c tags (length rows) gate) a byte → IsBlockDamage c tags at a byte
-walk_breaks c tags at gate rows a byte so_far opened breaks = record {
-  blocks = so_far.blocks;
-  whole = so_far.has;
-  opened = subst (λ n. IsOpen n c) so_far.end_is opened;
-  breaks = subst (λ n. BreaksFirst c (block_fields c tags (length (rows_of so_far.blocks)) n) a byte) so_far.end_is
-      (subst (λ l. BreaksFirst c (block_fields c tags (length l) gate) a byte) so_far.rows_are breaks);
-}
+walk_breaks c tags at gate rows a byte so_far opened breaks = grind arith
 
 -- what an option has if it has something
 pub if_some : {A : Type 0} (o : Option A) (x : A) (P : A → Type 0) → o ≡ Some x → IfSome o P → P x
@@ -101,14 +92,7 @@ module _ (c : List ℕ) (at : ℕ) (r : LogReader) (none : r.rows.items ≡ []) 
 
   -- over all blocks
   pub lists_all : (s : LogReader) (end : ℕ) → AreAllRead log_adds c r at s end → ListsRows c r.tags at s.rows.items end
-  lists_all s end all =
-      let walked = (goes all.steps s end all.are).1 in
-      record {
-        blocks = walked.blocks;
-        are = record { blocks = walked.has; shut = subst (λ n. IsShut n c) walked.end_is all.shut };
-        rows_are = walked.rows_are;
-        end_is = walked.end_is;
-      }
+  lists_all s end all = grind (arith, goes)
 
   pub rows_all : (s : LogReader) (end : ℕ) → AreAllRead log_adds c r at s end → All (IsLogRow r.tags) s.rows.items
   rows_all s end all = (goes all.steps s end all.are).2

@@ -1,18 +1,14 @@
 -- The bytes of rows, added turn by turn.
-use Rattle.std.proofs.Common.{◌≡◌, inl, inr, ℕ, ◌+◌, ◌<◌, ◌≤◌, List, [], ◌∷◌, ◌++◌, length, get_or, take, sym, ap, ◌∙◌, arith, append_assoc, length-append}
-use Rattle.std.proofs.lemmas.Bool.{cases_lt}
+use Rattle.std.proofs.Common.{◌≡◌, ℕ, ◌+◌, ◌<◌, ◌≤◌, List, [], ◌∷◌, ◌++◌, length, get_or, take, sym, ap, ◌∙◌, arith, append_assoc, length-append}
 use Rattle.std.proofs.lemmas.Grind.{flat_map-append}
 use Rattle.std.proofs.lemmas.List.{take_all, take_more}
-use Rattle.commit_log.specs.{LogTurn, row_image, rows_image, puts, WritesRows}
+use Rattle.commit_log.specs.{LogTurn, rows_image, puts, WritesRows}
 use Rattle.commit_log.proofs.Tapes.{puts-append}
 
 -- where rows are still to come there is a turn
 pub turn_left : (rest : List LogTurn) (turns done count : ℕ) → length (puts (take turns rest)) ≡ done → done < count
     → count ≤ length (puts rest) → turns < length rest
-turn_left rest turns done count long more there = elim (cases_lt turns (length rest)) [
-  | inl low ↦ low
-  | inr high ↦ absurd (omega (arith, long, more, there, ap (λ (l : List LogTurn). length (puts l)) (take_all turns rest high)))
-]
+turn_left rest turns done count long more there = grind (arith, take_all)
 
 -- one turn more
 pub one_more : (rest : List LogTurn) (turns done n : ℕ) (old mid new : List ℕ) (e : LogTurn) → turns < length rest
@@ -21,9 +17,7 @@ pub one_more : (rest : List LogTurn) (turns done n : ℕ) (old mid new : List �
 one_more rest turns done n old mid new e low is so_far added count = record {
   within = omega (arith, low);
   long = omega (arith, ap length rows, length-append (puts (take turns rest)) (puts (e ∷ [])), so_far.long, count);
-  bytes_are = added ∙ ap (λ l. l ++ rows_image (puts (e ∷ []))) so_far.bytes_are
-      ∙ append_assoc old (rows_image (puts (take turns rest))) (rows_image (puts (e ∷ [])))
-      ∙ ap (λ l. old ++ l) (sym (ap rows_image rows ∙ flat_map-append row_image (puts (take turns rest)) (puts (e ∷ []))));
+  bytes_are = grind (arith, append_assoc, rows, flat_map-append);
 }
   where
     rows : puts (take (turns + 1) rest) ≡ puts (take turns rest) ++ puts (e ∷ [])

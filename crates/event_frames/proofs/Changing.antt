@@ -1,5 +1,5 @@
 -- A row with changes, one change after another, and the frames that changes leave as they are.
-use Rattle.std.proofs.Common.{◌≡◌, ℕ, zero, suc, ◌+◌, ◌-◌, ◌<◌, ◌≤◌, ◌⊎◌, inl, inr, Bool, false, List, [], ◌∷◌, ◌++◌, length, get_or, refl, sym, ap, ◌∙◌, subst, arith}
+use Rattle.std.proofs.Common.{◌≡◌, ℕ, zero, suc, ◌+◌, ◌<◌, ◌≤◌, ◌⊎◌, inl, inr, Bool, List, [], ◌∷◌, ◌++◌, length, get_or, refl, sym, ap, ◌∙◌, subst, arith}
 use Rattle.std.specs.Prelude.{◌==◌, take}
 use Rattle.std.proofs.lemmas.Bool.{cases_lt, cases_order, ne_eqb}
 use Rattle.std.proofs.lemmas.List.{length-map, map-append, length-take-le, take_more}
@@ -20,11 +20,7 @@ truths_of-row_with row cs =
 
 -- nothing is changed yet
 pub changed_none : (old : List Bool) (cs : List Change) → IsChangedAt old old cs 0
-changed_none old cs = record {
-  same = λ j free. refl;
-  longer = omega arith;
-  grown = λ j past there. absurd (omega arith);
-}
+changed_none old cs = grind arith
 
 -- one change more
 pub changed_more : (old now : List Bool) (cs : List Change) (i k : ℕ) (v : Bool) → window_of cs i ≡ k → k ≤ length now
@@ -32,59 +28,28 @@ pub changed_more : (old now : List Bool) (cs : List Change) (i k : ℕ) (v : Boo
 changed_more old now cs i k v here within is =
     let size = length-put_at now k v within in
     record {
-      same = λ j free.
-          get_or-put_at now k j v false within (λ e. free (i, omega arith, here ∙ sym e))
-          ∙ is.same j (λ changed. free (changed.0, (let early = changed.1 in omega (arith, early)), changed.2));
+      same = grind (arith, get_or-put_at);
       longer = omega (arith, is.longer, size.0);
       grown = λ j past there.
           elim (cases_lt j (length now)) [
             | inl before ↦
                 let changed = is.grown j past before in
                 (changed.0, (let early = changed.1 in omega (arith, early)), changed.2)
-            | inr behind ↦ (
-              i,
-              omega arith,
-              here ∙ elim (cases_lt k (length now)) as (λ _. k ≡ j) [
-                | inl inside ↦ let same = size.4 inside in absurd (omega (arith, same))
-                | inr last ↦ let more = size.3 last in omega (arith, more)
-              ],
-            )
+            | inr behind ↦ (grind arith)
           ];
     }
 
 -- whether the last window of a frame is the last one there is, where rows differ neither in it nor in the one after it
 same_end : (C : ℕ → Type 0) (m n u : ℕ) → ((j : ℕ) → m ≤ j → j < n → C j) → ((j : ℕ) → n ≤ j → j < m → C j)
     → ((j : ℕ) → u ≤ j → j ≤ u + 1 → C j → ⊥) → (u + 1 == m) ≡ (u + 1 == n)
-same_end C m n u more less apart =
-    elim (cases_order m n) [
-      | inl same ↦ ap (λ k. u + 1 == k) same
-      | inr other ↦
-          elim other [
-            | inl longer ↦
-                let first : u + 1 ≡ m → ⊥ = λ e. apart m (omega arith) (omega arith) (more m (omega arith) longer) in
-                let second : u + 1 ≡ n → ⊥ = λ e. apart (n - 1) (omega arith) (omega arith) (more (n - 1) (omega arith) (omega arith)) in
-                ne_eqb (u + 1) m first ∙ sym (ne_eqb (u + 1) n second)
-            | inr shorter ↦
-                let first : u + 1 ≡ m → ⊥ = λ e. apart (m - 1) (omega arith) (omega arith) (less (m - 1) (omega arith) (omega arith)) in
-                let second : u + 1 ≡ n → ⊥ = λ e. apart n (omega arith) (omega arith) (less n (omega arith) shorter) in
-                ne_eqb (u + 1) m first ∙ sym (ne_eqb (u + 1) n second)
-          ]
-    ]
+same_end C m n u more less apart = grind (arith, cases_order, ne_eqb)
 
 -- a frame stays where a row differs from another at no window near it
 frame_stays : (C : ℕ → Type 0) (old new : List Bool) (least : ℕ) (f : Frame)
     → ((j : ℕ) → (C j → ⊥) → is_true_in new j ≡ is_true_in old j)
     → ((j : ℕ) → length old ≤ j → j < length new → C j) → ((j : ℕ) → length new ≤ j → j < length old → C j)
     → ((j : ℕ) → f.from ≤ j + 1 → j ≤ f.upto + 1 → C j → ⊥) → IsFrame old least f → IsFrame new least f
-frame_stays C old new least f same more less apart frame = record {
-  order = frame.order;
-  inside = λ k after upto. same k (apart k (omega arith) (omega arith)) ∙ frame.inside k after upto;
-  before = λ k is. same k (apart k (omega arith) (omega (arith, frame.order))) ∙ frame.before k is;
-  behind = same (f.upto + 1) (apart (f.upto + 1) (omega (arith, frame.order)) (omega arith)) ∙ frame.behind;
-  long = frame.long;
-  last = frame.last ∙ same_end C (length old) (length new) f.upto more less
-      (λ j low high. apart j (omega (arith, frame.order)) high);
-}
+frame_stays C old new least f same more less apart frame = grind (arith, same_end)
 
 -- the last of some windows, and those before it, are all apart from a frame
 apart_more : (cs : List Change) (n : ℕ) (f : Frame) → ((j : ℕ) → f.from ≤ j + 1 → j ≤ f.upto + 1 → IsChanged cs n j → ⊥)
@@ -163,12 +128,7 @@ row_more ts row k d b inside is value =
 
 -- nothing is changed so far
 pub changes_none : (old : List Bool) (cs : List Change) → IsChangeList (length old) cs → IsChangedSoFar old old cs 0
-changes_none old cs is = record {
-  truths = refl;
-  changed = changed_none old cs;
-  next = is.first no_change;
-  most = omega arith;
-}
+changes_none old cs is = grind (arith, changed_none)
 
 -- one change more
 pub changes_more : (old now new : List Bool) (cs : List Change) (i : ℕ) (v : Bool) → IsChangeList (length old) cs → i < length cs
@@ -180,11 +140,8 @@ changes_more old now new cs i v is inside value put was =
     let size = length-put_at now k v within in
     let long : length new ≡ length (put_at now k v) = ap length put in
     record {
-      truths = put ∙ (ap (λ (ts : List Bool). put_at ts k v) was.truths
-          ∙ (ap (λ (b : Bool). put_at (truths_with old (take i cs)) k b) value
-          ∙ sym (fold_more (λ (ts : List Bool) (c : Change). put_at ts c.k (is_true c.value)) old cs i no_change inside)));
-      changed = subst (λ (ts : List Bool). IsChangedAt old ts cs (i + 1)) (sym put)
-          (changed_more old now cs i k v refl within was.changed);
+      truths = grind (arith, fold_more);
+      changed = grind (arith, changed_more);
       next = λ more. let next = is.gapless i no_change more in
           omega (arith, next, long, size.0, size.2, was.changed.longer);
       most = omega (arith, long, size.1, was.most);

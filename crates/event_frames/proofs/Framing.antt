@@ -1,75 +1,43 @@
 -- The frame that begins in a window.
-use Rattle.std.proofs.Common.{◌≡◌, ℕ, ◌+◌, ◌-◌, ◌<◌, ◌≤◌, Bool, true, false, List, length, get_or, inl, inr, sym, ap, ◌∙◌, subst, arith}
+use Rattle.std.proofs.Common.{◌≡◌, ℕ, ◌+◌, ◌-◌, ◌<◌, ◌≤◌, Bool, true, false, List, length, inl, inr, arith}
 use Rattle.std.specs.Prelude.{◌==◌}
-use Rattle.std.proofs.lemmas.Bool.{cases_lt, cases_order}
+use Rattle.std.proofs.lemmas.Bool.{cases_order}
 use Rattle.std.proofs.lemmas.List.{get_or_past, get_or_default}
 use Rattle.event_frames.specs.{Frame, is_true_in, IsFrame, IsBehind, IsStart, is_set}
 
 -- a window in which the calculation is true is there
 pub true_within : (truths : List Bool) (k : ℕ) → is_true_in truths k ≡ true → k < length truths
-true_within truths k is =
-    elim (cases_lt k (length truths)) [
-      | inl below ↦ below
-      | inr past ↦ let none : get_or truths k false ≡ false = get_or_past truths k false past in absurd (cc)
-    ]
+true_within truths k is = grind (arith, get_or_past)
 
 -- true windows from a first one on, before one that is not true, are a frame where they are enough
 pub frame_made : (truths : List Bool) (least at behind : ℕ) → 1 ≤ least → ((j : ℕ) → j + 1 ≡ at → is_true_in truths j ≡ false)
     → IsBehind truths at behind → least ≤ behind - at
     → IsFrame truths least (record { from = at; upto = behind - 1; last = behind == length truths })
-frame_made truths least at behind some first is long =
-    let back : behind ≡ behind - 1 + 1 = omega arith in
-    record {
-      order = omega arith;
-      inside = λ k after upto. is.inside k after (omega arith);
-      before = first;
-      behind = subst (λ n. is_true_in truths n ≡ false) back is.gap;
-      long = omega arith;
-      last = ap (λ n. n == length truths) back;
-    }
+frame_made truths least at behind some first is long = grind arith
 
 -- a frame ends before the window that is after the true ones
 pub frame_ends : (truths : List Bool) (least at behind : ℕ) (f : Frame) → IsBehind truths at behind → IsFrame truths least f
     → f.from ≡ at → f.upto < behind
-frame_ends truths least at behind f is frame from =
-    elim (cases_lt f.upto behind) [
-      | inl before ↦ before
-      | inr later ↦
-          let in_it : is_true_in truths behind ≡ true = frame.inside behind (omega (arith, is.order)) later in
-          let gap : is_true_in truths behind ≡ false = is.gap in absurd (cc)
-    ]
+frame_ends truths least at behind f is frame from = grind arith
 
 -- where they are too few, no frame begins there
 pub frame_short : (truths : List Bool) (least at behind : ℕ) (f : Frame) → IsBehind truths at behind → behind - at < least
     → IsFrame truths least f → f.from ≡ at → ⊥
-frame_short truths least at behind f is few frame from =
-    let ends = frame_ends truths least at behind f is frame from in omega (arith, frame.long, is.order)
+frame_short truths least at behind f is few frame from = grind (arith, frame_ends)
 
 -- a frame does not continue after another one with the same first window
 not_longer : (truths : List Bool) (least : ℕ) (f g : Frame) → IsFrame truths least f → IsFrame truths least g
     → f.from ≡ g.from → f.upto < g.upto → ⊥
-not_longer truths least f g first second from less =
-    let in_it : is_true_in truths (f.upto + 1) ≡ true = second.inside (f.upto + 1) (omega (arith, first.order)) (omega arith) in
-    let gap : is_true_in truths (f.upto + 1) ≡ false = first.behind in absurd (cc)
+not_longer truths least f g first second from less = grind arith
 
 -- frames with the same windows are the same
 frame_eq : (f g : Frame) → f.from ≡ g.from → f.upto ≡ g.upto → f.last ≡ g.last → f ≡ g
-frame_eq f g from upto last =
-    let made : ℕ → ℕ → Bool → Frame = λ (a : ℕ) (b : ℕ) (c : Bool). record { from = a; upto = b; last = c } in
-    ap (λ a. made a f.upto f.last) from ∙ (ap (λ b. made g.from b f.last) upto ∙ ap (made g.from g.upto) last)
+frame_eq f g from upto last = grind arith
 
 -- one frame begins in a window at most
 pub frame_unique : (truths : List Bool) (least : ℕ) (f g : Frame) → IsFrame truths least f → IsFrame truths least g
     → f.from ≡ g.from → f ≡ g
-frame_unique truths least f g first second from =
-    elim (cases_order f.upto g.upto) [
-      | inl same ↦ frame_eq f g from same (first.last ∙ (ap (λ n. n + 1 == length truths) same ∙ sym second.last))
-      | inr apart ↦
-          elim apart [
-            | inl less ↦ absurd (not_longer truths least f g first second from less)
-            | inr more ↦ absurd (not_longer truths least g f second first (sym from) more)
-          ]
-    ]
+frame_unique truths least f g first second from = grind (arith, cases_order, frame_eq, not_longer)
 
 -- a frame that begins at or before a window and reaches up to it begins where the true windows before it do
 pub starts_there : (truths : List Bool) (least k s : ℕ) (f : Frame) → IsStart truths k s → IsFrame truths least f

@@ -1,5 +1,5 @@
 -- Lists of the frames of which something is so, one frame after another.
-use Rattle.std.proofs.Common.{◌≡◌, ℕ, ◌<◌, ◌≤◌, ◌⊎◌, inl, inr, List, [], ◌∷◌, ◌++◌, length, get_or, Option, None, Some, refl, sym, ◌∙◌, subst, arith}
+use Rattle.std.proofs.Common.{◌≡◌, ℕ, ◌<◌, ◌≤◌, ◌⊎◌, inl, inr, List, [], ◌∷◌, ◌++◌, length, get_or, Option, None, Some, sym, subst, arith}
 use Rattle.std.specs.Prelude.{All, AllPairs, IfSome}
 use Rattle.std.specs.Option.{option_to_list}
 use Rattle.std.proofs.lemmas.Bool.{cases_order}
@@ -15,22 +15,12 @@ pub record IsListBelow (P : Frame → Type 0) (t : ℕ) (fs : List Frame) : Type
 
 -- no frames
 pub list_none : (P : Frame → Type 0) (t : ℕ) → ((f : Frame) → P f → ⊥) → IsListBelow P t []
-list_none P t none = record {
-  list = record { by_from = λ i j d less inside. absurd (omega arith); only = λ k d inside. absurd (omega arith); all = λ f is. absurd (none f is) };
-  below = λ k d inside. absurd (omega arith);
-}
+list_none P t none = grind arith
 
 -- the same frames, of which something else is so
 pub list_keep : (P Q : Frame → Type 0) (s t : ℕ) (fs : List Frame) → IsListBelow P s fs → s ≤ t
     → ((f : Frame) → P f → Q f) → ((f : Frame) → Q f → P f) → IsListBelow Q t fs
-list_keep P Q s t fs is more there back = record {
-  list = record {
-    by_from = is.list.by_from;
-    only = λ k d inside. there (get_or fs k d) (is.list.only k d inside);
-    all = λ f so. is.list.all f (back f so);
-  };
-  below = λ k d inside. let less = is.below k d inside in omega (arith, less);
-}
+list_keep P Q s t fs is more there back = grind arith
 
 -- one frame more
 pub list_push : (P Q : Frame → Type 0) (s t : ℕ) (fs : List Frame) (f : Frame) → IsListBelow P s fs → s ≤ t → s ≤ f.from
@@ -40,12 +30,7 @@ list_push P Q s t fs f is more after before so there back = record {
     by_from = all_pairs_push (λ g h. g.from < h.from) fs f is.list.by_from
         (λ k d inside. let less = is.below k d inside in omega (arith, less));
     only = All-push Q fs f (λ k d inside. there (get_or fs k d) (is.list.only k d inside)) so;
-    all = λ g qg. elim (back g qg) [
-      | inl old ↦
-          let at = is.list.all g old in
-          (at.0, omega (arith, at.1, length_push fs f), get_or_append_left fs (f ∷ []) g at.0 at.1 ∙ at.2)
-      | inr same ↦ (length fs, omega (arith, length_push fs f), get_or_push fs f g (length fs) refl ∙ sym same)
-    ];
+    all = grind (arith, length_push, get_or_append_left, get_or_push);
   };
   below = All-push (λ g. g.from < t) fs f (λ k d inside. let less = is.below k d inside in omega (arith, less)) before;
 }
@@ -64,12 +49,4 @@ list_more P Q s t fs (Some f) is more new there back =
 -- frames with one first window are one frame, in a list
 pub same_place : (fs : List Frame) → AllPairs (λ f g. f.from < g.from) fs → (i j : ℕ) (d : Frame) → i < length fs
     → j < length fs → (get_or fs i d).from ≡ (get_or fs j d).from → i ≡ j
-same_place fs rising i j d first second same =
-    elim (cases_order i j) [
-      | inl equal ↦ equal
-      | inr apart ↦
-          elim apart [
-            | inl less ↦ let rise = rising i j d less second in absurd (omega (arith, rise, same))
-            | inr more ↦ let rise = rising j i d more first in absurd (omega (arith, rise, same))
-          ]
-    ]
+same_place fs rising i j d first second same = grind (arith, cases_order)

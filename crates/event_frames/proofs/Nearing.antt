@@ -1,5 +1,5 @@
 -- The frames near the first changes, one change after another.
-use Rattle.std.proofs.Common.{◌≡◌, ℕ, ◌+◌, ◌-◌, ◌<◌, ◌≤◌, ◌⊎◌, inl, inr, Bool, true, false, List, [], ◌++◌, length, Option, None, Some, sym, ap, ◌∙◌, subst, arith}
+use Rattle.std.proofs.Common.{◌≡◌, ℕ, ◌+◌, ◌-◌, ◌<◌, ◌≤◌, ◌⊎◌, inl, inr, Bool, true, false, List, [], ◌++◌, length, Option, None, Some, sym, subst, arith}
 use Rattle.std.specs.Prelude.{IfSome}
 use Rattle.std.specs.Option.{option_to_list}
 use Rattle.std.proofs.lemmas.Bool.{cases_lt, cases_order}
@@ -58,18 +58,7 @@ after_new truths least cs i k (Some f) here is =
 -- a frame that begins before what was seen, and is near the next change, is near the one before
 near_before : (cs : List Change) (i k seen : ℕ) (f : Frame) → (i ≡ 0 → seen ≡ 0) → (0 < i → window_of cs (i - 1) + 2 ≡ seen)
     → (0 < i → window_of cs (i - 1) < k) → IsNear k f → f.from < seen → IsNearOne cs i f
-near_before cs i k seen f none some rises near early =
-    elim (cases_lt 0 i) [
-      | inl more ↦
-          let is = some more in
-          let less = rises more in
-          record {
-            place = i - 1;
-            early = omega arith;
-            near = record { begins = omega (arith, is); ends = omega (arith, less, near.ends) };
-          }
-      | inr first ↦ let zero_seen = none (omega arith) in absurd (omega (arith, zero_seen))
-    ]
+near_before cs i k seen f none some rises near early = grind arith
 
 mid_back : (truths : List Bool) (least : ℕ) (cs : List Change) (i k seen : ℕ) (o : Option Frame) → (i ≡ 0 → seen ≡ 0)
     → (0 < i → window_of cs (i - 1) + 2 ≡ seen) → (0 < i → window_of cs (i - 1) < k) → IsBefore truths least k seen o
@@ -91,18 +80,7 @@ after_there truths least cs i k here f (inr new) =
 after_back : (truths : List Bool) (least : ℕ) (cs : List Change) (i k : ℕ) (o : Option Frame) → window_of cs i ≡ k
     → IsAfter truths least k o
     → (f : Frame) → IsNearFrame truths least cs (i + 1) f → IsMid truths least cs i k f ⊎ (o ≡ Some f)
-after_back truths least cs i k o here is f so =
-    elim (cases_lt so.1.place i) as (λ _. IsMid truths least cs i k f ⊎ (o ≡ Some f)) [
-      | inl early ↦ inl (inl (so.0, record { place = so.1.place; early = early; near = so.1.near }))
-      | inr late ↦
-          let early = so.1.early in
-          let same : so.1.place ≡ i = omega (arith, early) in
-          let near : IsNear k f = subst (λ n. IsNear n f) (ap (window_of cs) same ∙ here) so.1.near in
-          elim (cases_lt f.from (k + 1)) as (λ _. IsMid truths least cs i k f ⊎ (o ≡ Some f)) [
-            | inl before ↦ inl (inr (so.0, (near, omega arith)))
-            | inr behind ↦ inr (is.all f so.0 near.ends (omega (arith, near.begins)))
-          ]
-    ]
+after_back truths least cs i k o here is f so = grind arith
 
 -- one change more
 pub near_step : (truths : List Bool) (least : ℕ) (cs : List Change) (i k seen : ℕ) (fs : List Frame) (o p : Option Frame)
@@ -111,10 +89,7 @@ pub near_step : (truths : List Bool) (least : ℕ) (cs : List Change) (i k seen 
     → IsListBelow (IsNearFrame truths least cs i) seen fs
     → IsListBelow (IsNearFrame truths least cs (i + 1)) (k + 2) ((fs ++ option_to_list o) ++ option_to_list p)
 near_step truths least cs i k seen fs o p here none some rises before after is =
-    let low : seen ≤ k + 1 = elim (cases_lt 0 i) [
-      | inl more ↦ let last = some more in let less = rises more in omega (arith, last, less)
-      | inr first ↦ let zero_seen = none (omega arith) in omega (arith, zero_seen)
-    ] in
+    let low : seen ≤ k + 1 = grind arith in
     list_more (IsMid truths least cs i k) (IsNearFrame truths least cs (i + 1)) (k + 1) (k + 2) (fs ++ option_to_list o) p
     (list_more (IsNearFrame truths least cs i) (IsMid truths least cs i k) seen (k + 1) fs o is low
     (mid_new truths least cs i k seen o before) (λ g old. inl old) (mid_back truths least cs i k seen o none some rises before))
@@ -134,10 +109,7 @@ pub record IsListed (truths : List Bool) (least at : ℕ) (fs : List Frame) : Ty
 
 -- nothing is listed yet
 pub listed_none : (truths : List Bool) (least : ℕ) → IsListed truths least 0 []
-listed_none truths least = record {
-  list = list_none (λ f. IsFrame truths least f × (f.from < 0)) 0 (λ f is. let less = is.1 in omega (arith, less));
-  start = λ j is. absurd (omega arith);
-}
+listed_none truths least = grind (arith, list_none)
 
 listed_new : (truths : List Bool) (least at behind : ℕ) (o : Option Frame) → at ≤ behind
     → IfSome o (IsFrame truths least) → IfSome o (λ f. f.from ≡ at)
@@ -178,7 +150,4 @@ listed_more truths least at behind fs o is end frame from all = record {
 -- after the last window all are listed
 pub listed_all : (truths : List Bool) (least at : ℕ) (fs : List Frame) → length truths ≤ at → IsListed truths least at fs
     → IsListOf (IsFrame truths least) fs
-listed_all truths least at fs past is =
-    (list_keep (λ f. IsFrame truths least f × (f.from < at)) (IsFrame truths least) at at fs is.list (omega arith)
-    (λ f so. so.0)
-    (λ f frame. (frame, let there = true_within truths f.from (frame.inside f.from (omega arith) frame.order) in omega (arith, there)))).list
+listed_all truths least at fs past is = grind (arith, list_keep, true_within)

@@ -1,8 +1,7 @@
 -- What is listed is determined: the frames of which something is so have one list.
-use Rattle.std.proofs.Common.{◌≡◌, ℕ, zero, suc, ◌<◌, ◌⊎◌, inl, inr, Bool, List, [], ◌∷◌, ◌++◌, length, get_or, map, refl, sym, ap, ◌∙◌, subst, arith}
+use Rattle.std.proofs.Common.{◌≡◌, ℕ, zero, suc, ◌<◌, ◌⊎◌, inl, inr, Bool, List, [], ◌∷◌, length, get_or, refl, sym, ap, ◌∙◌, subst, arith}
 use Rattle.std.specs.Prelude.{AllPairs, Contains}
 use Rattle.event_frames.specs.{Frame, Edit, IsFrame, IsListOf, AreEdits}
-use Rattle.event_frames.specs.declared.frame.Edit.TheVariants.{Gone, New}
 
 -- a frame that begins after the first one of a list is among the others
 tail_at : (x : Frame) (xs : List Frame) (f : Frame) → x.from < f.from → (i : ℕ) → i < length (x ∷ xs)
@@ -30,17 +29,7 @@ first_or_before y ys x rising (suc i) inside is =
 
 -- two such lists have the same first frame
 first_same : (P : Frame → Type 0) (x y : Frame) (xs ys : List Frame) → IsListOf P (x ∷ xs) → IsListOf P (y ∷ ys) → x ≡ y
-first_same P x y xs ys one two =
-    let in_two = two.all x (one.only zero x (omega arith)) in
-    let in_one = one.all y (two.only zero y (omega arith)) in
-    elim (first_or_before y ys x two.by_from in_two.0 in_two.1 in_two.2) [
-      | inl same ↦ sym same
-      | inr less ↦
-          elim (first_or_before x xs y one.by_from in_one.0 in_one.1 in_one.2) [
-            | inl same ↦ same
-            | inr more ↦ absurd (omega arith)
-          ]
-    ]
+first_same P x y xs ys one two = grind (arith, first_or_before)
 
 -- the frames of which something is so have one list
 pub list_unique : (P : Frame → Type 0) (xs ys : List Frame) → IsListOf P xs → IsListOf P ys → xs ≡ ys
@@ -61,5 +50,4 @@ pub edits_unique : (old new : List Bool) (least : ℕ) (es ds : List Edit) → A
 edits_unique old new least es ds one two =
     let gone = list_unique (λ f. IsFrame old least f × ¬ IsFrame new least f) one.gone two.gone one.are_gone two.are_gone in
     let came = list_unique (λ f. IsFrame new least f × ¬ IsFrame old least f) one.came two.came one.have_come two.have_come in
-    one.told ∙ (ap (λ (fs : List Frame). map Gone fs ++ map New one.came) gone
-    ∙ (ap (λ (fs : List Frame). map Gone two.gone ++ map New fs) came ∙ sym two.told))
+    one.told ∙ (grind arith)

@@ -10,9 +10,7 @@ use Rattle.archive_file.proofs.ReadImages.{shown_now}
 
 -- nothing is saved as long as nothing was called
 pub nothing_yet : (text : List ℕ) (o : Trace) → Shows o (IsUnsaved text) → IsSettled o → During o o (SavesNothing text)
-nothing_yet text o is settled =
-    weaker o o (IsUnsaved text) (SavesNothing text) (λ c unsaved. inl unsaved)
-    (started o (IsUnsaved text) (shown_now o (IsUnsaved text) is settled))
+nothing_yet text o is settled = grind (arith, weaker, started, shown_now)
 
 -- nor while the layout is begun
 pub saves_nothing : (text : List ℕ) (o o1 : Trace) → Shows o (IsUnsaved text) → IsSettled o
@@ -30,16 +28,7 @@ saves_nothing text o o1 is settled begun = weaker o o1 (IsLeftOrBegun letters te
 pub shut_guarded : (o : Trace) (at : ℕ) (bytes : List ℕ) (gate : ℕ) → Now o (IsShut gate)
     → During o o (FromOld o (IsGuarded at bytes gate))
 shut_guarded o at bytes gate shut = started o (FromOld o (IsGuarded at bytes gate)) (record {
-  each = λ c may. (
-    c,
-    may,
-    record {
-      whole = λ opened. absurd ((shut.each c may).closed opened);
-      outside = λ i there out other. refl;
-      no_shorter = omega arith;
-      no_longer = omega arith;
-    },
-  );
+  each = grind arith;
 })
 
 -- how many bytes the rows have
@@ -54,10 +43,4 @@ length-versions_image (v ∷ versions) =
 
 -- how many bytes a block has
 pub length-block_image : (b : BlockParts) → length (block_image b ++ 0 ∷ []) ≡ block_size b
-length-block_image b = omega (
-  arith,
-  length-append (block_image b) (0 ∷ []),
-  length-append (versions_image b.versions) (number_bytes 4 b.windows ++ (number_bytes 4 (length b.rows) ++ rows_image b.rows)),
-  length-versions_image b.versions,
-  length-rows_image b.rows,
-)
+length-block_image b = grind (arith, length-append, length-versions_image, length-rows_image)

@@ -1,12 +1,11 @@
 -- A block, read in turn: its number, the versions, how many windows and rows, the rows, and the next gate.
-use Rattle.std.proofs.Common.{◌≡◌, ℕ, zero, suc, ◌+◌, ◌*◌, ◌<◌, ◌≤◌, ◌&&◌, Bool, true, All, List, [], ◌∷◌, ◌++◌, drop, length, get_or, map, Option, None, Some, refl, sym, ap, ◌∙◌, subst, arith, nat_eq, nat_le, nat_lt, lit<, eqb-true}
+use Rattle.std.proofs.Common.{◌≡◌, ℕ, zero, suc, ◌+◌, ◌*◌, ◌<◌, ◌≤◌, Bool, true, All, List, [], ◌∷◌, ◌++◌, drop, length, get_or, map, Option, None, Some, refl, sym, ap, ◌∙◌, subst, arith, nat_eq, nat_le, lit<, eqb-true}
 use Rattle.std.proofs.Common.{leb-true}
 use Rattle.std.proofs.lemmas.List.{get_or-drop, map-append}
-use Rattle.std.specs.Int.{w64, cast_signed}
 use Rattle.archive_file.specs.{moved, number_bytes, Field, Keeps, Spells, long_at, short_at}
 use Rattle.archive_file.proofs.FieldLaws.{KeptUpTo, field_of, kept_more, kept_none}
 use Rattle.archive_file.proofs.Windows.{rest_long, rest_short, then_spelled}
-use Rattle.group_layout.specs.{BlockRow, BlockParts, AreRows, MayFollow, block_fields, block_image, block_size, is_calc_in_order, is_in_order, is_value_ok, row_at, row_fields, rows_fields, rows_image, version_fields, versions_image}
+use Rattle.group_layout.specs.{BlockRow, BlockParts, AreRows, MayFollow, block_fields, block_image, block_size, row_at, row_fields, rows_fields, rows_image, version_fields, versions_image}
 
 -- the number's field, and the fields after the versions, which end at a place
 abbrev pub number_field : List ℕ → BlockParts → Field
@@ -52,9 +51,7 @@ module _ {c : List ℕ} {before : BlockParts} {at windows count : ℕ} {vs : Lis
       ++ (rows_fields c calcs windows None (at + 8) count ++ field_of (at + 8 + 17 * count) 1 true ∷ []))
   at_counts = kept_more c _ (version_fields c vs 9) _
       (subst (λ fs. KeptUpTo c (block_fields c calcs before 0) (version_fields c vs 9 ++ fs))
-      (sym (ap (counts_on c calcs before at windows) count_is
-      ∙ ap (λ w. counts_on c calcs before at w (short_at c (at + 4))) read.windows_is
-      ∙ ap (λ a. counts_on c calcs before a (short_at c a) (short_at c (a + 4))) read.at_is))
+      (grind arith)
       (at_versions c calcs before vs read.vs_is read.number)) read.versions
 
   module _ (counts : All (Keeps c) (field_of at 4 (nat_le before.windows windows) ∷ field_of (at + 4) 4 true ∷ [])) where
@@ -108,25 +105,11 @@ module _ (c : List ℕ) (gate : ℕ) where
 
   -- a row
   row_here : (at to : ℕ) → to ≡ gate + at → row_at (drop gate c) at ≡ row_at c to
-  row_here at to place =
-      let window_place : gate + (at + 4) ≡ to + 4 = omega (arith, place) in
-      let kind_place : gate + (at + 8) ≡ to + 8 = omega (arith, place) in
-      let value_place : gate + (at + 9) ≡ to + 9 = omega (arith, place) in
-      let calc = rest_short c gate at ∙ ap (short_at c) (sym place) in
-      let window = rest_short c gate (at + 4) ∙ ap (short_at c) window_place in
-      let kind = get_or-drop gate c (at + 8) 0 ∙ ap (λ n. get_or c n 0) kind_place in
-      let value = rest_long c gate (at + 9) ∙ ap (long_at c) value_place in
-      λ i. record { calc = calc i; window = window i; kind = kind i; value = cast_signed w64 (value i) }
+  row_here at to place = grind (arith, rest_short, get_or-drop, rest_long)
 
   row_fields_here : (calcs windows at to : ℕ) (last : Option BlockRow) (r : BlockRow) → to ≡ gate + at
       → map (moved gate) (row_fields calcs windows last r at) ≡ row_fields calcs windows last r to
-  row_fields_here calcs windows at to last r place =
-      let second : gate + (at + 4) ≡ to + 4 = omega (arith, place) in
-      let third : gate + (at + 8) ≡ to + 8 = omega (arith, place) in
-      let fourth : gate + (at + 9) ≡ to + 9 = omega (arith, place) in
-      λ i. field_of (sym place i) 4 (nat_lt r.calc calcs && is_calc_in_order last r)
-      ∷ field_of (second i) 4 (nat_lt r.window windows && is_in_order last r) ∷ field_of (third i) 1 (nat_le r.kind 3)
-      ∷ field_of (fourth i) 8 (is_value_ok r.kind r.value) ∷ []
+  row_fields_here calcs windows at to last r place = grind (arith, field_of)
 
   -- rows
   rows_here : (calcs windows : ℕ) (last : Option BlockRow) (n at to : ℕ) → to ≡ gate + at
@@ -143,13 +126,7 @@ module _ (c : List ℕ) (gate : ℕ) where
   -- the counts, the rows, and the next gate
   counts_here : (calcs : ℕ) (before : BlockParts) (at to windows n : ℕ) → to ≡ gate + at
       → map (moved gate) (counts_on (drop gate c) calcs before at windows n) ≡ counts_on c calcs before to windows n
-  counts_here calcs before at to windows n place =
-      let second : gate + (at + 4) ≡ to + 4 = omega (arith, place) in
-      let end : gate + (at + 8 + 17 * n) ≡ to + 8 + 17 * n = omega (arith, place) in
-      let rows = rows_here calcs windows None n (at + 8) (to + 8) (omega (arith, place)) in
-      let behind = map-append (moved gate) (rows_fields (drop gate c) calcs windows None (at + 8) n) (field_of (at + 8 + 17 * n) 1 true ∷ [])
-      ∙ (λ i. rows i ++ field_of (end i) 1 true ∷ []) in
-      λ i. field_of (sym place i) 4 (nat_le before.windows windows) ∷ field_of (second i) 4 true ∷ behind i
+  counts_here calcs before at to windows n place = grind (arith, rows_here, map-append, field_of)
 
   -- all of them
   pub block_here : (calcs : ℕ) (before : BlockParts) → map (moved gate) (block_fields (drop gate c) calcs before 0) ≡ block_fields c calcs before gate

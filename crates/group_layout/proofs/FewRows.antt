@@ -1,5 +1,5 @@
 -- Fewer rows than cells leave a cell without a value.
-use Rattle.std.proofs.Common.{◌≡◌, inl, inr, ℕ, zero, suc, ◌+◌, ◌*◌, ◌<◌, ◌≤◌, List, [], ◌∷◌, length, get_or, map, drop, set, fold, replicate, Option, None, Some, refl, sym, ap, ◌∙◌, arith}
+use Rattle.std.proofs.Common.{◌≡◌, inl, inr, ℕ, zero, suc, ◌+◌, ◌*◌, ◌<◌, ◌≤◌, List, [], ◌∷◌, length, get_or, map, drop, set, fold, replicate, Option, None, Some, refl, ap, arith}
 use Rattle.std.proofs.lemmas.Bool.{cases_lt}
 use Rattle.trend_num.specs.{CalcValue}
 use Rattle.group_layout.specs.{BlockRow, BlockParts, rows_of_blocks, saved_value, value_of, with_row}
@@ -97,10 +97,8 @@ too_few calcs windows bs few = in_cells (fold with_row no_values (rows_of_blocks
     in_cells cells is = given (empty_place cells calcs windows (lengths_saved cells calcs windows bs is) less)
       where
         less : all_filled cells < calcs * windows
-        less =
-            omega (arith, few, ap all_filled is, all_filled-with_rows no_values (rows_of_blocks bs), all_filled-replicate calcs windows)
+        less = grind (arith, all_filled-with_rows, no_values, all_filled-replicate)
 
         given : (calc : ℕ) × (k : ℕ) × (calc < calcs) × (k < windows) × (get_or (get_or cells calc []) k None ≡ None)
             → (calc : ℕ) × (k : ℕ) × (calc < calcs) × (k < windows) × (saved_value bs calc k ≡ None)
-        given (calc, k, low, within, empty) =
-            (calc, k, low, within, sym (cells_saved cells calcs windows bs is calc k low within) ∙ empty)
+        given (calc, k, low, within, empty) = grind (arith, cells_saved)

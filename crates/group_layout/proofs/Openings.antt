@@ -1,5 +1,5 @@
 -- A group's device while it is opened.
-use Rattle.std.proofs.Common.{◌≡◌, ◌⊎◌, inl, inr, ℕ, zero, suc, All, List, [], ◌∷◌, length, map, replicate, Result, Ok, Err, IfOk, refl, sym, ap, ◌∙◌, subst, arith}
+use Rattle.std.proofs.Common.{◌≡◌, ◌⊎◌, inl, inr, ℕ, zero, suc, All, List, [], ◌∷◌, length, map, replicate, Result, Ok, Err, IfOk, refl, ap, ◌∙◌, subst, arith}
 use Rattle.std.proofs.lemmas.List.{length-map, length-replicate}
 use Rattle.std.proofs.lemmas.List.Elements.{All-head, All-tail}
 use Rattle.trend_num.specs.{CalcValue}
@@ -30,11 +30,7 @@ no_rows calcs rows are = none_given calcs rows are.calcs_are are.windows_are
 -- a layout without blocks has no rows
 pub empty_saved : (text : List ℕ) (inputs calcs : ℕ) (c : List ℕ) (rows : List (List CalcValue)) → IsEmpty letters text c
     → AreRowsOf calcs 0 [] rows → HasSaved text inputs calcs c [] rows
-empty_saved text inputs calcs c rows empty are = record {
-  of_text = empty.of_text;
-  blocks = record { blocks = tt; shut = empty.shut };
-  rows_are = are;
-}
+empty_saved text inputs calcs c rows empty are = grind arith
 
 -- so many rows without values
 no_rows_are : (calcs : ℕ) → AreRowsOf calcs 0 [] (replicate calcs [])
@@ -123,8 +119,4 @@ saved_is text inputs calcs g c read (inr other) = other.other read.has.of_text.s
 pub none_shape : (inputs calcs : ℕ) (bs : List Block) (g : SavedGroup) → bs ≡ []
     → AreRowsOf calcs g.windows (map parts_of bs) (block_lists_of g.rows.items)
     → g.versions.items ≡ (last_of (unsaved inputs) (map parts_of bs)).versions → HasShape inputs calcs g
-none_shape inputs calcs bs g none rows versions = record {
-  versions_are = ap length (versions ∙ ap (λ l. (last_of (unsaved inputs) (map parts_of l)).versions) none) ∙ length-replicate inputs 0;
-  calcs_are = sym (length-map g.rows.items (λ v. v.items)) ∙ rows.calcs_are;
-  windows_are = rows.windows_are;
-}
+none_shape inputs calcs bs g none rows versions = grind (arith, none, length-replicate, length-map)

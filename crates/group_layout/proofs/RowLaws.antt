@@ -1,13 +1,12 @@
 -- A row whose fields are kept.
-use Rattle.std.proofs.Common.{◌≡◌, ℕ, suc, ◌+◌, ◌-◌, ◌^◌, ◌<◌, ◌≤◌, inl, inr, true, List, [], ◌∷◌, ◌++◌, All, AllPairs, length, get_or, MatchOption, length-append, Option, None, Some, refl, sym, ap, ◌∙◌, subst, arith, lit<, ltb-true}
+use Rattle.std.proofs.Common.{◌≡◌, ℕ, ◌+◌, ◌-◌, ◌^◌, ◌<◌, ◌≤◌, inl, inr, true, List, [], ◌∷◌, ◌++◌, All, AllPairs, length, get_or, MatchOption, length-append, Option, None, Some, refl, sym, ap, ◌∙◌, subst, arith, lit<, ltb-true}
 use Rattle.std.proofs.Common.{leb-true}
 use Rattle.std.proofs.Math.Seq.{get_or-append_seam}
 use Rattle.std.proofs.lemmas.Bool.{and_parts, cases_lt}
 use Rattle.std.proofs.lemmas.Bool.Decides.{nat_tests}
 use Rattle.std.proofs.lemmas.List.Quantifiers.{all_pairs_push}
 use Rattle.group_layout.specs.{BlockRow, IsBefore, IsRow, comes_before, is_in_order, row_at, row_fields, row_image, rows_fields}
-use Rattle.archive_file.specs.{Field, BreaksFirst, Keeps, Spells, long_at, short_at, number_bytes, value_bytes}
-use Rattle.std.specs.Int.{w64, cast_signed}
+use Rattle.archive_file.specs.{Field, BreaksFirst, Keeps, Spells, long_at, short_at, number_bytes}
 use Rattle.archive_file.proofs.FieldLaws.{KeptUpTo, breaks_after, breaks_within, kept_more}
 use Rattle.archive_file.proofs.Windows.{then_spelled, value_spelled}
 
@@ -40,8 +39,7 @@ row_spelled c at calc window kind value low =
     then_spelled c at (at + 4) (at + 4) (at + 17) _ _ calc refl
     (then_spelled c (at + 4) (at + 4 + 4) (at + 8) (at + 17) _ _ window (omega arith)
     (then_spelled c (at + 8) (at + 8 + 1) (at + 9) (at + 17) _ _ kind (omega arith)
-    (subst (Spells c (at + 9) (value_bytes (cast_signed w64 (long_at c (at + 9))))) end
-    (value_spelled c (at + 9) (at + 9 + 8) (long_at c (at + 9)) low value))))
+    (grind (arith, value_spelled))))
 
 -- ---- rows in order
 
@@ -87,9 +85,7 @@ module _ (c : List ℕ) (calcs windows start at count k : ℕ) (last : Option Bl
   -- the fields of the next row come first
   next_fields : KeptUpTo c (rows_fields c calcs windows None start count)
       (row_fields calcs windows last (row_at c at) at ++ rows_fields c calcs windows (Some (row_at c at)) (at + 17) (count - (k + 1)))
-  next_fields =
-      let more : count - k ≡ suc (count - (k + 1)) = omega arith in
-      subst (λ n. KeptUpTo c (rows_fields c calcs windows None start count) (rows_fields c calcs windows last at n)) more so_far
+  next_fields = grind arith
 
   -- one row more is kept
   pub row_more : (r : BlockRow) → r ≡ row_at c at → All (Keeps c) (row_fields calcs windows last (row_at c at) at)

@@ -6,7 +6,7 @@ use Rattle.std.proofs.lemmas.List.{append-nil}
 use Rattle.std.proofs.lemmas.List.Elements.{All-head, All-tail}
 use Rattle.std.proofs.lemmas.Option.{slice_get-get_or, slice_get_cases, slice_get_past}
 use Rattle.trend_num.specs.{CalcValue}
-use Rattle.group_layout.specs.{BlockRow, BlockParts, AreRowsOf, rows_of_blocks, cell_of, is_at, listed_from, saved_value, value_of}
+use Rattle.group_layout.specs.{BlockRow, BlockParts, AreRowsOf, cell_of, is_at, listed_from, saved_value, value_of}
 use Rattle.group_layout.proofs.SavedRows.{listed-append}
 
 -- ---- cells
@@ -67,9 +67,7 @@ listed_none w (r ∷ rows) calc k is = go (is_at calc k r) (λ e. listed_none w 
 
 -- one block more
 saved-push : (bs : List BlockParts) (b : BlockParts) (calc k : ℕ) → saved_value (bs ++ b ∷ []) calc k ≡ listed_from (saved_value bs calc k) b.rows calc k
-saved-push bs b calc k =
-    ap (λ l. listed_from None l calc k) (flat_map-append (λ x. x.rows) bs (b ∷ []) ∙ ap (λ l. rows_of_blocks bs ++ l) (append-nil b.rows))
-    ∙ listed-append None (rows_of_blocks bs) b.rows calc k
+saved-push bs b calc k = grind (arith, flat_map-append, append-nil, listed-append)
 
 -- of a cell that changed a block lists the new value, and of any other none
 abbrev pub IsAddedAt : List (List CalcValue) → List (List CalcValue) → List BlockRow → ℕ → ℕ → Type 0

@@ -24,24 +24,17 @@ listed-append v (r ∷ xs) ys calc k = listed-append (if is_at calc k r then Som
 pub vector-with_row : (cells : List (Vec (Option CalcValue) Global)) (r : BlockRow) (d : Vec (Option CalcValue) Global) (x : Option CalcValue)
     → r.calc < length cells → x ≡ Some (value_of r)
     → block_lists_of (set cells r.calc (with_item (get_or cells r.calc d) r.window x)) ≡ with_row (block_lists_of cells) r
-vector-with_row cells r d x low is =
-    map-set (λ w. w.items) cells r.calc (with_item (get_or cells r.calc d) r.window x)
-    ∙ ap (λ y. set (block_lists_of cells) r.calc (set (get_or cells r.calc d).items r.window y)) is
-    ∙ ap (λ l. set (block_lists_of cells) r.calc (set l r.window (Some (value_of r)))) (sym (get_or-map (λ w. w.items) cells r.calc d [] low))
+vector-with_row cells r d x low is = grind (arith, map-set, get_or-map, low)
 
 -- one block more
 pub next_block : (before after : List (List (Option CalcValue))) (bs : List Block) (i : ℕ) (b : Block) → i < length bs
     → after ≡ fold with_row before (get_or bs i b).rows.items
     → fold with_row after (rows_of_blocks (map parts_of (drop (i + 1) bs))) ≡ fold with_row before (rows_of_blocks (map parts_of (drop i bs)))
-next_block before after bs i b low is =
-    ap (λ cells. fold with_row cells (rows_of_blocks (map parts_of (drop (i + 1) bs)))) is
-    ∙ sym (fold-append with_row before (get_or bs i b).rows.items (rows_of_blocks (map parts_of (drop (i + 1) bs))))
-    ∙ ap (λ l. fold with_row before (rows_of_blocks (map parts_of l))) (sym (drop_more bs i b low))
+next_block before after bs i b low is = grind (arith, fold-append, drop_more, low)
 
 -- a row leaves as many calculations and windows
 lengths-with_row : (cells : List (List (Option CalcValue))) (r : BlockRow) → map length (with_row cells r) ≡ map length cells
-lengths-with_row cells r =
-    map-set_same length cells r.calc (set (get_or cells r.calc []) r.window (Some (value_of r))) [] (length-set (get_or cells r.calc []) r.window (Some (value_of r)))
+lengths-with_row cells r = grind (arith, map-set_same, length-set)
 
 -- so do many
 lengths-with_rows : (cells : List (List (Option CalcValue))) (rows : List BlockRow) → map length (fold with_row cells rows) ≡ map length cells
@@ -62,9 +55,7 @@ cell-with_row : (cells : List (List (Option CalcValue))) (r : BlockRow) (calc k 
     → get_or (get_or (with_row cells r) calc []) k None ≡ (if is_at calc k r then Some (value_of r) else get_or (get_or cells calc []) k None)
 cell-with_row cells r calc k low within = elim (eqb_tells r.calc calc) [
   | inl here ↦
-      ap (λ l. get_or l k None) (ap (λ n. get_or (with_row cells r) n []) (sym here.1)
-      ∙ get_or-set_same cells r.calc (set (get_or cells r.calc []) r.window v) [] (omega (arith, low, here.1))
-      ∙ ap (λ n. set (get_or cells n []) r.window v) here.1)
+      ap (λ l. get_or l k None) (grind (arith, get_or-set_same, v, low))
       ∙ at_written (get_or cells calc []) r.window k v None within
       ∙ sym (ap (λ b. if b && nat_eq r.window k then v else old) here.0)
   | inr other ↦
@@ -104,8 +95,7 @@ lengths-no_cells calcs windows = map-replicate calcs (replicate {A = Option Calc
 -- of these, all rows of blocks make as many calculations and windows
 pub lengths_saved : (cells : List (List (Option CalcValue))) (calcs windows : ℕ) (bs : List BlockParts)
     → cells ≡ fold with_row (replicate calcs (replicate windows None)) (rows_of_blocks bs) → map length cells ≡ replicate calcs windows
-lengths_saved cells calcs windows bs is =
-    ap (map length) is ∙ lengths-with_rows (replicate calcs (replicate windows None)) (rows_of_blocks bs) ∙ lengths-no_cells calcs windows
+lengths_saved cells calcs windows bs is = grind (arith, lengths-with_rows, lengths-no_cells)
 
 -- each with what the blocks give
 pub cells_saved : (cells : List (List (Option CalcValue))) (calcs windows : ℕ) (bs : List BlockParts)
@@ -120,8 +110,7 @@ cells_saved cells calcs windows bs is calc k low within =
 -- there are as many vectors of cells as calculations
 pub vectors_are : (vs : List (Vec (Option CalcValue) Global)) (calcs windows : ℕ) → map length (block_lists_of vs) ≡ replicate calcs windows
     → length vs ≡ calcs
-vectors_are vs calcs windows are =
-    sym (length-map vs (λ v. v.items)) ∙ sym (length-map (block_lists_of vs) length) ∙ ap length are ∙ length-replicate calcs windows
+vectors_are vs calcs windows are = grind (arith, length-map, length-replicate)
 
 -- each of them has as many cells as windows, and what the blocks give
 pub vector_is : (vs : List (Vec (Option CalcValue) Global)) (v : Vec (Option CalcValue) Global) (calcs windows i : ℕ) (bs : List BlockParts)

@@ -1,5 +1,5 @@
 -- The versions of a block, read in turn.
-use Rattle.std.proofs.Common.{ℕ, ◌+◌, ◌<◌, All, List, [], ◌∷◌, ◌++◌, length, get_or, drop, Option, subst, nat_le}
+use Rattle.std.proofs.Common.{arith, ℕ, ◌+◌, ◌<◌, All, List, [], ◌∷◌, ◌++◌, length, get_or, drop, Option, nat_le}
 use Rattle.std.proofs.lemmas.List.{drop_more}
 use Rattle.archive_file.specs.{Field, BreaksFirst, Keeps, short_at}
 use Rattle.group_layout.specs.{version_fields}
@@ -13,8 +13,7 @@ module _ (c : List ℕ) (before : List ℕ) (start at i : ℕ) (low : i < length
 
   -- it comes first
   first_field : KeptUpTo c (version_fields c before start) ((next_field ∷ []) ++ version_fields c (drop (i + 1) before) (at + 4))
-  first_field =
-      subst (λ vs. KeptUpTo c (version_fields c before start) (version_fields c vs at)) (drop_more before i 0 low) so_far
+  first_field = grind (arith, drop_more)
 
   -- one version more is kept
   pub version_more : All (Keeps c) (next_field ∷ [])

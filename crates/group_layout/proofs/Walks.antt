@@ -1,7 +1,7 @@
 -- Blocks one after the other, and one more.
 use Rattle.std.proofs.Common.{◌≡◌, inl, inr, ℕ, suc, ◌+◌, ◌-◌, ◌<◌, ◌≤◌, List, [], ◌∷◌, ◌++◌, drop, map, length, get_or, Option, refl, sym, ap, ◌∙◌, subst, arith, length-drop}
 use Rattle.std.proofs.lemmas.List.{length-replicate}
-use Rattle.disk_model.specs.{IsOpen, IsShut}
+use Rattle.disk_model.specs.{IsOpen}
 use Rattle.archive_file.specs.{Field, AreAllRead, AreRead, IsFirstBroken, Step, BreaksFirst}
 use Rattle.archive_file.proofs.BlockFiles.{read_keeps}
 use Rattle.archive_file.proofs.Windows.{rest_spells}
@@ -57,9 +57,7 @@ walk_on : (c : List ℕ) (calcs inputs : ℕ) (first : Block) (at gate size : �
 walk_on c calcs inputs first at gate size s next so_far opened added = record {
   calcs_are = added.0 ∙ so_far.calcs_are;
   first_is = added.1 ∙ so_far.first_is;
-  has = subst (HasBlocks c calcs (parts_of first) at) (sym all)
-      (has_push c calcs (parts_of first) at (map parts_of s.list.items) (parts_of gain.block) so_far.has
-      (subst (λ n. HasBlock c calcs (last_read first s.list.items) (parts_of gain.block) n) so_far.end_is one));
+  has = grind (arith, all, has_push, one);
   end_is = (λ i. so_far.end_is i + gain.size_is i) ∙ sym (end_of-push at (map parts_of s.list.items) (parts_of gain.block)) ∙ ap (end_of at) (sym all);
   versions_are = ap (λ l. length (last_of (parts_of first) l).versions) all
       ∙ ap (λ b. length b.versions) (last_of-push (parts_of first) (map parts_of s.list.items) (parts_of gain.block))
@@ -67,8 +65,7 @@ walk_on c calcs inputs first at gate size s next so_far opened added = record {
 }
   where
     gain : AddsBlock (drop gate c) calcs (last_read first s.list.items) s.list.items next.list.items size
-    gain = subst (λ n. AddsBlock (drop gate c) n (last_read first s.list.items) s.list.items next.list.items size) so_far.calcs_are
-        (subst (λ b. AddsBlock (drop gate c) s.calcs (last_read b s.list.items) s.list.items next.list.items size) so_far.first_is added.2)
+    gain = grind arith
 
     all : map parts_of next.list.items ≡ map parts_of s.list.items ++ parts_of gain.block ∷ []
     all = ap (map parts_of) gain.are ∙ parts-push s.list.items gain.block
@@ -88,22 +85,11 @@ module _ (c : List ℕ) (at inputs : ℕ) (r : GroupReader) (none : r.list.items
   goes steps s end =
       read_keeps group_adds c (λ s gate. IsWalked c r.calcs inputs r.unsaved at gate s)
       (λ s gate size next before opened added. walk_on c r.calcs inputs r.unsaved at gate size s next before opened added) r at steps s end
-      (record {
-        calcs_are = refl;
-        first_is = refl;
-        has = subst (λ bs. HasBlocks c r.calcs (parts_of r.unsaved) at (map parts_of bs)) (sym none) tt;
-        end_is = ap (λ bs. end_of at (map parts_of bs)) (sym none);
-        versions_are = ap (λ bs. length (last_read r.unsaved bs).versions) none ∙ ap (λ b. length b.versions) first ∙ length-replicate inputs 0;
-      })
+      (grind (arith, length-replicate))
 
   -- over all blocks
   pub all_blocks : (s : GroupReader) (end : ℕ) → AreAllRead group_adds c r at s end → AreBlocks c r.calcs inputs at (map parts_of s.list.items)
-  all_blocks s end all =
-      let walked = goes all.steps s end all.are in
-      record {
-        blocks = subst (λ b. HasBlocks c r.calcs b at (map parts_of s.list.items)) first walked.has;
-        shut = subst (λ n. IsShut n c) walked.end_is all.shut;
-      }
+  all_blocks s end all = grind (arith, goes)
 
   -- where they end
   pub end_there : (s : GroupReader) (end : ℕ) → AreAllRead group_adds c r at s end → end ≡ end_of at (map parts_of s.list.items)
@@ -112,8 +98,7 @@ module _ (c : List ℕ) (at inputs : ℕ) (r : GroupReader) (none : r.list.items
   -- how many versions the last one has
   pub versions_there : (s : GroupReader) (end : ℕ) → AreAllRead group_adds c r at s end
       → length (last_of (unsaved inputs) (map parts_of s.list.items)).versions ≡ inputs
-  versions_there s end all =
-      ap (λ b. length (last_of b (map parts_of s.list.items)).versions) (sym first) ∙ (goes all.steps s end all.are).versions_are
+  versions_there s end all = grind (arith, goes)
 
   -- up to one that breaks a rule
   pub breaks_there : (a : ℕ) (byte : Option ℕ) → IsFirstBroken group_adds group_fields c r at a byte → AreDamaged c r.calcs inputs at a byte

@@ -1,5 +1,5 @@
 -- Lemmas on the digits that a text begins with.
-use Rattle.std.proofs.Common.{◌≡◌, ℕ, suc, zero, ◌+◌, ◌-◌, ◌*◌, ◌%◌, ◌^◌, ◌<◌, ◌≤◌, Bool, true, false, ◌&&◌, cond, List, [], ◌∷◌, ◌++◌, length, take, drop, take-add, length-take, length-drop, arith, refl, sym, ap, ◌∙◌, lit<}
+use Rattle.std.proofs.Common.{◌≡◌, ℕ, suc, zero, ◌+◌, ◌-◌, ◌*◌, ◌%◌, ◌^◌, ◌<◌, ◌≤◌, Bool, true, false, ◌&&◌, cond, List, [], ◌∷◌, ◌++◌, length, take, drop, take-add, length-take, length-drop, arith, refl, sym, ap, ◌∙◌}
 use Rattle.std.proofs.lemmas.Bool.{false≢true}
 use Rattle.std.proofs.lemmas.List.{length-take-le, take-take, drop-take}
 use Rattle.std.proofs.lemmas.List.Folds.{list_all-append}
@@ -70,9 +70,7 @@ all_digits (d ∷ ds) all = go (all_digits ds) (is_ascii_digit d) refl all
 
 -- k digits spell less than 10 ^ k
 value_lt : (ds : List ℕ) (k : ℕ) → list_all is_ascii_digit ds ≡ true → length ds ≤ k → ascii_value 10 ds < 10 ^ k
-value_lt ds k all few =
-    let power : 10 ^ length ds ≤ 10 ^ k = pow-le-pow_right (lit< tt) {i = length ds} {j = k} few in
-    omega (arith, digits_value-lt 10 ds (all_digits ds all))
+value_lt ds k all few = grind (arith, pow-le-pow_right, digits_value-lt, all_digits)
 
 -- so to us
 pub spelt_lt : (ds : List ℕ) (k : ℕ) → list_all is_ascii_digit ds ≡ true → length ds ≤ k → digits_value ds < 10 ^ k
@@ -110,12 +108,4 @@ pub record IsDigitRange (bytes : List ℕ) (at end v : ℕ) : Type 0 where
   pub value : v ≡ digits_value (take (end - at) (drop at bytes))
 
 pub digit_range_is : (bytes : List ℕ) (at end n v : ℕ) → end ≡ at + n → n ≤ 16 → IsDigitRun (drop at bytes) n v → IsDigitRange bytes at end v
-digit_range_is bytes at end n v is few run =
-    let window : at + 16 - at ≡ 16 = omega arith in
-    let count : end - at ≡ n = omega arith in
-    record {
-      end_is = is ∙ ap (λ k. at + k) run.end ∙ ap (λ k. at + digits_len (take k (drop at bytes))) (sym window);
-      within = omega arith;
-      digits = rw count run.digits;
-      value = rw count run.value;
-    }
+digit_range_is bytes at end n v is few run = grind arith

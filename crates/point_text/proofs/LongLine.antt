@@ -1,5 +1,5 @@
 -- Lemmas on a line that is too long to have a point.
-use Rattle.std.proofs.Common.{◌≡◌, ℕ, ◌+◌, ◌-◌, ◌<◌, ℤ, pos, neg_ℤ, ◌⊎◌, inl, inr, Bool, ◌&&◌, suc, nat_le, drop, true, false, cond, List, [], ◌∷◌, ◌++◌, length, take, get_or, map, nat_eq, nat_lt, position, Option, Some, None, Result, Err}
+use Rattle.std.proofs.Common.{◌≡◌, ℕ, ◌+◌, ◌-◌, ◌<◌, ℤ, pos, neg_ℤ, ◌⊎◌, inl, inr, Bool, ◌&&◌, suc, nat_le, drop, true, false, cond, List, [], ◌∷◌, ◌++◌, length, take, get_or, map, nat_eq, position, Option, Some, None, Result, Err}
 use Rattle.std.proofs.Common.{arith, refl, sym, ap, ◌∙◌, append_assoc, length-append, length-take}
 use Rattle.std.proofs.lemmas.Bool.Decides.{nat_tests}
 use Rattle.std.proofs.lemmas.Bool.{eqb-true, ltb-true, ltb-false}
@@ -7,10 +7,9 @@ use Rattle.std.proofs.lemmas.List.{take_more, take_all}
 use Rattle.std.proofs.lemmas.List.Elements.{All-append, All-cons, All-nil}
 use Rattle.std.proofs.lemmas.List.Splits.{length-slice_split, join_with_byte-slice_split}
 use Rattle.std.proofs.lemmas.List.Sums.{sum_by-append}
-use Rattle.std.specs.Char.{is_ascii_digit}
-use Rattle.std.specs.List.{count_by, join_with_byte, list_all, slice_split}
+use Rattle.std.specs.List.{count_by, join_with_byte, slice_split}
 use Rattle.std.specs.Str.Lines.{strip_carriage_return}
-use Rattle.trend_num.specs.{Point, Reason, digits_value, numeral, unsigned_numeral, signed_by}
+use Rattle.trend_num.specs.{Point, Reason, numeral, unsigned_numeral, signed_by}
 use Rattle.trend_num.specs.declared.refusal.Reason.TheVariants.{Fields, Number}
 use Rattle.point_text.specs.{point_read, point_of_fields, point_of_line, HasNoFeed, ReadSame, reads_of}
 use Rattle.point_text.proofs.Split.{feed_found, feed_not_found, lines_begun, lines_fed}
@@ -57,9 +56,7 @@ below_no m n h = grind (arith, nat_tests)
 
 -- more than 20 digits are no number
 unsigned_long : (f : List ℕ) → 20 < length f → unsigned_numeral f ≡ None
-unsigned_long f long =
-    ap (λ b. cond (nat_le 1 (length f) && b && list_all is_ascii_digit f) (Some (digits_value f)) None) (below_no (length f) 20 long)
-    ∙ ap (λ b. cond b (Some (digits_value f)) None) (no_and (nat_le 1 (length f)) (list_all is_ascii_digit f))
+unsigned_long f long = grind (arith, below_no, no_and)
 
 -- and more than 21 bytes are no numeral
 numeral_long : (f : List ℕ) → 21 < length f → numeral f ≡ None
@@ -74,19 +71,14 @@ numeral_long (b ∷ bs) long =
 
 -- nor are bytes that begin with an x
 numeral_x : (f : List ℕ) → numeral (120 ∷ f) ≡ None
-numeral_x f =
-    ap (λ b. signed_by pos (cond b (Some (digits_value (120 ∷ f))) None)) (and_no (nat_le 1 (length (120 ∷ f)) && nat_le (length (120 ∷ f)) 20))
+numeral_x f = grind (arith, and_no)
 
 -- two fields and the comma between them are the line
 two_joined : (line t v : List ℕ) → slice_split (λ b. nat_eq b 44) line ≡ t ∷ v ∷ [] → line ≡ t ++ 44 ∷ v
 two_joined line t v parts = sym (join_with_byte-slice_split 44 line) ∙ ap (join_with_byte 44) parts
 
 one_long : (t v : List ℕ) → 43 < length t + length v + 1 → (numeral t ≡ None) ⊎ (numeral v ≡ None)
-one_long t v long =
-    elim (nat_lt 21 (length t)) as (λ b. nat_lt 21 (length t) ≡ b → (numeral t ≡ None) ⊎ (numeral v ≡ None)) [
-      | true ↦ λ above. inl (numeral_long t (ltb-true _ _ above))
-      | false ↦ λ below. inr (numeral_long v (omega (arith, ltb-false _ _ below)))
-    ] refl
+one_long t v long = grind (arith, numeral_long, ltb-true, ltb-false)
 
 -- a long line
 long_bad : (line : List ℕ) → 43 < length line → point_of_line line ≡ bad_by (commas line)
@@ -116,12 +108,7 @@ commas_stripped line some last =
 
 -- a line with or without that carriage return
 by_strip : (P : List ℕ → Type 0) (line : List ℕ) → P line → (get_or line (length line - 1) 0 ≡ 13 → P (take (length line - 1) line)) → P (strip_carriage_return line)
-by_strip P line whole stripped =
-    elim (nat_eq (get_or line (length line - 1) 0) 13) as
-    (λ b. nat_eq (get_or line (length line - 1) 0) 13 ≡ b → P (cond b (take (length line - 1) line) line)) [
-      | true ↦ λ is. stripped (eqb-true _ _ is)
-      | false ↦ λ other. whole
-    ] refl
+by_strip P line whole stripped = grind (arith, eqb-true)
 
 -- whatever follows it, a line reads so
 pub record StaysBad (line : List ℕ) : Type 0 where
@@ -135,11 +122,7 @@ long_stripped line long =
     (λ last. long_bad (take (length line - 1) line) (omega (arith, length-take (length line - 1) line)) ∙ ap bad_by (commas_stripped line (omega arith) last))
 
 long_stays : (line : List ℕ) → 44 < length line → StaysBad line
-long_stays line long = record {
-  some = omega arith;
-  begun = λ x. long_bad (line ++ x) (omega (arith, length-append line x));
-  ended = λ x. long_stripped (line ++ x) (omega (arith, length-append line x));
-}
+long_stays line long = grind (arith, long_bad, length-append, long_stripped)
 
 x_stripped : (f : List ℕ) → get_or (120 ∷ f) (length (120 ∷ f) - 1) 0 ≡ 13 → point_of_line (take (length (120 ∷ f) - 1) (120 ∷ f)) ≡ bad_by (commas (120 ∷ f))
 x_stripped [] last = absurd (omega arith)
@@ -201,11 +184,8 @@ pub short_none : (line : List ℕ) → 44 < length line → HasNoFeed line → c
 short_none line long one count = short_same line [] long one (not_feeds 120 [] refl none) (λ n. ap (λ i. bad_by (i + n)) count)
 
 pub short_one : (line : List ℕ) → 44 < length line → HasNoFeed line → commas line ≡ 1 → ReadSame line (120 ∷ 44 ∷ [])
-short_one line long one count =
-    short_same line (44 ∷ []) long one (not_feeds 120 (44 ∷ []) refl (not_feeds 44 [] refl none)) (λ n. ap (λ i. bad_by (i + n)) count)
+short_one line long one count = grind (arith, short_same, not_feeds, none)
 
 -- two, where there are more
 pub short_many : (line : List ℕ) → 44 < length line → HasNoFeed line → 1 < commas line → ReadSame line (120 ∷ 44 ∷ 44 ∷ [])
-short_many line long one count =
-    short_same line (44 ∷ 44 ∷ []) long one (not_feeds 120 (44 ∷ 44 ∷ []) refl (not_feeds 44 (44 ∷ []) refl (not_feeds 44 [] refl none)))
-    (λ n. ap (λ b. cond b (Err Number) (Err Fields)) (many_bad (commas line + n) (omega arith) ∙ sym (many_bad (2 + n) (omega arith))))
+short_many line long one count = grind (arith, short_same, not_feeds, none, many_bad)

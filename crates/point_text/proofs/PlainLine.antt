@@ -1,5 +1,5 @@
 -- Lemmas on a plain line, which a text begins with.
-use Rattle.std.proofs.Common.{◌≡◌, ◌⊎◌, inl, inr, cond, ℕ, zero, suc, ◌+◌, ◌-◌, ◌<◌, ◌≤◌, ℤ, pos, neg_ℤ, true, false, List, [], ◌∷◌, ◌++◌, length, get_or, take, drop, nat_eq, unsigned_abs, Some, Result, Ok, All, arith, refl, sym, ap, ◌∙◌}
+use Rattle.std.proofs.Common.{◌≡◌, ◌⊎◌, inl, inr, ℕ, zero, suc, ◌+◌, ◌-◌, ◌<◌, ◌≤◌, ℤ, pos, neg_ℤ, true, false, List, [], ◌∷◌, ◌++◌, length, get_or, take, drop, nat_eq, unsigned_abs, Some, Result, Ok, All, arith, refl, sym, ap, ◌∙◌}
 use Rattle.std.proofs.Common.{subst, append_assoc, add-one, length-append, length-drop, le-leb}
 use Rattle.std.proofs.lemmas.Bool.Decides.{nat_tests}
 use Rattle.std.proofs.lemmas.List.{take-append-drop, drop-drop, length-take-le, take_at, get_or_at, drop_more}
@@ -30,9 +30,7 @@ field_cut text at end byte n f =
     sym (take-append-drop (end - at) (drop at text)) ∙ ap (λ l. take (end - at) (drop at text) ++ l) (here ∙ ap (λ b. b ∷ drop (end + 1) text) f.after)
 
 field_digits : (text : List ℕ) (at end byte n : ℕ) → IsField text at end byte n → AreDigits (take (end - at) (drop at text)) n
-field_digits text at end byte n f =
-    let count : length (take (end - at) (drop at text)) ≡ end - at = length-take-le (end - at) (drop at text) (omega (arith, f.some, f.within, length-drop at text)) in
-    record { some = omega (arith, f.some); few = omega (arith, f.few); all = f.digits; value = f.value }
+field_digits text at end byte n f = grind (arith, length-take-le, length-drop)
 
 -- digits are past the comma
 past_comma : (ds : List ℕ) (n : ℕ) → AreDigits ds n → All (λ b. 44 < b) ds
@@ -53,10 +51,7 @@ negative_is ds n are = rw (unsigned_is ds n are)
 
 -- no carriage return is stripped where there is none
 no_return : (line : List ℕ) → 0 < length line → All (λ b. 44 ≤ b) line → strip_carriage_return line ≡ line
-no_return line some high =
-    let last : 44 ≤ get_or line (length line - 1) 0 = high (length line - 1) 0 (omega arith) in
-    let other : nat_eq (get_or line (length line - 1) 0) 13 ≡ false = grind (arith, nat_tests) in
-    rw other
+no_return line some high = grind (arith, nat_tests)
 
 -- nor is there a line feed
 no_feed : (line : List ℕ) → All (λ b. 44 ≤ b) line → HasNoFeed line
@@ -64,11 +59,7 @@ no_feed line high = All-weaker (λ b. 44 ≤ b) (λ b. nat_eq b 10 ≡ false) (�
 
 -- a carriage return is stripped where it is the last byte
 one_return : (line : List ℕ) → strip_carriage_return (line ++ 13 ∷ []) ≡ line
-one_return line =
-    let count : length (line ++ 13 ∷ []) - 1 ≡ length line = omega (arith, length-append line (13 ∷ [])) in
-    let last : get_or (line ++ 13 ∷ []) (length (line ++ 13 ∷ []) - 1) 0 ≡ 13 = ap (λ n. get_or (line ++ 13 ∷ []) n 0) count ∙ get_or_at line 13 [] 0 (length line) refl in
-    ap (λ b. cond (nat_eq b 13) (take (length (line ++ 13 ∷ []) - 1) (line ++ 13 ∷ [])) (line ++ 13 ∷ [])) last
-    ∙ take_at line (13 ∷ []) (length (line ++ 13 ∷ []) - 1) (sym count)
+one_return line = grind (arith, length-append, get_or_at, take_at)
 
 -- a line of these bytes, and what ends it
 ended_point : (line after tail : List ℕ) (read : Result Point Reason) → 0 < length line → All (λ b. 44 ≤ b) line
@@ -122,14 +113,7 @@ after_feed text feed = take (length text - (feed + 1)) (drop (feed + 1) text)
 -- so the line ends there
 ends_line : (text : List ℕ) (end byte feed : ℕ) → byte ≡ get_or text end 0 → EndsAt text end feed
     → (byte ∷ drop (end + 1) text ≡ 10 ∷ after_feed text feed) ⊎ (byte ∷ drop (end + 1) text ≡ 13 ∷ 10 ∷ after_feed text feed)
-ends_line text end byte feed here ends =
-    let rest : drop (feed + 1) text ≡ after_feed text feed = sym (rest_whole text (feed + 1)) in
-    let fed : drop feed text ≡ 10 ∷ after_feed text feed =
-    drop_more text feed 0 ends.within ∙ ap (λ b. b ∷ drop (feed + 1) text) ends.fed ∙ ap (λ l. 10 ∷ l) rest in
-    elim ends.is [
-      | inl p ↦ inl (ap (λ b. b ∷ drop (end + 1) text) (here ∙ p.0) ∙ ap (λ k. 10 ∷ drop (k + 1) text) (sym p.1) ∙ ap (λ l. 10 ∷ l) rest)
-      | inr p ↦ inr (ap (λ b. b ∷ drop (end + 1) text) (here ∙ p.0) ∙ ap (λ k. 13 ∷ drop k text) (sym p.1) ∙ ap (λ l. 13 ∷ l) fed)
-    ]
+ends_line text end byte feed here ends = grind (arith, rest_whole, drop_more)
 
 unsigned_abs-neg_ℤ : (n : ℕ) → unsigned_abs (neg_ℤ (pos n)) ≡ n
 unsigned_abs-neg_ℤ zero = refl

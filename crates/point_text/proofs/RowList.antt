@@ -1,5 +1,5 @@
 -- Lemmas on the rows of lines, of any kind.
-use Rattle.std.proofs.Common.{◌≡◌, ℕ, suc, ◌+◌, ◌-◌, ◌<◌, ◌≤◌, true, false, cond, List, [], ◌∷◌, ◌++◌, length, map, take, drop, take-add, nat_lt, Result, Ok, Err, arith, refl, sym, ap, ◌∙◌, length-append}
+use Rattle.std.proofs.Common.{◌≡◌, ℕ, suc, ◌+◌, ◌-◌, ◌<◌, ◌≤◌, true, false, List, [], ◌∷◌, ◌++◌, length, map, take, take-add, nat_lt, Result, Ok, Err, arith, refl, ap, ◌∙◌, length-append}
 use Rattle.std.proofs.lemmas.Bool.Decides.{nat_tests}
 use Rattle.std.proofs.lemmas.List.{length-map, take-map, take_at, take_all, drop_at}
 use Rattle.trend_num.specs.{Reason}
@@ -31,9 +31,7 @@ rows_from most reads = unless_more most (length reads) (all_rows (take most read
 -- it is that to the lines
 pub rows_of-reads : {R : Type 0} (row_of : List ℕ → Result R Reason) (most : ℕ) (texts : List (List ℕ))
     → rows_of row_of most texts ≡ rows_from most (map row_of texts)
-rows_of-reads row_of most texts =
-    ap (λ n. unless_more most n (all_rows (map row_of (take most texts)))) (sym (length-map texts row_of))
-    ∙ ap (λ l. unless_more most (length (map row_of texts)) (all_rows l)) (sym (take-map row_of most texts))
+rows_of-reads row_of most texts = grind (arith, length-map, take-map)
 
 -- as many lines as rows
 all_read-count : {R : Type 0} (found : List R) → length (all_read found) ≡ length found
@@ -49,9 +47,7 @@ rows_from-bad {R} most found reason reads room =
     let k = most - suc (length done) in
     let split : most ≡ length done + suc k = omega arith in
     let front : take most whole ≡ done ++ Err reason ∷ take k reads =
-    ap (λ n. take n whole) split ∙ take-add (length done) (suc k) whole
-    ∙ ap (λ l. l ++ take (suc k) (drop (length done) whole)) (take_at done (Err reason ∷ reads) (length done) refl)
-    ∙ ap (λ l. done ++ take (suc k) l) (drop_at done (Err reason ∷ reads) (length done) refl) in
+    grind (arith, take-add, take_at, drop_at) in
     ap (unless_more most (length whole)) (ap all_rows front ∙ all_rows-bad found reason (take k reads))
 
 -- the test of too many lines
@@ -65,18 +61,8 @@ no_more_is most count few = grind (arith, nat_tests)
 pub rows_from-more : {R : Type 0} (most : ℕ) (found : List R) (read : Result R Reason) (reads : List (Result R Reason)) → length found ≡ most
     → rows_from most (all_read found ++ read ∷ reads) ≡ Err (TooMany (most + 1))
 rows_from-more {R} most found read reads full =
-    let done : List (Result R Reason) = all_read found in
-    let count : length done ≡ length found = all_read-count found in
-    let front : take most (done ++ read ∷ reads) ≡ done = take_at done (read ∷ reads) most (count ∙ full) in
-    let total : length (done ++ read ∷ reads) ≡ length done + suc (length reads) = length-append done (read ∷ reads) in
-    ap (unless_more most (length (done ++ read ∷ reads))) (ap all_rows front ∙ all_rows-ok found)
-    ∙ ap (λ b. cond b (Err (TooMany (most + 1))) (Ok found)) (more_is most (length (done ++ read ∷ reads)) (omega arith))
+    grind (arith, all_read-count, take_at, length-append, all_rows-ok, more_is)
 
 -- all lines were read, and no more than there may be
 pub rows_from-all : {R : Type 0} (most : ℕ) (found : List R) → length found ≤ most → rows_from most (all_read found) ≡ Ok found
-rows_from-all {R} most found few =
-    let done : List (Result R Reason) = all_read found in
-    let count : length done ≡ length found = all_read-count found in
-    let short : length done ≤ most = omega arith in
-    ap (unless_more most (length done)) (ap all_rows (take_all most done short) ∙ all_rows-ok found)
-    ∙ ap (λ b. cond b (Err (TooMany (most + 1))) (Ok found)) (no_more_is most (length done) short)
+rows_from-all {R} most found few = grind (arith, all_read-count, take_all, all_rows-ok, no_more_is)

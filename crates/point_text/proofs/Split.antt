@@ -1,14 +1,13 @@
 -- Lemmas on the parts between separators, and on the lines of a text.
-use Rattle.std.proofs.Common.{◌≡◌, ◌≢◌, ℕ, ◌+◌, ◌-◌, ◌<◌, ◌≤◌, Bool, cond, List, [], ◌∷◌, length, take, drop, nat_eq, nat_lt, position, false, ◌++◌, get_or, Some, None, arith, refl, sym, ap, ◌∙◌, length-take, get_or-take}
+use Rattle.std.proofs.Common.{◌≡◌, ◌≢◌, ℕ, ◌+◌, ◌-◌, ◌<◌, ◌≤◌, Bool, cond, List, [], ◌∷◌, length, take, drop, nat_eq, nat_lt, position, ◌++◌, get_or, Some, None, arith, refl, ap, ◌∙◌, length-take, get_or-take}
 use Rattle.std.proofs.lemmas.Grind.{common_steps}
 use Rattle.std.proofs.lemmas.List.Quantifiers.{position-Some}
 use Rattle.std.proofs.lemmas.List.Splits.{slice_split_at, slice_split_none, slice_split_first, length-slice_split}
 use Rattle.std.proofs.lemmas.Bool.{eqb-true}
 use Rattle.std.proofs.lemmas.List.{drop_more, take-append-drop}
-use Rattle.std.proofs.lemmas.List.Elements.{All-from_get_or}
 use Rattle.std.proofs.lemmas.List.Sums.{position_or_len_is, fails_before_first}
 use Rattle.std.proofs.lemmas.Bool.Decides.{nat_tests}
-use Rattle.std.specs.List.{slice_split, position_or_len}
+use Rattle.std.specs.List.{slice_split}
 use Rattle.std.specs.Str.Lines.{lines, lines_of_parts, strip_carriage_return}
 use Rattle.point_text.specs.{HasNoFeed}
 
@@ -19,12 +18,7 @@ rest_whole xs i = grind (arith, common_steps)
 -- the first part ends at the first separator
 pub split_found : (p : ℕ → Bool) (xs : List ℕ) (i : ℕ) → position p xs ≡ Some i
     → slice_split p xs ≡ take i xs ∷ slice_split p (take (length xs - (i + 1)) (drop (i + 1) xs))
-split_found p xs i at =
-    let found = position-Some p xs i 0 at in
-    let here : position_or_len p xs ≡ i = position_or_len_is p xs i 0 (omega (arith, found.0)) found.2 (λ _. found.1) in
-    let below : position_or_len p xs < length xs = omega (arith, found.0) in
-    slice_split_first p xs 0 below ∙ ap (λ n. take n xs ∷ slice_split p (drop (n + 1) xs)) here
-    ∙ ap (λ l. take i xs ∷ slice_split p l) (sym (rest_whole xs (i + 1)))
+split_found p xs i at = grind (arith, position-Some, position_or_len_is, slice_split_first, rest_whole)
 
 -- no place, so each element is before the first separator
 past_all : (n m : ℕ) → cond (nat_lt n m) (Some n) None ≡ None → m ≤ n
@@ -32,9 +26,7 @@ past_all n m e = grind (arith, nat_tests)
 
 -- where there is no separator, there is one part
 pub split_not_found : (p : ℕ → Bool) (xs : List ℕ) → position p xs ≡ None → slice_split p xs ≡ xs ∷ []
-split_not_found p xs none =
-    let past = past_all (position_or_len p xs) (length xs) none in
-    slice_split_none p xs (λ k d below. fails_before_first p xs k d (omega arith))
+split_not_found p xs none = grind (arith, past_all, slice_split_none, fails_before_first)
 
 -- a part before another one is a line
 pub lines_of_parts-cons : (x : List ℕ) (parts : List (List ℕ)) → 0 < length parts → lines_of_parts (x ∷ parts) ≡ strip_carriage_return x ∷ lines_of_parts parts
@@ -43,10 +35,7 @@ lines_of_parts-cons x (y ∷ more) some = refl
 
 -- a line and its line feed come before the lines of the rest
 pub lines_fed : (line after : List ℕ) → HasNoFeed line → lines (line ++ 10 ∷ after) ≡ strip_carriage_return line ∷ lines after
-lines_fed line after one =
-    let some = length-slice_split (λ b. nat_eq b 10) after in
-    ap lines_of_parts (slice_split_at (λ b. nat_eq b 10) line 10 after one refl)
-    ∙ lines_of_parts-cons line (slice_split (λ b. nat_eq b 10) after) (omega arith)
+lines_fed line after one = grind (arith, length-slice_split, slice_split_at, lines_of_parts-cons)
 
 -- a last part that is not empty is a line
 one_line : (bs : List ℕ) → 0 < length bs → lines_of_parts (bs ∷ []) ≡ bs ∷ []
@@ -61,20 +50,11 @@ pub feed_found : (text : List ℕ) (i : ℕ) → position (λ b. nat_eq b 10) te
     → (text ≡ take i text ++ 10 ∷ take (length text - (i + 1)) (drop (i + 1) text)) × HasNoFeed (take i text)
 feed_found text i at =
     let found = position-Some (λ b. nat_eq b 10) text i 0 at in
-    let byte : get_or text i 0 ≡ 10 = eqb-true _ _ found.1 in (
-      sym (take-append-drop i text)
-          ∙ ap (λ l. take i text ++ l) (drop_more text i 0 found.0 ∙ ap (λ b. b ∷ drop (i + 1) text) byte
-          ∙ ap (λ l. 10 ∷ l) (sym (rest_whole text (i + 1)))),
-      All-from_get_or (λ b. nat_eq b 10 ≡ false) (take i text) 0 (λ k below.
-          let here : k < i = omega (arith, below, length-take i text) in
-          rw (get_or-take i text k 0 here) (found.2 k here)),
-    )
+    let byte : get_or text i 0 ≡ 10 = eqb-true _ _ found.1 in (grind (arith, take-append-drop, drop_more, rest_whole, length-take, get_or-take))
 
 -- and where none is found there is none
 pub feed_not_found : (text : List ℕ) → position (λ b. nat_eq b 10) text ≡ None → HasNoFeed text
-feed_not_found text none =
-    let past = past_all (position_or_len (λ b. nat_eq b 10) text) (length text) none in
-    λ k d below. fails_before_first (λ b. nat_eq b 10) text k d (omega arith)
+feed_not_found text none = grind (arith, past_all, fails_before_first)
 
 -- two separators make more parts than two
 pub split_thrice : (p : ℕ → Bool) (xs : List ℕ) (i j : ℕ) → position p xs ≡ Some i

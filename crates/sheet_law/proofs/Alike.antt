@@ -1,5 +1,5 @@
 -- Windows of two lists of points that are the same on one side of a point.
-use Rattle.std.proofs.Common.{◌≡◌, ℕ, ◌<◌, ◌≤◌, inl, inr, ℤ, pos, Bool, true, false, cond, nat_lt, nat_le, eqb, List, [], ◌∷◌, ◌++◌, length, Option, None, Some, refl, sym, ap, ap₂, ◌∙◌, arith}
+use Rattle.std.proofs.Common.{◌≡◌, ℕ, ◌<◌, ◌≤◌, inl, inr, pos, Bool, true, false, cond, nat_lt, nat_le, eqb, List, [], ◌∷◌, ◌++◌, length, None, Some, refl, sym, ap, ◌∙◌, arith}
 use Rattle.std.specs.Prelude.{◌&&◌, filter}
 use Rattle.std.proofs.lemmas.Bool.{cases_lt, eq-eqb, lt-ltb, le-ltb}
 use Rattle.std.proofs.lemmas.Bool.Decides.{nat_tests}
@@ -7,7 +7,7 @@ use Rattle.std.proofs.lemmas.List.Elements.{filter-append}
 use Rattle.trend_num.specs.{Measure, Point}
 use Rattle.trend_num.specs.declared.measure.Measure.TheVariants.{Area, Avg, Total, Low, High, Count, First, Last}
 use Rattle.trend_num.specs.declared.reading.Reading.TheVariants.{Exact, Nothing}
-use Rattle.trend_model.specs.{IsAmong, PointsRise, RisesAfter, between, read_at, read_from, is_covered, last_time_from, measured, shape, window_value}
+use Rattle.trend_model.specs.{IsAmong, PointsRise, RisesAfter, between, read_at, read_from, is_covered, last_time_from, measured, window_value}
 use Rattle.trend_model.proofs.ReadLaw.{among_after, among_middle, read_at-append}
 use Rattle.trend_model.proofs.WindowLaw.{after_middle, before_middle, inside}
 
@@ -41,12 +41,7 @@ pub record IsAlike (step : Bool) (ps qs : List Point) (from to : ℕ) : Type 0 w
 -- have one value of every measure
 pub window_alike : (step : Bool) (m : Measure) (ps qs : List Point) (from to : ℕ) → IsAlike step ps qs from to
     → window_value step m ps from to ≡ window_value step m qs from to
-window_alike step m ps qs from to alike =
-    let shapes : shape step ps from to ≡ shape step qs from to =
-    rw (alike.start, alike.end, alike.inside_is) refl in
-    ap₂ (λ (b : Bool) (o : Option ℤ). cond b o None) alike.covered
-    (ap (λ s. measured step m ps s from to) shapes
-    ∙ measured_alike step m ps qs (shape step qs from to) from to alike.counted_is)
+window_alike step m ps qs from to alike = grind (arith, measured_alike)
 
 -- a window that is not covered has none
 pub uncovered : (step : Bool) (m : Measure) (ps : List Point) (from to : ℕ) → is_covered ps from to ≡ false
@@ -96,11 +91,7 @@ filter_none f (x ∷ xs) fails = rw (fails x (inl refl)) (filter_none f xs (λ y
 -- a point that is after another is not before it
 not_before : (front : List Point) (p : Point) (ys : List Point) → PointsRise (front ++ p ∷ ys) → (y : Point)
     → IsAmong y (p ∷ ys) → p.t ≤ y.t
-not_before front p ys rises y in_it =
-    elim in_it [
-      | inl same ↦ rw same (omega arith)
-      | inr later ↦ let h = after_middle front p ys rises y later in omega arith
-    ]
+not_before front p ys rises y in_it = grind (arith, after_middle)
 
 -- a test that fails from a point on depends only on what is before it
 filter_upto : (f : Point → Bool) (front : List Point) (p : Point) (ys : List Point)
@@ -135,10 +126,8 @@ alike_upto step front p ys zs from to rises also some upto = record {
   covered = covers front rises also;
   start = read_upto step front p ys zs from (omega arith);
   end = read_upto step front p ys zs to upto;
-  inside_is = filter_upto (inside from to) front p ys outside rises
-      ∙ sym (filter_upto (inside from to) front p zs outside also);
-  counted_is = filter_upto (counted from to) front p ys uncounted rises
-      ∙ sym (filter_upto (counted from to) front p zs uncounted also);
+  inside_is = grind (arith, filter_upto, inside, outside);
+  counted_is = grind (arith, filter_upto, uncounted);
 }
   where
     outside : (y : Point) → p.t ≤ y.t → inside from to y ≡ false
@@ -171,10 +160,7 @@ alike_upto step front p ys zs from to rises also some upto = record {
 filter_on : (f : Point → Bool) (front : List Point) (q : Point) (ys : List Point)
     → ((x : Point) → x.t < q.t → f x ≡ false) → PointsRise (front ++ q ∷ ys)
     → filter f (front ++ q ∷ ys) ≡ filter f (q ∷ ys)
-filter_on f front q ys fails rises =
-    filter-append f front (q ∷ ys)
-    ∙ ap (λ l. l ++ filter f (q ∷ ys))
-    (filter_none f front (λ x in_it. fails x (before_middle front q ys rises x in_it)))
+filter_on f front q ys fails rises = grind (arith, filter-append, filter_none, before_middle)
 
 -- the last time is known from a point on
 last_on : (x : Point) (front : List Point) (q : Point) (ys : List Point)

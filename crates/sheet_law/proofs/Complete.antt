@@ -1,5 +1,5 @@
 -- Which windows are complete, and that they stay so.
-use Rattle.std.proofs.Common.{◌≡◌, ◌↔◌, ℕ, ◌+◌, ◌-◌, ◌*◌, ◌/◌, ◌<◌, ◌≤◌, Bool, true, false, cond, nat_lt, nat_le, List, [], ◌∷◌, ◌++◌, refl, sym, ap, ap₂, inl, inr, ◌∙◌, arith}
+use Rattle.std.proofs.Common.{◌≡◌, ◌↔◌, ℕ, ◌+◌, ◌<◌, ◌≤◌, Bool, true, false, cond, nat_lt, nat_le, List, [], ◌∷◌, ◌++◌, refl, sym, ap, ap₂, inl, inr, ◌∙◌, arith}
 use Rattle.std.specs.Prelude.{◌&&◌, ◌||◌, not, map, max}
 use Rattle.std.specs.List.{list_all}
 use Rattle.std.proofs.Math.Nat.{le-div_iff_mul-le}
@@ -26,18 +26,7 @@ reaches-is t (r ∷ rs) = by_kind (is_late_record r.kind) (reaches-is t rs)
 
 -- a window ends before a time exactly where it is one of those that are counted
 ends_before : (w : Grid) (e k : ℕ) → 0 < w.period → (window_to w k < e) ↔ (k < windows_before w e)
-ends_before w e k some =
-    let iff = le-div_iff_mul-le {k = w.period} {x = k + 1} {y = e - 1 - w.start} some in (
-      λ h. (let up : (k + 1) * w.period ≤ e - 1 - w.start = omega arith in
-          let count : k + 1 ≤ (e - 1 - w.start) / w.period = iff.1 up in omega arith),
-      λ h. (let count : k + 1 ≤ (e - 1 - w.start) / w.period = omega arith in
-          let up : (k + 1) * w.period ≤ e - 1 - w.start = iff.0 count in
-          let more : w.period ≤ (k + 1) * w.period = omega (arith, product k w.period) in
-          omega arith),
-    )
-  where
-    product : (a b : ℕ) → (a + 1) * b ≡ a * b + b
-    product a b = grind arith
+ends_before w e k some = grind (arith, le-div_iff_mul-le)
 
 under : (a b : ℕ) → nat_lt a b ≡ true → a < b
 under a b h = grind (arith, nat_tests)

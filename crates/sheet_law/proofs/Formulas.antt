@@ -1,5 +1,5 @@
 -- The values of calculations stay in windows that records do not touch.
-use Rattle.std.proofs.Common.{◌≡◌, ℕ, zero, suc, ◌+◌, ◌*◌, ◌<◌, ℤ, true, false, List, [], ◌∷◌, Option, None, Some, refl, arith}
+use Rattle.std.proofs.Common.{◌≡◌, ℕ, zero, suc, ◌<◌, ℤ, true, false, List, [], ◌∷◌, Option, None, Some, refl, arith}
 use Rattle.std.specs.Prelude.{position, slice_get, option_and_then}
 use Rattle.std.specs.List.{list_all}
 use Rattle.std.specs.Str.{bytes_eq}
@@ -30,10 +30,7 @@ inputs_stay m (rs ∷ rss) (more ∷ mores) from to (suc i) some reach apart =
 
 -- a window has a length
 pub window_rises : (w : Grid) (k : ℕ) → 0 < w.period → window_from w k < window_to w k
-window_rises w k some = omega (arith, product k w.period)
-  where
-    product : (a b : ℕ) → (a + 1) * b ≡ a * b + b
-    product a b = grind arith
+window_rises w k some = grind arith
 
 -- the values of all calculations stay in a complete window that is not touched
 pub values_stay : (g : Group) (w : Grid) (rss mores : List (List Rec)) (k : ℕ) → 0 < w.period

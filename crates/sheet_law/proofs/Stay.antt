@@ -1,5 +1,5 @@
 -- Windows that records do not touch measure what they did.
-use Rattle.std.proofs.Common.{◌≡◌, ◌⊎◌, ℕ, ◌<◌, ◌≤◌, inl, inr, Bool, true, false, cond, nat_lt, nat_le, List, [], ◌∷◌, ◌++◌, fold, refl, sym, ap, ◌∙◌, arith, append_assoc, append-nil}
+use Rattle.std.proofs.Common.{◌≡◌, ◌⊎◌, ℕ, ◌<◌, ◌≤◌, inl, inr, Bool, true, false, nat_lt, nat_le, List, [], ◌∷◌, ◌++◌, fold, refl, sym, ap, ◌∙◌, arith, append_assoc, append-nil}
 use Rattle.std.specs.Prelude.{◌&&◌, ◌||◌, not}
 use Rattle.std.proofs.lemmas.Bool.{and_parts}
 use Rattle.std.proofs.lemmas.Bool.Decides.{nat_tests}
@@ -135,23 +135,14 @@ newest_stays step m rs r from to some newest reach =
 
 -- Kept records reach as far when more come
 pub reaches_on : (t : ℕ) (rs more : List Rec) → reaches t rs ≡ true → reaches t (rs ++ more) ≡ true
-reaches_on t rs more reach =
-    list_any-append (λ r. not (is_late_record r.kind) && nat_le t r.point.t) rs more
-    ∙ ap (λ b. b || reaches t more) reach
+reaches_on t rs more reach = grind (arith, list_any-append)
 
 -- a window that one record does not touch stays
 untouched_stays : (step : Bool) (m : Measure) (rs : List Rec) (r : Rec) (from to : ℕ) → from < to
     → reaches to rs ≡ true → touches rs r from to ≡ false
     → window_value step m (points_of (listed (rs ++ r ∷ []))) from to
     ≡ window_value step m (points_of (listed rs)) from to
-untouched_stays step m rs r from to some reach apart =
-    by_kind (is_late_record r.kind) apart
-  where
-    by_kind : (late : Bool) → cond late (meets (listed rs) (time r) from to) (not (is_newest r rs)) ≡ false
-        → window_value step m (points_of (listed (rs ++ r ∷ []))) from to
-        ≡ window_value step m (points_of (listed rs)) from to
-    by_kind true h = stretch_stays step m rs r from to some h
-    by_kind false h = newest_stays step m rs r from to some (not_false (is_newest r rs) h) reach
+untouched_stays step m rs r from to some reach apart = grind (arith, time, stretch_stays, newest_stays, not_false)
 
 -- and one that no record of a list touches in its turn
 pub windows_stay : (step : Bool) (m : Measure) (rs more : List Rec) (from to : ℕ) → from < to

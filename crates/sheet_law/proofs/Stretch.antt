@@ -140,10 +140,7 @@ keeps_before step m r l from to rises some upto =
         let old_rise = subst PointsRise old_points (points_rise l rises) in
         let new_rise = subst PointsRise new_points (points_rise (placed r l) (rising_placed r l rises)) in
         ap (λ ps. window_value step m ps from to) new_points
-        ∙ (window_alike step m (points_of front ++ p.point ∷ points_of (placed r ys))
-        (points_of front ++ p.point ∷ points_of ys) from to
-        (alike_upto step (points_of front) p.point (points_of (placed r ys)) (points_of ys) from to new_rise old_rise some low)
-        ∙ sym (ap (λ ps. window_value step m ps from to) old_points))
+        ∙ (grind (arith, window_alike, alike_upto))
 
     by_parts : (front back : List Rec) → l ≡ front ++ back → AllBefore front (time r) → AllFrom (time r) back
         → window_value step m (points_of (placed r l)) from to ≡ window_value step m (points_of l) from to
@@ -212,10 +209,7 @@ keeps_after step m r l from to rises some on =
         let old_rise = subst PointsRise old_points (points_rise l rises) in
         let new_rise = subst PointsRise new_points (points_rise (placed r l) (rising_placed r l rises)) in
         ap (λ ps. window_value step m ps from to) new_points
-        ∙ (window_alike step m (points_of (placed r front) ++ q.point ∷ points_of ys)
-        (points_of front ++ q.point ∷ points_of ys) from to
-        (alike_on step (points_of (placed r front)) (points_of front) q.point (points_of ys) from to new_rise old_rise some low)
-        ∙ sym (ap (λ ps. window_value step m ps from to) old_points))
+        ∙ (grind (arith, window_alike, alike_on))
 
     by_parts : (front back : List Rec) → l ≡ front ++ back → AllBefore front (time r + 1) → AllFrom (time r + 1) back
         → window_value step m (points_of (placed r l)) from to ≡ window_value step m (points_of l) from to

@@ -1,8 +1,8 @@
 -- One window decides a group's values, and printing keeps them.
-use Rattle.std.proofs.Common.{◌≡◌, ℕ, pos, false, cond, List, [], ◌∷◌, ◌++◌, refl, ap, ◌∙◌}
-use Rattle.std.specs.Prelude.{neg_ℤ, fold, unwrap_or, option_and_then, unsigned_abs}
+use Rattle.std.proofs.Common.{arith, ◌≡◌, ℕ, pos, false, cond, List, refl, ap, ◌∙◌}
+use Rattle.std.specs.Prelude.{neg_ℤ, unwrap_or, option_and_then, unsigned_abs}
 use Rattle.std.specs.Ordering.{int_eq}
-use Rattle.trend_num.specs.{Measure, Point, CalcValue}
+use Rattle.trend_num.specs.{Measure, Point}
 use Rattle.trend_model.specs.{window_value}
 use Rattle.calc_parser.specs.{text_of, IsFormula, IsTree}
 use Rattle.calc_parser.specs.Tree.{Tree, num, window, calc, neg, abs, two, compare, choose}
@@ -10,8 +10,8 @@ use Rattle.calc_parser.proofs.Builds.{one_tree}
 use Rattle.calc_parser.proofs.RoundTrip.{round_trip}
 use Rattle.trend_num.specs.declared.value.Bad.TheVariants.{NoData}
 use Rattle.trend_num.specs.declared.value.CalcValue.TheVariants.{Bad}
-use Rattle.sheet_law.specs.{bounded, measured_value, after_operation, operated, compared, Scope, measure_of, scope, value, values}
-use Rattle.calc_check.specs.Group.{Group, Calculation}
+use Rattle.sheet_law.specs.{bounded, measured_value, after_operation, operated, compared, Scope, measure_of, value, values}
+use Rattle.calc_check.specs.Group.{Group}
 
 -- two scopes in which each input measures the same, with the same earlier values
 record AgreesIn (s u : Scope) (from to : ℕ) : Type 0 where
@@ -44,19 +44,7 @@ value_agrees s u from to agrees (choose c a b) =
 pub window_decides : (g : Group) (points others : List (List Point)) (from to : ℕ)
     → ((m : Measure) (name : List ℕ) → measure_of g points from to m name ≡ measure_of g others from to m name)
     → values g points from to ≡ values g others from to
-window_decides g points others from to measures = go [] g.calcs
-  where
-    agrees : (vs : List CalcValue) → AgreesIn (scope g points vs) (scope g others vs) from to
-    agrees vs = record { measures = measures; values = λ name. refl }
-
-    go : (vs : List CalcValue) (cs : List Calculation)
-        → fold (λ l c. l ++ value (scope g points l) from to c.tree ∷ []) vs cs
-        ≡ fold (λ l c. l ++ value (scope g others l) from to c.tree ∷ []) vs cs
-    go vs [] = refl
-    go vs (c ∷ cs) =
-        let same = value_agrees (scope g points vs) (scope g others vs) from to (agrees vs) c.tree in
-        ap (λ v. fold (λ l d. l ++ value (scope g points l) from to d.tree ∷ []) (vs ++ v ∷ []) cs) same
-        ∙ go (vs ++ value (scope g others vs) from to c.tree ∷ []) cs
+window_decides g points others from to measures = grind (arith, value_agrees)
 
 -- the tree of a formula's canonical text is its own
 pub printed_value : (text : List ℕ) (t u : Tree) (s : Scope) (from to : ℕ) → IsFormula text t → IsTree (text_of t) u

@@ -1,5 +1,5 @@
 -- What a crash left until the opening of a cell ended.
-use Rattle.std.proofs.Common.{◌≡◌, ◌∙◌, Option, None, Some, sym, subst, refl}
+use Rattle.std.proofs.Common.{◌≡◌, Option, None, Some, sym, subst}
 use Rattle.std.specs.Prelude.{IfSome}
 use Rattle.trend_num.specs.{TagDef}
 use Rattle.disk_model.specs.{Device, HandOut, Trace, moment, ComesAfter}

@@ -1,11 +1,11 @@
 -- A replayed tape is legal for every history for which its opening stands.
-use Rattle.std.proofs.Common.{◌≡◌, ℕ, Bool, List, [], ◌∷◌, ◌++◌, map, sym, subst}
+use Rattle.std.proofs.Common.{arith, ◌≡◌, ℕ, Bool, List, [], ◌∷◌, ◌++◌, map, sym, subst}
 use Rattle.trend_num.specs.{Point, TagDef}
 use Rattle.trend_model.specs.{Event, Origin, Raw, in_force}
 use Rattle.trend_model.specs.State.{State, Stands, followed, replay}
 use Rattle.trend_model.proofs.Sent.{same_there}
 use Rattle.trend_model.proofs.StateLaw.{stands_followed}
-use Rattle.tag_cell.specs.{Entry, TagOpening, CellWalk, cell_start, after_entry, taken, opened, state_after, done, Shown, IsTake, IsAnswer, IsPull, Fits, FitAll, replayed, shown_by, shown_of, shown_after, IsTapeReplayed, IsLegal}
+use Rattle.tag_cell.specs.{Entry, TagOpening, CellWalk, after_entry, taken, opened, state_after, done, Shown, IsTake, IsAnswer, IsPull, Fits, FitAll, shown_by, shown_of, IsTapeReplayed, IsLegal}
 use Rattle.tag_cell.specs.declared.entry.Entry.TheVariants.{Take, Ask, Pull, Commit}
 
 -- two accounts of what a tag shows agree, so an entry fits one of them if it fits the other
@@ -38,9 +38,7 @@ legal org h def o tape s acked step stands is =
     (stands_followed org h (map Raw ps) (opened o) stands) in
     record {
       tuning = same_there o.summary.tuning def.tuning (in_force org h) is.tuning stands.tuned;
-      entries = subst (λ (b : Bool). FitAll (shown_after org h) b o (cell_start o) tape) (sym step)
-          (all_same (replayed def.step o) (shown_after org h) def.step o (cell_start o) tape
-          (λ ps. same_shown org (followed h (map Raw ps)) (state_after def.step o ps) (at ps)) is.entries);
+      entries = grind (arith, all_same, same_shown);
       stands = subst (Stands org (followed h (map Raw (taken tape)))) (sym is.stands) (at (taken tape));
       acked_are = is.acked_are;
     }

@@ -1,8 +1,7 @@
 -- What a cell's type keeps as the cell is opened.
-use Rattle.std.proofs.Common.{◌≡◌, ℕ, ◌*◌, ◌<◌, ◌≤◌, ◌^◌, Bool, false, List, [], length, Some, refl, sym, ap, subst, arith}
-use Rattle.std.proofs.lemmas.List.Elements.{All-nil}
+use Rattle.std.proofs.Common.{◌≡◌, ℕ, ◌*◌, ◌<◌, ◌≤◌, ◌^◌, Bool, false, List, [], length, Some, sym, arith}
 use Rattle.atomic_table.specs.Seated.{TableId}
-use Rattle.trend_num.specs.{Rec, Summary, TagDef, InRange}
+use Rattle.trend_num.specs.{Rec, Summary, TagDef}
 use Rattle.trend_model.specs.{listed}
 use Rattle.trend_model.specs.State.{State}
 use Rattle.disk_model.specs.{Trace, Device, moment, LeftSince}
@@ -18,65 +17,29 @@ same_state s o records summary = λ i. record { records = sym records i; summary
 
 pub open_replayed : (def : TagDef) (o : TagOpening) (tape : List Entry) (s : State) (acked : ℕ) → tape ≡ []
     → o.summary.tuning ≡ Some def.tuning → s ≡ opened o → acked ≡ o.summary.taken → IsTapeReplayed def o tape s acked
-open_replayed def o tape s acked none tuning is acks = subst (λ (l : List Entry). IsTapeReplayed def o l s acked) (sym none)
-    (record { tuning = tuning; entries = tt; stands = is; acked_are = acks })
+open_replayed def o tape s acked none tuning is acks = grind arith
 
 pub open_in_step : (def : TagDef) (o : TagOpening) (tape : List Entry) (core : Core) (content : List Rec) → tape ≡ []
     → core.step ≡ def.step → core.state ≡ opened o → content ≡ listed core.state.records → IsInStep def o tape core content
-open_in_step def o tape core content none step is same = subst (λ (l : List Entry). IsInStep def o l core content) (sym none) (record {
-  same_step = step;
-  counted = omega (arith, ap (λ (s : State). s.summary.taken) is);
-  content_is = same;
-  in_range = All-nil InRange;
-  fits = tt;
-})
+open_in_step def o tape core content none step is same = grind arith
 
 pub open_has_room : (o : TagOpening) (tape : List Entry) (places room core content : ℕ) → tape ≡ [] → room ≤ places
     → 2 * room ≤ core → 2 * room ≤ content → o.summary.taken < 2 ^ 63 → HasRoomForTakes o tape places 0 room core content
-open_has_room o tape places room core content none enough core_room content_room small =
-    subst (λ (l : List Entry). HasRoomForTakes o l places 0 room core content) (sym none) (record {
-      takes_are = refl;
-      within = omega arith;
-      core_room = omega (arith, core_room);
-      content_room = omega (arith, content_room);
-      tape_room = omega (arith, enough);
-      small = small;
-    })
+open_has_room o tape places room core content none enough core_room content_room small = grind arith
 
 pub open_waits : (o : TagOpening) (tape : List Entry) (durable acked : ℕ) → tape ≡ [] → durable ≡ length o.recs.items
     → acked ≡ o.summary.taken → Waits o tape 0 durable acked
-open_waits o tape durable acked none records acks = subst (λ (l : List Entry). Waits o l 0 durable acked) (sym none) (record {
-  within = omega arith;
-  acked_are = omega (arith, acks);
-  durable_are = records;
-})
+open_waits o tape durable acked none records acks = grind arith
 
 pub open_kept : (def : TagDef) (o : TagOpening) (tape : List Entry) (failed : Bool) (d : Device)
     → tape ≡ [] → failed ≡ false → (o.summary.taken < 10 ^ 18 → AllRecover def d.trace (opened o)) → o.moment ≡ moment d.trace
     → o.faults ≡ d.faults → IsKept def o tape 0 failed d
-open_kept def o tape failed d none fine recovers at same =
-    subst (λ (l : List Entry). IsKept def o l 0 failed d) (sym none) (record {
-      recovers = λ _ few. recovers (omega (arith, few));
-      past = omega (arith, at);
-      opened_before = omega (arith, at);
-      faultless = λ _. sym same;
-      cause = λ broke. cc (broke, fine);
-    })
+open_kept def o tape failed d none fine recovers at same = grind arith
 
 pub open_safe : (def : TagDef) (o : TagOpening) (tape : List Entry) (trace : Trace) → tape ≡ [] → o.moment ≡ moment trace
     → (o.summary.taken < 10 ^ 18 → AllRecover def trace (opened o)) → IsSafe def o tape (LeftSince trace)
-open_safe def o tape trace none at recovers = subst (λ (l : List Entry). IsSafe def o l (LeftSince trace)) (sym none) (record {
-  images = λ few t c since left. record {
-    count = 0;
-    enough = omega arith;
-    within = omega arith;
-    recovered = (recovers (omega (arith, few))).each c (only_since trace (moment trace) t c refl (omega (arith, since, at)) left);
-  };
-})
+open_safe def o tape trace none at recovers = grind (arith, only_since)
 
 pub open_posted : (board : List TableId) (p p' : Posting) (summary : Summary) (s : State) → PostsTo board p
     → p' ≡ record p { last = record { taken = summary.taken; held = summary.held } } → summary ≡ s.summary → IsPosted board p' s
-open_posted board p p' summary s here posted is = subst (λ (q : Posting). IsPosted board q s) (sym posted) (record {
-  here = here;
-  last_is = λ i. record { taken = (is i).taken; held = (is i).held };
-})
+open_posted board p p' summary s here posted is = grind arith

@@ -1,17 +1,16 @@
 -- What a cell's type keeps, after a take.
-use Rattle.std.proofs.Common.{◌≡◌, ℕ, ◌+◌, ◌<◌, ◌≤◌, cond, suc, nat_lt, fold, List, [], ◌∷◌, ◌++◌, All, length, map, Some, sym, ◌∙◌, ap, subst, arith, length-append}
+use Rattle.std.proofs.Common.{◌≡◌, ℕ, ◌+◌, ◌<◌, ◌≤◌, cond, suc, nat_lt, fold, List, [], ◌∷◌, ◌++◌, All, length, Some, sym, ◌∙◌, ap, subst, arith, length-append}
 use Rattle.std.proofs.lemmas.List.{map_push}
 use Rattle.std.proofs.lemmas.List.Elements.{All-push}
 use Rattle.atomic_table.specs.Seated.{TableId}
 use Rattle.trend_num.specs.{Rec, Point, TagDef, most_records, InRange}
-use Rattle.trend_model.specs.{listed, over, placed, Raw}
+use Rattle.trend_model.specs.{listed, over, placed}
 use Rattle.trend_model.proofs.Following.{cond_by}
 use Rattle.trend_model.specs.State.{State}
-use Rattle.device_layout.specs.{AllFit}
 use Rattle.crash_recovery.proofs.Replays.{fit_append}
 use Rattle.snapshot_table.specs.{Posting}
 use Rattle.tag_core.specs.Core.{Core}
-use Rattle.tag_cell.specs.{Entry, TagOpening, taken, opened, IsTapeReplayed, HasRoomForTakes, IsInStep, IsPosted}
+use Rattle.tag_cell.specs.{Entry, TagOpening, taken, IsTapeReplayed, HasRoomForTakes, IsInStep, IsPosted}
 use Rattle.tag_cell.specs.declared.entry.Entry.TheVariants.{Take}
 use Rattle.tag_cell.proofs.Tapes.{taken-append}
 
@@ -31,10 +30,7 @@ take_in_step def o tape tape' core core' content content' acked p is replays ste
   counted = omega (arith, count, is.counted, ap length longer, length-append (taken tape) (p ∷ []));
   content_is = same;
   in_range = subst (All InRange) (sym longer) (All-push InRange (taken tape) p is.in_range range);
-  fits = subst (λ ps. AllFit def.step (opened o) (map Raw ps)) (sym longer)
-      (subst (AllFit def.step (opened o)) (sym (map_push Raw (taken tape) p))
-      (fit_append def.step (opened o) (map Raw (taken tape)) (Raw p ∷ []) is.fits
-      (subst (λ (s : State). length s.records + 2 ≤ most_records) replays.stands room, tt)));
+  fits = grind (arith, map_push, fit_append);
 }
 
 -- there is room for those to come
@@ -42,47 +38,26 @@ pub take_has_room : (o : TagOpening) (tape tape' : List Entry) (places takes tak
     (p : Point) → HasRoomForTakes o tape places takes room core content → takes < room → takes' ≡ takes + 1
     → core ≤ core' + 2 → content ≤ content' + 2 → tape' ≡ tape ++ e ∷ [] → taken tape' ≡ taken tape ++ p ∷ []
     → HasRoomForTakes o tape' places takes' room core' content'
-take_has_room o tape tape' places takes takes' room core core' content content' e p is some one core_room content_room longer taken_longer = record {
-  takes_are = omega (arith, one, is.takes_are, ap length taken_longer, length-append (taken tape) (p ∷ []));
-  within = omega (arith, one, some);
-  core_room = omega (arith, one, is.core_room, core_room);
-  content_room = omega (arith, one, is.content_room, content_room);
-  tape_room = omega (arith, one, is.tape_room, ap length longer, length-append tape (e ∷ []));
-  small = is.small;
-}
+take_has_room o tape tape' places takes takes' room core core' content content' e p is some one core_room content_room longer taken_longer =
+    grind (arith, length-append)
 
 -- another entry takes a place of its own
 pub entry_has_room : (o : TagOpening) (tape tape' : List Entry) (places places' takes room core content : ℕ) (e : Entry)
     → HasRoomForTakes o tape places takes room core content → taken tape' ≡ taken tape → room + length tape + 1 ≤ places' + takes
     → tape' ≡ tape ++ e ∷ [] → HasRoomForTakes o tape' places' takes room core content
-entry_has_room o tape tape' places places' takes room core content e is same place longer = record {
-  takes_are = is.takes_are ∙ ap length (sym same);
-  within = is.within;
-  core_room = is.core_room;
-  content_room = is.content_room;
-  tape_room = omega (arith, place, ap length longer, length-append tape (e ∷ []));
-  small = is.small;
-}
+entry_has_room o tape tape' places places' takes room core content e is same place longer =
+    grind (arith, length-append)
 
 -- the core and the content stay in step
 pub entry_in_step : (def : TagDef) (o : TagOpening) (tape tape' : List Entry) (core : Core) (content : List Rec)
     → IsInStep def o tape core content → taken tape' ≡ taken tape → IsInStep def o tape' core content
-entry_in_step def o tape tape' core content is same = record {
-  same_step = is.same_step;
-  counted = is.counted ∙ ap (λ ps. o.summary.taken + length ps) (sym same);
-  content_is = is.content_is;
-  in_range = subst (All InRange) (sym same) is.in_range;
-  fits = subst (λ ps. AllFit def.step (opened o) (map Raw ps)) (sym same) is.fits;
-}
+entry_in_step def o tape tape' core content is same = grind arith
 
 -- the poster has posted what the tag shows now
 pub take_posted : (board : List TableId) (p p' : Posting) (n : ℕ) (h : Point) (s s' : State) → IsPosted board p s
     → p' ≡ record p { last = record { taken = n; held = Some h } } → n ≡ s'.summary.taken → s'.summary.held ≡ Some h
     → IsPosted board p' s'
-take_posted board p p' n h s s' is posted count held = subst (λ (q : Posting). IsPosted board q s') (sym posted) (record {
-  here = is.here;
-  last_is = λ i. record { taken = count i; held = sym held i };
-})
+take_posted board p p' n h s s' is posted count held = grind arith
 
 -- ---- a content has no more points than there are records
 

@@ -1,11 +1,11 @@
 -- One more entry on a tape.
-use Rattle.std.proofs.Common.{◌≡◌, ℕ, ◌+◌, Bool, List, [], ◌∷◌, ◌++◌, length, map, take, nat_le, if◌then◌else◌, get_or, ◌<◌, refl, sym, ◌∙◌, ap, append_assoc}
+use Rattle.std.proofs.Common.{arith, ◌≡◌, ℕ, ◌+◌, Bool, List, [], ◌∷◌, ◌++◌, length, take, nat_le, if◌then◌else◌, get_or, ◌<◌, refl, sym, ◌∙◌, ap, append_assoc}
 use Rattle.std.proofs.lemmas.List.{append-nil, map_push, take_more}
 use Rattle.trend_num.specs.{Point}
 use Rattle.trend_model.specs.{Raw}
-use Rattle.trend_model.specs.State.{after, replay}
+use Rattle.trend_model.specs.State.{after}
 use Rattle.crash_recovery.proofs.Replays.{replay_append}
-use Rattle.tag_cell.specs.{Entry, TagOpening, CellWalk, after_entry, cell_walked, taken, last_records, acked_at, opened, state_after, Shown, Fits, FitAll}
+use Rattle.tag_cell.specs.{Entry, TagOpening, CellWalk, after_entry, cell_walked, taken, last_records, acked_at, state_after, Shown, Fits, FitAll}
 use Rattle.tag_cell.specs.declared.entry.Entry.TheVariants.{Take, Ask, Pull, Commit}
 
 -- ---- walks
@@ -41,8 +41,7 @@ fit-push show step o w (x ∷ es) e all fits = (all.0, fit-push show step o (aft
 -- one value more
 pub state_after-push : (step : Bool) (o : TagOpening) (ps : List Point) (p : Point)
     → state_after step o (ps ++ p ∷ []) ≡ after step (state_after step o ps) (Raw p)
-state_after-push step o ps p = ap (replay step (opened o)) (map_push Raw ps p)
-    ∙ replay_append step (opened o) (map Raw ps) (Raw p ∷ [])
+state_after-push step o ps p = grind (arith, map_push, replay_append)
 
 -- ---- entries that acknowledge nothing
 

@@ -194,9 +194,4 @@ late_exact step rs q t v e =
 
 -- the promise
 pub bounded : (o : Origin) (h : List Event) → IsBounded o h
-bounded o h = record {
-  sent_values = λ l r x c there lx xr. sent_near o h l r x c there lx xr;
-  raw_values = λ l r y c there ly yr. raw_near o h l r y c there ly yr;
-  newest_values = λ s y holds there sy. newest_near o h s y holds there sy;
-  late_values = λ t v e. late_exact o.step (records o h) (held o h) t v e;
-}
+bounded o h = grind (arith, sent_near, raw_near, newest_near, late_exact)

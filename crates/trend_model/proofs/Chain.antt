@@ -1,10 +1,9 @@
 -- The chain of kept points: on each span between neighbours every value sent is near the line or the stair, unless
 -- a value was passed over there.
-use Rattle.std.proofs.Common.{◌≡◌, ℕ, ◌+◌, ◌<◌, ◌≤◌, ◌⊎◌, inl, inr, Bool, true, false, List, [], ◌∷◌, ◌++◌, refl, sym, ap, ◌∙◌, subst, arith}
+use Rattle.std.proofs.Common.{◌≡◌, ℕ, ◌<◌, ◌≤◌, ◌⊎◌, inl, inr, Bool, true, false, List, [], ◌∷◌, ◌++◌, refl, sym, ap, ◌∙◌, subst, arith}
 use Rattle.std.proofs.lemmas.Int.{ints}
 use Rattle.std.proofs.Math.Nat.{lt_of_not-le}
 use Rattle.trend_num.specs.{Point, Rec, Tuning}
-use Rattle.trend_num.specs.declared.archive.Kind.TheVariants as kind
 use Rattle.trend_model.specs.{IsAmong, Origin, Sent, InOrder, Late, Tuned, RisesInTime, IsNear}
 use Rattle.trend_model.specs.Walk.{kept, late}
 use Rattle.trend_model.proofs.Near.{within_left, within_right}
@@ -40,10 +39,7 @@ same_kept x y e = ap (λ (r : Rec). r.point) e
 
 -- a late record keeps none
 late_not_kept : {P : Type 0} (x y : Point) → kept x ≡ late y → P
-late_not_kept x y e = late_kind (ap (λ (r : Rec). r.kind) e)
-  where
-    late_kind : {P : Type 0} → kind.Kept ≡ kind.Late → P
-    late_kind h = cc
+late_not_kept x y e = grind arith
 
 -- a point is kept already, or is the one that is kept now
 pub kept_of_more : (x q : Point) (rs : List Rec) → IsAmong (kept x) (rs ++ (kept q ∷ []))
@@ -102,8 +98,7 @@ older (InOrder p) x r ss rises before below (inl e) =
 
 -- what is not before is at or after
 pub not_before : (m n : ℕ) → (m < n → ⊥) → n ≤ m
-not_before m n no_less =
-    let h : n < m + 1 = lt_of_not-le (λ (e : m + 1 ≤ n). no_less (omega arith)) in omega arith
+not_before m n no_less = grind (arith, lt_of_not-le)
 
 -- the left end of a line or a stair is near it
 pub near_left : (step : Bool) (l r : Point) (d : ℕ) → IsNear step l r l d
@@ -177,17 +172,7 @@ chain_more o s ss rs passed more a rises within i = record {
 -- the first point is kept
 pub chain_first : (o : Origin) (ss : List Sent) (rs : List Rec) (passed : List Point) (p : Point)
     → ((x : Point) → IsAmong (kept x) rs → ⊥) → IsChain o (InOrder p ∷ ss) (rs ++ (kept p ∷ [])) passed p
-chain_first o ss rs passed p none = record {
-  kept_sent = λ x k. inl (ap InOrder (only x k));
-  hinge_kept = among_right (kept p) rs (kept p ∷ []) (inl refl);
-  hinge_last = λ x k. (let at = time_of x p (only x k) in omega arith);
-  spans = λ l r kl kr lr. (
-      let left = time_of l p (only l kl) in
-      let right = time_of r p (only r kr) in absurd (omega arith));
-}
-  where
-    only : (x : Point) → IsAmong (kept x) (rs ++ (kept p ∷ [])) → x ≡ p
-    only x k = elim (kept_of_more x p rs k) [ inl there ↦ absurd (none x there) | inr e ↦ e ]
+chain_first o ss rs passed p none = grind (arith, among_right, time_of, kept_of_more)
 
 -- a span between kept points once q is kept after a
 pub spans_kept : (o : Origin) (ss : List Sent) (rs : List Rec) (passed : List Point) (a q : Point)
@@ -214,10 +199,7 @@ pub chain_keeps : (o : Origin) (ss : List Sent) (rs : List Rec) (passed : List P
     → RisesInTime ss → IsChain o ss rs passed a → IsAmong (InOrder q) ss → a.t < q.t → IsSpan o ss passed a q
     → IsChain o ss (rs ++ (kept q ∷ [])) passed q
 chain_keeps o ss rs passed a q rises i sent_q after last = record {
-  kept_sent = λ x k. elim (kept_of_more x q rs k) [
-    | inl h ↦ i.kept_sent x h
-    | inr e ↦ subst (λ (z : Point). IsAmong (InOrder z) ss) (sym e) sent_q
-  ];
+  kept_sent = grind (arith, kept_of_more);
   hinge_kept = among_right (kept q) rs (kept q ∷ []) (inl refl);
   hinge_last = λ x k. elim (kept_of_more x q rs k) [
     | inl h ↦ (let before = i.hinge_last x h in omega arith)

@@ -75,14 +75,7 @@ kept_there k (r ∷ rs) (inr there) =
 -- a kept point's time is in the closed content
 pub closed_there : (k : Point) (rs : List Rec) (q : Option Point) → IsAmong (kept k) rs → closed_at rs q k.t
     ≡ None → ⊥
-closed_there k rs q there none =
-    let v = kept_there k rs there in
-    by_late (late_at rs k.t) v.0 (ap (λ o. option_or (option_or (late_at rs k.t) o) (value_at_point q k.t))
-    (sym v.1) ∙ none)
-  where
-    by_late : (late : Option ℤ) (v : ℤ) → option_or (option_or late (Some v)) (value_at_point q k.t) ≡ None → ⊥
-    by_late None v e = none_some v (sym e)
-    by_late (Some u) v e = none_some u (sym e)
+closed_there k rs q there none = grind (arith, kept_there, none_some)
 
 -- a kept point, or the held one
 abbrev pub IsEnd : Point → List Rec → Option Point → Type 0
@@ -92,8 +85,7 @@ IsEnd l rs q = IsAmong (kept l) rs ⊎ (q ≡ Some l)
 pub closed_point : (rs : List Rec) (q : Option Point) (p : Point) → closed_at rs q p.t ≡ Some p.v
     → late_at rs p.t ≡ None → IsEnd p rs q
 closed_point rs q p here in_order =
-    by_kept (kept_at rs p.t) refl (ap (λ o. option_or (option_or o (kept_at rs p.t)) (value_at_point q p.t))
-    (sym in_order) ∙ here)
+    by_kept (kept_at rs p.t) refl (grind arith)
   where
     by_held : (o : Option Point) → value_at_point o p.t ≡ Some p.v → o ≡ Some p
     by_held None e = none_some p.v e

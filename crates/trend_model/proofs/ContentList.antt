@@ -45,12 +45,7 @@ abbrev content_after : Rec → ℕ → Option ℤ → Option ℤ → Option ℤ
 content_after r t late content = option_or (late_here r t) (option_or late (option_or (kept_here r t) content))
 
 content_push : (rs : List Rec) (r : Rec) (t : ℕ) → content_at (rs ++ r ∷ []) t ≡ content_after r t (late_at rs t) (content_at rs t)
-content_push rs r t = rw (late_push rs r t, kept_push rs r t) (by_parts (late_here r t) (late_at rs t) (kept_here r t) (kept_at rs t))
-  where
-    by_parts : (a b c d : Option ℤ) → option_or (option_or a b) (option_or c d) ≡ option_or a (option_or b (option_or c (option_or b d)))
-    by_parts (Some x) b c d = refl
-    by_parts None (Some y) c d = refl
-    by_parts None None c d = refl
+content_push rs r t = grind (arith, late_push, kept_push)
 
 -- ---- a rising list, by the record that is at a time
 
@@ -215,28 +210,16 @@ value_by here k p (Some x) = by_kinds here k x.kind x.point
     by_kinds false Kept Kept q = refl
 
 late-placed : (r : Rec) (l : List Rec) → IsRising l → (t : ℕ) → late_at (placed r l) t ≡ option_or (late_here r t) (late_at l t)
-late-placed r l rises t =
-    late_is (placed r l) (rising_placed r l rises) t
-    ∙ (ap late_found (found-placed r l rises t)
-    ∙ (late_by (nat_eq (time r) t) r.kind r.point (found l t) ∙ ap (option_or (late_here r t)) (sym (late_is l rises t))))
+late-placed r l rises t = grind (arith, late_is, rising_placed, found-placed, late_by, time)
 
 content-placed : (r : Rec) (l : List Rec) → IsRising l → (t : ℕ) → content_at (placed r l) t ≡ content_after r t (late_at l t) (content_at l t)
-content-placed r l rises t =
-    content_is (placed r l) (rising_placed r l rises) t
-    ∙ (ap value_found (found-placed r l rises t)
-    ∙ (value_by (nat_eq (time r) t) r.kind r.point (found l t)
-    ∙ (ap (λ a. content_after r t a (value_found (found l t))) (sym (late_is l rises t)) ∙ ap (content_after r t (late_at l t)) (sym (content_is l rises t)))))
+content-placed r l rises t = grind (arith, content_is, rising_placed, found-placed, value_by, time, late_is)
 
 -- ---- the law
 
 -- the content of records, and of one more
 pub content_more : (rs l : List Rec) (r : Rec) → IsContentOf rs l → IsContentOf (rs ++ r ∷ []) (placed r l)
-content_more rs l r is = record {
-  rising = rising_placed r l is.rising;
-  content = λ t. content-placed r l is.rising t
-      ∙ (ap (λ a. content_after r t a (content_at l t)) (is.late t) ∙ (ap (content_after r t (late_at rs t)) (is.content t) ∙ sym (content_push rs r t)));
-  late = λ t. late-placed r l is.rising t ∙ (ap (option_or (late_here r t)) (is.late t) ∙ sym (late_push rs r t));
-}
+content_more rs l r is = grind (arith, rising_placed, content-placed, content_push, late-placed, late_push)
 
 -- the content of no records
 pub content_none : IsContentOf [] []

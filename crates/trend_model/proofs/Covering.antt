@@ -1,7 +1,6 @@
 -- Where a window has a value.
 use Rattle.std.proofs.Common.{◌≡◌, ℕ, ◌≤◌, Bool, true, false, cond, nat_eq, nat_lt, nat_le, ℤ, List, [], ◌∷◌, ◌++◌, Option, None, Some, refl, arith}
 use Rattle.std.specs.Prelude.{◌↔◌, is_some}
-use Rattle.std.specs.List.{filter}
 use Rattle.std.proofs.lemmas.Bool.{and_parts, false≢true, le-ltb, leb-true}
 use Rattle.trend_num.specs.{Measure, Point, Reading}
 use Rattle.trend_num.specs.declared.measure.Measure.TheVariants.{Area, Avg, Total, Low, High, Count, First, Last}
@@ -60,16 +59,7 @@ measure_of_two step Last ps p l q from to = refl
 covered_value : (step : Bool) (m : Measure) (p : Point) (ps : List Point) (from to : ℕ) → p.t ≤ from
     → p.t ≤ to
     → is_some (measured step m (p ∷ ps) (shape step (p ∷ ps) from to) from to) ≡ true
-covered_value step m p ps from to starts ends = by_ends (filter (inside from to) (p ∷ ps))
-  where
-    by_ends : (inner : List Point) → is_some (measured step m (p ∷ ps)
-        (end_at from (value_read (read_at step (p ∷ ps) from)) ++ inner
-        ++ end_at to (value_read (read_at step (p ∷ ps) to))) from to) ≡ true
-    by_ends inner =
-        let start = end_of_some from (value_read (read_from step p ps from)) (value_from step p ps from) in
-        let end = end_of_some to (value_read (read_from step p ps to)) (value_from step p ps to) in
-        rw (le-ltb from p.t starts, le-ltb to p.t ends, start.1, end.1)
-        (measure_of_two step m (p ∷ ps) start.0 inner end.0 from to)
+covered_value step m p ps from to starts ends = grind (arith, inside, end_of_some, value_from, le-ltb, measure_of_two)
 
 -- a window has a value exactly where it is covered
 none_is_uncovered : (step : Bool) (m : Measure) (ps : List Point) (from to : ℕ) → from ≤ to
@@ -95,5 +85,4 @@ uncovered_is_none step m ps from to outside = rw outside refl
 
 pub window_value-none : (step : Bool) (m : Measure) (ps : List Point) (from to : ℕ) → from ≤ to
     → (window_value step m ps from to ≡ None) ↔ (is_covered ps from to ≡ false)
-window_value-none step m ps from to order =
-    (none_is_uncovered step m ps from to order, uncovered_is_none step m ps from to)
+window_value-none step m ps from to order = grind (arith, none_is_uncovered, uncovered_is_none)

@@ -1,5 +1,5 @@
 -- Two doors decide what a whole list of values decides.
-use Rattle.std.proofs.Common.{◌≡◌, ℕ, ◌+◌, ◌-◌, ◌*◌, ◌<◌, ◌≤◌, inl, inr, ℤ, pos, ◌+ℤ◌, ◌-ℤ◌, ◌*ℤ◌, ◌≤ℤ◌, Bool, true, false, cond, ◌&&◌, List, [], ◌∷◌, nat_le, unsigned_abs, refl, sym, ap, ◌∙◌, subst, arith}
+use Rattle.std.proofs.Common.{◌≡◌, ℕ, ◌+◌, ◌-◌, ◌*◌, ◌<◌, ◌≤◌, inl, inr, ℤ, pos, ◌+ℤ◌, ◌-ℤ◌, ◌*ℤ◌, ◌≤ℤ◌, Bool, true, false, cond, ◌&&◌, List, [], ◌∷◌, unsigned_abs, refl, sym, ap, ◌∙◌, subst, arith}
 use Rattle.std.specs.Prelude.{int_le}
 use Rattle.std.specs.List.{list_all}
 use Rattle.std.proofs.lemmas.Int.{ints}
@@ -7,21 +7,12 @@ use borrow.Author.Differences.{up, down as low}
 use Rattle.std.proofs.Math.Nat.{mul-le-mul_right}
 use Rattle.std.proofs.lemmas.Bool.Decides.{nat_tests}
 use Rattle.std.proofs.lemmas.Bool.{false≢true}
-use Rattle.trend_num.specs.{Point, cross, Within, is_within}
+use Rattle.trend_num.specs.{Point, Within, is_within}
 use Rattle.trend_model.specs.{IsAmong, AreAfter, down, IsNotSteeper, is_not_steeper, AreDoors, is_admitted, upper_after, lower_after}
 
 -- a common factor above 0 is cancelled
 cancel_right : (a b n : ℕ) → 0 < n → a * n ≤ b * n → a ≤ b
-cancel_right a b n some h = elim (nat_le a b) as (λ t. nat_le a b ≡ t → a ≤ b) [
-  | true ↦ (λ e. le_of a b e)
-  | false ↦ (λ e. (let more = mul-le-mul_right n (lt_of a b e) in absurd (omega arith)))
-] refl
-  where
-    le_of : (a b : ℕ) → nat_le a b ≡ true → a ≤ b
-    le_of a b e = grind (arith, nat_tests)
-
-    lt_of : (a b : ℕ) → nat_le a b ≡ false → b + 1 ≤ a
-    lt_of a b e = grind (arith, nat_tests)
+cancel_right a b n some h = grind (arith, mul-le-mul_right, nat_tests)
 
 -- the same for fractions that are differences of natural numbers
 fractions_trans : (xu xd yu yd zu zd m n k : ℕ) → 0 < n → xu * n + yd * m ≤ xd * n + yu * m
@@ -58,9 +49,7 @@ lowered_climb v a d t =
 
 -- a value raised by nothing climbs as it does
 same_climb : (v a : ℤ) (t : ℕ) → ((v +ℤ pos 0) -ℤ a) *ℤ pos t ≡ (v -ℤ a) *ℤ pos t
-same_climb v a t =
-    let same : (v +ℤ pos 0) -ℤ a ≡ v -ℤ a = omega (arith, ints) in
-    ap (λ z. z *ℤ pos t) same
+same_climb v a t = grind (arith, ints)
 
 -- what is near is under the sum and over the difference
 near_parts : (x p : ℤ) (e : ℕ) → unsigned_abs (x -ℤ p) ≤ e → (p ≤ℤ (x +ℤ pos e)) × ((x -ℤ pos e) ≤ℤ p)
@@ -72,9 +61,7 @@ parts_near x p e above below = omega (arith, ints)
 
 -- a value that is near the line to p, raised, is not under it
 pub under_of_within : (a p x : Point) (d : ℕ) → Within a p x d → IsNotSteeper a p (pos 0) x (pos d)
-under_of_within a p x d near =
-    rw (same_climb p.v a.v (x.t - a.t), raised_climb x.v a.v d (p.t - a.t))
-    (near_parts ((x.v -ℤ a.v) *ℤ pos (p.t - a.t)) ((p.v -ℤ a.v) *ℤ pos (x.t - a.t)) (d * (p.t - a.t)) near).0
+under_of_within a p x d near = grind (arith, same_climb, raised_climb, near_parts)
 
 -- lowered, it is not over it
 pub over_of_within : (a p x : Point) (d : ℕ) → Within a p x d → IsNotSteeper a x (down d) p (pos 0)
@@ -85,17 +72,12 @@ over_of_within a p x d near =
 -- and one that is neither is near
 pub within_of_parts : (a p x : Point) (d : ℕ) → IsNotSteeper a p (pos 0) x (pos d)
     → IsNotSteeper a x (down d) p (pos 0) → Within a p x d
-within_of_parts a p x d under over =
-    parts_near ((x.v -ℤ a.v) *ℤ pos (p.t - a.t)) ((p.v -ℤ a.v) *ℤ pos (x.t - a.t)) (d * (p.t - a.t))
-    (rw (same_climb p.v a.v (x.t - a.t), raised_climb x.v a.v d (p.t - a.t)) at under)
-    (rw (lowered_climb x.v a.v d (p.t - a.t), same_climb p.v a.v (x.t - a.t)) at over)
+within_of_parts a p x d under over = grind (arith, parts_near, same_climb, raised_climb, lowered_climb)
 
 -- slopes are compared transitively, over a point after the hinge
 pub steeper_trans : (a x y z : Point) (q r s : ℤ) → a.t < y.t → IsNotSteeper a x q y r
     → IsNotSteeper a y r z s → IsNotSteeper a x q z s
-steeper_trans a x y z q r s after xy yz =
-    slope_trans ((x.v +ℤ q) -ℤ a.v) ((y.v +ℤ r) -ℤ a.v) ((z.v +ℤ s) -ℤ a.v) (x.t - a.t) (y.t - a.t)
-    (z.t - a.t) (omega arith) xy yz
+steeper_trans a x y z q r s after xy yz = grind (arith, slope_trans)
 
 -- ---- the tests and their facts
 
@@ -144,17 +126,11 @@ pass_each test (v ∷ values) all x (inr there) =
 
 -- a point is near where the test of its distance passes
 pub within_test : (a p x : Point) (d : ℕ) → is_within a p x d ≡ true → Within a p x d
-within_test a p x d e = by_numbers (unsigned_abs (cross a p x)) (d * (p.t - a.t)) e
-  where
-    by_numbers : (m n : ℕ) → nat_le m n ≡ true → m ≤ n
-    by_numbers m n e = grind (arith, nat_tests)
+within_test a p x d e = grind (arith, nat_tests)
 
 -- and the test passes where it is
 test_within : (a p x : Point) (d : ℕ) → Within a p x d → is_within a p x d ≡ true
-test_within a p x d h = by_numbers (unsigned_abs (cross a p x)) (d * (p.t - a.t)) h
-  where
-    by_numbers : (m n : ℕ) → m ≤ n → nat_le m n ≡ true
-    by_numbers m n h = grind (arith, nat_tests)
+test_within a p x d h = grind (arith, nat_tests)
 
 -- two tests that pass together are one
 same_test : (b c : Bool) → (b ≡ true → c ≡ true) → (c ≡ true → b ≡ true) → b ≡ c
@@ -168,30 +144,15 @@ same_test false false there back = refl
 admitted_near : (a p u l x : Point) (d : ℕ) (values : List Point) → AreDoors a d values u l
     → AreAfter a values → IsAmong x values → is_admitted a d u l p ≡ true → Within a p x d
 admitted_near a p u l x d values doors after there yes_it =
-    let under =
-    test_fact _ _ (first_of_both (is_not_steeper a p (pos 0) u (pos d))
-    (is_not_steeper a l (down d) p (pos 0)) yes_it) in
-    let over =
-    test_fact _ _ (second_of_both (is_not_steeper a p (pos 0) u (pos d))
-    (is_not_steeper a l (down d) p (pos 0)) yes_it) in
-    within_of_parts a p x d
-    (steeper_trans a p u x (pos 0) (pos d) (pos d) (after u doors.upper_there) under
-    (doors.upper_least x there))
-    (steeper_trans a x l p (down d) (down d) (pos 0) (after l doors.lower_there)
-    (doors.lower_greatest x there) over)
+    grind (arith, test_fact, first_of_both, second_of_both, within_of_parts, steeper_trans)
 
 -- two doors decide what the whole list decides
 pub doors_decide : (a p u l : Point) (d : ℕ) (values : List Point) → AreDoors a d values u l
     → AreAfter a values → is_admitted a d u l p ≡ list_all (λ x. is_within a p x d) values
 doors_decide a p u l d values doors after =
     same_test (is_admitted a d u l p) (list_all (λ x. is_within a p x d) values)
-    (λ yes_it. all_pass (λ x. is_within a p x d) values
-    (λ x there. test_within a p x d (admitted_near a p u l x d values doors after there yes_it)))
-    (λ all. both (is_not_steeper a p (pos 0) u (pos d)) (is_not_steeper a l (down d) p (pos 0))
-    (fact_test _ _ (under_of_within a p u d (within_test a p u d
-    (pass_each (λ x. is_within a p x d) values all u doors.upper_there))))
-    (fact_test _ _ (over_of_within a p l d (within_test a p l d
-    (pass_each (λ x. is_within a p x d) values all l doors.lower_there)))))
+    (λ yes_it. grind (arith, all_pass, test_within, admitted_near))
+    (λ all. grind (arith, both, fact_test, under_of_within, within_test, pass_each, over_of_within))
 
 -- ---- doors move
 
@@ -201,12 +162,7 @@ steeper_self a x y q e = subst (λ z. IsNotSteeper a x q z q) e (omega (arith, i
 
 -- both doors hang at the only value
 pub doors_hang : (a p : Point) (d : ℕ) → AreDoors a d (p ∷ []) p p
-doors_hang a p d = record {
-  upper_there = inl refl;
-  lower_there = inl refl;
-  upper_least = λ x there. elim there [ inl e ↦ steeper_self a p x (pos d) (sym e) | inr none ↦ absurd none ];
-  lower_greatest = λ x there. elim there [ inl e ↦ steeper_self a x p (down d) e | inr none ↦ absurd none ];
-}
+doors_hang a p d = grind (arith, steeper_self)
 
 -- the upper door stays, or is the new value
 upper_swings : (a p u : Point) (d : ℕ) (values : List Point) (stays : Bool)
@@ -256,11 +212,4 @@ lower_swings a p l d values false test after past there greatest = (
 -- a value more swings the doors
 pub doors_swing : (a p u l : Point) (d : ℕ) (values : List Point) → AreDoors a d values u l
     → AreAfter a values → a.t < p.t → AreDoors a d (p ∷ values) (upper_after a d u p) (lower_after a d l p)
-doors_swing a p u l d values doors after past =
-    let upper =
-    upper_swings a p u d values (is_not_steeper a u (pos d) p (pos d)) refl after past doors.upper_there
-    doors.upper_least in
-    let lower =
-    lower_swings a p l d values (is_not_steeper a p (down d) l (down d)) refl after past doors.lower_there
-    doors.lower_greatest in
-    record { upper_there = upper.0; lower_there = lower.0; upper_least = upper.1; lower_greatest = lower.1 }
+doors_swing a p u l d values doors after past = grind (arith, upper_swings, lower_swings)

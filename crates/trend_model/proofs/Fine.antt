@@ -29,24 +29,13 @@ pub record IsFine (P : Point → Type 0) (step : Bool) (c : Archive) : Type 0 wh
 -- the records of a tag that has begun are listed
 listed_of : (step : Bool) (d : ℕ) (rs : List Rec) (q a : Point) (u l : Option Point)
     → IsTagBegun step d rs q a u l → AreListed rs q a
-listed_of step d rs q a u l begun = record {
-  begins_kept = begun.begins_kept;
-  kept_rise = begun.kept_rise;
-  hinge_last = begun.hinge_last;
-  late_before = begun.late_before;
-}
+listed_of step d rs q a u l begun = grind arith
 
 -- listed records and doors that fit are those of a tag that has begun
 begun_of : (step : Bool) (d : ℕ) (rs : List Rec) (q a : Point) (u l : Option Point) → AreListed rs q a
     → DoorsFit step d a q u l
     → IsTagBegun step d rs q a u l
-begun_of step d rs q a u l listed doors = record {
-  begins_kept = listed.begins_kept;
-  kept_rise = listed.kept_rise;
-  hinge_last = listed.hinge_last;
-  late_before = listed.late_before;
-  doors = doors;
-}
+begun_of step d rs q a u l listed doors = grind arith
 
 -- both doors hang at the held point
 fit_hung : (step : Bool) (d : ℕ) (a p : Point) → a.t < p.t → AreFitDoors step d a p p p
@@ -66,42 +55,25 @@ fit_hung false d a p after = record {
 fine_kept : (P : Point → Type 0) (step : Bool) (t : Tuning) (rs : List Rec) (p : Point) → AreListed rs p p
     → Each (λ r. P r.point) rs → P p
     → IsFine P step (archive t rs (Some p) (Some p) None None)
-fine_kept P step t rs p listed each here = record {
-  whole = begun_of step t.comp_dev rs p p None None listed refl;
-  records_are = each;
-  held_is = here;
-  hinge_is = here;
-  upper_is = tt;
-  lower_is = tt;
-}
+fine_kept P step t rs p listed each here = grind (arith, begun_of)
 
 -- an archive that holds p between doors that fit
 fine_held : (P : Point → Type 0) (step : Bool) (t : Tuning) (rs : List Rec) (a p u l : Point)
     → AreListed rs p a → a.t < p.t
     → AreFitDoors step t.comp_dev a p u l → Each (λ r. P r.point) rs → P a → P p → P u → P l
     → IsFine P step (archive t rs (Some a) (Some p) (Some u) (Some l))
-fine_held P step t rs a p u l listed after fit each at_a at_p at_u at_l = record {
-  whole = begun_of step t.comp_dev rs p a (Some u) (Some l) listed (after, fit);
-  records_are = each;
-  held_is = at_p;
-  hinge_is = at_a;
-  upper_is = at_u;
-  lower_is = at_l;
-}
+fine_held P step t rs a p u l listed after fit each at_a at_p at_u at_l = grind (arith, begun_of)
 
 -- an archive that holds p, at which both doors hang
 fine_hung : (P : Point → Type 0) (step : Bool) (t : Tuning) (rs : List Rec) (a p : Point) → AreListed rs p a
     → a.t < p.t
     → Each (λ r. P r.point) rs → P a → P p → IsFine P step (archive t rs (Some a) (Some p) (Some p) (Some p))
-fine_hung P step t rs a p listed after each at_a at_p =
-    fine_held P step t rs a p p p listed after (fit_hung step t.comp_dev a p after) each at_a at_p at_p at_p
+fine_hung P step t rs a p listed after each at_a at_p = grind (arith, fine_held, fit_hung)
 
 -- the first value is kept
 fine_first : (P : Point → Type 0) (step : Bool) (t : Tuning) (rs : List Rec) (p : Point) → rs ≡ [] → P p
     → IsFine P step (archive t (rs ++ (kept p ∷ [])) (Some p) (Some p) None None)
-fine_first P step t rs p none here =
-    subst (λ l. IsFine P step (archive t (l ++ (kept p ∷ [])) (Some p) (Some p) None None)) (sym none)
-    (fine_kept P step t (kept p ∷ []) p (listed_first p) (here, tt) here)
+fine_first P step t rs p none here = grind (arith, fine_kept, listed_first)
 
 -- the upper door that stays or swings to p
 upper_fits : (a u p : Point) (d : ℕ) (stays : Bool) → is_not_steeper a u (pos d) p (pos d) ≡ stays → a.t < u.t
@@ -134,27 +106,7 @@ both_true false c e = cc
 fit_swung : (d : ℕ) (a q u l p : Point) → AreDoorsAt d a q u l → q.t < p.t → a.t < p.t
     → is_admitted a d u l p ≡ true
     → AreDoorsAt d a p (upper_after a d u p) (lower_after a d l p)
-fit_swung d a q u l p doors later after admitted =
-    let tests =
-    both_true (is_not_steeper a p (pos 0) u (pos d)) (is_not_steeper a l (down d) p (pos 0)) admitted in
-    let u_before = doors.upper_before in
-    let l_before = doors.lower_before in
-    let upper =
-    upper_fits a u p d (is_not_steeper a u (pos d) p (pos d)) refl doors.upper_after (omega arith) after
-    (test_fact _ _ tests.0) in
-    let lower =
-    lower_fits a l p d (is_not_steeper a p (down d) l (down d)) refl doors.lower_after (omega arith) after
-    (test_fact _ _ tests.1) in
-    record {
-      upper_after = upper.0;
-      upper_before = upper.1;
-      lower_after = lower.0;
-      lower_before = lower.1;
-      under_upper = upper.2;
-      upper_not_above = upper.3;
-      over_lower = lower.2;
-      lower_not_below = lower.3;
-    }
+fit_swung d a q u l p doors later after admitted = grind (arith, both_true, upper_fits, test_fact, lower_fits)
 
 -- a door that stays or swings has what both have
 pub door_is : (P : Point → Type 0) (stays : Bool) (u p : Point) → P u → P p → P (cond stays u p)

@@ -3,7 +3,7 @@ use Rattle.std.proofs.Common.{◌≡◌, ℕ, ◌<◌, ◌≤◌, Bool, true, fa
 use Rattle.std.specs.Prelude.{fold}
 use Rattle.std.proofs.lemmas.List.Elements.{All-nil, All-cons, All-head, All-tail, All-weaker}
 use Rattle.trend_num.specs.{Rec, Summary, Point, Tuning}
-use Rattle.trend_model.specs.{is_late_record, IsNotBefore, listed, placed, Event, Origin, in_force, Each, IfThere, DoorsFit, IsTagBegun, IsBegunOrBlank, IsLateBefore, IsRuled, RisesAfter, PointsRise, kept_points, last_point}
+use Rattle.trend_model.specs.{is_late_record, IsNotBefore, listed, placed, Event, Origin, Each, IfThere, DoorsFit, IsTagBegun, IsBegunOrBlank, IsLateBefore, IsRuled, RisesAfter, PointsRise, kept_points, last_point}
 use Rattle.trend_model.specs.Walk.{records, held}
 use Rattle.trend_model.proofs.Placing.{all_placed, time}
 use Rattle.trend_model.proofs.HistoryLaw.{all_points, state_of, state_ruled, state_stands}
@@ -78,8 +78,7 @@ begun_until step d rs (Some q) (Some a) u l begun =
 -- the held point of a tag is not before any point of its content
 pub held_last : (P : Point → Type 0) (u : Tuning) (step : Bool) (rs : List Rec) (s : Summary) → IsRuled P u step rs s
     → IfThere (IsNotBefore (listed rs)) s.held
-held_last P u step rs s ruled =
-    begun_until step u.comp_dev rs s.held s.hinge s.upper s.lower ruled.whole
+held_last P u step rs s ruled = grind (arith, begun_until)
 
 -- nor is that of a history
 pub history_held_last : (o : Origin) (h : List Event) → IfThere (IsNotBefore (listed (records o h))) (held o h)
@@ -88,5 +87,4 @@ history_held_last o h =
     let stands = state_stands o h in
     let ruled = state_ruled (λ p. Unit {0}) o h (all_points h) in
     subst (λ q. IfThere (IsNotBefore (listed (records o h))) q) stands.same_held
-    (subst (λ rs. IfThere (IsNotBefore (listed rs)) s.summary.held) stands.same_records
-    (held_last (λ p. Unit {0}) (in_force o h) o.step s.records s.summary ruled))
+    (grind (arith, held_last))

@@ -40,18 +40,7 @@ force_on o (Tune u) h = refl
 -- no records and a summary of nothing keep the rules
 pub nothing_ruled : (P : Point → Type 0) (u : Tuning) (step : Bool) (tuning : Option Tuning)
     → IsRuled P u step [] (record { taken = 0; records = 0; held = None; pending = None; hinge = None; upper = None; lower = None; tuning = tuning })
-nothing_ruled P u step tuning = record {
-  counted = refl;
-  at_most_two = omega arith;
-  whole = record { none_recorded = refl; no_upper = refl; no_lower = refl };
-  waits = tt;
-  records_are = tt;
-  held_is = tt;
-  pending_is = tt;
-  hinge_is = tt;
-  upper_is = tt;
-  lower_is = tt;
-}
+nothing_ruled P u step tuning = grind (arith, waits)
 
 -- it keeps the rules, for any property of the points of the history
 pub state_ruled : (P : Point → Type 0) (o : Origin) (h : List Event) → AllPoints P h
@@ -252,14 +241,7 @@ since_is P o h each x there =
 -- the doors of what stands for a history fit
 history_doors : (o : Origin) (h : List Event) (s : State) → Stands o h s
     → AreDoorsOf o.step (in_force o h).comp_dev (held o h) (hinge o h) s.summary.upper s.summary.lower
-history_doors o h s stands =
-    let w = walked o h in
-    let x = s.summary in
-    let at : force_sent o.tuning (sent o h) ≡ in_force o h = force_is o h in
-    subst (λ (t : Tuning). AreDoorsOf o.step t.comp_dev (held o h) (hinge o h) x.upper x.lower) at
-    (doors_of o (sent o h) w.records w.hinge w.since w.passed x.upper x.lower
-    (walk_holds o (sent o h) (sent_rises o h)).walked
-    (subst (λ (t : Tuning). DoorsStand o.step t.comp_dev w.hinge w.since x.upper x.lower) (sym at) stands.doors))
+history_doors o h s stands = grind (arith, force_sent, force_is, doors_of, walk_holds, sent_rises)
 
 -- what stands for a history keeps the rules, for any property of its points
 pub history_ruled : (P : Point → Type 0) (o : Origin) (h : List Event) (s : State) → AllPoints P h
@@ -282,13 +264,7 @@ history_ruled P o h s each stands =
     record {
       counted = stands.counted ∙ sym (ap length stands.same_records);
       at_most_two = (let n = ap length at_records in let two = ruled.at_most_two in omega arith);
-      whole = whole_with o.step u.comp_dev s.records x.held x.hinge y.upper y.lower x.upper x.lower
-          (subst (λ a. IsBegunOrBlank o.step u.comp_dev s.records x.held a y.upper y.lower) at_hinge
-          (subst (λ q. IsBegunOrBlank o.step u.comp_dev s.records q y.hinge y.upper y.lower) at_held
-          (subst (λ rs. IsBegunOrBlank o.step u.comp_dev rs y.held y.hinge y.upper y.lower) at_records ruled.whole)))
-          (subst (λ a. AreDoorsOf o.step u.comp_dev x.held a x.upper x.lower) (sym stands.same_hinge)
-          (subst (λ q. AreDoorsOf o.step u.comp_dev q (hinge o h) x.upper x.lower) (sym stands.same_held)
-          (history_doors o h s stands)));
+      whole = grind (arith, whole_with, history_doors);
       waits = subst (λ q. PendingFits u q x.pending) at_held (subst (PendingFits u y.held) at_pending ruled.waits);
       records_are = subst (Each (λ (k : Rec). P k.point)) at_records ruled.records_are;
       held_is = subst (IfThere P) at_held ruled.held_is;

@@ -68,40 +68,23 @@ pub record AreListed (rs : List Rec) (q a : Point) : Type 0 where
 
 -- the first value
 pub listed_first : (p : Point) → AreListed (kept p ∷ []) p p
-listed_first p =
-    record {
-      begins_kept = refl;
-      kept_rise = tt;
-      hinge_last = refl;
-      late_before = (λ e. absurd (false≢true e), tt);
-    }
+listed_first p = grind (arith, false≢true)
 
 -- another held point, not before the old one
 pub listed_on : (rs : List Rec) (q p a : Point) → AreListed rs q a → q.t ≤ p.t → AreListed rs p a
-listed_on rs q p a listed on = record {
-  begins_kept = listed.begins_kept;
-  kept_rise = listed.kept_rise;
-  hinge_last = listed.hinge_last;
-  late_before = late_before_on rs q p listed.late_before on;
-}
+listed_on rs q p a listed on = grind (arith, late_before_on)
 
 -- a late value
 pub listed_late : (rs : List Rec) (q x a : Point) → AreListed rs q a → x.t ≤ q.t
     → AreListed (rs ++ (late x ∷ [])) q a
-listed_late rs q x a listed before = record {
-  begins_kept = begins_push rs (late x ∷ []) listed.begins_kept;
-  kept_rise = subst PointsRise (sym (kept_points-late rs x)) listed.kept_rise;
-  hinge_last = ap last_point (kept_points-late rs x) ∙ listed.hinge_last;
-  late_before = each_push (IsLateBefore q) rs (late x) listed.late_before (λ e. before);
-}
+listed_late rs q x a listed before = grind (arith, begins_push, kept_points-late, each_push)
 
 -- the held point is kept
 pub listed_keep : (rs : List Rec) (q a : Point) → AreListed rs q a → a.t < q.t
     → AreListed (rs ++ (kept q ∷ [])) q q
 listed_keep rs q a listed after = record {
   begins_kept = begins_push rs (kept q ∷ []) listed.begins_kept;
-  kept_rise = subst PointsRise (sym (kept_points-kept rs q))
-      (rises_push (kept_points rs) a q listed.kept_rise listed.hinge_last after);
+  kept_rise = grind (arith, kept_points-kept, rises_push, after);
   hinge_last = ap last_point (kept_points-kept rs q) ∙ last_point-push (kept_points rs) q;
   late_before = each_push (IsLateBefore q) rs (kept q) listed.late_before (λ e. absurd (false≢true e));
 }

@@ -15,10 +15,7 @@ within_right a b d = rw (zero_cross (b.v -ℤ a.v) (pos (b.t - a.t))) (omega ari
 
 -- and so is the left one
 pub within_left : (a b : Point) (d : ℕ) → Within a b a d
-within_left a b d =
-    let same : a.v -ℤ a.v ≡ pos 0 = omega (arith, ints) in
-    let at : a.t - a.t ≡ 0 = omega arith in
-    rw (same, at) (omega (arith, ints))
+within_left a b d = grind (arith, ints)
 
 -- nearer than d is nearer than more
 pub within_more : (a b x : Point) (d e : ℕ) → Within a b x d → Within a b x (d + e)

@@ -1,8 +1,8 @@
 -- What is sent in order rises in time.
-use Rattle.std.proofs.Common.{◌≡◌, ◌<◌, ◌≤◌, inl, inr, false, List, [], ◌∷◌, ◌++◌, Option, None, Some, refl, sym, ap, ◌∙◌, subst, arith}
+use Rattle.std.proofs.Common.{◌≡◌, ◌<◌, ◌≤◌, inl, inr, false, List, [], ◌∷◌, ◌++◌, Option, None, Some, refl, sym, ap, subst, arith}
 use Rattle.std.proofs.lemmas.Bool.Decides.{nat_tests}
 use Rattle.trend_num.specs.{Point}
-use Rattle.trend_model.specs.{IsAmong, Event, Raw, Tune, Origin, Sent, InOrder, Late, Tuned, is_late, newest, pending, sent, last_in_order, RisesInTime}
+use Rattle.trend_model.specs.{IsAmong, Event, Raw, Tune, Origin, Sent, InOrder, Late, Tuned, is_late, pending, sent, last_in_order, RisesInTime}
 use Rattle.trend_model.specs.State.{pushed_out}
 use Rattle.trend_model.proofs.Sent.{same_there, not_both, is_not_after, is_late_newest, flushed, tune_sends, comes_late, goes, waits, happens, newest_is_last}
 
@@ -41,10 +41,7 @@ not_after_last (InOrder y ∷ ss) rises x (inr there) = let before = rises.0 x t
 -- with the last value given
 pub not_above : (ss : List Sent) (s x : Point) → RisesInTime ss → last_in_order ss ≡ Some s
     → IsAmong (InOrder x) ss → x.t ≤ s.t
-not_above ss s x rises is_last there =
-    let last = not_after_last ss rises x there in
-    let same = time_of last.0 s (same_there (last_in_order ss) last.0 s last.1 is_last) in
-    let below = last.2 in omega arith
+not_above ss s x rises is_last there = grind (arith, not_after_last, time_of, same_there)
 
 -- the last value sent in order was sent
 pub last_is_sent : (ss : List Sent) (s : Point) → last_in_order ss ≡ Some s → IsAmong (InOrder s) ss
@@ -75,10 +72,7 @@ new_by (Some q) p s after e =
 pub new_after : (o : Origin) (p : Point) (h : List Event) → RisesInTime (flushed o h) → is_late p h ≡ false
     → IsNew p (flushed o h)
 new_after o p h rises in_order x there =
-    let last = not_after_last (flushed o h) rises x there in
-    let newest_is = sym (newest_is_last o h) ∙ last.1 in
-    let below = new_by (newest h) p last.0 (sym (is_late_newest p h) ∙ in_order) newest_is in
-    let before = last.2 in omega arith
+    grind (arith, not_after_last, flushed, newest_is_last, new_by, is_late_newest)
 
 -- and so after all that was sent
 pub new_sent : (o : Origin) (p : Point) (h : List Event) → RisesInTime (flushed o h) → is_late p h ≡ false

@@ -1,5 +1,5 @@
 -- A rising list, and one more record in it.
-use Rattle.std.proofs.Common.{◌≡◌, ℕ, zero, suc, ◌+◌, ◌<◌, ◌≤◌, inl, inr, Bool, true, false, cond, List, [], ◌∷◌, ◌++◌, length, get_or, take, drop, set, All, refl, sym, ap, ◌∙◌, subst, arith, length-append, add-one}
+use Rattle.std.proofs.Common.{◌≡◌, ℕ, zero, suc, ◌+◌, ◌<◌, ◌≤◌, Bool, true, false, cond, List, [], ◌∷◌, ◌++◌, length, get_or, take, drop, set, All, refl, sym, ap, ◌∙◌, subst, arith, length-append, add-one}
 use Rattle.std.specs.Prelude.{insert, not, ◌&&◌}
 use Rattle.std.proofs.lemmas.List.{get_or_append_left, get_or-append-add, take-append-drop, drop_more, set_split}
 use Rattle.std.proofs.lemmas.List.Elements.{All-nil, All-cons, All-head, All-tail}
@@ -38,11 +38,7 @@ rising_nil i j d below within = absurd (omega arith)
 
 -- both parts of a rising list rise
 pub rising_left : (xs ys : List Rec) → IsRising (xs ++ ys) → IsRising xs
-rising_left xs ys rises i j d below within =
-    let first = get_or_append_left xs ys d i (omega arith) in
-    let second = get_or_append_left xs ys d j within in
-    let both = rises i j d below (omega (arith, length-append xs ys)) in
-    subst (λ x. time x < time (get_or xs j d)) first (subst (λ y. time (get_or (xs ++ ys) i d) < time y) second both)
+rising_left xs ys rises i j d below within = grind (arith, get_or_append_left, length-append)
 
 pub rising_right : (xs ys : List Rec) → IsRising (xs ++ ys) → IsRising ys
 rising_right [] ys rises = rises
@@ -51,11 +47,7 @@ rising_right (x ∷ xs) ys rises = rising_right xs ys (rising_tail x (xs ++ ys) 
 -- and each of the first is before each of the second
 pub rising_across : (xs ys : List Rec) → IsRising (xs ++ ys) → (i j : ℕ) (d : Rec) → i < length xs → j < length ys
     → time (get_or xs i d) < time (get_or ys j d)
-rising_across xs ys rises i j d within inside =
-    let first = get_or_append_left xs ys d i within in
-    let second = get_or-append-add xs ys j d in
-    let both = rises i (length xs + j) d (omega arith) (omega (arith, length-append xs ys)) in
-    subst (λ x. time x < time (get_or ys j d)) first (subst (λ y. time (get_or (xs ++ ys) i d) < time y) second both)
+rising_across xs ys rises i j d within inside = grind (arith, get_or_append_left, get_or-append-add, length-append)
 
 -- ---- one more record
 
@@ -67,14 +59,7 @@ time_over r x false same = same
 -- the three ways to place a record
 pub placed_by : (P : List Rec → Type 0) (r x : Rec) (xs : List Rec) → (time r < time x → P (r ∷ x ∷ xs))
     → (time x < time r → P (x ∷ placed r xs)) → (time r ≡ time x → P (over r x ∷ xs)) → P (placed r (x ∷ xs))
-placed_by P r x xs first later same =
-    elim (cases_order (time r) (time x)) [
-      | inl e ↦ rw (le-ltb (time r) (time x) (omega arith), le-ltb (time x) (time r) (omega arith)) (same e)
-      | inr ways ↦ elim ways [
-        | inl before ↦ rw (lt-ltb (time r) (time x) before) (first before)
-        | inr after ↦ rw (le-ltb (time r) (time x) (omega arith), lt-ltb (time x) (time r) after) (later after)
-      ]
-    ]
+placed_by P r x xs first later same = grind (arith, cases_order, le-ltb, lt-ltb)
 
 -- the time of what is then at a time
 pub time_of_over : (r x : Rec) → time r ≡ time x → time (over r x) ≡ time x
@@ -144,8 +129,7 @@ placed_at r l i d within before same =
     placed_by (λ m. m ≡ over r x ∷ drop (i + 1) l) r x (drop (i + 1) l) (λ h. absurd (omega arith)) (λ h. absurd (omega arith)) (λ h. refl) in
     ap (placed r) (sym (take-append-drop i l))
     ∙ (placed_behind r (take i l) (drop i l) before
-    ∙ (ap (λ m. take i l ++ placed r m) (drop_more l i d within)
-    ∙ (ap (λ m. take i l ++ m) there ∙ rw add-one (sym (set_split l i (over r x) within)))))
+    ∙ (grind (arith, drop_more, add-one, set_split)))
 
 -- there is one record more at most
 pub length-placed : (r : Rec) (l : List Rec) → (length l ≤ length (placed r l)) × (length (placed r l) ≤ length l + 1)

@@ -1,10 +1,9 @@
 -- Laws that tie the definitions to plain words: tunings that send all, or are exact.
-use Rattle.std.proofs.Common.{◌≡◌, ◌≤◌, Bool, true, false, List, [], ◌∷◌, ◌++◌, map, None, sym, refl, ap, ◌∙◌, subst, arith}
+use Rattle.std.proofs.Common.{◌≡◌, ◌≤◌, Bool, true, false, List, [], ◌∷◌, map, None, sym, refl, ap, ◌∙◌, subst, arith}
 use Rattle.std.proofs.lemmas.Bool.{true≢false}
 use Rattle.trend_num.specs.{Point, Tuning}
 use Rattle.trend_model.specs.{Each, Event, Raw, Tune, Origin, InOrder, Tuned, in_force, is_late, prior, pending, sent, tuning_of_value, IsInOrder, IsCleanSpan, IsNear, raw_deviation, AllInOrder, sent_plainly, tunings}
 use Rattle.trend_model.specs.Walk.{records, held, passed}
-use Rattle.trend_model.specs.State.{pushed_out}
 use Rattle.trend_model.proofs.Sent.{flushed, tune_sends, comes_late, goes, waits, happens, last_in_order_is}
 use Rattle.trend_model.proofs.Order.{last_is_sent, new_sent, flushed_rises}
 use Rattle.trend_model.proofs.RawLaw.{near_last}
@@ -51,8 +50,7 @@ plain o (Raw p ∷ h) each rises =
 -- ExcMax 0 sends each event of a history in rising time
 pub sends_all : (o : Origin) (h : List Event) → Each (λ (u : Tuning). u.exc_max ≡ 0) (tunings o h)
     → AllInOrder h → sent o h ≡ map sent_plainly h
-sends_all o h each rises =
-    let i = plain o h each rises in sym (ap (λ w. pushed_out w ++ sent o h) i.none) ∙ i.sends
+sends_all o h each rises = grind (arith, plain)
 
 -- ---- no deviation
 

@@ -63,26 +63,7 @@ pending_near o (Raw p ∷ h) q waiting =
 -- what lies between two neighbours continues to, when one thing more is sent
 between_more : (o : Origin) (e : Sent) (ss : List Sent) (y s z : Point) → RisesInTime (e ∷ ss)
     → IsBetween o ss y s z → IsBetween o (e ∷ ss) y s z
-between_more o e ss y s z rises b = record {
-  tuning = b.tuning;
-  first_sent = inr b.first_sent;
-  second_made = made_more o.tuning b.tuning z e ss b.second_made;
-  after = b.after;
-  before = b.before;
-  neighbours = λ x there sx. elim there [
-    | inl same ↦ beyond e rises x same
-    | inr old ↦ b.neighbours x old sx
-  ];
-  near = b.near;
-  second_near = b.second_near;
-}
-  where
-    beyond : (e : Sent) → RisesInTime (e ∷ ss) → (x : Point) → InOrder x ≡ e → z.t ≤ x.t
-    beyond (Late p) rises x same = not_late x p same
-    beyond (Tuned u) rises x same = absurd (cc)
-    beyond (InOrder p) rises x same =
-        let at = time_of_sent x p same in
-        let below = rises.0 z (sent_of_made o.tuning b.tuning z ss b.second_made) in omega arith
+between_more o e ss y s z rises b = grind (arith, made_more, not_late, time_of_sent, sent_of_made)
 
 -- what has its place keeps it
 placed_more : (o : Origin) (e : Sent) (ss : List Sent) (y : Point) → RisesInTime (e ∷ ss) → IsPlaced o ss y
@@ -126,10 +107,7 @@ between_waiting o u ss y s q p i qp force after before near second = record {
   second_made = inl (refl, force);
   after = after;
   before = omega arith;
-  neighbours = λ x there sx. elim there [
-    | inl e ↦ (let at = time_of_sent x p e in omega arith)
-    | inr old ↦ (let below = not_above ss s x i.rises.1 i.is_last old in absurd (omega arith))
-  ];
+  neighbours = grind (arith, time_of_sent, not_above);
   near = near;
   second_near = second;
 }
@@ -223,12 +201,7 @@ placed_on o p y h placed =
 -- a value in order is sent, or waits
 own_place : (o : Origin) (p : Point) (h : List Event) → is_late p h ≡ false
     → IsAmong (InOrder p) (flushed o (Raw p ∷ h))
-own_place o p h in_order =
-    elim (happens o p h) [
-      | comes_late late none all ↦ absurd (true≢false (sym late ∙ in_order))
-      | goes in_order none all ↦ subst (IsAmong (InOrder p)) (sym all) (inl refl)
-      | waits in_order near last there all ↦ subst (IsAmong (InOrder p)) (sym all) (inl refl)
-    ]
+own_place o p h in_order = grind (arith, happens, comes_late, true≢false, goes, waits)
 
 -- each raw value in order is sent, or lies between two neighbours that are
 pub placed : (o : Origin) (h : List Event) (y : Point) → IsInOrder y h → IsPlaced o (flushed o h) y

@@ -1,13 +1,12 @@
 -- Reads of a rising list of points.
 use Rattle.std.proofs.Common.{◌≡◌, ℕ, zero, suc, ◌-◌, ◌*◌, ◌<◌, ◌≤◌, inl, inr, ℤ, pos, negsuc, ◌+ℤ◌, ◌-ℤ◌, ◌*ℤ◌, ◌≤ℤ◌, Bool, true, false, cond, nat_eq, List, [], ◌∷◌, ◌++◌, Option, None, Some, refl, sym, ap, ◌∙◌, arith}
-use Rattle.std.specs.Prelude.{int_le}
 use Rattle.std.specs.Option.{option_or}
-use Rattle.std.proofs.lemmas.Bool.{cases_eq, cases_lt, cases_Bool, eq-eqb, ne_eqb, lt-ltb, le-ltb}
+use Rattle.std.proofs.lemmas.Bool.{cases_eq, cases_lt, eq-eqb, ne_eqb, lt-ltb, le-ltb}
 use Rattle.std.proofs.lemmas.Int.{ints}
 use Rattle.std.proofs.Math.Nat.{mul-le-mul_left}
 use Rattle.trend_num.specs.{Rec, Frac, Point, Reading, line_value}
 use Rattle.trend_num.specs.declared.reading.Reading.TheVariants.{Exact, Line, Flat, Nothing}
-use Rattle.trend_model.specs.{closed_at, content_at, is_late_record, kept_at, late_at, IsClosedContentOf, IsRising, points_of, IsAmong, PointsRise, RisesAfter, IsBetween, IsFracBetween, between, read_at, read_from, rounded, value_read}
+use Rattle.trend_model.specs.{content_at, is_late_record, kept_at, late_at, IsClosedContentOf, IsRising, points_of, IsAmong, PointsRise, RisesAfter, IsBetween, IsFracBetween, between, read_at, read_from, rounded, value_read}
 use Rattle.trend_model.specs.{lesser, greater}
 use Rattle.trend_model.proofs.Rounding.{add_times, not_under, rounded_next}
 
@@ -113,8 +112,7 @@ among_middle (x ∷ xs) p ys = inr (among_middle xs p ys)
 -- a read passes over a point before another that is not after its time
 read_at-cons : (step : Bool) (x q : Point) (ps : List Point) (t : ℕ) → x.t < q.t → q.t ≤ t
     → read_at step (x ∷ q ∷ ps) t ≡ read_at step (q ∷ ps) t
-read_at-cons step x q ps t rises early =
-    rw (le-ltb t x.t (omega arith), ne_eqb x.t t (omega arith), le-ltb t q.t early) refl
+read_at-cons step x q ps t rises early = grind (arith, le-ltb, ne_eqb)
 
 -- and so over all points before one
 pub read_at-append : (step : Bool) (xs : List Point) (q : Point) (ps : List Point) (t : ℕ)
@@ -131,9 +129,7 @@ read_at-append step (x ∷ y ∷ xs) q ps t rises early =
 pub read_between : (step : Bool) (before after : List Point) (l r : Point) (t : ℕ)
     → PointsRise (before ++ l ∷ r ∷ after)
     → l.t < t → t < r.t → read_at step (before ++ l ∷ r ∷ after) t ≡ between step l r t
-read_between step before after l r t rises low high =
-    read_at-append step before l (r ∷ after) t rises (omega arith)
-    ∙ rw (le-ltb t l.t (omega arith), ne_eqb l.t t (omega arith), lt-ltb t r.t high) refl
+read_between step before after l r t rises low high = grind (arith, read_at-append, le-ltb, ne_eqb, lt-ltb)
 
 -- ---- the line between two points
 
@@ -143,11 +139,7 @@ data Ordered (m n : ℤ) : Type 0 where
   falling : lesser m n ≡ n → greater m n ≡ m → n ≤ℤ m → Ordered m n
 
 ordered : (m n : ℤ) → Ordered m n
-ordered m n =
-    elim (cases_Bool (int_le m n)) [
-      | inl le ↦ rising (rw le refl) (rw le refl) (grind (arith, ints))
-      | inr above ↦ falling (rw above refl) (rw above refl) (grind (arith, ints))
-    ]
+ordered m n = grind (arith, ints)
 
 -- a part of a climb is between nothing and the whole
 part_of_climb : (m : ℤ) (s d : ℕ) → s ≤ d → pos 0 ≤ℤ m
@@ -273,9 +265,7 @@ content_is_there (r ∷ l) t rises =
 -- a read of a content is exact exactly where the content has that value
 exact_of_content : (l : List Rec) (step : Bool) (t : ℕ) → IsRising l
     → exact_value (read_at step (points_of l) t) ≡ content_at l t
-exact_of_content l step t rises =
-    let rise = points_rise l rises in
-    exact-read_at step (points_of l) t rise ∙ sym (content_is_there l t rise)
+exact_of_content l step t rises = grind (arith, points_rise, exact-read_at, content_is_there)
 
 pub content_read : (l : List Rec) (step : Bool) (t : ℕ) (v : ℤ) → IsRising l → content_at l t ≡ Some v
     → read_at step (points_of l) t ≡ Exact v
@@ -290,6 +280,4 @@ read_content l step t v rises h = sym (exact_of_content l step t rises) ∙ ap e
 pub late_read : (rs l : List Rec) (q : Option Point) (step : Bool) (t : ℕ) (v : ℤ) → IsClosedContentOf rs q l
     → late_at rs t ≡ Some v
     → read_at step (points_of l) t ≡ Exact v
-late_read rs l q step t v closed late =
-    let there : closed_at rs q t ≡ Some v = rw late refl in
-    content_read l step t v closed.rising (closed.content t ∙ there)
+late_read rs l q step t v closed late = grind (arith, content_read)

@@ -1,5 +1,5 @@
 -- The whole number next to a fraction.
-use Rattle.std.proofs.Common.{◌≡◌, ℕ, ◌+◌, ◌*◌, ◌/◌, ◌<◌, ◌≤◌, ℤ, pos, negsuc, ◌+ℤ◌, ◌*ℤ◌, ◌≤ℤ◌, ◌<ℤ◌, ap, arith}
+use Rattle.std.proofs.Common.{◌≡◌, ℕ, ◌+◌, ◌*◌, ◌/◌, ◌<◌, ℤ, pos, negsuc, ◌+ℤ◌, ◌*ℤ◌, ◌≤ℤ◌, ◌<ℤ◌, ap, arith}
 use Rattle.std.specs.Int.{int_div_euclid}
 use Rattle.std.proofs.lemmas.Int.{ints, by_lt_z}
 use Rattle.std.proofs.Math.Nat.{mul-le-mul_right}
@@ -16,10 +16,7 @@ add_times x y t =
 
 -- products with a natural number keep the order
 pub times_rise : (x y : ℤ) (t : ℕ) → x ≤ℤ y → (x *ℤ pos t) ≤ℤ (y *ℤ pos t)
-times_rise x y t h =
-    let parts : up x + down y ≤ up y + down x = omega (arith, ints) in
-    let times = mul-le-mul_right t parts in
-    omega (arith, ints)
+times_rise x y t h = grind (arith, ints, mul-le-mul_right)
 
 -- the whole part of a fraction is the greatest whole number that is not above it
 pub whole_part : (z : ℤ) (n : ℕ) → 0 < n

@@ -1,9 +1,9 @@
 -- One more event keeps the rules of records and summaries, whatever state it comes to, and whatever its points have.
-use Rattle.std.proofs.Common.{◌≡◌, ℕ, ◌+◌, ◌*◌, ◌^◌, ◌<◌, ◌≤◌, Bool, true, false, List, [], ◌∷◌, ◌++◌, length, Option, None, Some, nat_le, refl, sym, ap, ◌∙◌, subst, arith, length-append}
+use Rattle.std.proofs.Common.{◌≡◌, ℕ, ◌+◌, ◌*◌, ◌^◌, ◌<◌, ◌≤◌, Bool, true, false, List, [], ◌∷◌, ◌++◌, length, Option, None, Some, nat_le, refl, sym, ◌∙◌, arith, length-append}
 use Rattle.std.proofs.lemmas.Bool.Decides.{nat_tests}
 use Rattle.trend_num.specs.{most_records, Point, Rec, Sending, Tuning, InRange}
 use Rattle.trend_num.specs.declared.sending.Sending.TheVariants as sending
-use Rattle.trend_model.specs.{IfThere, Event, Raw, Tune, is_far, PendingFits, IsBegunOrBlank, IsRuled, ArePartsOk, AllPoints, tuned_by}
+use Rattle.trend_model.specs.{IfThere, Event, Raw, Tune, is_far, PendingFits, IsRuled, ArePartsOk, AllPoints, tuned_by}
 use Rattle.trend_model.specs.State.{Offer, Turn, turn_of, offered, offered_in_order, gained, turned, Archive, archived, State, archive_in, state_with, after_under, after}
 use Rattle.trend_model.proofs.Sent.{not_far}
 use Rattle.trend_model.proofs.SentTunings.{force_sent}
@@ -64,10 +64,7 @@ in_order_goes : (P : Point → Type 0) (u : Tuning) (s p : Point) (waiting : Opt
     → PendingFits u (Some s) waiting → IfThere P waiting
     → P p → s.t < p.t → IfThere (λ (q : Point). q.t < p.t) waiting
     → GoesOn P u (Some s) (turn_of (offered_in_order u s waiting p))
-in_order_goes P u s p waiting waits waiting_is here later order =
-    cond_by (λ o. GoesOn P u (Some s) (turn_of o)) (is_far u s p) (sends waiting p) (waits_for s p)
-    (λ e. far_goes P u s p waiting waits waiting_is here later order)
-    (λ e. record { follows = tt; last_is = refl; waits = near_waits u s p later e; pending_is = here })
+in_order_goes P u s p waiting waits waiting_is here later order = grind (arith, cond_by, far_goes, near_waits)
 
 -- what an exception test does with a value continues from its two places
 pub offered_goes : (P : Point → Type 0) (u : Tuning) (last waiting : Option Point) (p : Point)
@@ -154,10 +151,7 @@ after_grows step s e = under_grows step s e s.summary.tuning
 
 -- so there are two more at most
 grown_length : (most : ℕ) (old new : List Rec) → Grows most old new → length new ≤ length old + most
-grown_length most old new grows =
-    let few = grows.few in
-    let n = ap length grows.at_end ∙ length-append old grows.more in
-    omega arith
+grown_length most old new grows = grind (arith, length-append)
 
 -- one event adds two records at most
 pub after_adds : (step : Bool) (s : State) (e : Event) → length (after step s e).records ≤ length s.records + 2
@@ -171,29 +165,19 @@ after_more step s e = let grown = after_grows step s e in (grown.more, grown.at_
 -- what compression keeps of a state that keeps the rules is fine
 pub fine_of : (P : Point → Type 0) (u : Tuning) (step : Bool) (s : State)
     → IsRuled P u step s.records s.summary → IsFine P step (archive_in u s)
-fine_of P u step s ruled = record {
-  whole = ruled.whole;
-  records_are = ruled.records_are;
-  held_is = ruled.held_is;
-  hinge_is = ruled.hinge_is;
-  upper_is = ruled.upper_is;
-  lower_is = ruled.lower_is;
-}
+fine_of P u step s ruled = grind arith
 
 -- what an event sends to a state that keeps the rules comes in its turn
 pub turn_of_ruled : (P : Point → Type 0) (u : Tuning) (step : Bool) (s : State) (e : Event)
     → IsRuled P u step s.records s.summary
     → AllPoints P (e ∷ []) → GoesOn P (tuned_by u e) s.summary.held
     (turned u s.summary.held s.summary.pending e)
-turn_of_ruled P u step s e ruled here =
-    turn_goes P u s.summary.held s.summary.pending e ruled.waits ruled.pending_is here
+turn_of_ruled P u step s e ruled here = grind (arith, turn_goes)
 
 -- the archive after an event has the event's tuning
 pub tuning_is : (u : Tuning) (step : Bool) (s : State) (e : Event)
     → (archived step (archive_in u s) (turned u s.summary.held s.summary.pending e).sends).tuning ≡ tuned_by u e
-tuning_is u step s e =
-    tuning_archived step (archive_in u s) (turned u s.summary.held s.summary.pending e).sends
-    ∙ turned_tuning u s.summary.held s.summary.pending e
+tuning_is u step s e = grind (arith, tuning_archived, turned_tuning)
 
 -- a fine archive, whose held point is the last value and whose tuning is w, with a pending value that fits
 state_ruled : (P : Point → Type 0) (w : Tuning) (step : Bool) (c : Archive) (taken : ℕ)
@@ -201,20 +185,7 @@ state_ruled : (P : Point → Type 0) (w : Tuning) (step : Bool) (c : Archive) (t
     → c.tuning ≡ w → c.held ≡ last → length c.records ≤ 2 * taken → PendingFits w last waiting
     → IfThere P waiting
     → IsRuled P w step (state_with c taken last waiting).records (state_with c taken last waiting).summary
-state_ruled P w step c taken last waiting fine tuned same two waits waiting_is = record {
-  counted = refl;
-  at_most_two = two;
-  whole = subst (λ q. IsBegunOrBlank step w.comp_dev c.records q c.hinge c.upper c.lower) same
-      (subst (λ (t : Tuning). IsBegunOrBlank step t.comp_dev c.records c.held c.hinge c.upper c.lower) tuned
-      fine.whole);
-  waits = waits;
-  records_are = fine.records_are;
-  held_is = subst (IfThere P) same fine.held_is;
-  pending_is = waiting_is;
-  hinge_is = fine.hinge_is;
-  upper_is = fine.upper_is;
-  lower_is = fine.lower_is;
-}
+state_ruled P w step c taken last waiting fine tuned same two waits waiting_is = grind arith
 
 -- one event keeps the rules of a state with a tuning
 under_ruled : (P : Point → Type 0) (u : Tuning) (step : Bool) (s : State) (e : Event)
@@ -239,10 +210,7 @@ pub after_ruled : (P : Point → Type 0) (u : Tuning) (step : Bool) (s : State) 
     → IsRuled P u step s.records s.summary
     → s.summary.tuning ≡ Some u → AllPoints P (e ∷ [])
     → IsRuled P (tuned_by u e) step (after step s e).records (after step s e).summary
-after_ruled P u step s e ruled tuned here =
-    subst (λ t. IsRuled P (tuned_by u e) step (after_under step s e t).records
-    (after_under step s e t).summary) (sym tuned)
-    (under_ruled P u step s e ruled here)
+after_ruled P u step s e ruled tuned here = grind (arith, under_ruled)
 
 -- and parts that are ok
 under_parts : (u : Tuning) (step : Bool) (s : State) (e : Event) → ArePartsOk u step s.records s.summary
@@ -250,20 +218,11 @@ under_parts : (u : Tuning) (step : Bool) (s : State) (e : Event) → ArePartsOk 
     → s.summary.taken + 1 < 10 ^ 18 → length (after_under step s e (Some u)).records ≤ most_records
     → ArePartsOk (tuned_by u e) step (after_under step s e (Some u)).records
     (after_under step s e (Some u)).summary
-under_parts u step s e parts here countable few = record {
-  ruled = under_ruled InRange u step s e parts.ruled here;
-  few = few;
-  countable = countable;
-  same_tuning = tuning_is u step s e;
-}
+under_parts u step s e parts here countable few = grind (arith, under_ruled, tuning_is)
 
 -- one event keeps parts that are ok, where there are not too many of anything
 pub after_parts : (u : Tuning) (step : Bool) (s : State) (e : Event) → s.summary.tuning ≡ Some u
     → ArePartsOk u step s.records s.summary
     → AllPoints InRange (e ∷ []) → length (after step s e).records ≤ most_records → s.summary.taken + 1 < 10 ^ 18
     → ArePartsOk (tuned_by u e) step (after step s e).records (after step s e).summary
-after_parts u step s e tuned parts here few countable =
-    subst (λ t. length (after_under step s e t).records ≤ most_records
-    → ArePartsOk (tuned_by u e) step (after_under step s e t).records
-    (after_under step s e t).summary) (sym tuned)
-    (under_parts u step s e parts here countable) few
+after_parts u step s e tuned parts here few countable = grind (arith, under_parts)

@@ -1,5 +1,5 @@
 -- Lemmas on what an exception test sends of a history.
-use Rattle.std.proofs.Common.{◌≡◌, ℕ, ◌+◌, ◌<◌, ◌≤◌, ◌-ℤ◌, Bool, true, false, cond, ◌||◌, List, [], ◌∷◌, ◌++◌, Option, None, Some, nat_lt, nat_le, unsigned_abs, refl, sym, ap, ◌∙◌, arith}
+use Rattle.std.proofs.Common.{◌≡◌, ◌+◌, ◌<◌, ◌≤◌, ◌-ℤ◌, Bool, true, false, cond, ◌||◌, List, [], ◌∷◌, ◌++◌, Option, None, Some, nat_le, unsigned_abs, refl, sym, ap, ◌∙◌, arith}
 use Rattle.std.proofs.lemmas.Bool.{false≢true}
 use Rattle.std.proofs.lemmas.Bool.Decides.{nat_tests}
 use Rattle.std.specs.Option.{option_or}
@@ -20,16 +20,7 @@ not_both o x a b = cc
 -- a value that is not far is near, and comes soon
 pub not_far : (u : Tuning) (s p : Point) → is_far u s p ≡ false
     → (unsigned_abs (p.v -ℤ s.v) ≤ u.exc_dev) × (p.t < s.t + u.exc_max)
-not_far u s p e = (
-  near u.exc_dev (unsigned_abs (p.v -ℤ s.v)) (s.t + u.exc_max) p.t e,
-  soon u.exc_dev (unsigned_abs (p.v -ℤ s.v)) (s.t + u.exc_max) p.t e,
-)
-  where
-    near : (m n k l : ℕ) → nat_lt m n || nat_le k l ≡ false → n ≤ m
-    near m n k l e = grind (arith, nat_tests)
-
-    soon : (m n k l : ℕ) → nat_lt m n || nat_le k l ≡ false → l < k
-    soon m n k l e = grind (arith, nat_tests)
+not_far u s p e = grind (arith, nat_tests)
 
 -- ---- the newest value
 
@@ -142,10 +133,7 @@ value_of false false p w before = refl
 -- a value is sent late, or in order, after all that waits, or is not sent
 pub value_sends : (o : Origin) (p : Point) (h : List Event) → sent o (Raw p ∷ h)
     ≡ sent_on (is_late p h) (is_far_from (in_force o h) (prior o h) p) p (flushed o h) (sent o h)
-value_sends o p h =
-    ap (λ ss. sent_on (is_late p h) (is_far_from (in_force o h) (prior o h) p || false) p ss ss)
-    (sent_next o h (Raw p))
-    ∙ value_of (is_late p h) (is_far_from (in_force o h) (prior o h) p) p (pending o h) (sent o h)
+value_sends o p h = grind (arith, sent_next, value_of)
 
 -- what a value does: it comes late, it goes, or it waits
 pub data Happens (o : Origin) (p : Point) (h : List Event) : Type 0 where
@@ -171,9 +159,7 @@ happens_by o p h false false late_is far_is last waiting all = waits late_is far
 
 -- one of the three things happens
 pub happens : (o : Origin) (p : Point) (h : List Event) → Happens o p h
-happens o p h =
-    happens_by o p h (is_late p h) (is_far_from (in_force o h) (prior o h) p) refl refl refl refl
-    (ap (λ ss. pushed_out (pending o (Raw p ∷ h)) ++ ss) (value_sends o p h))
+happens o p h = grind (arith, happens_by, value_sends)
 
 -- ---- the last value sent
 
@@ -186,8 +172,7 @@ last_pushed (Some q) ss = refl
 -- the newest value is the last one in order, once the pending one is pushed out
 last_flushed : (o : Origin) (h : List Event) → last_in_order (sent o h) ≡ prior o h
     → last_in_order (flushed o h) ≡ newest h
-last_flushed o h e =
-    last_pushed (pending o h) (sent o h) ∙ ap (λ s. option_or (pending o h) s) e ∙ sym (newest_is o h)
+last_flushed o h e = grind (arith, last_pushed, newest_is)
 
 -- the last value in order after one value more, by its two tests
 last_of_value : (o : Origin) (p : Point) (h : List Event) (late far : Bool) → last_in_order (sent o h)

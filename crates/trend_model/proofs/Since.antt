@@ -30,13 +30,7 @@ pub record IsSince (o : Origin) (ss : List Sent) (a : Point) (since passed : Lis
 -- none, where the hinge is the last value sent
 pub since_none : (o : Origin) (ss : List Sent) (a : Point) (passed : List Point)
     → ((x : Point) → IsAmong (InOrder x) ss → x.t ≤ a.t) → IsSince o ss a [] passed
-since_none o ss a passed last = record {
-  made = λ x h. absurd h;
-  after = λ x h. absurd h;
-  fit = λ x h. absurd h;
-  covers = λ x there after. (let below = last x there in absurd (omega arith));
-  end_last = last;
-}
+since_none o ss a passed last = grind arith
 
 -- what is sent in order before a late value
 pub sent_of_late : (x y : Point) (ss : List Sent) → IsAmong (InOrder x) (Late y ∷ ss) → IsAmong (InOrder x) ss
@@ -52,13 +46,7 @@ sent_of_tuned x u ss (inr there) = there
 -- a late value leaves them
 pub since_late : (o : Origin) (ss : List Sent) (a y : Point) (since passed : List Point)
     → IsSince o ss a since passed → IsSince o (Late y ∷ ss) a since passed
-since_late o ss a y since passed i = record {
-  made = i.made;
-  after = i.after;
-  fit = i.fit;
-  covers = λ x there. i.covers x (sent_of_late x y ss there);
-  end_last = λ x there. i.end_last x (sent_of_late x y ss there);
-}
+since_late o ss a y since passed i = grind (arith, sent_of_late)
 
 -- p joins those that are left of the old ones, where all fit
 pub since_adds : (o : Origin) (ss : List Sent) (a p : Point) (old before since passed : List Point)
@@ -67,22 +55,8 @@ pub since_adds : (o : Origin) (ss : List Sent) (a p : Point) (old before since p
     → ((x : Point) → IsAmong x old ⊎ IsAmong x before → IsAmong x since ⊎ IsAmong x passed)
     → ((x : Point) → IsAmong x (p ∷ since) → IsFitted o.step a p x (force_sent o.tuning ss).comp_dev passed)
     → IsSince o (InOrder p ∷ ss) a (p ∷ since) passed
-since_adds o ss a p old before since passed new sent_a i left covered fits = record {
-  made = λ x h. elim h [ inl e ↦ inl (e, refl) | inr there ↦ inr (i.made x (left x there)) ];
-  after = λ x h. elim h [
-    | inl e ↦ (let at = time_of x p e in let below = new a sent_a in omega arith)
-    | inr there ↦ i.after x (left x there)
-  ];
-  fit = fits;
-  covers = λ x there after. elim there [
-    | inl e ↦ inl (inl (same_in_order x p e))
-    | inr old_one ↦ elim (covered x (i.covers x old_one after)) [ inl h ↦ inl (inr h) | inr h ↦ inr h ]
-  ];
-  end_last = λ x there. elim there [
-    | inl e ↦ (let at = time_of_sent x p e in omega arith)
-    | inr old_one ↦ (let below = new x old_one in omega arith)
-  ];
-}
+since_adds o ss a p old before since passed new sent_a i left covered fits =
+    grind (arith, time_of, same_in_order, time_of_sent)
 
 -- what fits is near, where nothing was passed over
 near_of_fit : (step : Bool) (a q x : Point) (d : ℕ) (passed : List Point) → a.t < x.t → IsClear passed a q

@@ -1,7 +1,7 @@
 -- The state machine follows the definitions: two doors in place of the values since the hinge.
 use Rattle.std.proofs.Common.{◌≡◌, ℕ, ◌<◌, Bool, true, false, cond, ◌&&◌, List, [], ◌∷◌, ◌++◌, length, Option, None, Some, refl, sym, ap, ◌∙◌, subst, arith}
 use Rattle.trend_num.specs.{Point, Rec, Tuning}
-use Rattle.trend_model.specs.{IfThere, Event, Origin, Sent, InOrder, Late, Tuned, in_force, pending, sent, AreAfter, AreDoors, upper_after, lower_after, RisesInTime}
+use Rattle.trend_model.specs.{IfThere, Event, Origin, Sent, InOrder, Late, Tuned, in_force, sent, AreAfter, AreDoors, upper_after, lower_after, RisesInTime}
 use Rattle.trend_model.specs.Walk.{Walk, walk, walk_on, line_on, stair_on, ended, walked, is_short, is_early, is_fit, is_near, last_since_hinge, since}
 use Rattle.trend_model.specs.State.{Archive, keeps, holding, line_after, stair_after, ends_at, archive_on, archived, State, archive_in, after_under, after, nothing_taken, replay, followed, DoorsStand, Stands, turned}
 use Rattle.trend_model.proofs.Doors.{doors_decide, doors_hang, doors_swing}
@@ -73,9 +73,7 @@ line_by_follows false false t rs passed p a q u l since doors placed later =
 doors_at : (d : ℕ) (a q u l : Point) (since : List Point)
     → DoorsStand false d (Some a) (q ∷ since) (Some u) (Some l)
     → AreDoors a d (q ∷ since) u l
-doors_at d a q u l since stand =
-    subst (λ x. AreDoors a d (q ∷ since) x l) (sym (same_there (Some u) u stand.0 refl stand.2))
-    (subst (λ y. AreDoors a d (q ∷ since) stand.0 y) (sym (same_there (Some l) l stand.1 refl stand.3)) stand.4)
+doors_at d a q u l since stand = grind (arith, same_there)
 
 -- a tag of lines continues by p, which is after the hinge
 line_follows : (t : Tuning) (rs : List Rec) (passed : List Point) (p : Point) (a : Option Point)
@@ -162,9 +160,7 @@ follows_at true w (InOrder p) u l stand placed later =
 follows_on : (step : Bool) (w : Walk) (c : Archive) (s : Sent) → FollowsWalk step w c
     → ArePlaced w.hinge w.since
     → IsAfterHinge w.hinge s → FollowsWalk step (walk_on step w s) (archive_on step c s)
-follows_on step w c s f placed later =
-    subst (λ r. FollowsWalk step (walk_on step w s) (archive_on step r s)) (sym f.same)
-    (follows_at step w s c.upper c.lower f.doors placed later)
+follows_on step w c s f placed later = grind (arith, follows_at)
 
 -- what the walk's invariant says of the hinge and the values since
 placed_of : (o : Origin) (ss : List Sent) (rs : List Rec) (a : Option Point) (since passed : List Point)
@@ -204,26 +200,12 @@ walk_tuned o h = (walk_holds o (sent o h) (sent_rises o h)).tuned ∙ force_is o
 -- what compression keeps of a state that stands for a history follows its walk
 follows_of : (o : Origin) (h : List Event) (s : State) → Stands o h s
     → FollowsWalk o.step (walked o h) (archive_in (in_force o h) s)
-follows_of o h s stands =
-    let w = walked o h in
-    let x = s.summary in
-    record {
-      same = ap (λ t. archive t s.records x.hinge x.held x.upper x.lower) (sym (walk_tuned o h))
-          ∙ ap (λ rs. archive w.tuning rs x.hinge x.held x.upper x.lower) stands.same_records
-          ∙ ap (λ a. archive w.tuning w.records a x.held x.upper x.lower) stands.same_hinge
-          ∙ ap (λ q. archive w.tuning w.records w.hinge q x.upper x.lower) stands.same_held;
-      doors = subst (λ (t : Tuning). DoorsStand o.step t.comp_dev w.hinge w.since x.upper x.lower)
-          (sym (walk_tuned o h)) stands.doors;
-    }
+follows_of o h s stands = grind (arith, archive, walk_tuned)
 
 -- an event's turn at the two places of a state that stands for a history follows what is sent
 turn_follows : (o : Origin) (h : List Event) (e : Event) (s : State) → Stands o h s
     → FollowsTurn o h e (turned (in_force o h) s.summary.held s.summary.pending e)
-turn_follows o h e s stands =
-    subst (λ q. FollowsTurn o h e (turned (in_force o h) s.summary.held q e)) (sym stands.same_pending)
-    (subst (λ q. FollowsTurn o h e (turned (in_force o h) q (pending o h) e))
-    (sym (stands.same_held ∙ held_is_prior o h))
-    (turned_follows o h e))
+turn_follows o h e s stands = grind (arith, held_is_prior, turned_follows)
 
 -- the state after an event, from the archive that follows the longer history
 under_stands : (o : Origin) (h : List Event) (e : Event) (s : State) → Stands o h s
@@ -253,8 +235,7 @@ under_stands o h e s stands =
 -- one event goes from what stands for a history to what stands for the history and that event
 pub stands_after : (o : Origin) (h : List Event) (e : Event) (s : State) → Stands o h s
     → Stands o (e ∷ h) (after o.step s e)
-stands_after o h e s stands =
-    subst (λ u. Stands o (e ∷ h) (after_under o.step s e u)) (sym stands.tuned) (under_stands o h e s stands)
+stands_after o h e s stands = grind (arith, under_stands)
 
 -- so do any events
 pub stands_followed : (o : Origin) (h events : List Event) (s : State) → Stands o h s
@@ -265,13 +246,4 @@ stands_followed o h (e ∷ events) s stands =
 
 -- before the first event
 pub nothing_stands : (o : Origin) → Stands o [] (nothing_taken o.tuning)
-nothing_stands o = record {
-  tuned = refl;
-  taken = refl;
-  same_records = refl;
-  counted = refl;
-  same_held = refl;
-  same_pending = refl;
-  same_hinge = refl;
-  doors = (refl, refl);
-}
+nothing_stands o = grind arith

@@ -2,7 +2,7 @@
 -- the last.
 use Rattle.std.proofs.Common.{◌≡◌, ℕ, ◌≤◌, ◌⊎◌, inl, inr, Bool, true, false, ◌&&◌, ◌-ℤ◌, List, [], ◌∷◌, ◌++◌, Option, None, Some, nat_le, unsigned_abs, refl, sym, subst, arith}
 use Rattle.std.proofs.lemmas.Bool.Decides.{nat_tests}
-use Rattle.trend_num.specs.{Point, Rec, Tuning, Within, is_within}
+use Rattle.trend_num.specs.{Point, Rec, Tuning, Within}
 use Rattle.trend_model.specs.{IsAmong, Origin, Sent, InOrder, Late, Tuned, RisesInTime, lines, stairs}
 use Rattle.trend_model.specs.Walk.{Walk, walk, walk_on, line_on, stair_on, ended, kept, late, is_short, is_early, is_fit, is_near}
 use Rattle.trend_model.proofs.Doors.{pass_each, second_of_both, within_test}
@@ -49,10 +49,7 @@ hung_first : (o : Origin) (ss : List Sent) (rs : List Rec) (passed : List Point)
     → IsHung o (InOrder p ∷ ss) (rs ++ (kept p ∷ [])) p [] passed
 hung_first o ss rs passed p i = record {
   chain = chain_first o ss rs passed p i.none_kept;
-  values = since_none o (InOrder p ∷ ss) p passed (λ x there. elim there [
-    | inl e ↦ (let at = time_of_sent x p e in omega arith)
-    | inr old ↦ absurd (i.none_sent x old)
-  ]);
+  values = grind (arith, since_none, time_of_sent);
 }
 
 -- the last of the values since is kept
@@ -74,8 +71,7 @@ hung_adds : (o : Origin) (ss : List Sent) (rs : List Rec) (a p : Point) (old bef
     → IsHung o (InOrder p ∷ ss) rs a (p ∷ since) passed
 hung_adds o ss rs a p old before since passed rises i left gone covered fits = record {
   chain = chain_more o (InOrder p) ss rs before passed a rises gone i.chain;
-  values = since_adds o ss a p old before since passed rises.0 (hinge_sent o ss rs a old before i) i.values
-      left (λ x h. elim h [ inl there ↦ covered x there | inr there ↦ inr (gone x there) ]) fits;
+  values = grind (arith, since_adds, hinge_sent);
 }
 
 -- ---- lines
@@ -87,8 +83,7 @@ near_end a p x d e = subst (λ z. Within a p z d) (sym e) (near_right false a p 
 -- each of the values is near the line that fits
 fit_near : (u : Tuning) (a p x : Point) (values : List Point) → is_fit u a values p ≡ true → IsAmong x values
     → Within a p x u.comp_dev
-fit_near u a p x values fits there =
-    within_test a p x u.comp_dev (pass_each (λ y. is_within a p y u.comp_dev) values fits x there)
+fit_near u a p x values fits there = grind (arith, within_test, pass_each)
 
 -- p alone is on its line
 hung_alone : (t : Tuning) (ss : List Sent) (rs : List Rec) (a p : Point) (old before passed : List Point)
@@ -154,10 +149,7 @@ hung_skips : (t : Tuning) (ss : List Sent) (rs : List Rec) (a p : Point) (since 
     → IsHung (stairs t) (InOrder p ∷ ss) rs a (p ∷ since) (p ∷ passed)
 hung_skips t ss rs a p since passed rises i =
     hung_adds (stairs t) ss rs a p since passed since (p ∷ passed) rises i (λ x h. h) (λ x h. inr h)
-    (λ x h. inl h) (λ x h. elim h [
-      | inl e ↦ inr (inl e)
-      | inr there ↦ elim (i.values.fit x there) [ inl near ↦ inl near | inr gone ↦ inr (inr gone) ]
-    ])
+    (λ x h. inl h) (λ x h. grind arith)
 
 -- a stair continues in each of three ways
 stair_walks_by : (t : Tuning) (ss : List Sent) (rs : List Rec) (a p : Point) (since passed : List Point)

@@ -1,5 +1,5 @@
 -- Windows of a list of points that meet.
-use Rattle.std.proofs.Common.{◌≡◌, ℕ, ◌+◌, ◌<◌, ◌≤◌, inl, inr, ℤ, pos, ◌+ℤ◌, Bool, true, false, cond, nat_lt, nat_le, List, [], ◌∷◌, ◌++◌, length, Option, None, Some, refl, sym, ap, ap₂, ◌∙◌, append_assoc, append-nil, arith}
+use Rattle.std.proofs.Common.{◌≡◌, ℕ, ◌+◌, ◌<◌, ◌≤◌, inl, inr, ℤ, pos, ◌+ℤ◌, Bool, true, false, cond, nat_lt, nat_le, List, [], ◌∷◌, ◌++◌, length, Some, refl, sym, ap, ap₂, ◌∙◌, append_assoc, append-nil, arith}
 use Rattle.std.specs.Prelude.{◌&&◌}
 use Rattle.std.specs.List.{filter}
 use Rattle.std.proofs.lemmas.Bool.{lt-ltb, le-ltb, and_parts, and_from}
@@ -105,32 +105,16 @@ inside_parts xs p ys from to rises low high =
     let after = after_middle xs p ys rises in
     let whole : filter (inside from to) (xs ++ p ∷ ys)
     ≡ filter (inside from p.t) xs ++ p ∷ filter (inside p.t to) ys =
-    filter-append (inside from to) xs (p ∷ ys)
-    ∙ rw (lt-ltb from p.t low, lt-ltb p.t to high)
-    (ap₂ (λ l m. l ++ p ∷ m)
-    (filter_same (inside from to) (inside from p.t) xs
-    (λ x in_it. first_half from p.t to x.t high (before x in_it)))
-    (filter_same (inside from to) (inside p.t to) ys
-    (λ y in_it. second_half from p.t to y.t low (after y in_it)))) in
+    grind (arith, filter-append, lt-ltb, filter_same, first_half, second_half) in
     let first : filter (inside from p.t) (xs ++ p ∷ ys) ≡ filter (inside from p.t) xs =
     filter-append (inside from p.t) xs (p ∷ ys)
-    ∙ (ap (λ l. filter (inside from p.t) xs ++ l)
-    (filter_none (inside from p.t) (p ∷ ys) (λ y in_it. not_first from p.t y.t (not_before y in_it)))
-    ∙ append-nil (filter (inside from p.t) xs)) in
+    ∙ (grind (arith, filter_none, not_first, not_before, append-nil)) in
     let second : filter (inside p.t to) (xs ++ p ∷ ys) ≡ filter (inside p.t to) ys =
-    filter-append (inside p.t to) xs (p ∷ ys)
-    ∙ (ap (λ l. l ++ filter (inside p.t to) (p ∷ ys))
-    (filter_none (inside p.t to) xs
-    (λ x in_it. not_second p.t to x.t (let h = before x in_it in omega arith)))
-    ∙ rw (not_second p.t to p.t (omega arith)) refl) in
+    grind (arith, filter-append, filter_none, not_second) in
     whole ∙ sym (ap₂ (λ l m. l ++ p ∷ m) first second)
   where
     not_before : (y : Point) → IsAmong y (p ∷ ys) → p.t ≤ y.t
-    not_before y in_it =
-        elim in_it [
-          | inl same ↦ rw same (omega arith)
-          | inr later ↦ let h = after_middle xs p ys rises y later in omega arith
-        ]
+    not_before y in_it = grind (arith, after_middle)
 
 -- ---- areas of windows that meet
 
@@ -162,12 +146,7 @@ shape_parts step ps p from to rises in_it low high =
 is_measured : (step : Bool) (m : Measure) (ps : List Point) (from to : ℕ) (a : ℤ)
     → window_value step m ps from to ≡ Some a
     → (is_covered ps from to ≡ true) × (measured step m ps (shape step ps from to) from to ≡ Some a)
-is_measured step m ps from to a value =
-    by_test (is_covered ps from to) (measured step m ps (shape step ps from to) from to) value
-  where
-    by_test : (b : Bool) (r : Option ℤ) → cond b r None ≡ Some a → (b ≡ true) × (r ≡ Some a)
-    by_test true r h = (refl, h)
-    by_test false r h = cc
+is_measured step m ps from to a value = grind arith
 
 -- two windows that adjoin are covered where both together are
 covered_both : (ps : List Point) (from middle to : ℕ) → is_covered ps from middle ≡ true
@@ -184,16 +163,7 @@ pub area_adds : (step : Bool) (ps : List Point) (p : Point) (from to : ℕ) (a b
     → window_value step Area ps from p.t ≡ Some a → window_value step Area ps p.t to ≡ Some b
     → window_value step Area ps from to ≡ Some (a +ℤ b)
 area_adds step ps p from to a b rises in_it low high first second =
-    let one = is_measured step Area ps from p.t a first in
-    let two = is_measured step Area ps p.t to b second in
-    let one_is : area step (shape step ps from p.t) ≡ a = cc (one.1) in
-    let two_is : area step (shape step ps p.t to) ≡ b = cc (two.1) in
-    rw (
-      covered_both ps from p.t to one.0 two.0,
-      shape_parts step ps p from to rises in_it low high,
-      one_is,
-      two_is,
-    ) refl
+    grind (arith, is_measured, covered_both, shape_parts)
 
 -- ---- counts of windows that adjoin
 

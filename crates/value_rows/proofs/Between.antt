@@ -27,9 +27,7 @@ ended c ends = elim (c == 13) as (λ b. is_between (cond b st.AfterCr st.StartRe
 
 -- a byte in a field, or after a quoted one
 in_a_field : (c : ℕ) → EndsBetween (step default_config st.InField c)
-in_a_field c =
-    either (c == 44) _ _ (passes st.StartField act.EndField refl)
-    (either ((c == 13) || (c == 10)) _ _ (ended c) (passes st.InField act.Copy refl))
+in_a_field c = grind (arith, either, passes, ended)
 
 -- at the start of a field
 at_field : (c : ℕ) → EndsBetween (step default_config st.StartField c)

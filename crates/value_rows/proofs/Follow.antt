@@ -1,5 +1,5 @@
 -- A scan goes along with a reader's state, one byte after the other.
-use Rattle.std.proofs.Common.{◌≡◌, ℕ, ◌+◌, Bool, true, false, refl, sym, subst, nat_eq}
+use Rattle.std.proofs.Common.{arith, ◌≡◌, ℕ, ◌+◌, Bool, true, false, refl}
 use Rattle.std.proofs.lemmas.Bool.{eqb-true, false≢true}
 use Rattle.csv.specs.Machine.{step}
 use Rattle.csv.specs.Reading.{default_config}
@@ -44,16 +44,7 @@ pub record Follows (ended : ℕ) (next : State × Action) (part : FieldPart) (co
 
 -- each byte is one of these
 each_byte : (P : ℕ → Type 0) → P 34 → P 44 → P 13 → P 10 → ((c : ℕ) → IsBare c → P c) → (c : ℕ) → P c
-each_byte P quote comma return feed bare c =
-    is 34 quote (λ no_quote. is 44 comma (λ no_comma. is 13 return (λ no_return. is 10 feed (λ no_feed.
-    bare c (record { quote = no_quote; comma = no_comma; return = no_return; feed = no_feed })))))
-  where
-    is : (b : ℕ) → P b → (nat_eq c b ≡ false → P c) → P c
-    is b same other =
-        elim (nat_eq c b) as (λ e. nat_eq c b ≡ e → P c) [
-          | true ↦ λ e. subst P (sym (eqb-true _ _ e)) same
-          | false ↦ other
-        ] refl
+each_byte P quote comma return feed bare c = grind (arith, eqb-true)
 
 -- inside a record nothing is to be shown of a state between two
 inside : (s : State) (ended : ℕ) → is_used s ≡ true → is_between s ≡ false → Stands s ended

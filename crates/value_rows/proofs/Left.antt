@@ -50,11 +50,7 @@ one_read n s xs = rw add-one refl
 -- the first record that is left, and the others
 pub first_left : (s : State) (xs : List ℕ) (p : Read) → is_between s ≡ true → next_record default_config s [] [] xs ≡ Some p
     → records_left s xs ≡ p.0 ∷ records_left p.1 p.2
-first_left s xs p between found =
-    let ends = read_ends s [] [] xs p found in
-    let short : length p.2 < length xs = shortens s xs p between found in
-    one_read (length xs) s xs ∙ ap (records_next (records_from default_config (length xs))) found
-    ∙ ap (λ l. p.0 ∷ l) (enough (length xs) (length p.2 + 1) p.1 p.2 ends.between short (omega arith))
+first_left s xs p between found = grind (arith, read_ends, shortens, one_read, enough)
 
 -- no record is left
 nothing_left : (s : State) (xs : List ℕ) → next_record default_config s [] [] xs ≡ None → records_left s xs ≡ []
@@ -63,8 +59,7 @@ nothing_left s xs gone = one_read (length xs) s xs ∙ ap (records_next (records
 -- a reader that found the end
 ended_next : (a b : Reader (Bor (List ℕ))) (fields : List (List ℕ)) (left : List (List (List ℕ))) → HasLeft a left
     → ReadRecord (λ (s : Bor (List ℕ)). Some s.now) a b false fields → left ≡ []
-ended_next a b fields left has read =
-    has.records ∙ nothing_left a.state has.bytes (rows-end (λ (s : Bor (List ℕ)). Some s.now) a b fields default_config has.bytes has.config has.source read)
+ended_next a b fields left has read = grind (arith, nothing_left, rows-end)
 
 -- records that are left in the same state of the same bytes
 same_left : (f g : List (List ℕ)) (s t : State) (xs ys : List ℕ) → f ≡ g → s ≡ t → xs ≡ ys → g ∷ records_left s xs ≡ f ∷ records_left t ys
@@ -82,20 +77,7 @@ found_next a b fields left has read flexible ready =
     let (state, bytes) = tail in
     let ends = (read_ends a.state [] [] has.bytes p found).between in
     let first : records_left a.state has.bytes ≡ p.0 ∷ records_left p.1 p.2 = first_left a.state has.bytes p has.between found in
-    let between : is_between b.state ≡ true = rw (← state) ends in (
-      records_left b.state z,
-      has.records ∙ first ∙ same_left fields p.0 p.1 b.state p.2 z same state bytes,
-      record {
-        config = read.2 ∙ has.config;
-        flexible = flexible;
-        untrimmed = read.3 ∙ has.untrimmed;
-        ready = ready;
-        between = between;
-        bytes = z;
-        source = source;
-        records = refl;
-      },
-    )
+    let between : is_between b.state ≡ true = rw (← state) ends in (grind (arith, same_left))
 
 -- a reader's next record
 pub next_left : (a b : Reader (Bor (List ℕ))) (fields : List (List ℕ)) (left : List (List (List ℕ))) (found : Bool) → HasLeft a left
@@ -115,8 +97,4 @@ same_next s t xs ys between_s between_t same =
 -- the records that are left are those of a read that begins with no field
 pub left_is : (s : State) (xs : List ℕ) → is_between s ≡ true
     → records_left s xs ≡ records_next records_left (next_record default_config s [] [] xs)
-left_is s xs between =
-    elim (next_record default_config s [] [] xs) as (λ o. next_record default_config s [] [] xs ≡ o → records_left s xs ≡ records_next records_left o) [
-      | None ↦ λ gone. nothing_left s xs gone
-      | Some p ↦ λ found. first_left s xs p between found
-    ] refl
+left_is s xs between = grind (arith, nothing_left, first_left)

@@ -1,5 +1,5 @@
 -- A byte order mark in the text: a reader leaves one out at the begin of what it is handed, and nowhere else.
-use Rattle.std.proofs.Common.{◌≡◌, ℕ, zero, suc, ◌+◌, ◌-◌, ◌&&◌, true, false, cond, List, [], ◌∷◌, length, map, take, drop, take-add, take_all, length-drop, nat_le, refl, sym, ap, ◌∙◌, arith}
+use Rattle.std.proofs.Common.{◌≡◌, ℕ, zero, suc, ◌+◌, ◌-◌, true, false, cond, List, [], ◌∷◌, length, map, take, drop, take-add, take_all, length-drop, refl, sym, ap, ◌∙◌, arith}
 use Rattle.std.proofs.lemmas.Bool.Decides.{nat_tests}
 use Rattle.csv.specs.Reading.{is_bom, strip_bom}
 use Rattle.csv.specs.declared.parser.State.TheVariants.{StartRecord}
@@ -7,9 +7,7 @@ use Rattle.value_rows.specs.{AreFirstRows, ReadsRecords, has_mark, reads_behind,
 
 -- whether a text of three bytes and more begins with one
 mark_is : (a b c : ℕ) (rest : List ℕ) → has_mark (a ∷ b ∷ c ∷ rest) ≡ is_bom a b c
-mark_is a b c rest =
-    let long : nat_le 3 (length (a ∷ b ∷ c ∷ rest)) ≡ true = grind (arith, nat_tests) in
-    ap (λ l. l && is_bom a b c) long
+mark_is a b c rest = grind (arith, nat_tests)
 
 -- a text without one is read as it is
 unmarked : (text : List ℕ) → has_mark text ≡ false → strip_bom text ≡ text
@@ -63,13 +61,11 @@ all_behind text = take_all (length text - 3) (drop 3 text) (omega (arith, length
 
 -- the records of a text that has one, and of a part that has it too
 pub marked_records : (text : List ℕ) → has_mark text ≡ true → text_records_of text ≡ records_left StartRecord (behind_mark text)
-marked_records text has =
-    ap (records_left StartRecord) (marked text has ∙ sym (all_behind text))
+marked_records text has = grind (arith, marked, all_behind)
 
 pub marked_part_records : (n : ℕ) (text : List ℕ) → has_mark text ≡ true
     → text_records_of (take (3 + n) text) ≡ records_left StartRecord (take n (behind_mark text))
-marked_part_records n text has =
-    ap (records_left StartRecord) (marked_cut n text has ∙ ap (take n) (sym (all_behind text)))
+marked_part_records n text has = grind (arith, marked_cut, all_behind)
 
 -- and without one
 pub unmarked_records : (text : List ℕ) → has_mark text ≡ false → text_records_of text ≡ records_left StartRecord text

@@ -96,9 +96,7 @@ place_within names name (Some i) is = (position-Some (bytes_eq name) names i [] 
 
 -- and what is there is the name
 place_holds : (names : List (List ℕ)) (name : List ℕ) (i : ℕ) → first_place_of names name ≡ Some i → (i < length names) × (name ≡ get_or names i [])
-place_holds names name i is =
-    let at = position-Some (bytes_eq name) names i [] is in
-    (at.0, (bytes_eq-Decides name (get_or names i [])).0 at.1)
+place_holds names name i is = grind (arith, position-Some, bytes_eq-Decides)
 
 -- a name that has a place is a name
 pub place_named : (names : List (List ℕ)) (name : List ℕ) (o : Option ℕ) → All IsName names → o ≡ first_place_of names name

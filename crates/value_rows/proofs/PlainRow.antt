@@ -1,5 +1,5 @@
 -- Lemmas on a plain row: its line is the next record of its text.
-use Rattle.std.proofs.Common.{◌≡◌, ◌⊎◌, inl, inr, ℕ, ◌+◌, ◌-◌, ◌<◌, ℤ, pos, neg_ℤ, Bool, ◌&&◌, true, false, cond, List, [], ◌∷◌, ◌++◌, All, length, take, get_or, nat_eq, nat_le, Option, Some, None, Ok, refl, sym, ap, ◌∙◌, append_assoc}
+use Rattle.std.proofs.Common.{◌≡◌, ◌⊎◌, inl, inr, ℕ, ◌<◌, ℤ, pos, neg_ℤ, Bool, ◌&&◌, true, false, cond, List, [], ◌∷◌, ◌++◌, All, length, get_or, nat_eq, nat_le, Option, Some, None, Ok, refl, sym, ap, ◌∙◌, append_assoc}
 use Rattle.std.proofs.Common.{subst, arith}
 use Rattle.std.proofs.lemmas.Bool.Decides.{nat_tests}
 use Rattle.std.proofs.lemmas.Bool.{eqb-true, false≢true}
@@ -60,8 +60,7 @@ field_read : (s : State) (fields : List (List ℕ)) (b : ℕ) (x tail : List ℕ
     → step default_config s b ≡ (st.InField, act.Copy) → All IsBare x
     → next s fields [] (b ∷ (x ++ tail)) ≡ next st.InField fields (b ∷ x) tail
 unfolding next_record
-field_read s fields b x tail begins bare =
-    rw begins (run-copies default_config st.InField fields (b ∷ []) x tail (bare_runs x bare))
+field_read s fields b x tail begins bare = grind (arith, run-copies, bare_runs)
 
 -- up to a comma
 comma_read : (s : State) (fields : List (List ℕ)) (b : ℕ) (x tail : List ℕ)
@@ -154,14 +153,7 @@ returned_first name t v after bare_name bare_t bare_v =
 
 -- a digit is such a byte
 digit_bare : (b : ℕ) → is_ascii_digit b ≡ true → IsBare b
-digit_bare b is =
-    let code = digit_code b is in
-    record {
-      quote = grind (arith, nat_tests);
-      comma = grind (arith, nat_tests);
-      return = grind (arith, nat_tests);
-      feed = grind (arith, nat_tests);
-    }
+digit_bare b is = grind (arith, digit_code, nat_tests)
 
 -- so are those of digits
 digits_bare : (x : List ℕ) → list_all is_ascii_digit x ≡ true → All IsBare x
@@ -207,33 +199,11 @@ numeral_bare (b ∷ x) z is =
 
 -- a letter, a digit or one of `_`, `.` and `-` is such a byte
 name_byte_bare : (b : ℕ) → is_name_byte b ≡ true → IsBare b
-name_byte_bare b is = record {
-  quote = other b 34 is refl;
-  comma = other b 44 is refl;
-  return = other b 13 is refl;
-  feed = other b 10 is refl;
-}
-  where
-    other : (b c : ℕ) → is_name_byte b ≡ true → is_name_byte c ≡ false → nat_eq b c ≡ false
-    other b c is not =
-        elim (nat_eq b c) as (λ e. nat_eq b c ≡ e → e ≡ false) [
-          | true ↦ λ same. absurd (false≢true (sym not ∙ ap is_name_byte (sym (eqb-true _ _ same)) ∙ is))
-          | false ↦ λ _. refl
-        ] refl
+name_byte_bare b is = grind (arith, false≢true, eqb-true)
 
 -- a name has bytes, and such ones alone
 name_bare : (name : List ℕ) → IsName name → IsBareField name
-name_bare name is = record {
-  some = is.not_empty;
-  bare = All-from_get_or IsBare name 0 (λ i below. name_byte_bare (get_or name i 0) (spelled_at i below));
-}
-  where
-    spelled_at : (i : ℕ) → i < length name → is_name_byte (get_or name i 0) ≡ true
-    spelled_at i below =
-        elim (is_name_byte (get_or name i 0)) as (λ b. is_name_byte (get_or name i 0) ≡ b → b ≡ true) [
-          | true ↦ λ _. refl
-          | false ↦ λ e. absurd (false≢true (sym (list_all_at is_name_byte name i 0 below e) ∙ is.spelled))
-        ] refl
+name_bare name is = grind (arith, name_byte_bare, false≢true, list_all_at)
 
 -- a time and a value that were read, and the line that they are in
 record IsRead (line : List ℕ) (p : Point) : Type 0 where
@@ -270,19 +240,7 @@ fields_read line p (t ∷ v ∷ []) parts read =
 stripped : (P : List ℕ → List ℕ → Type 0) (line : List ℕ) → P line line → ((front : List ℕ)
     → line ≡ front ++ 13 ∷ [] → P line front)
     → P line (strip_carriage_return line)
-stripped P line whole short =
-    let n = length line - 1 in
-    elim (nat_eq (get_or line n 0) 13) as (λ b. nat_eq (get_or line n 0) 13 ≡ b → P line (cond b (take n line) line)) [
-      | true ↦ λ is. short (take n line) (cut line (eqb-true _ _ is))
-      | false ↦ λ _. whole
-    ] refl
-  where
-    cut : (line : List ℕ) → get_or line (length line - 1) 0 ≡ 13 → line ≡ take (length line - 1) line ++ 13 ∷ []
-    cut [] last = absurd (omega (arith, last))
-    cut (b ∷ line) last =
-        let n = length (b ∷ line) - 1 in
-        sym (take_all (n + 1) (b ∷ line) (omega arith)) ∙ take_more (b ∷ line) n 0 (omega arith)
-        ∙ ap (λ x. take n (b ∷ line) ++ x ∷ []) last
+stripped P line whole short = grind (arith, eqb-true, take_all, take_more)
 
 -- a plain row is the first one
 pub plain_first : (tags : List (List ℕ)) (text name rest after : List ℕ) (tag : ℕ) (p : Point)
@@ -307,8 +265,7 @@ plain_first tags text name rest after tag p cut is_name place first =
         (first.cut ∙ ap (λ l. l ++ 10 ∷ after) is.joined ∙ append_assoc is.t (44 ∷ is.v) (10 ∷ after)) in
         record {
           fields = name ∷ is.t ∷ is.v ∷ [];
-          first = ap (records_left start) shape
-              ∙ fed_first name is.t is.v after (name_bare name is_name) is.bare_t is.bare_v;
+          first = grind (arith, fed_first, name_bare);
           reads = good is.t is.v is.reads;
         }
 
@@ -323,7 +280,6 @@ plain_first tags text name rest after tag p cut is_name place first =
         (line ∙ ap (λ l. l ++ 13 ∷ 10 ∷ after) is.joined ∙ append_assoc is.t (44 ∷ is.v) (13 ∷ 10 ∷ after)) in
         record {
           fields = name ∷ is.t ∷ is.v ∷ [];
-          first = ap (records_left start) shape
-              ∙ returned_first name is.t is.v after (name_bare name is_name) is.bare_t is.bare_v;
+          first = grind (arith, returned_first, name_bare);
           reads = good is.t is.v is.reads;
         }

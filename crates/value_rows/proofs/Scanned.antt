@@ -1,8 +1,8 @@
 -- What a reader has of a text that was scanned so far, and what it then reads of the text that is cut there.
-use Rattle.std.proofs.Common.{All, ◌≡◌, inr, ℕ, ◌+◌, ◌<◌, ◌≤◌, ◌==◌, ◌||◌, Bool, true, false, cond, List, [], ◌∷◌, ◌++◌, None, Some, length, get_or, take, drop, refl, sym, ap, ◌∙◌, append_assoc, length-append, take-append-drop, arith}
+use Rattle.std.proofs.Common.{All, ◌≡◌, inr, ℕ, ◌+◌, ◌<◌, ◌≤◌, ◌==◌, ◌||◌, true, false, cond, List, [], ◌∷◌, ◌++◌, Some, length, get_or, take, drop, refl, sym, ap, ◌∙◌, append_assoc, length-append, take-append-drop, arith}
 use Rattle.std.proofs.Common.{subst}
 use Rattle.std.proofs.lemmas.List.{append-nil, take_more}
-use Rattle.std.proofs.lemmas.List.Elements.{All-append, All-cons, All-nil, All-push}
+use Rattle.std.proofs.lemmas.List.Elements.{All-append, All-nil, All-push}
 use Rattle.csv.specs.Machine.{Read, ends_at_end, field_after, fields_after, is_end, next_record, step}
 use Rattle.csv.specs.Reading.{default_config, records_from, records_next}
 use Rattle.csv.specs.declared.parser.Action.{Action}
@@ -134,8 +134,7 @@ module _ {text : List ℕ} {part : FieldPart} {ended : ℕ} (here : IsScanned te
 
   -- it goes along with the reader
   along : Follows ended (step default_config here.state c) (part_after part c) (ended_after part ended c)
-  along = subst (λ p. Follows ended (step default_config here.state c) (part_after p c) (ended_after p ended c)) here.part_is
-      (follows here.state ended c here.stands)
+  along = grind (arith, follows)
 
   -- it ends a record
   ends_one : is_end action ≡ true → IsScanned (text ++ c ∷ []) (part_after part c) (ended_after part ended c)
@@ -148,10 +147,7 @@ module _ {text : List ℕ} {part : FieldPart} {ended : ℕ} (here : IsScanned te
         state = next;
         fields = [];
         field = [];
-        reads = λ tail.
-            ap (records_left st.StartRecord) (append_assoc text (c ∷ []) tail) ∙ here.reads (c ∷ tail)
-            ∙ rw ends (ap (λ l. here.done ++ whole ∷ l) (left_is next tail (step_ends here.state c ends)))
-            ∙ sym (append_assoc here.done (whole ∷ []) (left_from next [] [] tail));
+        reads = grind (arith, append_assoc, left_is, step_ends);
         stands = subst (Stands next) along.count_is along.stands;
         part_is = along.part_is;
         ended_is = sym none ∙ along.count_is;
@@ -167,8 +163,7 @@ module _ {text : List ℕ} {part : FieldPart} {ended : ℕ} (here : IsScanned te
         state = next;
         fields = fields_after action here.fields here.field;
         field = field_after action c here.field;
-        reads = λ tail.
-            ap (records_left st.StartRecord) (append_assoc text (c ∷ []) tail) ∙ here.reads (c ∷ tail) ∙ rw more refl;
+        reads = grind (arith, append_assoc);
         stands = subst (Stands next) along.count_is along.stands;
         part_is = along.part_is;
         ended_is = counted action here.fields here.field more ∙ ap (count_after action) here.ended_is ∙ along.count_is;
@@ -177,10 +172,7 @@ module _ {text : List ℕ} {part : FieldPart} {ended : ℕ} (here : IsScanned te
 
   -- in either case
   one_more : IsScanned (text ++ c ∷ []) (part_after part c) (ended_after part ended c)
-  one_more = elim (is_end action) as (λ b. is_end action ≡ b → IsScanned (text ++ c ∷ []) (part_after part c) (ended_after part ended c)) [
-    | true ↦ ends_one
-    | false ↦ goes_on
-  ] refl
+  one_more = grind (arith, ends_one, goes_on)
 
 -- one byte more of a text
 pub scans_on : (text : List ℕ) (i : ℕ) (part : FieldPart) (ended : ℕ) → i < length text → ended < 4 → IsScanned (take i text) part ended
@@ -191,12 +183,7 @@ scans_on text i part ended below few here =
 
 -- a byte outside quotes ends one field at most
 unquoted_few : (ended c : ℕ) → cond (c == 44) (ended + 1) (cond ((c == 13) || (c == 10)) 0 ended) ≤ ended + 1
-unquoted_few ended c = few (c == 44) ((c == 13) || (c == 10))
-  where
-    few : (comma feed : Bool) → cond comma (ended + 1) (cond feed 0 ended) ≤ ended + 1
-    few true feed = omega arith
-    few false true = omega arith
-    few false false = omega arith
+unquoted_few ended c = grind arith
 
 -- so does any byte
 pub ends_few : (part : FieldPart) (ended c : ℕ) → ended_after part ended c ≤ ended + 1
@@ -215,12 +202,7 @@ left_wide s fields field xs at four =
 -- the last record of a text, if it has one, ends with the field at hand
 last_left : (s : State) (fields : List (List ℕ)) (field : List ℕ) → length fields ≤ 4 → All IsNarrow (left_from s fields field [])
 unfolding next_record records_from
-last_left s fields field few =
-    elim (ends_at_end s) as (λ b. All IsNarrow (records_next records_left (cond b (Some (fields ++ (field ∷ []), st.StartRecord, [])) None))) [
-      | true ↦
-          All-cons IsNarrow (fields ++ (field ∷ [])) [] (omega (arith, length-append fields (field ∷ []))) (All-nil IsNarrow)
-      | false ↦ All-nil IsNarrow
-    ]
+last_left s fields field few = grind (arith, length-append)
 
 -- no record of a text that was scanned, and of which no more than four fields of the last record have ended, is wider
 -- than a fifth field makes it
@@ -239,14 +221,4 @@ pub cut_there : (n : ℕ) (text : List ℕ) (part : FieldPart) → IsScanned (ta
 cut_there n text part here =
     let (wide, after, first, is_wide) = left_wide here.state here.fields here.field (drop n text) here.stands here.ended_is in
     let (cut_wide, cut_after, cut_first, cut_is_wide) = left_wide here.state here.fields here.field [] here.stands here.ended_is in
-    inr (record {
-      before = here.done;
-      whole_wide = wide;
-      whole_after = after;
-      cut_wide = cut_wide;
-      cut_after = cut_after;
-      whole_is = ap (records_left st.StartRecord) (sym (take-append-drop n text)) ∙ here.reads (drop n text) ∙ ap (λ l. here.done ++ l) first;
-      cut_is = ap (records_left st.StartRecord) (sym (append-nil (take n text))) ∙ here.reads [] ∙ ap (λ l. here.done ++ l) cut_first;
-      whole_is_wide = is_wide;
-      cut_is_wide = cut_is_wide;
-    })
+    inr (grind (arith, take-append-drop, append-nil))

@@ -1,5 +1,5 @@
 -- The rows that were read so far, and what the rows of the whole text then are.
-use Rattle.std.proofs.Common.{All, ◌≡◌, ℕ, ◌+◌, ◌<◌, ◌≤◌, Bool, true, false, List, [], ◌∷◌, ◌++◌, Result, Ok, Err, length, map, sym, ap, ◌∙◌, append_assoc, length-append, arith, Bor}
+use Rattle.std.proofs.Common.{All, ◌≡◌, ℕ, ◌+◌, ◌<◌, ◌≤◌, Bool, true, false, List, [], ◌∷◌, ◌++◌, Result, Ok, Err, length, map, ap, ◌∙◌, append_assoc, length-append, arith, Bor}
 use Rattle.std.proofs.lemmas.List.{append-nil, map-append}
 use Rattle.std.proofs.lemmas.List.Elements.{All-push}
 use Rattle.csv.specs.declared.reader.Reader.{Reader}
@@ -34,24 +34,16 @@ module _ {R : Type 0} {P : R → Type 0} {row_of : ReadsRecords R} {all : List (
 
   -- the end of the text
   pub all_so_far : here.left ≡ [] → rows_read most all ≡ Ok rows
-  all_so_far none =
-      ap (rows_read most) (here.split ∙ ap (λ l. all_read rows ++ map row_of l) none ∙ append-nil (all_read rows))
-      ∙ rows_from-all most rows (omega (arith, here.counted, here.few))
+  all_so_far none = grind (arith, all_read, append-nil, rows_from-all)
 
   module _ (rest : List (List (List ℕ))) (fields : List (List ℕ)) (next : here.left ≡ fields ∷ rest) where
     -- a record more than there may be
     pub more_than_most : count ≡ most → rows_read most all ≡ Err (TooMany (count + 1))
-    more_than_most full =
-        ap (rows_read most) (here.split ∙ ap (λ l. all_read rows ++ map row_of l) next)
-        ∙ rows_from-more most rows (row_of fields) (map row_of rest) (omega (arith, here.counted))
-        ∙ ap (λ n. Err (TooMany (n + 1))) (sym full)
+    more_than_most full = grind (arith, all_read, rows_from-more)
 
     -- a bad record
     pub bad_so_far : (reason : Reason) → count < most → row_of fields ≡ Err reason → rows_read most all ≡ Err (BadRow (count + 1) reason)
-    bad_so_far reason room bad =
-        ap (rows_read most) (here.split ∙ ap (λ l. all_read rows ++ map row_of l) next ∙ ap (λ r. all_read rows ++ r ∷ map row_of rest) bad)
-        ∙ rows_from-bad most rows reason (map row_of rest) (omega (arith, here.counted))
-        ∙ ap (λ n. Err (BadRow (n + 1) reason)) here.counted
+    bad_so_far reason room bad = grind (arith, all_read, rows_from-bad)
 
     -- a good record
     pub one_more : (m : Reader (Bor (List ℕ))) (after : List R) (row : R) → count < most → row_of fields ≡ Ok row
@@ -59,9 +51,7 @@ module _ {R : Type 0} {P : R → Type 0} {row_of : ReadsRecords R} {all : List (
     one_more m after row room good more has is_row = record {
       left = rest;
       stands = has;
-      split = here.split ∙ ap (λ l. all_read rows ++ map row_of l) next ∙ ap (λ r. all_read rows ++ r ∷ map row_of rest) good
-          ∙ sym (append_assoc (all_read rows) (Ok row ∷ []) (map row_of rest))
-          ∙ ap (λ l. l ++ map row_of rest) (sym (map-append (λ r. Ok r) rows (row ∷ [])) ∙ ap all_read (sym more));
+      split = grind (arith, all_read, append_assoc, map-append);
       counted = ap length more ∙ omega (arith, here.counted, length-append rows (row ∷ []));
       few = omega arith;
       each = rw more (All-push P rows row here.each is_row);

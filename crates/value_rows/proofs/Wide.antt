@@ -29,12 +29,7 @@ taken_beyond front x after most room =
 
 -- more rows than there may be
 more_rows : {A : Type 0} (most : ℕ) (front : List A) (x : A) (after : List A) → most ≤ length front → nat_lt most (length (front ++ x ∷ after)) ≡ true
-more_rows most front x after full =
-    let count : length (front ++ x ∷ after) ≡ length front + length (x ∷ after) = length-append front (x ∷ after) in
-    more most (length (front ++ x ∷ after)) (omega arith)
-  where
-    more : (m n : ℕ) → m < n → nat_lt m n ≡ true
-    more m n below = grind (arith, nat_tests)
+more_rows most front x after full = grind (arith, length-append, nat_tests)
 
 -- they are refused, unless an earlier one is bad
 too_many : {R : Type 0} (most m n : ℕ) (rows : Result (List R) (ℕ × Reason)) → nat_lt most m ≡ true → nat_lt most n ≡ true
@@ -59,14 +54,11 @@ behind_bad {R} most front why a b =
 
     read_bad : (after : List (Result R Reason)) → length front < most
         → rows_read most (front ++ Err why ∷ after) ≡ unless_more most 0 (Err bad)
-    read_bad after room =
-        ap (λ l. unless_more most (length (front ++ Err why ∷ after)) (all_rows l)) (taken_beyond front (Err why) after most room)
-        ∙ ap (unless_more most (length (front ++ Err why ∷ after))) ((first_bad front why).1 (take (most - suc (length front)) after))
+    read_bad after room = grind (arith, taken_beyond, first_bad)
 
     read_full : (after : List (Result R Reason)) → most ≤ length front
         → rows_read most (front ++ Err why ∷ after) ≡ unless_more most (length (front ++ Err why ∷ after)) (all_rows (take most front))
-    read_full after full =
-        ap (λ l. unless_more most (length (front ++ Err why ∷ after)) (all_rows l)) (take-append-le most front (Err why ∷ after) full)
+    read_full after full = grind (arith, take-append-le)
 
 -- how records are read that are refused if they are wide
 module _ {R : Type 0} (row_of : ReadsRecords R) (refuses : RefusesWide row_of) where
@@ -82,11 +74,7 @@ module _ {R : Type 0} (row_of : ReadsRecords R) (refuses : RefusesWide row_of) w
   -- what is read of records up to a wide one, and behind it
   reads_upto : (front : List R) (all before after : List (List (List ℕ))) (wide : List (List ℕ)) → all ≡ before ++ wide ∷ after → IsWide wide
       → map (λ r. Ok r) front ++ map row_of all ≡ (map (λ r. Ok r) front ++ map row_of before) ++ Err Fields ∷ map row_of after
-  reads_upto front all before after wide is is_wide =
-      ap (λ l. map (λ r. Ok r) front ++ map row_of l) is
-      ∙ ap (λ l. map (λ r. Ok r) front ++ l) (map-append row_of before (wide ∷ after))
-      ∙ ap (λ r. map (λ r. Ok r) front ++ (map row_of before ++ r ∷ map row_of after)) (wide_refused wide is_wide)
-      ∙ sym (append_assoc (map (λ r. Ok r) front) (map row_of before) (Err Fields ∷ map row_of after))
+  reads_upto front all before after wide is is_wide = grind (arith, map-append, wide_refused, append_assoc)
 
   -- the same is read of a text, and of one whose records agree with its records up to a wide one
   rows_agree : (most : ℕ) (front : List R) (whole cut : List ℕ) → AgreeUpToWide (text_records_of whole) (text_records_of cut)

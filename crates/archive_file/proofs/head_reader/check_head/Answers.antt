@@ -1,4 +1,4 @@
-use Rattle.std.proofs.Common.{◌≡◌, ◌+◌, ◌≤◌, ◌∷◌, [], true, All, OnOk, Result, arith, length, lit<, ap, ◌∙◌, subst}
+use Rattle.std.proofs.Common.{◌≡◌, ◌+◌, ◌∷◌, [], true, All, OnOk, Result, arith, ap, ◌∙◌, subst}
 use Rattle.archive_file.specs.{Keeps, head_fields}
 use Rattle.archive_file.proofs.FieldLaws.{field_of}
 use Rattle.archive_file.proofs.head_reader.check_head.Goals as goal
@@ -21,8 +21,4 @@ at_ok : {T E : Type 0} (r : Result T E) (P Q : Type 0) → (P → Q) → OnOk r 
 at_ok r P Q then is = grind arith
 
 pub returns-clause-long : goal.returns-clause-long
-returns-clause-long g c =
-    let s = g.C.Rest.rest in
-    let fields = c.letter_field.result ∷ c.letter_field-2.result ∷ c.letter_field-3.result ∷ c.letter_field-4.result ∷ c.new.result ∷ c.new-2.result ∷ [] in
-    at_ok c.check.result (All (Keeps s) fields) (9 + (c.args.size + 1) ≤ length s)
-    (λ kept. (subst (Keeps s) c.new-2.ensures (kept 5 (field_of 0 0 true) (lit< tt))).there) c.check.ensures.kept
+returns-clause-long g c = grind (arith, at_ok, field_of)

@@ -1,4 +1,4 @@
-use Rattle.std.proofs.Common.{◌+◌, ◌++◌, Err, take, drop, sym, ap, ◌∙◌, subst, All}
+use Rattle.std.proofs.Common.{arith, ◌+◌, ◌++◌, Err, take, drop, sym, ap, ◌∙◌}
 use Rattle.std.proofs.lemmas.Result.{err_from_is_err_and}
 use Rattle.std.proofs.lemmas.List.{drop_more, take-append-drop, take_all}
 use Rattle.std.proofs.lemmas.List.Elements.{All-more}
@@ -11,9 +11,7 @@ loop-field-preserved c =
     c.loop-field.invariant c.in_ok-check.ensures.kept
 
 pub returns-clause-kept : goal.returns-clause-kept
-returns-clause-kept c =
-    subst (All (Keeps c.args.c.now)) (take_all c.loop-field.field-index c.args.fields.now c.loop-field-test.false)
-    c.loop-field.invariant
+returns-clause-kept c = grind (arith, take_all)
 
 pub returns-in_err-check-clause-damaged : goal.returns-in_err-check-clause-damaged
 returns-in_err-check-clause-damaged c = λ a byte told.

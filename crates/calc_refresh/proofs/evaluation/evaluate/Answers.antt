@@ -1,8 +1,8 @@
-use Rattle.std.proofs.Common.{◌≡◌, ℕ, ◌+◌, ◌*◌, ◌++◌, [], ◌∷◌, inl, inr, Contains, Some, get_or, length, map, take, subst, sym, ap, ◌∙◌, arith}
+use Rattle.std.proofs.Common.{◌≡◌, ℕ, ◌+◌, ◌*◌, ◌++◌, [], ◌∷◌, inl, inr, Contains, get_or, length, take, subst, sym, ap, ◌∙◌, arith}
 use Rattle.std.proofs.lemmas.Bool.{cases_eq}
 use Rattle.std.proofs.lemmas.List.{take_all, take_more}
 use Rattle.std.proofs.lemmas.List.Elements.{Contains-append_left, Contains-push, Contains-push_cases}
-use Rattle.sheet_law.specs.{points_in, values, window_from, window_to, column}
+use Rattle.sheet_law.specs.{column}
 use Rattle.calc_refresh.specs.{lists_of}
 use Rattle.calc_refresh.proofs.Columns.{lengths_at}
 use Rattle.calc_refresh.proofs.evaluation.evaluate.Goals as goal
@@ -27,9 +27,7 @@ loop-k-preserved g c =
       filled = λ j has. elim (cases_eq j k) [
         | inl same ↦
             ap (λ x. column x (lists_of c.evaluate_window.new.rows)) same
-            ∙ (c.evaluate_window.ensures.values
-            ∙ ap (λ x. map Some (values c.args.calcs.now (points_in c.args.contents.now) (window_from c.args.grid x)
-            (window_to c.args.grid x))) (sym same))
+            ∙ (grind arith)
         | inr other ↦ elim (Contains-push_cases (take i due) k j (subst (λ l. Contains l j) next has)) [
           | inl before ↦ c.evaluate_window.ensures.others j other ∙ was.filled j before
           | inr here ↦ absurd (other (sym here))
@@ -49,6 +47,4 @@ loop-k-preserved g c =
     }
 
 pub returns-clause-values : goal.returns-clause-values
-returns-clause-values g c = λ k has.
-    c.loop-k.invariant.filled k
-    (subst (λ l. Contains l k) (sym (take_all c.loop-k.k-index c.args.due.now c.loop-k-test.false)) has)
+returns-clause-values g c = grind (arith, take_all)

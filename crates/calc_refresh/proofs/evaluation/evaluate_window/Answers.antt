@@ -1,4 +1,4 @@
-use Rattle.std.proofs.Common.{◌<◌, [], ◌∷◌, ◌++◌, length, get_or, sym, ap, ◌∙◌, refl, arith, vec_len}
+use Rattle.std.proofs.Common.{◌<◌, length, get_or, ◌∙◌, refl, arith, vec_len}
 use Rattle.std.proofs.Math.Seq.{map-set_same}
 use Rattle.std.proofs.lemmas.List.{length-set, take_more_set}
 use Rattle.sheet_law.specs.{points_in, values}
@@ -31,8 +31,7 @@ loop-i-preserved g c =
     let inside : k < length old.items = omega (arith, old.ok.0) in
     record {
       places = length-set c.loop-i.lower i v ∙ was.places;
-      before = take_more_set c.loop-i.lower i v (omega (arith, was.places, c.requires.few, c.loop-i-test.true))
-          ∙ (ap (λ l. l ++ v ∷ []) was.before ∙ sym (take_next vals i v value));
+      before = grind (arith, take_more_set, take_next);
       filled = column_more rows i k _ v vals within (get-set_same old.items k v inside) value was.filled;
       others = λ j other. column_kept rows i j _ row (get-set_other old.items k j v other) ∙ was.others j other;
       lengths = map-set_same (λ w. vec_len w) rows i _ row refl ∙ was.lengths;
@@ -40,9 +39,4 @@ loop-i-preserved g c =
     }
 
 pub returns-clause-values : goal.returns-clause-values
-returns-clause-values g c =
-    let vals = values c.args.calcs.now (points_in c.args.contents.now) c.args.from c.args.to in
-    column_full c.loop-i.rows c.loop-i.i c.args.k vals
-    (omega (arith, c.loop-i-test.false, c.loop-i.auto.rows))
-    (length-values c.args.calcs.now (points_in c.args.contents.now) c.args.from c.args.to
-    ∙ (sym c.requires.calcs ∙ sym c.loop-i.auto.rows)) c.loop-i.invariant.filled
+returns-clause-values g c = grind (arith, column_full, length-values)

@@ -1,7 +1,7 @@
-use Rattle.std.proofs.Common.{◌<◌, length, ap, ◌∙◌, arith}
+use Rattle.std.proofs.Common.{◌<◌, length, arith}
 use Rattle.std.proofs.lemmas.List.{length-map, take_all}
 use Rattle.sheet_law.specs.{longer}
-use Rattle.calc_refresh.specs.{lists_of, total_length, IsCopy}
+use Rattle.calc_refresh.specs.{lists_of, IsCopy}
 use Rattle.calc_refresh.proofs.Inputs.{each_read, length-longer, length_at, total_more}
 use Rattle.calc_refresh.proofs.limit.records_after.Goals as goal
 
@@ -31,9 +31,4 @@ loop-i-preserved c =
     }
 
 pub returns : goal.returns
-returns c =
-    let all = longer (lists_of c.args.copies.now) (lists_of c.args.deltas.now) in
-    let count = length-longer (lists_of c.args.copies.now) (lists_of c.args.deltas.now) in
-    c.loop-i.invariant.summed
-    ∙ ap total_length (take_all c.loop-i.i all
-    (omega (arith, count, length-map c.args.copies.now (λ v. v.items), c.loop-i-test.false)))
+returns c = grind (arith, length-longer, take_all, length-map)

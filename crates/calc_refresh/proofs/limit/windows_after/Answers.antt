@@ -1,7 +1,7 @@
 use Rattle.std.proofs.Common.{◌≡◌, List, All, length, subst, sym, ap, ◌∙◌, arith}
 use Rattle.std.proofs.lemmas.List.{length-map, take_all}
 use Rattle.trend_num.specs.{Rec, InRange}
-use Rattle.sheet_law.specs.{kept_end, least, windows_before, longer}
+use Rattle.sheet_law.specs.{kept_end, longer}
 use Rattle.calc_refresh.specs.{lists_of, IsCopy}
 use Rattle.calc_refresh.proofs.Inputs.{each_read, length-longer}
 use Rattle.calc_refresh.proofs.Limits.{least_first, least_more, window_at, windows_by}
@@ -13,10 +13,7 @@ loop-i-init c = λ rss is.
     let many : length c.args.ends.now ≡ length rss = ap length is ∙ length-map rss kept_end in
     least_first c.args.grid all c.windows_before-least.result
     (omega (arith, length-longer rss (lists_of c.args.deltas.now), c.requires.some))
-    (c.windows_before-least.ensures
-    ∙ window_at c.args.grid c.args.ends.now rss c.args.deltas.now 0 c.kept_end_after.result c.deref.result.now
-    c.index-deltas-0.result (omega (arith, c.requires.some, c.requires.inputs)) c.requires.inputs is
-    c.index-deltas-0.is c.deref.ensures.value c.kept_end_after.ensures)
+    (grind (arith, window_at))
 
 pub kept_end_after-requires-in-loop-i : goal.kept_end_after-requires-in-loop-i
 kept_end_after-requires-in-loop-i c =
@@ -33,15 +30,7 @@ loop-i-preserved c = λ rss is.
     ∙ least_more c.args.grid all i c.loop-i.least c.windows_before.result (omega (arith, c.loop-i.auto.i))
     (omega (arith, length-longer rss (lists_of c.args.deltas.now), c.loop-i-test.true))
     (c.loop-i.invariant rss is)
-    (c.windows_before.ensures
-    ∙ window_at c.args.grid c.args.ends.now rss c.args.deltas.now i c.kept_end_after-in-loop-i.result
-    c.deref-in-loop-i.result.now c.index-deltas-i.result (omega (arith, c.loop-i-test.true, c.requires.inputs))
-    c.requires.inputs is c.index-deltas-i.is c.deref-in-loop-i.ensures.value c.kept_end_after-in-loop-i.ensures)
+    (grind (arith, window_at))
 
 pub returns : goal.returns
-returns c = λ rss is.
-    let all = longer rss (lists_of c.args.deltas.now) in
-    let many : length c.args.ends.now ≡ length rss = ap length is ∙ length-map rss kept_end in
-    c.loop-i.invariant rss is
-    ∙ ap least (take_all c.loop-i.i (windows_by c.args.grid all)
-    (omega (arith, length-map all (λ rs. windows_before c.args.grid (kept_end rs)), length-longer rss (lists_of c.args.deltas.now), c.loop-i-test.false)))
+returns c = grind (arith, length-map, take_all, windows_by, length-longer)

@@ -1,4 +1,4 @@
-use Rattle.std.proofs.Common.{◌≡◌, ◌+◌, ◌-◌, length, drop, take, sym, ap, ◌∙◌, arith}
+use Rattle.std.proofs.Common.{◌≡◌, ◌+◌, ◌-◌, drop, take, sym, ap, ◌∙◌, arith}
 use Rattle.std.specs.List.{filter, range_with_len}
 use Rattle.calc_refresh.specs.{furthest, is_marked}
 use Rattle.calc_refresh.proofs.Marking.{same_reach, unmarked_block}
@@ -6,10 +6,7 @@ use Rattle.calc_refresh.proofs.Passing.{passing_few, passing_none}
 use Rattle.calc_refresh.proofs.mark.list_marked.Goals as goal
 
 pub add_marked-reach-requires-clause-room : goal.add_marked-reach-requires-clause-room
-add_marked-reach-requires-clause-room c =
-    let was = c.loop-from.invariant in
-    let few = passing_few (is_marked c.args.marks.now) c.loop-from.from in
-    omega (arith, few, ap length was.listed, c.loop-from.listed.ok.0, was.room, c.min-to.ensures, was.within)
+add_marked-reach-requires-clause-room c = grind (arith, passing_few)
 
 pub loop-from-preserved : goal.loop-from-preserved
 loop-from-preserved c =

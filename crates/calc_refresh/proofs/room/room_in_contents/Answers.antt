@@ -1,10 +1,9 @@
-use Rattle.std.proofs.Common.{◌≡◌, ◌<◌, ◌≤◌, length, get_or, subst, sym, ap, ◌∙◌, arith}
+use Rattle.std.proofs.Common.{◌<◌, ◌≤◌, length, get_or, subst, sym, arith}
 use Rattle.std.specs.Prelude.{Vec}
 use Rattle.std.specs.declared.alloc.Global.{Global}
 use Rattle.std.proofs.Math.Seq.{map-set_same}
 use Rattle.std.proofs.lemmas.List.{get_or_default}
 use Rattle.trend_num.specs.{Rec}
-use Rattle.trend_model.specs.{ContentState, listed}
 use Rattle.calc_refresh.specs.{IsCopy}
 use Rattle.calc_refresh.proofs.Inputs.{as_many, each_read, each_set, read_at}
 use Rattle.calc_refresh.proofs.room.room_in_contents.Goals as goal
@@ -17,12 +16,7 @@ room_in_content-requires-clause-copy c =
     c.index-copies-i.is c.requires.copied)
 
 pub room_in_content-requires-clause-content : goal.room_in_content-requires-clause-content
-room_in_content-requires-clause-content c =
-    let many = as_many c.loop-i.contents c.args.copies.now c.loop-i.invariant.read in
-    let v = c.index-copies-i.result in
-    read_at c.loop-i.contents c.args.copies.now c.loop-i.i c.index-contents-i.result v
-    (omega (arith, many, c.loop-i-test.true, c.loop-i.auto.contents)) c.loop-i.invariant.read
-    ∙ ap listed (ap (λ (w : Vec Rec Global). w.items) (sym c.index-copies-i.is) ∙ sym c.deref.ensures.value)
+room_in_content-requires-clause-content c = grind (arith, as_many, read_at)
 
 pub room_in_content-requires-clause-more : goal.room_in_content-requires-clause-more
 room_in_content-requires-clause-more c =
@@ -33,9 +27,7 @@ room_in_content-requires-clause-more c =
     omega (arith, here.short, v.ok.0, c.len.ensures)
 
 pub returns-in_err-room_in_content-clause-contents : goal.returns-in_err-room_in_content-clause-contents
-returns-in_err-room_in_content-clause-contents c =
-    map-set_same (λ (s : ContentState). s.records) c.loop-i.contents c.loop-i.i c.room_in_content.new.content c.index-contents-i.result
-    c.room_in_content.ensures.content ∙ c.loop-i.invariant.read
+returns-in_err-room_in_content-clause-contents c = grind (arith, map-set_same)
 
 pub loop-i-preserved : goal.loop-i-preserved
 loop-i-preserved c =
@@ -46,11 +38,8 @@ loop-i-preserved c =
     let spare = each_set (λ j s. (d : Vec Rec Global) → length (get_or c.args.deltas.now j d).items ≤ s.spare)
     c.loop-i.contents i c.room_in_content.new.content (omega (arith, c.loop-i-test.true, c.loop-i.auto.contents))
     (λ j e before d. c.loop-i.invariant.spare j e d before)
-    (λ d. let same : get_or c.args.deltas.now i d ≡ v = get_or_default c.args.deltas.now i d v inside ∙ sym c.index-deltas-i.is in
-    let count : length (get_or c.args.deltas.now i d).items ≡ length v.items = ap (λ (w : Vec Rec Global). length w.items) same in
-    omega (arith, count, v.ok.0, c.len.ensures, c.in_ok-room_in_content.ensures.spare)) in
+    (λ d. grind (arith, get_or_default)) in
     record {
-      read = map-set_same (λ (s : ContentState). s.records) c.loop-i.contents i c.room_in_content.new.content c.index-contents-i.result
-          c.room_in_content.ensures.content ∙ c.loop-i.invariant.read;
+      read = grind (arith, map-set_same);
       spare = λ j e d before. spare j e before d;
     }

@@ -1,10 +1,10 @@
-use Rattle.std.proofs.Common.{◌≡◌, ◌++◌, [], ◌∷◌, get_or, map, take, subst, sym, ap, ◌∙◌, arith}
+use Rattle.std.proofs.Common.{◌≡◌, get_or, subst, sym, ap, ◌∙◌, arith}
 use Rattle.std.specs.Prelude.{Vec}
 use Rattle.std.specs.declared.alloc.Global.{Global}
 use Rattle.std.proofs.lemmas.List.{map_push}
 use Rattle.trend_num.specs.{Rec}
-use Rattle.trend_model.specs.{ContentState, listed}
-use Rattle.calc_refresh.specs.{lists_of, IsCopy}
+use Rattle.trend_model.specs.{listed}
+use Rattle.calc_refresh.specs.{IsCopy}
 use Rattle.calc_refresh.proofs.Inputs.{each_read, lists_more}
 use Rattle.calc_refresh.proofs.saved.contents_of.Goals as goal
 
@@ -24,11 +24,7 @@ loop-copy-preserved c =
     let one : content.records ≡ listed (get_or vs i v).items =
     c.in_ok-content.ensures.records ∙ (ap listed c.deref.ensures.value ∙ ap listed here) in
     record {
-      read = ap (map (λ (s : ContentState). s.records)) c.push_reserved.ensures.items
-          ∙ (map_push (λ (s : ContentState). s.records) c.loop-copy.contents.items content
-          ∙ (ap (λ l. map (λ (s : ContentState). s.records) c.loop-copy.contents.items ++ l ∷ []) one
-          ∙ (ap (λ l. l ++ listed (get_or vs i v).items ∷ []) c.loop-copy.invariant.read
-          ∙ (sym (map_push listed (lists_of (take i vs)) (get_or vs i v).items) ∙ ap (map listed) (sym next)))));
+      read = grind (arith, map_push);
       counted = omega (arith, c.push_reserved.ensures.len, c.loop-copy.invariant.counted);
       room = omega (arith, c.push_reserved.ensures.capacity, c.loop-copy.invariant.room);
     }

@@ -1,10 +1,10 @@
-use Rattle.std.proofs.Common.{◌≡◌, ◌++◌, [], ◌∷◌, List, All, get_or, map, take, refl, subst, sym, ap, ◌∙◌, arith}
+use Rattle.std.proofs.Common.{◌≡◌, [], List, All, get_or, refl, subst, sym, ap, ◌∙◌, arith}
 use Rattle.std.specs.Prelude.{Vec}
 use Rattle.std.specs.declared.alloc.Global.{Global}
 use Rattle.std.proofs.lemmas.List.{map_push}
 use Rattle.trend_num.specs.{Rec, InRange}
 use Rattle.sheet_law.specs.{kept_end}
-use Rattle.calc_refresh.specs.{lists_of, IsCopy}
+use Rattle.calc_refresh.specs.{IsCopy}
 use Rattle.calc_refresh.proofs.Inputs.{each_read, lists_more}
 use Rattle.calc_refresh.proofs.saved.ends_of.Goals as goal
 
@@ -23,10 +23,7 @@ loop-copy-preserved c =
     c.kept_end_after.ensures [] refl ∙ ap kept_end c.deref.ensures.value in
     let here : v.items ≡ (get_or vs i v).items = ap (λ (w : Vec Rec Global). w.items) c.copy-item.is in
     record {
-      ended = c.push_reserved.ensures.items
-          ∙ (ap (λ n. c.loop-copy.ends.items ++ n ∷ []) (one ∙ ap kept_end here)
-          ∙ (ap (λ l. l ++ kept_end (get_or vs i v).items ∷ []) c.loop-copy.invariant.ended
-          ∙ (sym (map_push kept_end (lists_of (take i vs)) (get_or vs i v).items) ∙ ap (map kept_end) (sym next))));
+      ended = grind (arith, map_push);
       counted = omega (arith, c.push_reserved.ensures.len, c.loop-copy.invariant.counted);
       room = omega (arith, c.push_reserved.ensures.capacity, c.loop-copy.invariant.room);
     }

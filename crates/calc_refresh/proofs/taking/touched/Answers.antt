@@ -9,6 +9,4 @@ returns-in-Kept c = λ rs k read end_is few.
     end_is c.if-end-rec.true
 
 pub returns-in-Kept-2 : goal.returns-in-Kept-2
-returns-in-Kept-2 c = λ rs k read end_is few.
-    older_touches_all rs c.args.rec c.args.end (window_from c.args.grid k) (window_to c.args.grid k) k _ c.in-Kept.is
-    end_is c.if-end-rec.false (omega arith)
+returns-in-Kept-2 c = grind (arith, older_touches_all)

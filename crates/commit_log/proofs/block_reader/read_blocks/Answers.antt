@@ -1,3 +1,4 @@
+use Rattle.std.proofs.Common.{arith}
 use Rattle.std.proofs.lemmas.Result.{err_from_is_err_and}
 use Rattle.disk_model.specs.{seen}
 use Rattle.archive_file.proofs.FieldLaws.{told_through}
@@ -18,6 +19,4 @@ returns-clause-stored g c =
     c.in_ok-end.end (rw c.in-Ok.ensures.same at c.in_ok-end.ensures.blocks)
 
 pub returns-clause-rows : goal.returns-clause-rows
-returns-clause-rows g c =
-    rows_all (seen (g.D.Disk.device c.args.dev.now).trace) c.args.at _ c.in-Ok-with_capacity.ensures.items c.read_blocks.new.reader
-    c.in_ok-end.end (rw c.in-Ok.ensures.same at c.in_ok-end.ensures.blocks)
+returns-clause-rows g c = grind (arith, rows_all)

@@ -1,6 +1,5 @@
-use Rattle.std.proofs.Common.{◌≡◌, ℕ, length, refl, subst, sym, arith}
+use Rattle.std.proofs.Common.{◌≡◌, length, refl, arith}
 use Rattle.std.specs.Prelude.{vec_capacity}
-use Rattle.commit_log.specs.{LogBeganWell}
 use Rattle.commit_log.proofs.Openings.{opened_keeps}
 use Rattle.commit_log.proofs.opening.log_of.Goals as goal
 use Rattle.disk_model.specs.{moment}
@@ -13,13 +12,4 @@ invariant_of-result g c =
     let acked : c.len-acked.result ≡ length p.rows.items = omega (arith, c.len-acked.ensures) in
     let now = opened_keeps p.plant.items c.args.tags p.rows.items c.clock-moment.result c.faults-faults.result p.tape.items (vec_capacity p.tape)
     c.args.room c.len-acked.result p.end (D.device dev).trace (moment (D.device dev).trace) (D.device dev).faults c.requires.empty c.clock-moment.ensures
-    c.faults-faults.ensures acked c.requires.rows c.requires.capacity c.requires.few c.requires.ready refl in (
-      now.0,
-      now.1,
-      now.2,
-      now.3,
-      now.4,
-      c.requires.named,
-      subst (λ (n : ℕ). LogBeganWell p.plant.items c.args.tags p.rows.items n (D.device dev).handed (D.device dev).trace) (sym c.clock-moment.ensures)
-          c.requires.begun,
-    )
+    c.faults-faults.ensures acked c.requires.rows c.requires.capacity c.requires.few c.requires.ready refl in (grind arith)

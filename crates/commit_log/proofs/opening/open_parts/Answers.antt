@@ -1,8 +1,8 @@
-use Rattle.std.proofs.Common.{[], List, Err, IfErr, refl, sym, ◌∙◌, arith, subst, ap}
-use Rattle.disk_model.specs.{IsNew, Shows, During, seen, moment}
+use Rattle.std.proofs.Common.{[], List, Err, IfErr, refl, sym, arith, subst}
+use Rattle.disk_model.specs.{Shows, During, seen}
 use Rattle.archive_file.proofs.Beginnings.{not_new, opens_begun, opens_kept}
 use Rattle.std.proofs.lemmas.Result.{err_from_is_err_and}
-use Rattle.commit_log.specs.{LogRow, LogsNothing, StandsForRows, IsLogCause, IsLogLeftOrSame, IsLeftOrStands, IsTooMany, StandsSame, Stores}
+use Rattle.commit_log.specs.{LogRow, LogsNothing, StandsForRows, IsLogCause, IsLogLeftOrSame, IsLeftOrStands, StandsSame}
 use Rattle.archive_file.proofs.ReadImages.{during_same, left_synced, shown_before}
 use Rattle.commit_log.proofs.Opened.{begun_same, begun_stands, found_many, found_new, found_stands, found_stores}
 use Rattle.commit_log.proofs.Openings.{ok_rows, on_err, on_ok, parts_cause, read_cause}
@@ -63,13 +63,7 @@ returns-in-Some-clause-any_moment_refused g c =
     on_err c.parts_of.result _ (left_same g (goal.at.returns-in-Some-clause-any_moment_refused g c).After-read_log)
 
 pub returns-in-Some-clause-cause : goal.returns-in-Some-clause-cause
-returns-in-Some-clause-cause g c =
-    let x = c.args in
-    let o = (g.D.Disk.device x.dev.now).trace in
-    let told = c.parts_of.ensures in
-    parts_cause x.plant.now x.tags x.room o c.parts_of.result _ told.many told.undamaged told.not_other
-    (λ n is. shown_before o (g.D.Disk.device c.sync.new.self).trace (IsTooMany x.plant.now x.tags x.room n) c.in-Ok.ensures.noted
-    (found_many x.plant.now x.tags x.room n (g.D.Disk.device c.sync.new.self).trace c.in_ok-stored.field-0 c.in-Some.stored c.in-Some.is is c.in_ok-stored.ensures.found))
+returns-in-Some-clause-cause g c = grind (arith, parts_cause, shown_before, found_many)
 
 pub returns-in-None-clause-any_moment : goal.returns-in-None-clause-any_moment
 returns-in-None-clause-any_moment g c =
@@ -92,32 +86,10 @@ returns-in-None-clause-any_moment_refused g c =
     (subst (λ t. During t new (LogsNothing x.plant.now)) c.read_log.ensures.same c.begin.ensures.any_moment))
 
 pub returns-in-Some-clause-moment : goal.returns-in-Some-clause-moment
-returns-in-Some-clause-moment g c =
-    let x = c.args in
-    let stored = c.in-Some.stored in
-    let o = (g.D.Disk.device x.dev.now).trace in
-    let mid = (g.D.Disk.device c.sync.new.self).trace in
-    on_ok c.parts_of.result (opens_kept IsNew (Stores x.plant.now x.tags stored.rows.items stored.end) o mid (moment o) _
-    refl c.in-Ok.ensures.noted
-    (found_stores x.plant.now x.tags (g.D.Disk.device c.sync.new.self).trace c.in_ok-stored.field-0 stored c.in-Some.is c.in_ok-stored.ensures.found)
-    (λ i stores. not_new i stores.of_plant.head.begun)
-    (omega (arith, c.in-Ok.ensures.clock.in_time, c.sync.ensures.clock.counted, ap moment c.read_log.ensures.same)))
+returns-in-Some-clause-moment g c = grind (arith, on_ok, opens_kept, found_stores, not_new)
 
 pub returns-in-None-clause-moment : goal.returns-in-None-clause-moment
-returns-in-None-clause-moment g c =
-    let x = c.args in
-    let o = (g.D.Disk.device x.dev.now).trace in
-    let read = (g.D.Disk.device c.read_log.new.dev).trace in
-    opens_begun c.begin.result IsNew o read (moment o) (moment read) _
-    refl (c.read_log.ensures.same ∙ c.in-Ok.ensures.noted)
-    (shown_before o (g.D.Disk.device c.sync.new.self).trace IsNew c.in-Ok.ensures.noted
-    (found_new x.plant.now x.tags (g.D.Disk.device c.sync.new.self).trace c.in_ok-stored.field-0 c.in-None.is c.in_ok-stored.ensures.found))
-    (omega (arith, c.in-Ok.ensures.clock.in_time, c.sync.ensures.clock.counted, ap moment c.read_log.ensures.same)) c.begin.ensures.calls
+returns-in-None-clause-moment g c = grind (arith, opens_begun, shown_before, found_new)
 
 pub returns-in-None-clause-synced : goal.returns-in-None-clause-synced
-returns-in-None-clause-synced g c =
-    let x = c.args in
-    let o = (g.D.Disk.device x.dev.now).trace in
-    let mid = (g.D.Disk.device c.sync.new.self).trace in
-    on_ok c.begin.result (λ begun. absurd (begun (shown_before o mid IsNew c.in-Ok.ensures.noted
-    (found_new x.plant.now x.tags mid c.in_ok-stored.field-0 c.in-None.is c.in_ok-stored.ensures.found))))
+returns-in-None-clause-synced g c = grind (arith, on_ok, shown_before, found_new)

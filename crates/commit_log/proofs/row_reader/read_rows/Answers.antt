@@ -12,14 +12,4 @@ returns-in_err-row-clause-damaged g c = λ a byte told.
     (c.in_err-row.ensures.damaged a byte (told_through c.from_residual.result out.0 _ a byte out.1 out.2 told))
 
 pub loop-preserved : goal.loop-preserved
-loop-preserved g c =
-    let x = c.args in
-    record {
-      place = omega arith;
-      within = omega (arith, c.in_ok-row.ensures.spelled.within);
-      below = omega arith;
-      added = adds_more g.C.Rest.rest x.tags x.at c.loop.counter c.loop.next x.rows.now.items c.loop.rows.items _ c.in_ok-row.row
-          c.loop.invariant.place c.loop.invariant.added c.in-Ok.ensures.items c.in_ok-row.ensures.row c.in_ok-row.ensures.spelled;
-      kept = row_more g.C.Rest.rest x.tags x.at c.loop.next x.count c.loop.counter c.loop-test.true c.loop.invariant.kept
-          c.in_ok-row.ensures.kept;
-    }
+loop-preserved g c = grind (arith, adds_more, row_more)

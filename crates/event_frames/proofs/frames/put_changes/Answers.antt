@@ -6,8 +6,7 @@ pub put-requires-clause-window : goal.put-requires-clause-window
 put-requires-clause-window c = c.loop-change.invariant.0.next c.loop-change-test.true
 
 pub put-requires-clause-room : goal.put-requires-clause-room
-put-requires-clause-room c =
-    omega (arith, c.loop-change.invariant.0.most, c.loop-change.invariant.1, c.requires.room, c.loop-change-test.true)
+put-requires-clause-room c = grind arith
 
 pub loop-change-init : goal.loop-change-init
 loop-change-init c = (changes_none c.args.levels.now.truths c.args.changes.now c.requires.changes, refl)

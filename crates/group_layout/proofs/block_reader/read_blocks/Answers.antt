@@ -1,3 +1,4 @@
+use Rattle.std.proofs.Common.{arith}
 use Rattle.std.proofs.lemmas.Result.{err_from_is_err_and}
 use Rattle.disk_model.specs.{seen}
 use Rattle.archive_file.proofs.FieldLaws.{told_through}
@@ -17,11 +18,7 @@ returns-clause-blocks g c =
     c.read_blocks.new.reader c.in_ok-end.end (rw c.in-Ok.ensures.same at c.in_ok-end.ensures.blocks)
 
 pub returns-clause-end : goal.returns-clause-end
-returns-clause-end g c =
-    end_there (seen (g.D.Disk.device c.args.dev.now).trace) c.args.at c.args.inputs _ c.new.ensures.items c.in_ok-unsaved.ensures.unsaved
-    c.read_blocks.new.reader c.in_ok-end.end (rw c.in-Ok.ensures.same at c.in_ok-end.ensures.blocks)
+returns-clause-end g c = grind (arith, end_there)
 
 pub returns-clause-versions : goal.returns-clause-versions
-returns-clause-versions g c =
-    versions_there (seen (g.D.Disk.device c.args.dev.now).trace) c.args.at c.args.inputs _ c.new.ensures.items c.in_ok-unsaved.ensures.unsaved
-    c.read_blocks.new.reader c.in_ok-end.end (rw c.in-Ok.ensures.same at c.in_ok-end.ensures.blocks)
+returns-clause-versions g c = grind (arith, versions_there)

@@ -1,4 +1,4 @@
-use Rattle.std.proofs.Common.{subst}
+use Rattle.std.proofs.Common.{arith, subst}
 use Rattle.std.proofs.lemmas.Result.{err_from_is_err_and}
 use Rattle.disk_model.specs.{Shows}
 use Rattle.archive_file.proofs.FieldLaws.{told_through}
@@ -7,12 +7,7 @@ use Rattle.group_layout.proofs.Damages.{head_damage}
 use Rattle.group_layout.proofs.layout_reader.read_group.Goals as goal
 
 pub returns-in_err-found-clause-damaged : goal.returns-in_err-found-clause-damaged
-returns-in_err-found-clause-damaged g c = λ a byte told.
-    let x = c.args in
-    let out = err_from_is_err_and c.from_residual.result c.from_residual.ensures.1 in
-    let damaged = told_through c.from_residual.result out.0 _ a byte out.1 out.2 told in
-    head_damage (g.D.Disk.device x.dev.now).trace x.text.now x.inputs x.calcs a byte (c.in_err-found.ensures.begun a byte damaged)
-    (c.in_err-found.ensures.damaged a byte damaged)
+returns-in_err-found-clause-damaged g c = grind (arith, err_from_is_err_and, told_through, head_damage)
 
 pub returns-in_err-saved-clause-damaged : goal.returns-in_err-saved-clause-damaged
 returns-in_err-saved-clause-damaged g c = λ a byte told.

@@ -1,7 +1,7 @@
-use Rattle.std.proofs.Common.{◌∙◌, arith, refl, subst, ap}
+use Rattle.std.proofs.Common.{arith, subst}
 use Rattle.std.proofs.lemmas.Result.{err_from_is_err_and}
-use Rattle.disk_model.specs.{During, seen, moment}
-use Rattle.group_layout.specs.{IsGroupDamage, IsUnsaved, StandsFor, IsLeftOrSame, IsReadOf, SavesNothing, StandsSame, block_lists_of}
+use Rattle.disk_model.specs.{During, seen}
+use Rattle.group_layout.specs.{IsGroupDamage, StandsFor, IsLeftOrSame, SavesNothing, StandsSame, block_lists_of}
 use Rattle.archive_file.proofs.FieldLaws.{told_through}
 use Rattle.archive_file.proofs.ReadImages.{during_same, left_synced, shown_before}
 use Rattle.group_layout.proofs.Openings.{found_unsaved, gains_nothing, gains_sync, left_begun, read_of, read_stands, saved_is, unsaved_stands}
@@ -40,13 +40,7 @@ returns-in-Saved-clause-any_moment g c =
     c.sync.result _ _ c.sync.ensures.noted)
 
 pub returns-clause-stood : goal.returns-clause-stood
-returns-clause-stood g c =
-    let x = c.args in
-    let mid = (g.D.Disk.device c.sync.new.self).trace in
-    unsaved_stands x.text.now x.inputs x.calcs (g.D.Disk.device x.dev.now).trace c.begin.result
-    (shown_before _ mid (IsUnsaved x.text.now) c.in-Ok.ensures.noted
-    (found_unsaved x.text.now x.inputs x.calcs mid c.in_ok-saved.field-0 c.in-New.is c.in_ok-saved.ensures.found))
-    c.begin.ensures.versions c.begin.ensures.rows
+returns-clause-stood g c = grind (arith, unsaved_stands, shown_before, found_unsaved)
 
 pub returns-clause-any_moment : goal.returns-clause-any_moment
 returns-clause-any_moment g c =
@@ -58,38 +52,16 @@ returns-clause-any_moment g c =
     (subst (λ o. During o (g.D.Disk.device c.begin.new.dev).trace (SavesNothing x.text.now)) c.read_group.ensures.same c.begin.ensures.any_moment)
 
 pub returns-in_err-saved-clause-synced : goal.returns-in_err-saved-clause-synced
-returns-in_err-saved-clause-synced g c = λ unfailed.
-    gains_sync c.args.text.now _ _ (c.read_group.ensures.same ∙ c.in-Ok.ensures.noted)
+returns-in_err-saved-clause-synced g c = grind (arith, gains_sync)
 
 pub returns-in-Saved-clause-synced : goal.returns-in-Saved-clause-synced
-returns-in-Saved-clause-synced g c = λ unfailed.
-    gains_sync c.args.text.now _ _ (c.read_group.ensures.same ∙ c.in-Ok.ensures.noted)
+returns-in-Saved-clause-synced g c = grind (arith, gains_sync)
 
 pub returns-clause-synced : goal.returns-clause-synced
-returns-clause-synced g c = λ unfailed.
-    let x = c.args in
-    let mid = (g.D.Disk.device c.sync.new.self).trace in
-    gains_nothing x.text.now (g.D.Disk.device x.dev.now).trace _ (shown_before _ mid (IsUnsaved x.text.now) c.in-Ok.ensures.noted
-    (found_unsaved x.text.now x.inputs x.calcs mid c.in_ok-saved.field-0 c.in-New.is c.in_ok-saved.ensures.found))
+returns-clause-synced g c = grind (arith, gains_nothing, shown_before, found_unsaved)
 
 pub returns-in-Saved-clause-moment : goal.returns-in-Saved-clause-moment
-returns-in-Saved-clause-moment g c =
-    let x = c.args in
-    let saved = c.in-Saved.saved in
-    let o = (g.D.Disk.device x.dev.now).trace in
-    let mid = (g.D.Disk.device c.sync.new.self).trace in
-    opens_kept (IsUnsaved x.text.now) (λ l. IsReadOf x.text.now x.inputs x.calcs l saved) o mid (moment o) _ refl c.in-Ok.ensures.noted
-    (read_of x.text.now x.inputs x.calcs mid c.in_ok-saved.field-0 saved c.in-Saved.is c.in_ok-saved.ensures.found)
-    (saved_is x.text.now x.inputs x.calcs saved) (omega (arith, c.in-Ok.ensures.clock.in_time, c.sync.ensures.clock.counted, ap moment c.read_group.ensures.same))
+returns-in-Saved-clause-moment g c = grind (arith, opens_kept, read_of, saved_is)
 
 pub returns-clause-moment : goal.returns-clause-moment
-returns-clause-moment g c =
-    let x = c.args in
-    let o = (g.D.Disk.device x.dev.now).trace in
-    let mid = (g.D.Disk.device c.sync.new.self).trace in
-    let read = (g.D.Disk.device c.read_group.new.dev).trace in
-    opens_begun c.begin.result (IsUnsaved x.text.now) o read (moment o) (moment read) _
-    refl (c.read_group.ensures.same ∙ c.in-Ok.ensures.noted)
-    (shown_before o mid (IsUnsaved x.text.now) c.in-Ok.ensures.noted
-    (found_unsaved x.text.now x.inputs x.calcs mid c.in_ok-saved.field-0 c.in-New.is c.in_ok-saved.ensures.found))
-    (omega (arith, c.in-Ok.ensures.clock.in_time, c.sync.ensures.clock.counted, ap moment c.read_group.ensures.same)) c.begin.ensures.calls
+returns-clause-moment g c = grind (arith, opens_begun, shown_before, found_unsaved)

@@ -9,29 +9,19 @@ use Rattle.group_layout.proofs.reader.read_block.Goals.{After-check-2, After-rea
 
 -- the number was read, and it and the versions are kept
 kept : (g : _) (c : After-read_versions g) → All (Keeps g.C.Rest.rest) (number_field g.C.Rest.rest (parts_of c.args.before.now) ∷ [])
-kept g c = subst (λ f. All (Keeps g.C.Rest.rest) (f ∷ []))
-    (number_read g.C.Rest.rest (parts_of c.args.before.now) _ _ _ c.new.ensures c.is_next.ensures c.long_at-number.ensures.value) c.in_ok-check.ensures.kept
+kept g c = grind (arith, number_read)
 
 read : (g : _) (c : After-check-2 g) → All (Keeps g.C.Rest.rest) (number_field g.C.Rest.rest (parts_of c.args.before.now) ∷ [])
     → IsRead g.C.Rest.rest (parts_of c.args.before.now) (9 + 4 * c.len.result) c.short_at-windows.result
     c.deref.result.now
-read g c kept = record {
-  vs_is = c.deref.ensures.value;
-  at_is = omega (arith, c.len.ensures, c.in_ok-versions.ensures.len);
-  windows_is = c.short_at-windows.ensures.value;
-  number = kept;
-  versions = c.in_ok-versions.ensures.kept;
-}
+read g c kept = grind (arith, kept)
 
 -- and so are the counts after the versions
 counts : (g : _) (c : After-read_rows g)
     → let at = 9 + 4 * c.len.result in
     All (Keeps g.C.Rest.rest)
     (field_of at 4 (nat_le (parts_of c.args.before.now).windows c.short_at-windows.result) ∷ field_of (at + 4) 4 true ∷ [])
-counts g c =
-    let first = c.new-2.ensures in
-    let second = c.new-3.ensures in
-    subst (All (Keeps g.C.Rest.rest)) (λ i. first i ∷ second i ∷ []) c.in_ok-check-2.ensures.kept
+counts g c = grind arith
 
 pub returns-in_err-check-clause-damaged : goal.returns-in_err-check-clause-damaged
 returns-in_err-check-clause-damaged g c = λ a byte told.
@@ -39,9 +29,7 @@ returns-in_err-check-clause-damaged g c = λ a byte told.
     let b = parts_of c.args.before.now in
     let out = err_from_is_err_and c.from_residual.result c.from_residual.ensures.1 in
     breaks_part s _ (number_field s b ∷ []) _ a byte (kept_none s (block_fields s c.args.calcs b 0))
-    (subst (λ f. BreaksFirst s (f ∷ []) a byte)
-    (number_read s b _ _ _ c.new.ensures c.is_next.ensures c.long_at-number.ensures.value)
-    (c.in_err-check.ensures.damaged a byte (told_through c.from_residual.result out.0 _ a byte out.1 out.2 told)))
+    (grind (arith, number_read, told_through))
 
 pub returns-in_err-versions-clause-damaged : goal.returns-in_err-versions-clause-damaged
 returns-in_err-versions-clause-damaged g c = λ a byte told.
@@ -61,8 +49,7 @@ returns-in_err-check-2-clause-damaged g c = λ a byte told.
     let second = c.new-3.ensures in
     breaks_part s _ _ _ a byte (at_counts c.args.calcs (read g here.After-check-2 (kept g here.After-read_versions)) refl)
     (subst (λ fs. BreaksFirst s fs a byte) (λ i. first i ∷ second i ∷ [])
-    (c.in_err-check-2.ensures.damaged a byte
-    (told_through c.from_residual-in_err-check-2.result out.0 _ a byte out.1 out.2 told)))
+    (grind (arith, told_through)))
 
 pub read_rows-requires-clause-there : goal.read_rows-requires-clause-there
 read_rows-requires-clause-there g c =
@@ -91,8 +78,7 @@ returns-in_err-check-3-clause-damaged g c = λ a byte told.
     (at_gate c.args.calcs (read g here.After-check-2 (kept g here.After-read_versions)) c.short_at-count.ensures.value (counts g here.After-read_rows)
     c.in_ok-rows.ensures.kept)
     (subst (λ f. BreaksFirst s (f ∷ []) a byte) last
-    (c.in_err-check-3.ensures.damaged a byte
-    (told_through c.from_residual-in_err-check-3.result out.0 _ a byte out.1 out.2 told)))
+    (grind (arith, told_through)))
 
 pub returns-clause-follows : goal.returns-clause-follows
 returns-clause-follows g c =

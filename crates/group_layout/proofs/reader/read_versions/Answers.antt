@@ -1,9 +1,8 @@
-use Rattle.std.proofs.Common.{◌≡◌, ℕ, ◌+◌, ◌<◌, ◌≤◌, ◌∷◌, ◌++◌, [], inl, inr, true, All, get_or, length, sym, ap, ◌∙◌, subst, arith, length-append, nat_le, lit<, leb-true}
+use Rattle.std.proofs.Common.{◌≡◌, ℕ, ◌+◌, ◌<◌, ◌≤◌, ◌∷◌, ◌++◌, [], true, All, get_or, length, sym, ap, ◌∙◌, subst, arith, length-append, nat_le, lit<, leb-true}
 use Rattle.std.proofs.Math.Seq.{get_or-append_seam}
 use Rattle.std.proofs.Math.ListN.{get_or-append}
-use Rattle.std.proofs.lemmas.Bool.{cases_lt}
 use Rattle.std.proofs.lemmas.Result.{err_from_is_err_and}
-use Rattle.archive_file.specs.{number_bytes, BreaksFirst, Keeps, Spells, short_at}
+use Rattle.archive_file.specs.{number_bytes, Keeps, Spells, short_at}
 use Rattle.archive_file.proofs.Joins.{images_push}
 use Rattle.group_layout.specs.{versions_image}
 use Rattle.archive_file.proofs.FieldLaws.{field_of, spells_both, told_through}
@@ -13,15 +12,7 @@ use Rattle.group_layout.proofs.reader.read_versions.Goals as goal
 -- the numbers after a list and one more
 risen : (xs ys : _) (n y : ℕ) → length ys ≡ n → ((k : ℕ) → k < n → get_or xs k 0 ≤ get_or ys k 0) → get_or xs n 0 ≤ y
     → (k : ℕ) → k < n + 1 → get_or xs k 0 ≤ get_or (ys ++ y ∷ []) k 0
-risen xs ys n y long below here k low = elim (cases_lt k n) [
-  | inl before ↦ subst (λ v. get_or xs k 0 ≤ v) (sym (get_or-append ys (y ∷ []) 0 k (omega (arith, long)))) (below k before)
-  | inr at ↦
-      let same : k ≡ length ys = omega (arith, long) in
-      let last : get_or (ys ++ y ∷ []) k 0 ≡ y = ap (λ i. get_or (ys ++ y ∷ []) i 0) same ∙ get_or-append_seam ys y [] 0 in
-      let place : k ≡ n = omega arith in
-      let moved : get_or xs k 0 ≡ get_or xs n 0 = ap (λ i. get_or xs i 0) place in
-      omega (arith, here, last, moved)
-]
+risen xs ys n y long below here k low = grind (arith, get_or-append, get_or-append_seam)
 
 pub returns-in_err-check-clause-damaged : goal.returns-in_err-check-clause-damaged
 returns-in_err-check-clause-damaged g c = λ a byte told.
@@ -30,8 +21,7 @@ returns-in_err-check-clause-damaged g c = λ a byte told.
     let out = err_from_is_err_and c.from_residual.result c.from_residual.ensures.1 in
     let is = c.new.ensures ∙ ap (λ v. field_of l.next 4 (nat_le (get_or x.before.now l.least-index 0) v)) c.short_at-version.ensures.value in
     version_breaks g.C.Rest.rest x.before.now x.at l.next l.least-index c.loop-least-test.true l.invariant.kept a byte
-    (subst (λ f. BreaksFirst g.C.Rest.rest (f ∷ []) a byte) is
-    (c.in_err-check.ensures.damaged a byte (told_through c.from_residual.result out.0 _ a byte out.1 out.2 told)))
+    (grind (arith, told_through))
 
 pub loop-least-preserved : goal.loop-least-preserved
 loop-least-preserved g c =
@@ -48,13 +38,10 @@ loop-least-preserved g c =
       place = omega arith;
       within = omega (arith, field.there);
       len = omega (arith, ap length pushed, length-append vs (v ∷ []));
-      rises = subst (λ ys. (k : ℕ) → k < l.least-index + 1 → get_or x.before.now k 0 ≤ get_or ys k 0) (sym pushed)
-          (risen x.before.now vs l.least-index v l.invariant.len l.invariant.rises
-          (omega (arith, leb-true _ _ field.kept, c.short_at-version.ensures.value)));
+      rises = grind (arith, risen, leb-true);
       spelled = subst (λ bytes. Spells g.C.Rest.rest x.at bytes (l.next + 4))
           (sym (ap versions_image pushed ∙ images_push (number_bytes 4) vs v))
           (spells_both g.C.Rest.rest x.at l.next (l.next + 4) (versions_image vs) (number_bytes 4 v) l.invariant.spelled
-          (subst (λ n. Spells g.C.Rest.rest l.next (number_bytes 4 n) (l.next + 4)) (sym c.short_at-version.ensures.value)
-          (c.short_at-version.ensures.spelled field.there)));
+          (grind arith));
       kept = version_more g.C.Rest.rest x.before.now x.at l.next l.least-index c.loop-least-test.true l.invariant.kept kept;
     }

@@ -1,9 +1,9 @@
-use Rattle.std.proofs.Common.{◌+◌, ◌∷◌, [], All, AllPairs, length, sym, ap, ◌∙◌, subst, arith, length-append}
+use Rattle.std.proofs.Common.{◌+◌, ◌∷◌, [], All, length, sym, ap, ◌∙◌, subst, arith, length-append}
 use Rattle.std.proofs.lemmas.Result.{err_from_is_err_and}
 use Rattle.std.proofs.lemmas.List.Elements.{All-push}
 use Rattle.archive_file.proofs.Joins.{images_push}
 use Rattle.archive_file.specs.{Spells}
-use Rattle.group_layout.specs.{IsBefore, IsRow, row_image, rows_image}
+use Rattle.group_layout.specs.{IsRow, row_image, rows_image}
 use Rattle.archive_file.proofs.FieldLaws.{spells_both, told_through}
 use Rattle.group_layout.proofs.RowLaws.{row_breaks, row_more, sorted_push}
 use Rattle.group_layout.proofs.row_reader.read_rows.Goals as goal
@@ -33,9 +33,7 @@ loop-preserved g c =
           c.in_ok-row.ensures.spelled);
       each = subst (All (IsRow x.calcs x.windows)) (sym pushed)
           (All-push (IsRow x.calcs x.windows) rows r c.loop.invariant.each c.in_ok-row.ensures.row);
-      sorted = subst (AllPairs IsBefore) (sym pushed)
-          (sorted_push rows c.loop.last r c.loop.invariant.sorted c.loop.invariant.last c.in_ok-row.ensures.order);
+      sorted = grind (arith, sorted_push);
       last = record { is_last = (rows, pushed) };
-      kept = row_more g.C.Rest.rest x.calcs x.windows x.at c.loop.next x.count c.loop.counter c.loop.last c.loop-test.true
-          c.loop.invariant.kept r c.in_ok-row.ensures.value c.in_ok-row.ensures.kept;
+      kept = grind (arith, row_more);
     }

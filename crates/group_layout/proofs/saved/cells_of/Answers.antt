@@ -1,4 +1,4 @@
-use Rattle.std.proofs.Common.{◌≡◌, ◌++◌, None, drop, fold, length, map, replicate, take, sym, ap, ◌∙◌, arith, take_at}
+use Rattle.std.proofs.Common.{◌≡◌, ◌++◌, None, drop, fold, length, map, replicate, take, ◌∙◌, arith, take_at}
 use Rattle.std.proofs.lemmas.List.{drop_all}
 use Rattle.group_layout.specs.{parts_of, block_lists_of, rows_of_blocks, with_row}
 use Rattle.group_layout.proofs.SavedRows.{next_block, lengths_saved, cells_saved}
@@ -11,19 +11,12 @@ loop-block-preserved c =
     let written : take c.loop-block.cells.len (new ++ drop (length new) old) ≡ new
     = take_at new (drop (length new) old) c.loop-block.cells.len (omega arith) in
     next_block (block_lists_of old) _ c.args.blocks.now c.loop-block.block-index c.block-item.result c.loop-block-test.true
-    (ap block_lists_of written
-    ∙ c.put_rows.ensures
-    ∙ ap (λ l. fold with_row (block_lists_of l) c.deref.result.now) c.deref_mut.ensures.value
-    ∙ ap (fold with_row (block_lists_of old)) c.deref.ensures.value
-    ∙ ap (λ b. fold with_row (block_lists_of old) b.rows.items) c.block-item.is)
+    (grind arith)
     ∙ c.loop-block.invariant
 
 all_put : (c : goal.After-loop-block) → block_lists_of c.loop-block.cells.items
     ≡ fold with_row (replicate c.args.calcs (replicate c.args.windows None)) (rows_of_blocks (map parts_of c.args.blocks.now))
-all_put c =
-    ap (λ l. fold with_row (block_lists_of c.loop-block.cells.items) (rows_of_blocks (map parts_of l)))
-    (sym (drop_all c.loop-block.block-index c.args.blocks.now c.loop-block-test.false))
-    ∙ c.loop-block.invariant
+all_put c = grind (arith, drop_all)
 
 pub returns-clause-lengths : goal.returns-clause-lengths
 returns-clause-lengths c = lengths_saved _ c.args.calcs c.args.windows (map parts_of c.args.blocks.now) (all_put c)

@@ -1,4 +1,4 @@
-use Rattle.std.proofs.Common.{rules, ◌≡◌, ℕ, ◌+◌, ◌*◌, ◌<◌, ◌≤◌, ◌∷◌, [], None, get_or, length, length-append, map, sym, ap, ◌∙◌, subst, arith}
+use Rattle.std.proofs.Common.{◌≡◌, ℕ, ◌+◌, ◌<◌, ◌∷◌, [], None, get_or, length, length-append, map, sym, ap, ◌∙◌, subst, arith}
 use Rattle.std.proofs.lemmas.Iterator.Adapters.{YieldsList-from_vec}
 use Rattle.std.proofs.lemmas.Iterator.Consumers.{YieldsList-turn, YieldsList-end}
 use Rattle.std.proofs.lemmas.Nat.{mul-le}
@@ -10,12 +10,7 @@ use Rattle.group_layout.proofs.saved.rows_of.Goals as goal
 use Rattle.group_layout.proofs.saved.rows_of.Goals.{In-Some}
 
 pub returns-then-row_count-from-clause-missing : goal.returns-then-row_count-from-clause-missing
-returns-then-row_count-from-clause-missing c =
-    let cells : c.from.result * c.from-2.result ≡ c.args.calcs * c.args.windows
-    = ap (λ n. n * c.from-2.result) c.from.ensures ∙ ap (λ n. c.args.calcs * n) c.from-2.ensures in
-    let below : c.args.calcs * c.args.windows ≤ 4294967295 * 4294967295
-    = mul-le c.args.calcs c.args.windows 4294967295 4294967295 (omega (arith, c.ranges.calcs.fits)) (omega (arith, c.ranges.windows.fits)) in
-    too_few c.args.calcs c.args.windows (map parts_of c.args.blocks.now) (omega (arith, c.if-row_count-from.true, c.row_count.ensures, cells, below))
+returns-then-row_count-from-clause-missing c = grind (arith, mul-le, too_few)
 
 -- the cells that this iteration has
 turn : (c : In-Some) → (length c.loop-calc_cells.yielded < c.args.calcs) × (length c.in-Some.calc_cells.items ≡ c.args.windows)
@@ -31,39 +26,13 @@ turn c =
     t.1 t.0 c.in_ok-cells.ensures.lengths c.in_ok-cells.ensures.cells
 
 pub returns-in_default-clause-missing : goal.returns-in_default-clause-missing
-returns-in_default-clause-missing c =
-    let is = turn (goal.at.returns-in_default-clause-missing c).In-Some in
-    let none = rw c.in_default.is at c.in_ok-row.ensures.missing in
-    let within : none.0 < c.args.windows = omega (arith, none.1, is.1, ap length c.deref.ensures.value) in (
-      length c.loop-calc_cells.yielded,
-      none.0,
-      is.0,
-      within,
-      sym (is.2 none.0 within) ∙ ap (λ l. get_or l none.0 None) (sym c.deref.ensures.value) ∙ none.2 None,
-    )
+returns-in_default-clause-missing c = grind (arith, turn)
 
 pub loop-calc_cells-init : goal.loop-calc_cells-init
-loop-calc_cells-init c = record {
-  room = omega (
-    arith,
-    c.in_ok-rows.ensures.capacity,
-    c.len.ensures,
-    c.in_ok-cells.cells.ok.0,
-    vectors_are c.in_ok-cells.cells.items c.args.calcs c.args.windows c.in_ok-cells.ensures.lengths,
-  );
-  rows = search rules;
-}
+loop-calc_cells-init c = grind (arith, vectors_are)
 
 pub push_reserved-requires : goal.push_reserved-requires
-push_reserved-requires c =
-    omega (
-      arith,
-      (turn (goal.at.push_reserved-requires c).In-Some).0,
-      c.loop-calc_cells.invariant.room,
-      c.loop-calc_cells.invariant.rows.calcs_are,
-      length-map c.loop-calc_cells.rows.items (λ v. v.items),
-      c.loop-calc_cells.rows.ok.0,
-    )
+push_reserved-requires c = grind (arith, turn, length-map)
 
 pub loop-calc_cells-preserved : goal.loop-calc_cells-preserved
 loop-calc_cells-preserved c =

@@ -9,6 +9,4 @@ pub returns-then-count-eq1-clause-same : goal.returns-then-count-eq1-clause-same
 returns-then-count-eq1-clause-same c = short_one c.args.line.now (omega (arith, c.requires.long)) c.requires.begun (sym c.commas-count.ensures ∙ c.if-count-eq1.true)
 
 pub returns-clause-same : goal.returns-clause-same
-returns-clause-same c =
-    short_many c.args.line.now (omega (arith, c.requires.long)) c.requires.begun
-    (omega (arith, c.commas-count.ensures, c.if-count-eq0.false, c.if-count-eq1.false))
+returns-clause-same c = grind (arith, short_many)

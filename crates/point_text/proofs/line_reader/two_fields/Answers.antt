@@ -1,15 +1,12 @@
-use Rattle.std.proofs.Common.{◌∷◌, nat_eq, length, arith, sym, ◌∙◌, ap, take}
+use Rattle.std.proofs.Common.{◌∷◌, nat_eq, arith, sym, ◌∙◌, ap, take}
 use Rattle.point_text.proofs.Split.{split_found, split_not_found, split_thrice}
 use Rattle.point_text.proofs.line_reader.two_fields.Goals as goal
 
 pub returns-in_err-at-clause-none : goal.returns-in_err-at-clause-none
-returns-in_err-at-clause-none c =
-    rw c.from_residual.ensures (λ two. omega (arith, ap length (split_not_found (λ b. nat_eq b 44) c.args.line.now (sym c.find_byte.ensures ∙ c.in_err-at.was))))
+returns-in_err-at-clause-none c = grind (arith, split_not_found)
 
 pub returns-in-Some-clause-none : goal.returns-in-Some-clause-none
-returns-in-Some-clause-none c =
-    split_thrice (λ b. nat_eq b 44) c.args.line.now c.in_ok-at.at c.in-Some.field-0 (sym c.find_byte.ensures ∙ c.in_ok-at.was)
-    (sym c.find_byte-2.ensures ∙ c.in-Some.is)
+returns-in-Some-clause-none c = grind (arith, split_thrice)
 
 pub returns-in-None-clause-two : goal.returns-in-None-clause-two
 returns-in-None-clause-two c =

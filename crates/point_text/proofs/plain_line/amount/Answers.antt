@@ -34,11 +34,4 @@ returns-then-count-lt8-clause-in_range c =
     omega (arith, run.value)
 
 pub returns-clause-amount : goal.returns-clause-amount
-returns-clause-amount c = record {
-  some = omega (arith, c.if-end-from.false, c.digits-size.ensures.end);
-  few = c.digits-size.ensures.within;
-  within = omega (arith, c.digits-size.ensures.within);
-  digits = c.digits-size.ensures.digits;
-  value = c.digits-size.ensures.value;
-  after = refl;
-}
+returns-clause-amount c = grind arith

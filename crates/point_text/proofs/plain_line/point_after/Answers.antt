@@ -1,5 +1,4 @@
-use Rattle.std.proofs.Common.{◌≡◌, ℕ, true, false, ◌-ℤ◌, ◌≤◌, ℤ, pos, neg_ℤ, to_z, of_z, w64, eq-eqb, arith}
-use mir.Val.{bool_byte}
+use Rattle.std.proofs.Common.{◌≡◌, ℕ, ◌-ℤ◌, ◌≤◌, ℤ, pos, neg_ℤ, to_z, of_z, w64, eq-eqb, arith}
 use Rattle.std.proofs.lemmas.Int.{ints}
 use Rattle.std.proofs.lemmas.Bool.{ne_eqb}
 use Rattle.point_text.proofs.PlainLine.{plain_positive, plain_negative}

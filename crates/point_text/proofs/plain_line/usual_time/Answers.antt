@@ -14,13 +14,6 @@ returns c =
     (two_words bs 8 c.in_ok-high.high _ _ 100000 (omega arith) refl low.most first.0 first.1 second.0 second.1 (rw c.if-more-ne5.false refl)) in
     let small : digits_value (take 13 (drop 0 bs)) < 10 ^ 13 = spelt_lt (take 13 (drop 0 bs)) 13 run.digits (omega (arith, length-take 13 (drop 0 bs))) in
     record {
-      time = record {
-        some = omega arith;
-        few = omega arith;
-        within = omega arith;
-        digits = run.digits;
-        value = run.value;
-        after = refl;
-      };
+      time = grind arith;
       in_range = omega (arith, run.value);
     }

@@ -1,9 +1,9 @@
-use Rattle.std.proofs.Common.{◌++◌, ◌-◌, [], take, drop, sym, ap, ◌∙◌, subst, arith, append-nil}
+use Rattle.std.proofs.Common.{◌++◌, ◌-◌, take, drop, sym, ap, ◌∙◌, subst, arith, append-nil}
 use Rattle.std.proofs.lemmas.List.{take_all}
 use Rattle.std.proofs.lemmas.Result.{err_from_is_err_and, on_err_weaker, on_ok_weaker}
 use Rattle.std.specs.List.{flat_map}
 use Rattle.byte_io.specs.Outside.{IsWritten, IsCutShort}
-use Rattle.point_text.specs.{archive_text, held_line, record_line}
+use Rattle.point_text.specs.{held_line, record_line}
 use Rattle.point_text.proofs.Printing.{cut_more, lines_more, text_from, written_more}
 use Rattle.point_text.proofs.printer.write_archive.Goals as goal
 
@@ -16,9 +16,7 @@ loop-done-preserved g c =
     record {
       within = omega arith;
       written = subst (IsWritten (meaning c.args.out.now) (meaning c.write_records.new.out)) (lines_more recs done next (omega arith))
-          (written_more (meaning c.args.out.now) (meaning c.loop-done.out) (meaning c.write_records.new.out)
-          (flat_map record_line (take done recs)) (flat_map record_line (take (next - done) (drop done recs))) c.loop-done.invariant.written
-          c.in_ok-write_records.ensures.whole);
+          (grind (arith, written_more));
     }
 
 pub returns-in_err-write_records-clause-cut_short : goal.returns-in_err-write_records-clause-cut_short
@@ -31,21 +29,11 @@ returns-in_err-write_records-clause-cut_short g c =
     let text = text_from done recs c.args.held ∙ ap (λ l. flat_map record_line (take done recs) ++ l) (text_from n rest c.args.held) in
     let out = err_from_is_err_and c.from_residual.result c.from_residual.ensures.1 in
     let cut = subst (IsCutShort (meaning c.args.out.now) (meaning c.write_records.new.out)) (sym text)
-    (cut_more (meaning c.args.out.now) (meaning c.loop-done.out) (meaning c.write_records.new.out) (flat_map record_line (take done recs))
-    (flat_map record_line (take n rest)) (archive_text (drop n rest) c.args.held) c.loop-done.invariant.written
-    c.in_err-write_records.ensures.cut_short) in
+    (grind (arith, cut_more)) in
     rw out.1 cut
 
 pub returns-clause-whole : goal.returns-clause-whole
-returns-clause-whole g c =
-    let meaning = g.O.Sink.meaning in
-    let recs = c.args.recs.now in
-    let done = c.loop-done.done in
-    let text = ap (λ l. flat_map record_line l ++ held_line c.args.held) (take_all done recs (omega arith)) in
-    on_ok_weaker c.write_held.result
-    (λ written. subst (IsWritten (meaning c.args.out.now) (meaning c.write_held.new.out)) text
-    (written_more (meaning c.args.out.now) (meaning c.loop-done.out) (meaning c.write_held.new.out) (flat_map record_line (take done recs))
-    (held_line c.args.held) c.loop-done.invariant.written written)) c.write_held.ensures.whole
+returns-clause-whole g c = grind (arith, take_all, on_ok_weaker, written_more)
 
 pub returns-clause-cut_short : goal.returns-clause-cut_short
 returns-clause-cut_short g c =
@@ -55,6 +43,4 @@ returns-clause-cut_short g c =
     let text = ap (λ l. flat_map record_line (take done recs) ++ l) (append-nil (held_line c.args.held))
     ∙ ap (λ l. flat_map record_line l ++ held_line c.args.held) (take_all done recs (omega arith)) in
     on_err_weaker c.write_held.result
-    (λ cut. subst (IsCutShort (meaning c.args.out.now) (meaning c.write_held.new.out)) text
-    (cut_more (meaning c.args.out.now) (meaning c.loop-done.out) (meaning c.write_held.new.out) (flat_map record_line (take done recs))
-    (held_line c.args.held) [] c.loop-done.invariant.written cut)) c.write_held.ensures.cut_short
+    (λ cut. grind (arith, cut_more)) c.write_held.ensures.cut_short

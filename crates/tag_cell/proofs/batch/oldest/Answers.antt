@@ -1,24 +1,11 @@
-use Rattle.std.proofs.Common.{◌≡◌, ◌∙◌, ℕ, List, ◌++◌, ◌≤◌, [], ◌∷◌, ap, sym, length, take, drop, arith, length-append}
+use Rattle.std.proofs.Common.{◌∙◌, ℕ, List, ◌≤◌, ap, sym, length, take, drop, arith, length-append}
 use Rattle.std.proofs.lemmas.List.{take-append-drop}
-use Rattle.trend_num.specs.{Point}
 use Rattle.tag_cell.specs.{Entry, taken}
 use Rattle.tag_cell.proofs.Tapes.{taken-more, taken-append}
 use Rattle.tag_cell.proofs.batch.oldest.Goals as goal
 
 pub loop-batch-preserved : goal.loop-batch-preserved
-loop-batch-preserved c =
-    let rest = c.args.rest.now in
-    let i : ℕ = c.loop-batch.batch.entries in
-    let e = c.index-rest-next.result in
-    let more = taken-more rest i e c.if-batch-rest.true c.index-rest-next.is in
-    let next : taken (take c.add.new.self.entries rest) ≡ taken (take i rest) ++ taken (e ∷ []) =
-    ap (λ (k : ℕ). taken (take k rest)) c.add.ensures.entries ∙ more in
-    record {
-      within = omega (arith, c.add.ensures.entries, c.if-batch-rest.true);
-      points = c.add.ensures.points ∙ (ap (λ (ps : List Point). ps ++ taken (e ∷ [])) c.loop-batch.invariant.points ∙ sym next);
-      count = omega (arith, c.add.ensures.count, c.loop-batch.invariant.count, ap length next, length-append (taken (take i rest)) (taken (e ∷ [])));
-      most = c.add.ensures.most;
-    }
+loop-batch-preserved c = grind (arith, taken-more, length-append)
 
 -- the first entries have no more values than all
 front_most : (rest : List Entry) (n : ℕ) → length (taken (take n rest)) ≤ length (taken rest)

@@ -1,18 +1,10 @@
-use Rattle.std.proofs.Common.{◌≡◌, ◌≤◌, pos, inl, inr, Some, [], refl, arith, lit<}
+use Rattle.std.proofs.Common.{◌≤◌, pos, inl, inr, Some, [], refl, arith}
 use Rattle.trend_model.specs.{IsCleanSpan, at, untested}
 use Rattle.trend_model.proofs.example.untested_value_is_refused.Goals as goal
 
 -- the span from (0,0) to (2,3) is clean
 span : IsCleanSpan untested (Some (at 3 (pos 0))) [] (at 0 (pos 0)) (at 2 (pos 3))
-span = record {
-  left = refl;
-  right = refl;
-  rises = lit< tt;
-  neighbours = λ t above below. (let here : t ≡ 1 = omega arith in rw here refl);
-  left_in_order = refl;
-  right_in_order = refl;
-  none_passed = λ x there. absurd there;
-}
+span = grind arith
 
 -- and (1,0), which was sent, is 3 / 2 from it, where CompDev is 1
 pub returns : goal.returns

@@ -36,12 +36,4 @@ returns-clause-narrow c =
     (all_narrow (take c.loop-i.i text) c.loop-i.part c.loop-i.ended (omega (arith, c.loop-i.invariant.few)) c.loop-i.invariant.scanned)
 
 pub loop-i-preserved : goal.loop-i-preserved
-loop-i-preserved c =
-    let text = c.args.text.now in
-    let i = c.loop-i.i in
-    let few = ends_few c.loop-i.part c.loop-i.ended (get_or text i 0) in
-    record {
-      scanned = rw (c.step.ensures.part, c.step.ensures.ended)
-          (scans_on text i c.loop-i.part c.loop-i.ended c.loop-i-test.true c.loop-i.invariant.few c.loop-i.invariant.scanned);
-      few = omega (arith, few, c.step.ensures.ended, c.if-ended-eq-MOST_FIELDS.false, c.loop-i.invariant.few);
-    }
+loop-i-preserved c = grind (arith, ends_few, scans_on)

@@ -1,31 +1,22 @@
 -- Each form of the grammar from its parts.
-use Rattle.std.proofs.Common.{◌∙◌, ap, sym, rules}
+use Rattle.std.proofs.Common.{arith}
 use Rattle.std.proofs.lemmas.Result.{IfOk-weaker}
-use Rattle.calc_parser.specs.declared.token.Sum.TheVariants.{Minus}
-use Rattle.calc_parser.specs.declared.token.Token.TheVariants.{Number, Measuring, Calculation, Absolute, Summing, Multiplying, Comparing}
+use Rattle.calc_parser.specs.declared.token.Token.TheVariants.{Measuring, Calculation, Absolute, Summing, Multiplying, Comparing}
 use Rattle.calc_parser.proofs.Steps.{passed, spells_number, spells_group, spells_measure, spells_calculation, spells_absolute, spells_negated, spells_picked, spells_chosen, spells_compared, spells_plain, first_term, next_term, first_factor}
 use Rattle.calc_parser.proofs.Steps.{next_factor, formula_ends, sum_ends}
 use Rattle.calc_parser.proofs.parser.Parser.+parser.Goals as goal
 
 pub chosen-returns-clause-parsed : goal.chosen-returns-clause-parsed
-chosen-returns-clause-parsed t c = IfOk-weaker c.chosen.result _ _
-    (λ e same. spells_chosen c.in_ok-condition.ensures.parsed c.in_ok-a.ensures.parsed
-    c.in_ok-b.ensures.parsed c.in_ok-close.ensures.parsed same)
-    c.chosen.ensures.tree
+chosen-returns-clause-parsed t c = grind (arith, spells_chosen)
 
 pub picked-returns-clause-parsed : goal.picked-returns-clause-parsed
-picked-returns-clause-parsed t c = IfOk-weaker c.two.result _ _
-    (λ e same. spells_picked c.in_ok-a.ensures.parsed c.in_ok-b.ensures.parsed c.in_ok-close.ensures.parsed
-    (cc))
-    c.two.ensures.tree
+picked-returns-clause-parsed t c = grind (arith, spells_picked)
 
 pub factor-returns-in-Open-clause-parsed : goal.factor-returns-in-Open-clause-parsed
-factor-returns-in-Open-clause-parsed t c = IfOk-weaker c.bracketed.result _ _ (λ e s. spells_group s)
-    c.bracketed.ensures.parsed
+factor-returns-in-Open-clause-parsed t c = grind (arith, spells_group)
 
 pub factor-returns-in-Number-clause-parsed : goal.factor-returns-in-Number-clause-parsed
-factor-returns-in-Number-clause-parsed t c = spells_number
-    (passed _ _ (Number c.in-Number.n) c.in-Number.ensures (λ h. cc) c.advance.ensures) (search rules)
+factor-returns-in-Number-clause-parsed t c = grind (arith, spells_number, passed)
 
 pub factor-returns-in_ok-tag-in-Measuring-clause-parsed :
     goal.factor-returns-in_ok-tag-in-Measuring-clause-parsed
@@ -49,11 +40,7 @@ factor-returns-in_ok-inner-in-Absolute-clause-parsed t c = IfOk-weaker c.absolut
     c.absolute.ensures.tree
 
 pub signed-returns-in_ok-inner-in-Minus-clause-parsed : goal.signed-returns-in_ok-inner-in-Minus-clause-parsed
-signed-returns-in_ok-inner-in-Minus-clause-parsed t c = IfOk-weaker c.negated.result _ _
-    (λ e same. spells_negated (passed _ _ (Summing Minus) (ap Summing (sym c.in-Minus.is)
-    ∙ sym c.requires.sign) (λ h. cc) c.advance.ensures)
-    c.in_ok-inner-in-Minus.ensures.parsed same)
-    c.negated.ensures.tree
+signed-returns-in_ok-inner-in-Minus-clause-parsed t c = grind (arith, spells_negated, passed)
 
 pub formula-returns-in_ok-right-in-Comparing-clause-parsed :
     goal.formula-returns-in_ok-right-in-Comparing-clause-parsed
@@ -64,12 +51,7 @@ formula-returns-in_ok-right-in-Comparing-clause-parsed t c = IfOk-weaker c.compa
     c.compared.ensures.tree
 
 pub formula-returns-in_default : goal.formula-returns-in_default
-formula-returns-in_default t c = record {
-  parsed = spells_plain c.in_ok-left.ensures.parsed;
-  follows = λ k. c.in_ok-left.ensures.follows k _
-      ∙ formula_ends _ k _ c.in_ok-left.ensures.ends (λ cmp h. c.in_default.not-Comparing cmp (c.peek.ensures
-      ∙ h));
-}
+formula-returns-in_default t c = grind (arith, spells_plain, formula_ends)
 
 pub sum-loop-sign-init : goal.sum-loop-sign-init
 sum-loop-sign-init t c = record {
@@ -86,11 +68,7 @@ sum-loop-sign-preserved t c = record {
 }
 
 pub sum-returns : goal.sum-returns
-sum-returns t c = record {
-  parsed = c.loop-sign.invariant.read.spells;
-  follows = c.loop-sign.invariant.read.follows;
-  ends = sum_ends _ c.loop-sign.invariant.ends (λ sign h. c.in_default.not-Summing sign (c.peek.ensures ∙ h));
-}
+sum-returns t c = grind (arith, sum_ends)
 
 pub term-loop-sign-init : goal.term-loop-sign-init
 term-loop-sign-init t c = first_factor c.in_ok-term.ensures.parsed c.in_ok-term.ensures.follows

@@ -1,8 +1,7 @@
-use Rattle.std.proofs.Common.{[], ◌∙◌, sym}
+use Rattle.std.proofs.Common.{arith}
 use Rattle.calc_parser.proofs.Steps.{left_over}
 use Rattle.calc_parser.proofs.parser.Parser.all.Goals as goal
 
 -- the formula is whole, and more comes
 pub returns-else-is_empty-clause-follows : goal.returns-else-is_empty-clause-follows
-returns-else-is_empty-clause-follows c = c.in_ok-e.ensures.follows []
-    ∙ left_over _ (sym c.is_empty.ensures ∙ c.if-is_empty.false)
+returns-else-is_empty-clause-follows c = grind (arith, left_over)

@@ -1,6 +1,6 @@
-use Rattle.std.proofs.Common.{◌≡◌, ◌+◌, ◌*◌, ◌≤◌, ◌∷◌, ◌++◌, [], true, length, refl, subst, arith, lit<}
+use Rattle.std.proofs.Common.{◌≡◌, ◌+◌, ◌*◌, ◌≤◌, true, length, subst, arith, lit<}
 use Rattle.std.proofs.lemmas.Result.{err_from_is_err_and}
-use Rattle.archive_file.specs.{number_bytes, BreaksFirst, Keeps, Spells}
+use Rattle.archive_file.specs.{Keeps}
 use Rattle.archive_file.proofs.FieldLaws.{field_of, told_through}
 use Rattle.commit_log.proofs.BlockLaws.{block_added, front_breaks, gate_breaks, rows_break}
 use Rattle.commit_log.proofs.block_reader.LogReaderBlockReader.add.Goals as goal
@@ -18,8 +18,7 @@ returns-in_err-read_rows-clause-damaged g c = λ a byte told.
     let number : c.len.result ≡ length c.args.self.now.rows.items = omega (arith, c.len.ensures) in
     rows_break g.C.Rest.rest c.args.self.now.tags c.len.result (length c.args.self.now.rows.items) c.in_ok-count.count a byte number
     c.in_ok-count.ensures.kept c.in_ok-count.ensures.count
-    (c.in_err-read_rows.ensures.damaged a byte
-    (told_through c.from_residual-in_err-read_rows.result out.0 c.in_err-read_rows.field-0.0 a byte out.1 out.2 told))
+    (grind (arith, told_through))
 
 pub returns-in_err-check-clause-damaged : goal.returns-in_err-check-clause-damaged
 returns-in_err-check-clause-damaged g c = λ a byte told.
@@ -27,20 +26,10 @@ returns-in_err-check-clause-damaged g c = λ a byte told.
     let number : c.len.result ≡ length c.args.self.now.rows.items = omega (arith, c.len.ensures) in
     gate_breaks g.C.Rest.rest c.args.self.now.tags c.len.result (length c.args.self.now.rows.items) c.in_ok-count.count a byte number
     c.in_ok-count.ensures.kept c.in_ok-count.ensures.count c.in_ok-read_rows.ensures.kept
-    (subst (λ f. BreaksFirst g.C.Rest.rest (f ∷ []) a byte) c.new.ensures
-    (c.in_err-check.ensures.damaged a byte
-    (told_through c.from_residual-in_err-check.result out.0 c.in_err-check.field-0.0 a byte out.1 out.2 told)))
+    (grind (arith, told_through))
 
 pub returns-clause-added : goal.returns-clause-added
-returns-clause-added g c =
-    let old = c.args.self.now.rows.items in
-    let count = c.in_ok-count.count in
-    let number : c.len.result ≡ length old = omega (arith, c.len.ensures) in (
-      refl,
-      block_added g.C.Rest.rest c.args.self.now.tags count _ old _
-          (subst (λ n. Spells g.C.Rest.rest 1 (number_bytes 8 n ++ number_bytes 4 count) 13) number c.in_ok-count.ensures.spelled)
-          c.in_ok-count.ensures.some c.in_ok-count.ensures.few c.in_ok-read_rows.ensures.added refl,
-    )
+returns-clause-added g c = grind (arith, block_added)
 
 pub returns-clause-within : goal.returns-clause-within
 returns-clause-within g c =

@@ -26,35 +26,13 @@ overflow_sub-waiting g c =
     )
 
 pub block_bytes-requires : goal.block_bytes-requires
-block_bytes-requires g c =
-    let s = c.self.inside in
-    let was = c.self.invariant in
-    let rest : List LogTurn = take (length c.deref.result.now - s.next) (drop s.next c.deref.result.now) in
-    let from : rest ≡ drop s.next s.tape.items
-    = rest_is c.deref.result.now s.tape.items s.next (c.deref.ensures.value ∙ c.make_places.ensures.same) in
-    record {
-      there = omega (
-        arith,
-        rest_waits s.opening.items s.tape.items rest s.next s.acked was.2 from,
-        was.1.count_is,
-        c.len.ensures,
-        c.from.ensures,
-        c.min-count.ensures,
-      );
-    }
+block_bytes-requires g c = grind (arith, rest_is, rest_waits)
 
 -- the block that was written holds the oldest rows that wait
 block : (g : given.Over) (c : After-write_guarded g)
     → IsBlockOf c.self.inside.acked c.min-count.result (drop c.self.inside.next c.self.inside.tape.items) c.deref-2.result.now
     c.in_ok-block.block.turns
-block g c =
-    let s = c.self.inside in
-    let rest : List LogTurn = take (length c.deref.result.now - s.next) (drop s.next c.deref.result.now) in
-    let from : rest ≡ drop s.next s.tape.items
-    = rest_is c.deref.result.now s.tape.items s.next (c.deref.ensures.value ∙ c.make_places.ensures.same) in
-    subst (λ (l : List LogTurn). IsBlockOf s.acked c.min-count.result l c.deref-2.result.now c.in_ok-block.block.turns) from
-    (subst (λ (l : List ℕ). IsBlockOf s.acked c.min-count.result rest l c.in_ok-block.block.turns)
-    (sym c.deref-2.ensures.value) c.in_ok-block.ensures)
+block g c = grind (arith, rest_is)
 
 -- no call had failed before
 kept : (g : given.Over) (c : After-write_guarded g)
@@ -62,11 +40,7 @@ kept : (g : given.Over) (c : After-write_guarded g)
     let D = g.D.Disk in
     IsKept s.plant.items s.tags s.opening.items s.opened_at s.faults s.tape.items s.next s.end false (D.device s.dev).trace (moment (D.device s.dev).trace)
     (D.device s.dev).faults
-kept g c =
-    let s = c.self.inside in
-    let D = g.D.Disk in
-    subst (λ f. IsKept s.plant.items s.tags s.opening.items s.opened_at s.faults s.tape.items s.next s.end f (D.device s.dev).trace
-    (moment (D.device s.dev).trace) (D.device s.dev).faults) c.if-self.false c.self.invariant.3
+kept g c = grind arith
 
 -- a row waits, and a block has room for all that are counted
 some : (g : given.Over) (c : After-write_guarded g) → 1 ≤ c.min-count.result
@@ -77,19 +51,13 @@ few g c = omega (arith, c.min-count.ensures, c.from-2.ensures)
 
 counted : (g : given.Over) (c : After-write_guarded g)
     → c.min-count.result ≡ min most_in_block (length c.self.inside.opening.items + length (puts c.self.inside.tape.items) - c.self.inside.acked)
-counted g c =
-    omega (arith, c.min-count.ensures, c.from-2.ensures, c.len.ensures, c.from.ensures, c.self.invariant.1.count_is)
+counted g c = grind arith
 
 -- the tape is longer by the commit
 longer : (g : given.Over) (c : After-push_reserved g)
     → c.push_reserved.new.self.items ≡ c.self.inside.tape.items
     ++ Commit (moment (g.D.Disk.device c.write_guarded.new.dev).trace) (c.self.inside.acked + c.min-count.result) ∷ []
-longer g c =
-    let tape = c.self.inside.tape.items in
-    let acked = c.self.inside.acked + c.min-count.result in
-    c.push_reserved.ensures.items
-    ∙ (ap (λ (l : List LogTurn). l ++ Commit c.clock.result acked ∷ []) c.make_places.ensures.same
-    ∙ ap (λ (m : ℕ). tape ++ Commit m acked ∷ []) c.clock.ensures)
+longer g c = grind arith
 
 -- and the end lies after the block
 ends : (g : given.Over) (c : After-push_reserved g)
@@ -119,10 +87,7 @@ begun : (g : given.Over) (c : After-write_guarded g)
     → let s = c.self.inside in
     let dev = g.D.Disk.device c.write_guarded.new.dev in
     LogBeganWell s.plant.items s.tags s.opening.items s.opened_at dev.handed dev.trace
-begun g c =
-    let s = c.self.inside in
-    still_well s.plant.items s.tags s.opening.items s.opened_at (g.D.Disk.device s.dev) (g.D.Disk.device c.write_guarded.new.dev)
-    c.write_guarded.ensures.handed c.write_guarded.ensures.any_moment.later c.self.invariant.6
+begun g c = grind (arith, still_well)
 
 pub invariant_of-self-in-Ok : goal.invariant_of-self-in-Ok
 invariant_of-self-in-Ok g c =

@@ -1,7 +1,5 @@
-use Rattle.std.proofs.Common.{◌≡◌, ℕ, List, [], ◌∷◌, take, arith, refl, sym, subst}
-use Rattle.std.specs.Float.Numeral.{digits_len}
+use Rattle.std.proofs.Common.{◌≡◌, ℕ, List, [], ◌∷◌, arith, refl}
 use Rattle.core.specs.Dec2flt.Digits.{IsEightBytes}
-use Rattle.core.specs.Str.Parse.{digits_value as ascii_value}
 use lib.Lanes.{number_l}
 use Rattle.point_text.proofs.plain_line.Front.new.Goals as goal
 
@@ -28,6 +26,4 @@ zeros_are (a ∷ b ∷ c ∷ d ∷ e ∷ f ∷ g ∷ h ∷ []) eight is =
     rw (a48, b48, c48, d48, e48, f48, g48, h48) refl
 
 pub invariant_of-result : goal.invariant_of-result
-invariant_of-result c = record {
-  spelled = λ bytes eight is. subst (λ (l : List ℕ). (8 ≡ digits_len l) × (0 ≡ ascii_value 10 (take 8 l))) (sym (zeros_are bytes eight is)) (refl, refl);
-}
+invariant_of-result c = grind (arith, zeros_are)
