@@ -12,7 +12,7 @@ from disk_calls import audit_log, audit_run, injected, stood
 from disk_files import READS, for_everybody, full_plant, may_only_be_read, reader, state
 from disk_plant import COMMANDS, HALF, UNITS
 
-RENEWALS = {"openat": 4, "write": 1, "fsync": 2, "rename": 1}  # which call of its kind, on the folder and the files, writes the device anew
+RENEWALS = {"openat": 4, "write": 1, "fsync": 3, "rename": 1}  # which call of its kind, on the folder and the files, writes the device anew
 ORDER = ["write", "fsync", "rename", "fsync", "unlink", "fsync"]  # of the calls that write a device anew and remove its mark
 
 
