@@ -11,5 +11,4 @@ end_of_front bytes from to order =
 -- what is left of a text that fills the front of a buffer, as a part of the buffer
 pub left_of_front : (bytes : List ℕ) (filled left : ℕ) → filled ≤ length bytes → left ≤ filled
     → drop (length (take filled bytes) - left) (take filled bytes) ≡ take (filled - (filled - left)) (drop (filled - left) bytes)
-left_of_front bytes filled left within few =
-    ap (λ k. drop (k - left) (take filled bytes)) (length-take-le filled bytes within) ∙ end_of_front bytes (filled - left) filled (omega arith)
+left_of_front bytes filled left within few = grind (arith, length-take-le, end_of_front)

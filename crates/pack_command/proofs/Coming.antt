@@ -1,5 +1,5 @@
 -- Lemmas on what the rows of an input have come to.
-use Rattle.std.proofs.Common.{◌≡◌, ◌≢◌, ℕ, ◌+◌, ◌<◌, ◌≤◌, Bool, true, false, cond, min, ◌-◌, List, [], ◌∷◌, ◌++◌, length, map, drop, nat_eq, Result, Ok, Err, arith, refl, sym, ap, ◌∙◌, append-nil, append_assoc, length-append}
+use Rattle.std.proofs.Common.{◌≡◌, ◌≢◌, ℕ, ◌+◌, ◌<◌, ◌≤◌, Bool, true, false, cond, min, ◌-◌, List, [], ◌∷◌, ◌++◌, length, drop, nat_eq, Result, Ok, Err, arith, refl, sym, ap, ◌∙◌, append-nil, append_assoc, length-append}
 use Rattle.std.proofs.lemmas.Bool.{eqb-true, eqb-false}
 use Rattle.std.proofs.lemmas.List.{drop_at, drop-drop, map-append}
 use Rattle.trend_num.specs.{most_records, Point, Reason}
@@ -23,10 +23,7 @@ any more = λ end. absurd (cc)
 
 -- a piece more came
 up_more : (bytes rest piece : List ℕ) (found : List Point) → IsReadUpTo true bytes rest found → IsReadUpTo true (bytes ++ piece) (rest ++ piece) found
-up_more bytes rest piece found up = record {
-  reads = λ more come. ap reads_of (append_assoc bytes piece more) ∙ up.reads (piece ++ more) (any (piece ++ more))
-      ∙ ap (λ l. all_read found ++ reads_of l) (sym (append_assoc rest piece more));
-}
+up_more bytes rest piece found up = grind (arith, append_assoc, any, all_read)
 
 pub come_more : (o : Origin) (bytes rest piece : List ℕ) (core : Core) (rows : ℕ) (standing : Standing)
     → HasCome true o bytes rest core rows standing → HasCome true o (bytes ++ piece) (rest ++ piece) core rows standing
@@ -60,18 +57,11 @@ come_end o bytes rest core rows (Refused why) come = record { refused = λ more 
 
 -- a line with its line feed is a row
 pub next_fed : (further : Bool) (rest after : List ℕ) (read : Result Point Reason) → IsFirstPoint rest after read → IsNextRow further rest after read
-next_fed further rest after read first = record {
-  reads = λ more come. ap (λ l. reads_of (l ++ more)) first.cut ∙ ap reads_of (append_assoc first.line (10 ∷ after) more)
-      ∙ ap (map point_of_line) (lines_fed first.line (after ++ more) first.one) ∙ ap (λ r. r ∷ reads_of (after ++ more)) (sym first.reads);
-}
+next_fed further rest after read first = grind (arith, append_assoc, lines_fed)
 
 -- so is the last line without one, at the end
 pub next_last : (line : List ℕ) → HasNoFeed line → 0 < length line → IsNextRow false line [] (point_of_line line)
-next_last line one some = record {
-  reads = λ more come. let none : more ≡ [] = come refl in
-      ap (λ l. reads_of (line ++ l)) none ∙ ap reads_of (append-nil line) ∙ ap (map point_of_line) (lines_begun line one some)
-      ∙ ap (λ l. point_of_line line ∷ reads_of l) (sym none);
-}
+next_last line one some = grind (arith, append-nil, lines_begun)
 
 number_read : (rows : ℕ) (read : Result Point Reason) (p : Point) → numbered rows read ≡ Ok p → read ≡ Ok p
 number_read rows (Ok q) p e = cc
@@ -79,12 +69,7 @@ number_read rows (Err reason) p e = absurd (cc)
 
 -- the row has a point
 pub row_read : (rows : ℕ) (read : Result Point Reason) (p : Point) → point_of_row rows read ≡ Ok p → (read ≡ Ok p) × (rows ≢ most_rows)
-row_read rows read p is =
-    elim (nat_eq rows most_rows) as (λ b. nat_eq rows most_rows ≡ b → cond b (Err (TooMany (most_rows + 1))) (numbered rows read) ≡ Ok p
-    → (read ≡ Ok p) × (rows ≢ most_rows)) [
-      | true ↦ λ full e. absurd (cc)
-      | false ↦ λ room e. (number_read rows read p e, eqb-false _ _ room)
-    ] refl is
+row_read rows read p is = grind (arith, number_read, eqb-false)
 
 -- fewer rows than there may be
 below_most : (n : ℕ) → n ≤ most_rows → (n ≡ most_rows → ⊥) → n < most_rows
@@ -92,11 +77,7 @@ below_most n few other = omega arith
 
 -- a line that has a point gives it, where it is not one too many
 pub row_here : (rows : ℕ) (p : Point) → (rows ≡ most_rows → ⊥) → point_of_row rows (Ok p) ≡ Ok p
-row_here rows p other =
-    elim (nat_eq rows most_rows) as (λ b. nat_eq rows most_rows ≡ b → cond b (Err (TooMany (most_rows + 1))) (numbered rows (Ok p)) ≡ Ok p) [
-      | true ↦ λ full. absurd (other (eqb-true _ _ full))
-      | false ↦ λ room. refl
-    ] refl
+row_here rows p other = grind (arith, eqb-true)
 
 -- the row is refused
 number_refused : (found : List Point) (read : Result Point Reason) (tail : List (Result Point Reason)) (why : RowNo) → length found < most_rows
@@ -130,12 +111,7 @@ row_refused further bytes rest after found rows read why up next count few is = 
 -- the row is read
 pub row_more : (further : Bool) (bytes rest after : List ℕ) (found : List Point) (read : Result Point Reason) (p : Point)
     → IsReadUpTo further bytes rest found → IsNextRow further rest after read → read ≡ Ok p → IsReadUpTo further bytes after (found ++ p ∷ [])
-row_more further bytes rest after found read p up next is = record {
-  reads = λ more come.
-      let tail : List (Result Point Reason) = reads_of (after ++ more) in
-      up.reads more come ∙ ap (λ l. all_read found ++ l) (next.reads more come ∙ ap (λ (r : Result Point Reason). r ∷ tail) is)
-      ∙ sym (append_assoc (all_read found) (Ok p ∷ []) tail) ∙ ap (λ l. l ++ tail) (sym (map-append (λ (q : Point). Ok q) found (p ∷ [])));
-}
+row_more further bytes rest after found read p up next is = grind (arith, all_read, append_assoc, map-append)
 
 -- ---- the end
 
@@ -204,21 +180,14 @@ pub ready_more : (old new : Core) (rows added : ℕ) → IsReady old rows → ro
     → new.state.summary.taken ≡ old.state.summary.taken + 1 → length new.state.records ≡ length old.state.records + added → added ≤ 2
     → (most_records < length old.state.records + 2 → ⊥)
     → new.spare + length new.state.records ≡ old.spare + length old.state.records → IsReady new (min (rows + 1) most_rows)
-ready_more old new rows added ready other counted grown few fits places = record {
-  few = omega arith;
-  counted = omega (arith, ready.counted, ready.few);
-  records = omega (arith, ready.records);
-  places = omega (arith, ready.places);
-}
+ready_more old new rows added ready other counted grown few fits places = grind arith
 
 -- ---- what is left of a text
 
 -- an end of an end of the text is one of the text
 pub end_further : (text rest end : List ℕ) → rest ≡ drop (length text - length rest) text → length rest ≤ length text
     → end ≡ drop (length rest - length end) rest → length end ≤ length rest → end ≡ drop (length text - length end) text
-end_further text rest end tail within last few =
-    last ∙ ap (drop (length rest - length end)) tail ∙ drop-drop (length rest - length end) (length text - length rest) text
-    ∙ ap (λ n. drop n text) (omega arith)
+end_further text rest end tail within last few = grind (arith, drop-drop)
 
 -- what follows the first line is still an end of the text
 pub end_more : (text rest line after : List ℕ) → rest ≡ drop (length text - length rest) text → length rest ≤ length text → rest ≡ line ++ 10 ∷ after

@@ -1,9 +1,9 @@
 -- A history grows by its points in order.
-use Rattle.std.proofs.Common.{◌≡◌, ℕ, ◌+◌, ◌<◌, Bool, true, false, cond, List, [], ◌∷◌, ◌++◌, length, map, Option, None, Some, nat_lt, sym, ap, ◌∙◌, subst, arith}
+use Rattle.std.proofs.Common.{◌≡◌, ℕ, ◌+◌, ◌<◌, Bool, true, false, cond, List, [], ◌∷◌, ◌++◌, length, map, Option, None, Some, nat_lt, ap, ◌∙◌, arith}
 use Rattle.std.specs.Option.{option_or}
 use Rattle.std.proofs.lemmas.Bool.Decides.{nat_tests}
 use Rattle.std.proofs.lemmas.List.{reverse-append}
-use Rattle.trend_num.specs.{Point, Rec, most_records}
+use Rattle.trend_num.specs.{Point, most_records}
 use Rattle.trend_model.specs.Walk.{records}
 use Rattle.trend_model.specs.{Event, Raw, Origin}
 use Rattle.trend_model.specs.State.{Stands}
@@ -35,14 +35,12 @@ not_below m n h = grind (arith, nat_tests)
 -- the event that finds no room
 pub full_here : (o : Origin) (e : Event) (h : List Event) → first_full o h ≡ None → most_records < length (records o h) + 2
     → first_full o (e ∷ h) ≡ Some (length (records o h))
-full_here o e h room full =
-    full_by _ (length (records o h)) (first_full o h) room (below most_records (length (records o h) + 2) full)
+full_here o e h room full = grind (arith, full_by, below)
 
 -- one that finds room
 pub room_here : (o : Origin) (e : Event) (h : List Event) → first_full o h ≡ None
     → (most_records < length (records o h) + 2 → ⊥) → first_full o (e ∷ h) ≡ None
-room_here o e h room fits =
-    room_by _ (length (records o h)) (first_full o h) room (not_below most_records (length (records o h) + 2) fits)
+room_here o e h room fits = grind (arith, room_by, not_below)
 
 -- the history of one point more
 pub history_more : (points : List Point) (p : Point) → history_of (points ++ p ∷ []) ≡ Raw p ∷ history_of points
@@ -51,23 +49,12 @@ history_more points p = ap (map Raw) (reverse-append points (p ∷ []))
 -- the values are taken with one more
 pub taken_more : (o : Origin) (points : List Point) (p : Point) (old new : Core) → AreTaken o old points → new.step ≡ old.step
     → Stands o (Raw p ∷ history_of points) new.state → (most_records < length old.state.records + 2 → ⊥) → AreTaken o new (points ++ p ∷ [])
-taken_more o points p old new t kind stands fits =
-    let longer = history_more points p in
-    record {
-      kind = kind ∙ t.kind;
-      stands = subst (λ l. Stands o l new.state) (sym longer) stands;
-      room = ap (first_full o) longer ∙ room_here o (Raw p) (history_of points) t.room
-          (λ full. fits (subst (λ (rs : List Rec). most_records < length rs + 2) (sym t.stands.same_records) full));
-    }
+taken_more o points p old new t kind stands fits = grind (arith, history_more, room_here)
 
 -- or it finds no room
 pub full_at : (o : Origin) (points : List Point) (p : Point) (core : Core) (stood : ℕ) → AreTaken o core points
     → most_records < length core.state.records + 2 → stood ≡ length core.state.records → first_full o (history_of (points ++ p ∷ [])) ≡ Some stood
-full_at o points p core stood t full records_are =
-    let same : length core.state.records ≡ length (records o (history_of points)) = ap length t.stands.same_records in
-    ap (first_full o) (history_more points p)
-    ∙ full_here o (Raw p) (history_of points) t.room (subst (λ (rs : List Rec). most_records < length rs + 2) t.stands.same_records full)
-    ∙ ap Some (sym (records_are ∙ same))
+full_at o points p core stood t full records_are = grind (arith, history_more, full_here)
 
 -- and what was full stays so
 pub full_after : (o : Origin) (points : List Point) (p : Point) (stood : ℕ) → first_full o (history_of points) ≡ Some stood

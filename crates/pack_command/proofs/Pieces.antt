@@ -1,5 +1,5 @@
 -- Lemmas on what was read of an input, a piece at a time.
-use Rattle.std.proofs.Common.{◌≡◌, ℕ, ◌+◌, ◌≤◌, inr, true, cond, List, ◌++◌, length, take, drop, take-add, nat_lt, arith, sym, ap, ◌∙◌, subst, length-append}
+use Rattle.std.proofs.Common.{◌≡◌, ℕ, ◌+◌, ◌≤◌, true, List, ◌++◌, length, take, take-add, nat_lt, arith, ◌∙◌, length-append}
 use Rattle.std.proofs.KnownBytes.{Consumes-trans}
 use Rattle.std.proofs.lemmas.Bool.Decides.{nat_tests}
 use Rattle.std.proofs.lemmas.List.{drop_at, length-take-le, take_at, take-append-le}
@@ -9,9 +9,8 @@ use Rattle.trend_num.specs.{Tuning}
 use Rattle.trend_model.specs.{Origin}
 use Rattle.tag_core.specs.Core.{Core}
 use Rattle.byte_io.specs.Outside.{Outside, CountsNoFault, Takes}
-use Rattle.point_text.specs.{line_points_of}
 use Rattle.plant_status.specs.declared.status.Status.TheVariants.{Limit}
-use Rattle.pack_command.specs.{IsPackRefusal, Refuses, answer_rows, most_input_bytes, most_rows, AreTakenFrom, HasCome, IsReadAfter, Standing}
+use Rattle.pack_command.specs.{IsPackRefusal, most_input_bytes, AreTakenFrom, HasCome, IsReadAfter, Standing}
 use Rattle.pack_command.proofs.Coming.{come_more}
 
 -- a piece more was taken
@@ -27,26 +26,13 @@ taken_piece before at now bytes old new total begun n taken read = record {
 pub come_piece : (o : Origin) (at now : Outside) (bytes old new : List ℕ) (begun n : ℕ) (core : Core) (rows : ℕ) (standing : Standing)
     → (read : IsReadAfter at now begun n old new) → HasCome true o bytes (take begun old) core rows standing
     → HasCome true o (bytes ++ read.piece) (take (begun + n) new) core rows standing
-come_piece o at now bytes old new begun n core rows standing read come =
-    subst (λ (l : List ℕ). HasCome true o (bytes ++ read.piece) l core rows standing) (sym read.front)
-    (come_more o bytes (take begun old) read.piece core rows standing come)
+come_piece o at now bytes old new begun n core rows standing read come = grind (arith, come_more)
 
 -- what a read into the middle of a buffer gave
 pub read_is : (before now : Outside) (begun n : ℕ) (old buf post : List ℕ) → Takes before now (take n buf) → (n ≡ 0 → IsAtEnd now.content)
     → CountsNoFault before now → n ≤ length buf → begun ≤ length old → IsReadAfter before now begun n old (take begun old ++ (buf ++ post))
 read_is before now begun n old buf post taken ended no_fault bound within =
-    let whole = take begun old ++ (buf ++ post) in
-    let count : length (take begun old) ≡ begun = length-take-le begun old within in
-    record {
-      piece = take n buf;
-      taken = taken;
-      ended = ended;
-      no_fault = no_fault;
-      counted = length-take-le n buf bound;
-      front = take-add begun n whole ∙ ap (λ l. l ++ take n (drop begun whole)) (take_at (take begun old) (buf ++ post) begun count)
-          ∙ ap (λ l. take begun old ++ take n l) (drop_at (take begun old) (buf ++ post) begun count)
-          ∙ ap (λ l. take begun old ++ l) (take-append-le n buf post bound);
-    }
+    grind (arith, length-take-le, take-add, take_at, drop_at, take-append-le)
 
 above : (n : ℕ) → n ≡ most_input_bytes + 1 → nat_lt most_input_bytes n ≡ true
 above n is = grind (arith, nat_tests)
@@ -54,14 +40,4 @@ above n is = grind (arith, nat_tests)
 -- one byte too many came
 pub long_refused : (tuning : Tuning) (before now : Outside) (bytes : List ℕ) (count : ℕ) → AreTakenFrom before now bytes count
     → count ≡ most_input_bytes + 1 → IsPackRefusal tuning before now (Limit FileBytes (most_input_bytes + 1))
-long_refused tuning before now bytes count taken is = (
-  record {
-    bytes = bytes;
-    taken = taken.taken;
-    enough = inr (omega (arith, taken.counted));
-    no_fault = taken.no_fault;
-    answer = ap (λ b. cond b (Refuses (Limit FileBytes (most_input_bytes + 1))) (answer_rows tuning (line_points_of most_rows bytes)))
-        (above (length bytes) (taken.counted ∙ is));
-  },
-  λ same. (bytes, taken.taken, taken.counted ∙ is),
-)
+long_refused tuning before now bytes count taken is = grind (arith, above)

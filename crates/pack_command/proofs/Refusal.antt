@@ -1,8 +1,8 @@
 -- Why `pack` refuses what it has read.
-use Rattle.std.proofs.Common.{◌≡◌, ℕ, ◌+◌, ◌≤◌, ◌⊎◌, inl, inr, cond, false, List, length, nat_lt, Option, None, Some, Err, arith, ap, sym, ◌∙◌, subst}
+use Rattle.std.proofs.Common.{◌≡◌, ℕ, ◌≤◌, ◌⊎◌, inl, inr, false, List, length, nat_lt, Option, None, Some, Err, arith, ap, sym, ◌∙◌, subst}
 use Rattle.std.proofs.lemmas.Bool.Decides.{nat_tests}
 use Rattle.trend_num.specs.{Point, Tuning}
-use Rattle.trend_num.specs.declared.refusal.What.TheVariants.{FileBytes, Rows, Records}
+use Rattle.trend_num.specs.declared.refusal.What.TheVariants.{Rows, Records}
 use Rattle.trend_model.specs.{Event, Origin}
 use Rattle.byte_io.specs.Outside.{Outside, CountsNoFault, TakesAll}
 use Rattle.point_text.specs.{line_points_of, RowNo}
@@ -18,8 +18,7 @@ within_is n few = grind (arith, nat_tests)
 
 -- the answer to bytes that are not too many
 answer_within : (tuning : Tuning) (bytes : List ℕ) → length bytes ≤ most_input_bytes → pack_answer tuning bytes ≡ answer_rows tuning (line_points_of most_rows bytes)
-answer_within tuning bytes few =
-    ap (λ b. cond b (Refuses (Limit FileBytes (most_input_bytes + 1))) (answer_rows tuning (line_points_of most_rows bytes))) (within_is (length bytes) few)
+answer_within tuning bytes few = grind (arith, within_is)
 
 -- bytes that were all read, whose answer is a refusal
 bytes_refused : (tuning : Tuning) (before now : Outside) (bytes : List ℕ) (refusal : Status) → TakesAll before now bytes → CountsNoFault before now

@@ -1,7 +1,7 @@
 -- No two tags of a base have one name.
-use Rattle.std.proofs.Common.{◌≡◌, ℕ, ◌<◌, ◌≤◌, Bool, true, false, cond, List, [], ◌∷◌, ◌++◌, length, get_or, Option, None, Some, Result, Ok, Err, refl, sym, ap, subst, ◌∙◌, arith}
+use Rattle.std.proofs.Common.{◌≡◌, ℕ, ◌<◌, Bool, true, false, cond, List, [], ◌∷◌, ◌++◌, length, get_or, Option, None, Some, Result, Ok, Err, refl, sym, ap, subst, ◌∙◌, arith}
 use Rattle.std.specs.Prelude.{◌≢◌, codes}
-use Rattle.std.specs.List.{AllPairs, position, position_or_len}
+use Rattle.std.specs.List.{AllPairs, position}
 use Rattle.std.specs.Option.{is_none, option_and_then}
 use Rattle.std.specs.Str.{bytes_eq}
 use Rattle.std.proofs.lemmas.Bool.{false≢true}
@@ -48,9 +48,7 @@ new_name earlier (Some n) name e = by (tag_place earlier n) refl e
 
 -- where no place was found, no element passes
 pub nobody : {X : Type 0} (test : X → Bool) (xs : List X) (k : ℕ) (d : X) → position test xs ≡ None → k < length xs → test (get_or xs k d) ≡ false
-nobody test xs k d none below =
-    let past : length xs ≤ position_or_len test xs = grind (arith, common_steps) in
-    fails_before_first test xs k d (omega arith)
+nobody test xs k d none below = grind (arith, common_steps, fails_before_first)
 
 -- a tag whose name no earlier one has is distinct from them
 AreApart-push : (earlier : List TagDef) (tag : TagDef) → AreApart earlier → tag_place earlier tag.name ≡ None → AreApart (earlier ++ tag ∷ [])
@@ -103,6 +101,4 @@ names_apart bytes base read = of_tables (base_tables (document bytes)) base read
 pub distinct_tags : (tags : List TagDef) → AllPairs (λ x y. x ≢ y) (tag_names tags) → AllPairs (λ a b. a.name ≢ b.name) tags
 distinct_tags tags all i j d less below same =
     let named = λ (t : TagDef). t.name in
-    all i j d.name less (omega (arith, below, length-map tags named)) (
-    get_or-map named tags i d d.name (omega (arith, less, below)) ∙ same
-    ∙ sym (get_or-map named tags j d d.name below))
+    all i j d.name less (omega (arith, below, length-map tags named)) (grind (arith, get_or-map))

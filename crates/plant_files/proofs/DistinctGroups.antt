@@ -1,6 +1,6 @@
 -- No two groups of a base have one name.
 use Rattle.std.proofs.Common.{◌≡◌, ℕ, ◌<◌, Bool, true, false, if◌then◌else◌, List, [], ◌∷◌, ◌++◌, length, get_or, Option, None, Some, Result, Ok, Err, refl, sym, ap, subst, ◌∙◌, arith}
-use Rattle.std.specs.Prelude.{◌≢◌, codes, nat_le}
+use Rattle.std.specs.Prelude.{◌≢◌, nat_le}
 use Rattle.std.specs.List.{AllPairs}
 use Rattle.std.specs.Option.{is_none, option_and_then}
 use Rattle.std.specs.Str.{bytes_eq}
@@ -9,12 +9,11 @@ use Rattle.std.proofs.lemmas.Grind.{common_steps}
 use Rattle.std.proofs.lemmas.List.Quantifiers.{all_pairs_push}
 use Rattle.std.proofs.lemmas.Slice.Eq.{bytes_eq-Decides}
 use Rattle.toml.specs.Data.{Members}
-use Rattle.toml_tables.specs.{document, has_keys}
+use Rattle.toml_tables.specs.{document}
 use Rattle.trend_num.specs.declared.refusal.What.TheVariants.{Calcs}
-use Rattle.trend_num.specs.{TagDef, last_time}
-use Rattle.calc_check.specs.Group.{Group}
-use Rattle.tag_base.specs.{Base, GroupDef, TextNo, broken, where_held, limited, where_given, Follows, name_at, number_at, CalcForm, GroupForm, GroupRead, GroupsRead, IsGroupAnswer, TextRead, calcs_at, group_keys, group_place, group_text}
-use Rattle.tag_base.specs.{inputs_at, longest_period, most_calcs, new_group_name, tags_after}
+use Rattle.trend_num.specs.{TagDef}
+use Rattle.tag_base.specs.{Base, GroupDef, TextNo, where_held, limited, where_given, Follows, CalcForm, GroupForm, GroupRead, GroupsRead, TextRead, group_place}
+use Rattle.tag_base.specs.{most_calcs, tags_after}
 use Rattle.tag_base.specs.declared.refusal.TextNo.TheVariants.{Limit}
 use Rattle.tag_base.specs.Bases.{BaseForm, BaseRead, IsBaseOf, TablesRead, base_tables}
 use Rattle.plant_files.proofs.Distinct.{nobody}
@@ -69,28 +68,12 @@ AreApart-push earlier g apart none = all_pairs_push (λ a b. a.name ≢ b.name) 
 
 -- a group is of the name of its text
 name_read : (place : ℕ) (text : GroupForm) (g : GroupDef) → TextRead place text (Ok g) → g.name ≡ text.name
-name_read place text g read = by read.0 read.2
-  where
-    by : (calcs : Result Group TextNo) → Follows calcs (IsGroupAnswer text) (Ok g) → g.name ≡ text.name
-    by (Err why) follows = absurd (cc)
-    by (Ok calcs) follows = follows.name
+name_read place text g read = grind arith
 
 -- its name is that of no earlier group
 new_group : (tags : List TagDef) (earlier : List GroupDef) (ms : Members) (g : GroupDef) → GroupRead tags earlier ms (Ok g)
     → group_place earlier g.name ≡ None
-new_group tags earlier ms g read = by (group_text tags earlier ms) refl read
-  where
-    by : (text : Result GroupForm TextNo) → group_text tags earlier ms ≡ text → Follows text (TextRead (length earlier)) (Ok g)
-        → group_place earlier g.name ≡ None
-    by (Err why) is follows = absurd (cc)
-    by (Ok text) is follows =
-        let named = named_so (λ n i s p cs. record { name = n; inputs = i; start = s; period = p; calcs = cs }) (λ n i s p cs. refl)
-        (has_keys group_keys [] ms) (new_group_name earlier ms) (inputs_at tags ms)
-        (number_at (codes "start") 0 last_time ms) (number_at (codes "period") 1 longest_period ms) (calcs_at ms)
-        (broken 6 (length earlier)) (broken 7 (length earlier)) (broken 8 (length earlier)) (broken 9 (length earlier))
-        (broken 9 (length earlier)) (broken 10 (length earlier)) text is in
-        subst (λ n. group_place earlier n ≡ None) (sym (name_read (length earlier) text g follows))
-        (new_name earlier (name_at (codes "name") ms) text.name named)
+new_group tags earlier ms g read = grind (arith, named_so, name_read, new_name)
 
 -- groups that are read are distinct if the earlier ones are
 groups_apart : (tags : List TagDef) (earlier : List GroupDef) (tables : List Members) (groups : List GroupDef) → AreApart earlier

@@ -1,5 +1,5 @@
 -- Of which file a read fault is reported.
-use Rattle.std.proofs.Common.{◌≡◌, ◌∙◌, ◌+◌, ℕ, List, Option, subst, sym}
+use Rattle.std.proofs.Common.{arith, ◌≡◌, ◌∙◌, ◌+◌, ℕ, List, Option, sym}
 use Rattle.std.specs.Prelude.{◌≢◌}
 use Rattle.byte_io.specs.{FileTold, IsFaultOf}
 use Rattle.tag_base.specs.{Base, GroupDef, Plan}
@@ -58,12 +58,7 @@ reader_is_no_collector place other same = cc
 module _ (name plan_name : List ℕ) (told : ToldFiles) (failed : Option (List ℕ)) (why : Status) where
   -- what is no read fault is reported of no file
   pub of_none : ((which : FileId) → why ≢ ReadFault which) → IsFaultOfPlanned name plan_name told failed why
-  of_none other = record {
-    base = λ same. absurd (other file.Base same);
-    plan = λ same. absurd (other file.Plan same);
-    collector = λ place same. absurd (other (file.Collector place) same);
-    reader = λ place same. absurd (other (file.Reader place) same);
-  }
+  of_none other = grind arith
 
   -- too many rows are none
   pub of_rows : (rows : ℕ) → AreRowsTooMany rows why → IsFaultOfPlanned name plan_name told failed why
@@ -72,22 +67,12 @@ module _ (name plan_name : List ℕ) (told : ToldFiles) (failed : Option (List �
   -- the refusal of a base names the base
   pub of_base : (t : FileTold) → IsBaseRefusal t why → ((which : FileId) → why ≡ ReadFault which → IsFaultOf failed name)
       → IsFaultOfPlanned name plan_name told failed why
-  of_base t refused whose = record {
-    base = λ same. whose file.Base same;
-    plan = λ same. absurd (base_is_no_plan (subst (IsBaseRefusal t) same refused));
-    collector = λ place same. absurd (base_is_no_collector place (subst (IsBaseRefusal t) same refused));
-    reader = λ place same. absurd (base_is_no_reader place (subst (IsBaseRefusal t) same refused));
-  }
+  of_base t refused whose = grind (arith, base_is_no_plan, base_is_no_collector, base_is_no_reader)
 
   -- that of a plan names the plan
   pub of_plan : (groups : List GroupDef) (t : FileTold) → IsPlanRefusal groups t why
       → ((which : FileId) → why ≡ ReadFault which → IsFaultOf failed plan_name) → IsFaultOfPlanned name plan_name told failed why
-  of_plan groups t refused whose = record {
-    base = λ same. absurd (plan_is_no_base (subst (IsPlanRefusal groups t) same refused));
-    plan = λ same. whose file.Plan same;
-    collector = λ place same. absurd (plan_is_no_collector place (subst (IsPlanRefusal groups t) same refused));
-    reader = λ place same. absurd (plan_is_no_reader place (subst (IsPlanRefusal groups t) same refused));
-  }
+  of_plan groups t refused whose = grind (arith, plan_is_no_base, plan_is_no_collector, plan_is_no_reader)
 
   -- that of the rows names a collector
   pub of_collector : (base : Base) (plan : Plan) → IsBaseFile (told name) base → IsPlanFile base.groups.items (told plan_name) plan
@@ -95,13 +80,10 @@ module _ (name plan_name : List ℕ) (told : ToldFiles) (failed : Option (List �
       → ((place : ℕ) → why ≡ ReadFault (file.Collector place) → IsFaultAt plan.collectors.items place failed)
       → IsFaultOfPlanned name plan_name told failed why
   of_collector base plan read planned refused whose = record {
-    base = λ same. absurd (collector_is_no_base _ (subst (IsCollectedRefusal base told plan.collectors.items) same refused
-        (memory_is_no_fault file.Base)).refused);
-    plan = λ same. absurd (collector_is_no_plan _ (subst (IsCollectedRefusal base told plan.collectors.items) same refused
-        (memory_is_no_fault file.Plan)).refused);
+    base = grind (arith, collector_is_no_base, memory_is_no_fault);
+    plan = grind (arith, collector_is_no_plan, memory_is_no_fault);
     collector = λ place same. (base, plan, read, planned, whose place same);
-    reader = λ place same. absurd (collector_is_no_reader _ place (subst (IsCollectedRefusal base told plan.collectors.items) same refused
-        (memory_is_no_fault (file.Reader place))).refused);
+    reader = grind (arith, collector_is_no_reader, memory_is_no_fault);
   }
 
   -- that of the queries names a reader
@@ -110,11 +92,8 @@ module _ (name plan_name : List ℕ) (told : ToldFiles) (failed : Option (List �
       → ((place : ℕ) → why ≡ ReadFault (file.Reader place) → IsFaultAt plan.readers.items place failed)
       → IsFaultOfPlanned name plan_name told failed why
   of_reader base plan read planned refused whose = record {
-    base = λ same. absurd (reader_is_no_base _ (subst (IsQueriesRefusal base told plan.readers.items) same refused
-        (memory_is_no_fault file.Base)).first.refused);
-    plan = λ same. absurd (reader_is_no_plan _ (subst (IsQueriesRefusal base told plan.readers.items) same refused
-        (memory_is_no_fault file.Plan)).first.refused);
-    collector = λ place same. absurd (reader_is_no_collector _ place (subst (IsQueriesRefusal base told plan.readers.items) same refused
-        (memory_is_no_fault (file.Collector place))).first.refused);
+    base = grind (arith, reader_is_no_base, memory_is_no_fault);
+    plan = grind (arith, reader_is_no_plan, memory_is_no_fault);
+    collector = grind (arith, reader_is_no_collector, memory_is_no_fault);
     reader = λ place same. (base, plan, read, planned, whose place same);
   }

@@ -1,5 +1,5 @@
 -- The files of a list, one after another.
-use Rattle.std.proofs.Common.{◌≡◌, ℕ, ◌+◌, ◌<◌, List, [], ◌∷◌, ◌++◌, length, take, drop, get_or, sym, ap, subst, ◌∙◌, arith}
+use Rattle.std.proofs.Common.{◌≡◌, ℕ, ◌+◌, ◌<◌, List, [], ◌∷◌, ◌++◌, length, take, drop, get_or, sym, subst, arith}
 use Rattle.std.proofs.lemmas.List.{drop_more, take_more, length-take-le, take-append-drop}
 use Rattle.byte_io.specs.{FileTold}
 use Rattle.plant_status.specs.declared.status.Status.{Status}
@@ -19,11 +19,7 @@ module _ {R : Type 0} (IsFile : IsFileOf R) (told : ToldFiles) where
   pub AreRowFiles-more : (files : List (List ℕ)) (i : ℕ) (file : List ℕ) (lists : List (List R)) (rows : List R)
       → i < length files → file ≡ get_or files i file → AreRowFiles IsFile told (take i files) lists → IsFile (told file) rows
       → AreRowFiles IsFile told (take (i + 1) files) (lists ++ rows ∷ [])
-  AreRowFiles-more files i file lists rows there is all one =
-      let more : take (i + 1) files ≡ take i files ++ file ∷ [] =
-      take_more files i file there ∙ ap (λ f. take i files ++ f ∷ []) (sym is) in
-      subst (λ l. AreRowFiles IsFile told l (lists ++ rows ∷ [])) (sym more)
-      (AreRowFiles-push (take i files) lists file rows all one)
+  AreRowFiles-more files i file lists rows there is all one = grind (arith, take_more, AreRowFiles-push)
 
   -- the file after those that are read is refused
   pub first_refused : (IsRefusal : ℕ → FileTold → Status → Type 0) (files : List (List ℕ)) (i : ℕ) (file : List ℕ)
@@ -34,8 +30,7 @@ module _ {R : Type 0} (IsFile : IsFileOf R) (told : ToldFiles) where
     front = take i files;
     file = file;
     rest = drop (i + 1) files;
-    cut = sym (take-append-drop i files)
-        ∙ ap (λ l. take i files ++ l) (drop_more files i file there ∙ ap (λ f. f ∷ drop (i + 1) files) (sym is));
+    cut = grind (arith, take-append-drop, drop_more);
     lists = lists;
     good = all;
     refused = subst (λ n. IsRefusal n (told file) why) (sym (length-take-le i files (omega arith))) refused;

@@ -1,7 +1,6 @@
 -- The names of the tags and of the groups of a base.
-use Rattle.std.proofs.Common.{◌≡◌, ℕ, ◌<◌, List, [], ◌∷◌, ◌++◌, length, map, refl, suc, zero, ap, subst, ◌∙◌, All, Vec}
+use Rattle.std.proofs.Common.{arith, ◌≡◌, ℕ, ◌<◌, List, [], ◌∷◌, ◌++◌, length, map, refl, suc, zero, ap, subst, ◌∙◌, All, Vec}
 use Rattle.std.proofs.lemmas.List.{length-map}
-use Rattle.std.specs.List.{slice_index_or}
 use Rattle.calc_check.specs.Group.{calculation, names_of}
 use Rattle.calc_check.specs.{CalcDef}
 use Rattle.tag_base.specs.{Base, GroupDef}
@@ -52,18 +51,13 @@ IsQueryOf-named base names (Row group calc k) named asked = (
 -- the same of lists of queries
 pub queries_of_base : {Z : Type 0} (base : Base) (names : List GroupNames) (lists : List (Vec Query Z)) → AreNamed base.groups.items names
     → All (λ q. All (IsQuery (tag_names base.tags.items) names) q.items) lists → All (λ q. All (IsQueryOfBase base) q.items) lists
-queries_of_base base names lists named asked i d below j e within =
-    IsQueryOf-named base names (slice_index_or (slice_index_or lists i d).items j e) named (asked i d below j e within)
+queries_of_base base names lists named asked i d below j e within = grind (arith, IsQueryOf-named)
 
 -- a row over the names of a base is one of the base
 IsRowOf-named : (base : Base) (row : RawRow) → IsRawRow (tag_names base.tags.items) row → IsRowOfBase base row
-IsRowOf-named base row is = record {
-  tag = subst (λ n. row.tag < n) (length-map base.tags.items (λ t. t.name)) is.tag;
-  point = is.point;
-}
+IsRowOf-named base row is = grind (arith, length-map)
 
 -- the same of lists of rows
 pub rows_of_base : {Z : Type 0} (base : Base) (lists : List (Vec RawRow Z)) → All (λ rows. All (IsRawRow (tag_names base.tags.items)) rows.items) lists
     → All (λ rows. All (IsRowOfBase base) rows.items) lists
-rows_of_base base lists read i d below j e within =
-    IsRowOf-named base (slice_index_or (slice_index_or lists i d).items j e) (read i d below j e within)
+rows_of_base base lists read i d below j e within = grind (arith, IsRowOf-named)

@@ -1,10 +1,10 @@
 -- Which status refused rows come to.
-use Rattle.std.proofs.Common.{◌≡◌, ℕ, ◌+◌, Bool, true, false, cond, List, length, map, take, nat_lt, Result, Ok, Err, inr, refl}
+use Rattle.std.proofs.Common.{arith, ◌≡◌, ℕ, ◌+◌, Bool, true, false, cond, List, nat_lt, Result, Ok, Err, inr, refl}
 use Rattle.byte_io.specs.{FileTold}
 use Rattle.trend_num.specs.{Reason, What}
-use Rattle.point_text.specs.{all_rows, unless_more, RowNo}
+use Rattle.point_text.specs.{unless_more, RowNo}
 use Rattle.point_text.specs.declared.failure.RowNo.TheVariants as row_no
-use Rattle.value_rows.specs.{text_records_of, rows_of_text, AreRefusedFor}
+use Rattle.value_rows.specs.{rows_of_text, AreRefusedFor}
 use Rattle.plant_status.specs.{FileId}
 use Rattle.plant_files.specs.Reading.{IsReadWhole}
 use Rattle.plant_files.specs.{IsRowRefusal, most_file_bytes, row_status}
@@ -22,9 +22,7 @@ one_row_more most count (Ok rs) number e = by (nat_lt most count) e
 -- the same of the rows of a text
 too_many : {R : Type 0} (row_of : List (List ℕ) → Result R Reason) (most : ℕ) (bytes : List ℕ) (number : ℕ)
     → rows_of_text row_of most bytes ≡ Err (row_no.TooMany number) → number ≡ most + 1
-too_many row_of most bytes number e =
-    let reads = map row_of (text_records_of bytes) in
-    one_row_more most (length reads) (all_rows (take most reads)) number e
+too_many row_of most bytes number e = grind (arith, one_row_more)
 
 -- the bytes of a file are refused as rows
 pub rows_refused : {R : Type 0} (kind : What) (most : ℕ) (row_of : List (List ℕ) → Result R Reason) (file : FileId) (told : FileTold)

@@ -1,4 +1,4 @@
-use Rattle.std.proofs.Common.{refl, ◌≡◌, ◌∙◌, arith}
+use Rattle.std.proofs.Common.{refl, ◌≡◌, arith}
 use Rattle.archive_file.specs.declared.failure.ScanNo.TheVariants.{Damaged}
 use Rattle.archive_file.proofs.Logs.{adds_none, adds_more, broken_here}
 use Rattle.archive_file.proofs.log.parse.Goals as goal
@@ -7,16 +7,7 @@ pub loop-k-init : goal.loop-k-init
 loop-k-init c = record { added = adds_none c.args.bytes.now 0 c.args.recs.now.items; len = omega arith; capacity = refl }
 
 pub loop-k-preserved : goal.loop-k-preserved
-loop-k-preserved c =
-    let spelled = (c.in-Some.ensures c.in-Some.r).0 refl in
-    record {
-      added =
-          adds_more c.args.bytes.now c.piece-b.result.now c.loop-k.k c.args.recs.now.items c.loop-k.recs.items
-          c.push_reserved.new.self.items c.in-Some.r c.loop-k.invariant.added c.piece-b.ensures.value spelled.0
-          spelled.1 c.push_reserved.ensures.items;
-      len = omega (arith, c.push_reserved.ensures.len, c.loop-k.invariant.len);
-      capacity = c.push_reserved.ensures.capacity ∙ c.loop-k.invariant.capacity;
-    }
+loop-k-preserved c = grind (arith, adds_more)
 
 pub returns-in_default-clause-damaged : goal.returns-in_default-clause-damaged
 returns-in_default-clause-damaged c = λ a byte told.

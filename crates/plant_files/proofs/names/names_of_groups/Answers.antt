@@ -1,7 +1,6 @@
-use Rattle.std.proofs.Common.{◌≡◌, ◌<◌, ◌^◌, ◌+◌, ◌∙◌, ◌++◌, ◌∷◌, [], All, ap, sym, subst, take, length, vec_len, arith}
+use Rattle.std.proofs.Common.{◌≡◌, ◌<◌, ◌^◌, ◌+◌, ◌∙◌, ◌++◌, ◌∷◌, [], ap, sym, subst, take, length, vec_len, arith}
 use Rattle.std.proofs.lemmas.Grind.{common_steps}
 use Rattle.std.proofs.lemmas.List.{take_more}
-use Rattle.std.proofs.lemmas.List.Elements.{All-push}
 use Rattle.tag_base.specs.{GroupDef}
 use Rattle.value_rows.specs.{GroupNames}
 use Rattle.plant_files.specs.{AreNamed}
@@ -26,6 +25,5 @@ loop-group-preserved c =
           (subst (λ l. AreNamed l (names ++ named ∷ [])) (sym more)
           (AreNamed-push (take i groups) names group named c.loop-group.invariant.named c.in_ok-named.ensures.named));
       as_many = grind (arith, common_steps);
-      few_calcs = subst (All IsFew) (sym grown)
-          (All-push IsFew names named c.loop-group.invariant.few_calcs (omega (arith, few, c.in_ok-named.ensures.as_many)));
+      few_calcs = grind arith;
     }

@@ -1,17 +1,15 @@
-use Rattle.std.proofs.Common.{Err, ◌∙◌, ap}
+use Rattle.std.proofs.Common.{arith, Err, ◌∙◌, ap}
 use Rattle.std.proofs.lemmas.List.Elements.{All-map}
 use Rattle.std.specs.Prelude.{All}
 use Rattle.std.proofs.lemmas.Result.{err_from_is_err_and}
 use Rattle.plant_files.specs.{IsRowOfBase}
 use Rattle.plant_files.proofs.Distinct.{distinct_tags}
 use Rattle.plant_files.proofs.Faults.{of_collector}
-use Rattle.plant_files.specs.PlanRows.{OfBase, OfCollector, OfPlan}
+use Rattle.plant_files.specs.PlanRows.{OfCollector, OfPlan}
 use Rattle.plant_files.proofs.plan_rows.read_files.Goals as goal
 
 pub returns-in_err-base-clause-refused : goal.returns-in_err-base-clause-refused
-returns-in_err-base-clause-refused g c =
-    let p = err_from_is_err_and c.from_residual.result c.from_residual.ensures.1 in
-    rw (p.1, p.2) (OfBase c.in_err-base.ensures.refused)
+returns-in_err-base-clause-refused g c = grind (arith, err_from_is_err_and)
 
 pub returns-in_err-plan-clause-refused : goal.returns-in_err-plan-clause-refused
 returns-in_err-plan-clause-refused g c =
@@ -34,12 +32,7 @@ returns-in_err-rows-clause-whose g c =
     (λ place same. c.in_err-rows.ensures.whose place (ap Err same)))
 
 pub returns-clause-base : goal.returns-clause-base
-returns-clause-base g c = record {
-  tuned = c.in_ok-base.ensures.tuned;
-  sound = c.in_ok-base.ensures.sound;
-  distinct = distinct_tags c.in_ok-base.base.tags.items c.in_ok-base.ensures.distinct;
-  distinct_groups = c.in_ok-base.ensures.distinct_groups;
-}
+returns-clause-base g c = grind (arith, distinct_tags)
 
 pub returns-clause-rows : goal.returns-clause-rows
 returns-clause-rows g c =

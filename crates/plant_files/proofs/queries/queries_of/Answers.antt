@@ -1,9 +1,8 @@
-use Rattle.std.proofs.Common.{◌≡◌, ◌∙◌, All, ap, map, sym, subst}
+use Rattle.std.proofs.Common.{arith, ◌≡◌, map, subst}
 use Rattle.std.specs.Prelude.{◌≢◌}
 use Rattle.std.proofs.lemmas.Result.{IfOk-weaker, IfErr-weaker}
-use Rattle.value_rows.specs.{IsQuery}
 use Rattle.plant_status.specs.declared.status.Status.TheVariants.{WantOfMemory}
-use Rattle.plant_files.specs.{tag_names, AreNamed, AreQueries, AreReaderFiles, IsReaderRefused, IsQueriesRefusal, IsQueryOfBase}
+use Rattle.plant_files.specs.{tag_names, AreNamed, AreQueries, AreReaderFiles, IsReaderRefused, IsQueriesRefusal}
 use Rattle.plant_files.proofs.Named.{queries_of_base}
 use Rattle.plant_files.proofs.queries.queries_of.Goals as goal
 use Rattle.plant_files.proofs.queries.queries_of.Goals.{After-row_lists}
@@ -11,11 +10,7 @@ use Rattle.plant_files.proofs.queries.queries_of.Goals.{After-row_lists}
 -- the queries are read over the names of the base
 of_base : (g : _) (c : After-row_lists g) → (c.deref-3.result.now ≡ tag_names c.args.base.now.tags.items)
     × AreNamed c.args.base.now.groups.items c.deref-4.result.now
-of_base g c = (
-  c.deref-3.ensures.value ∙ c.in-Ok.ensures.names ∙ ap tag_names c.deref.ensures.value,
-  subst (AreNamed c.args.base.now.groups.items) (sym c.deref-4.ensures.value)
-      (subst (λ gs. AreNamed gs c.in-Ok-names_of_groups.groups.items) c.deref-2.ensures.value c.in-Ok-names_of_groups.ensures.named),
-)
+of_base g c = grind arith
 
 pub returns-clause-queries : goal.returns-clause-queries
 returns-clause-queries g c =
@@ -26,25 +21,11 @@ returns-clause-queries g c =
     IfOk-weaker c.row_lists.result
     (λ lists. AreReaderFiles c.deref-3.result.now groups told c.deref-5.result.now (map (λ q. q.items) lists.items))
     (λ lists. AreQueries base told c.args.plan.now.readers.items (map (λ q. q.items) lists.items))
-    (λ lists asked. record {
-      groups = groups;
-      named = named;
-      asked = subst (λ files. AreReaderFiles (tag_names base.tags.items) groups told files (map (λ q. q.items) lists.items))
-          c.deref-5.ensures.value
-          (subst (λ ts. AreReaderFiles ts groups told c.deref-5.result.now (map (λ q. q.items) lists.items)) tags asked);
-    })
+    (λ lists asked. grind arith)
     c.row_lists.ensures.rows
 
 pub returns-clause-in_range : goal.returns-clause-in_range
-returns-clause-in_range g c =
-    let base = c.args.base.now in
-    let groups = c.deref-4.result.now in
-    let (tags, named) = of_base g (goal.at.returns-clause-in_range g c).After-row_lists in
-    IfOk-weaker c.row_lists.result (λ lists. All (λ q. All (IsQuery c.deref-3.result.now groups) q.items) lists.items)
-    (λ lists. All (λ q. All (IsQueryOfBase base) q.items) lists.items)
-    (λ lists asked. queries_of_base base groups lists.items named
-    (subst (λ ts. All (λ q. All (IsQuery ts groups) q.items) lists.items) tags asked))
-    c.row_lists.ensures.are_rows
+returns-clause-in_range g c = grind (arith, of_base, queries_of_base)
 
 pub returns-clause-refused : goal.returns-clause-refused
 returns-clause-refused g c =

@@ -1,9 +1,8 @@
-use Rattle.std.proofs.Common.{◌≡◌, ◌∙◌, All, ap, map, subst}
+use Rattle.std.proofs.Common.{arith, ◌≡◌, ◌∙◌, ap, map, subst}
 use Rattle.std.specs.Prelude.{◌≢◌}
 use Rattle.std.proofs.lemmas.Result.{IfOk-weaker, IfErr-weaker}
-use Rattle.value_rows.specs.{IsRawRow}
 use Rattle.plant_status.specs.declared.status.Status.TheVariants.{WantOfMemory}
-use Rattle.plant_files.specs.{tag_names, AreCollectorFiles, AreCollectedRows, IsCollectorRefused, IsRowOfBase, IsCollectedRefusal}
+use Rattle.plant_files.specs.{tag_names, AreCollectorFiles, AreCollectedRows, IsCollectorRefused, IsCollectedRefusal}
 use Rattle.plant_files.proofs.Named.{rows_of_base}
 use Rattle.plant_files.proofs.rows.rows_of.Goals as goal
 
@@ -16,22 +15,11 @@ returns-clause-rows g c =
     IfOk-weaker c.row_lists.result
     (λ lists. AreCollectorFiles c.deref-2.result.now told c.deref-3.result.now (map (λ rows. rows.items) lists.items))
     (λ lists. AreCollectedRows base told c.args.plan.now.collectors.items (map (λ rows. rows.items) lists.items))
-    (λ lists read. record {
-      read = subst (λ files. AreCollectorFiles (tag_names base.tags.items) told files (map (λ rows. rows.items) lists.items))
-          c.deref-3.ensures.value
-          (subst (λ ts. AreCollectorFiles ts told c.deref-3.result.now (map (λ rows. rows.items) lists.items)) tags read);
-    })
+    (λ lists read. grind arith)
     c.row_lists.ensures.rows
 
 pub returns-clause-in_range : goal.returns-clause-in_range
-returns-clause-in_range g c =
-    let base = c.args.base.now in
-    let tags : c.deref-2.result.now ≡ tag_names base.tags.items =
-    c.deref-2.ensures.value ∙ c.in-Ok.ensures.names ∙ ap tag_names c.deref.ensures.value in
-    IfOk-weaker c.row_lists.result (λ lists. All (λ rows. All (IsRawRow c.deref-2.result.now) rows.items) lists.items)
-    (λ lists. All (λ rows. All (IsRowOfBase base) rows.items) lists.items)
-    (λ lists read. rows_of_base base lists.items (subst (λ ts. All (λ rows. All (IsRawRow ts) rows.items) lists.items) tags read))
-    c.row_lists.ensures.are_rows
+returns-clause-in_range g c = grind (arith, rows_of_base)
 
 pub returns-clause-refused : goal.returns-clause-refused
 returns-clause-refused g c =

@@ -1,16 +1,12 @@
-use Rattle.std.proofs.Common.{◌≡◌, ◌<◌, ℕ, List, [], true, false, length, sym, subst, arith}
+use Rattle.std.proofs.Common.{◌<◌, [], false, length, sym, subst, arith}
 use Rattle.std.proofs.lemmas.Bool.Decides.{nat_tests}
 use Rattle.std.proofs.lemmas.List.{nil_from_length}
-use Rattle.pack_command.specs.{HasCome, IsNextRow}
+use Rattle.pack_command.specs.{IsNextRow}
 use Rattle.pack_command.proofs.Coming.{come_end, next_last}
 use Rattle.pack_command.proofs.intake.Intake.take_last.Goals as goal
 
 pub returns-then-is_empty-clause-come : goal.returns-then-is_empty-clause-come
-returns-then-is_empty-clause-come g c = λ o bytes come.
-    let self = c.args.self.now in
-    let none : length c.args.line.now ≡ 0 = grind (arith, nat_tests) in
-    come_end o bytes [] self.core self.rows self.standing
-    (subst (λ (l : List ℕ). HasCome true o bytes l self.core self.rows self.standing) (nil_from_length _ none) come)
+returns-then-is_empty-clause-come g c = grind (arith, nat_tests, come_end, nil_from_length)
 
 pub returns-clause-come : goal.returns-clause-come
 returns-clause-come g c = λ o bytes come.

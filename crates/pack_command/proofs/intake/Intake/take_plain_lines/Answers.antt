@@ -34,9 +34,7 @@ loop-left-preserved g c =
 -- what has come to an intake that takes each value has come to the same intake
 come_same_intake : (o : Origin) (bytes rest : List ℕ) (rows : ℕ) (old new : Intake) → new ≡ old → old.standing ≡ Taken
     → HasCome true o bytes rest old.core rows Taken → HasCome true o bytes rest new.core rows new.standing
-come_same_intake o bytes rest rows old new same standing come =
-    subst (λ (i : Intake). HasCome true o bytes rest i.core rows i.standing) (sym same)
-    (subst (HasCome true o bytes rest old.core rows) (sym standing) come)
+come_same_intake o bytes rest rows old new same standing come = grind arith
 
 pub returns-clause-come : goal.returns-clause-come
 returns-clause-come g c = λ o bytes was.
