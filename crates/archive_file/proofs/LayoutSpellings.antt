@@ -1,7 +1,7 @@
 -- What is in an image is what was read of it.
 use Rattle.std.proofs.Common.{◌≡◌, ℕ, ◌+◌, ◌<◌, ◌≤◌, List, length, get_or, take, drop, refl, ◌∙◌, arith, length-take, length-drop}
 use Rattle.std.proofs.lemmas.Nat.{be_bytes_4, be_bytes_8}
-use Rattle.std.proofs.lemmas.List.{get_or-take, get_or-drop, get_or_past, drop_more}
+use Rattle.std.proofs.lemmas.List.{get_or-take, get_or-drop, get_or_past}
 use Rattle.archive_file.specs.{number_bytes, Spells, long_at, short_at}
 use Rattle.archive_file.proofs.Points.{IsBytes}
 
@@ -30,6 +30,3 @@ pub spells_long : (c : List ℕ) (at : ℕ) → IsBytes c → at + 8 ≤ length 
 spells_long c at bytes there =
     part_spelled c at 8 (number_bytes 8 (long_at c at)) there
     (be_bytes_8 (take 8 (drop at c)) (long_at c at) (part_long c at 8 there) (part_bytes c at 8 bytes) refl)
-
-pub spells_byte : (c : List ℕ) (at : ℕ) → IsBytes c → at + 1 ≤ length c → Spells c at (number_bytes 1 (get_or c at 0)) (at + 1)
-spells_byte c at bytes there = grind (arith, part_spelled, drop_more)

@@ -6,10 +6,6 @@ use Rattle.disk_model.proofs.Moments.{goes_on, started}
 
 -- ---- what a read gives
 
--- what follows from what is read
-pub shows_so : (o : Trace) (P Q : List ℕ → Type 0) → ((c : List ℕ) → P c → Q c) → Shows o P → Shows o Q
-shows_so o h g then is = grind arith
-
 -- from two facts
 pub shows_both : (o : Trace) (P Q R : List ℕ → Type 0) → ((c : List ℕ) → P c → Q c → R c) → Shows o P → Shows o Q → Shows o R
 shows_both o h g i then first second = grind arith

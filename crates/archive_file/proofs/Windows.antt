@@ -8,7 +8,6 @@ use Rattle.std.proofs.lemmas.Int.{of_z-to_z}
 use Rattle.std.specs.Int.{w32, w64, cast_signed, from_be_bytes}
 use Rattle.archive_file.specs.{number_bytes, value_bytes, Field, moved, Breaks, BreaksFirst, Keeps, Spells, long_at, short_at, AreAsked, IsAsked}
 use Rattle.archive_file.proofs.FieldLaws.{spells_both}
-use Rattle.disk_model.specs.{IsBegun, IsNew}
 
 -- refused bytes break among them, or at their end
 pub breaks_low : (c : List ℕ) (fields : List Field) (a : ℕ) (byte : Option ℕ) → BreaksFirst c fields a byte → a ≤ length c
@@ -118,12 +117,3 @@ filled c at done whole old grown new done_is low long same shown are =
     ∙ ap (λ n. take done (drop at c) ++ take (n - done) (drop (at + done) c)) long
     ∙ ap (λ l. take done (drop at c) ++ take (whole - done) l) (sym (drop-drop done at c))
     ∙ sym (take-add done (whole - done) (drop at c)) ∙ ap (λ n. take n (drop at c)) (sym parts)
-
--- ---- the head of a layout
-
--- what its first bytes tell
-pub window_new : (c : List ℕ) (n : ℕ) → 1 < n → IsNew (take n c) → IsNew c
-window_new c n more is = grind (arith, length-take, get_or-take)
-
-pub window_begun : (c : List ℕ) (n : ℕ) → 1 < n → (IsNew (take n c) → ⊥) → IsBegun c
-window_begun c n more is = grind (arith, length-take, get_or-take)

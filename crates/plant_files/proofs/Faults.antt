@@ -1,22 +1,18 @@
 -- Of which file a read fault is reported.
-use Rattle.std.proofs.Common.{arith, ◌≡◌, ◌∙◌, ◌+◌, ℕ, List, Option, sym}
+use Rattle.std.proofs.Common.{arith, ◌≡◌, ℕ, List, Option}
 use Rattle.std.specs.Prelude.{◌≢◌}
 use Rattle.byte_io.specs.{FileTold, IsFaultOf}
 use Rattle.tag_base.specs.{Base, GroupDef, Plan}
 use Rattle.plant_status.specs.{FileId}
 use Rattle.plant_status.specs.declared.file.FileId.TheVariants as file
 use Rattle.plant_status.specs.declared.status.Status.{Status}
-use Rattle.plant_status.specs.declared.status.Status.TheVariants.{Limit, ReadFault, WantOfMemory}
-use Rattle.trend_num.specs.declared.refusal.What.TheVariants.{Rows}
-use Rattle.plant_files.specs.{IsQueriesRefusal, AreRowsTooMany, IsCollectedRefusal, most_collector_rows, IsFaultOfPlanned, ToldFiles, IsBaseFile, IsBaseRefusal, IsPlanFile, IsPlanRefusal}
+use Rattle.plant_status.specs.declared.status.Status.TheVariants.{ReadFault, WantOfMemory}
+use Rattle.plant_files.specs.{IsQueriesRefusal, IsCollectedRefusal, IsFaultOfPlanned, ToldFiles, IsBaseFile, IsBaseRefusal, IsPlanFile, IsPlanRefusal}
 use Rattle.plant_files.specs.Reading.{IsFaultAt}
 
 -- want of memory, and more rows than there may be, are no read fault
 memory_is_no_fault : (which : FileId) → ReadFault which ≢ WantOfMemory
 memory_is_no_fault which same = cc
-
-limit_is_no_fault : (n : ℕ) (which : FileId) → Limit Rows n ≢ ReadFault which
-limit_is_no_fault n which same = cc
 
 -- two files are not one
 base_is_no_plan : file.Plan ≢ file.Base
@@ -59,10 +55,6 @@ module _ (name plan_name : List ℕ) (told : ToldFiles) (failed : Option (List �
   -- what is no read fault is reported of no file
   pub of_none : ((which : FileId) → why ≢ ReadFault which) → IsFaultOfPlanned name plan_name told failed why
   of_none other = grind arith
-
-  -- too many rows are none
-  pub of_rows : (rows : ℕ) → AreRowsTooMany rows why → IsFaultOfPlanned name plan_name told failed why
-  of_rows rows many = of_none (λ which same. limit_is_no_fault (most_collector_rows + 1) which (sym many.told ∙ same))
 
   -- the refusal of a base names the base
   pub of_base : (t : FileTold) → IsBaseRefusal t why → ((which : FileId) → why ≡ ReadFault which → IsFaultOf failed name)
