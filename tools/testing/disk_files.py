@@ -252,7 +252,9 @@ def for_everybody(folder, program):
     """Copies the program so that each user may run it, and opens the folder to each user: the command of the copy."""
     os.chmod(folder, 0o755)
     first, *others = shlex.split(program)
-    copy = shutil.copy(first, os.path.join(folder, "program"))
+    copy = os.path.join(folder, "program")
+    # A process of its own writes the copy: no program can be run that this process may still write to.
+    subprocess.run(["cp", first, copy], check=True)
     os.chmod(copy, 0o755)
     return shlex.join([copy, *others])
 
