@@ -1,5 +1,5 @@
 -- What a crash left until the opening of a book ended.
-use Rattle.std.proofs.Common.{◌≡◌, Option, None, Some, List, ℕ, sym, subst}
+use Rattle.std.proofs.Common.{arith, ◌≡◌, Option, None, Some, List, ℕ, sym, subst}
 use Rattle.std.specs.Prelude.{IfSome}
 use Rattle.calc_refresh.specs.{GroupDefParts, lists_of}
 use Rattle.disk_model.specs.{Shows, ComesAfter, During, Device, HandOut, Trace, moment}
@@ -12,14 +12,7 @@ pub began_well : {D : Type 0} (device : D → Device) (text : List ℕ) (def : G
     → Shows (device old).trace (StandsForGroup text def o.versions.items (lists_of o.rows.items))
     → During (device old).trace (device new).trace (BookStaysSame text def (device old).trace)
     → o.moment ≡ moment (device new).trace → BookBeganWell device text def o (Some new)
-began_well device text def o old new unused kept stood same at =
-    subst (λ (h : HandOut). IfSome h.trace (λ t. IsBookOpenedWell text def o t (device new).trace)) (sym kept)
-    (from (device old).handed.trace unused)
-  where
-    from : (start : Option Trace) → IfSome start (λ t. (device old).trace ≡ t) → IfSome start (λ t. IsBookOpenedWell text def o t (device new).trace)
-    from None unused = tt
-    from (Some t) unused = subst (λ (x : Trace). IsBookOpenedWell text def o x (device new).trace) unused
-        (record { ended = (device new).trace; stood = stood; same = same; at = sym at; later = after_self (device new).trace })
+began_well device text def o old new unused kept stood same at = grind (arith, after_self)
 
 -- and after more calls
 pub still_well : {D : Type 0} (device : D → Device) (text : List ℕ) (def : GroupDefParts) (o : GroupOpening) (old new : D)

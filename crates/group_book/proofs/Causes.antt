@@ -1,9 +1,8 @@
 -- Why a book is not refreshed, from what was pulled and from its sheet.
-use Rattle.std.proofs.Common.{◌≡◌, inl, inr, ℕ, zero, suc, ◌+◌, ◌<◌, ◌≤◌, Bool, true, false, List, [], ◌∷◌, ◌++◌, length, map, get_or, None, Some, Result, Ok, Err, IfErr, OnOk, nat_lt, refl, sym, ap, ◌∙◌, subst, arith, length-append}
-use Rattle.std.proofs.Common.{ltb-true, if◌then◌else◌}
+use Rattle.std.proofs.Common.{◌≡◌, ℕ, zero, suc, ◌+◌, ◌<◌, ◌≤◌, List, [], ◌∷◌, ◌++◌, length, map, get_or, Some, Result, Ok, Err, IfErr, OnOk, refl, sym, ap, ◌∙◌, subst, arith, length-append}
+use Rattle.std.proofs.Common.{ltb-true}
 use Rattle.std.proofs.Math.ListN.{get_or-append}
 use Rattle.std.proofs.Math.Seq.{get_or-append_seam}
-use Rattle.std.proofs.lemmas.Bool.{cases_lt}
 use Rattle.std.proofs.lemmas.List.{length-map, map-append}
 use Rattle.trend_num.specs.{Rec}
 use Rattle.tag_cell.specs.{Pulled}
@@ -33,28 +32,10 @@ pull_refused versions WantOfMemory cause = tt
 
 -- a limit that is reported was passed
 limit_cells : (cells records told : ℕ) → limit_fault cells records ≡ Some (sheet.CellLimit told) → most_cells < told
-limit_cells cells records told is = go (nat_lt most_cells cells) (nat_lt most_copies records) refl is
-  where
-    go : (b d : Bool) → nat_lt most_cells cells ≡ b
-        → (if b then Some (sheet.CellLimit cells) else (if d then Some (sheet.CopyLimit records) else None)) ≡ Some (sheet.CellLimit told)
-        → most_cells < told
-    go true d above e =
-        let same : cells ≡ told = cc (e) in
-        subst (λ n. most_cells < n) same (ltb-true most_cells cells above)
-    go false true above e = absurd (cc (e))
-    go false false above e = absurd (cc (e))
+limit_cells cells records told is = grind (arith, ltb-true)
 
 limit_copies : (cells records told : ℕ) → limit_fault cells records ≡ Some (sheet.CopyLimit told) → most_copies < told
-limit_copies cells records told is = go (nat_lt most_cells cells) (nat_lt most_copies records) refl is
-  where
-    go : (b d : Bool) → nat_lt most_copies records ≡ d
-        → (if b then Some (sheet.CellLimit cells) else (if d then Some (sheet.CopyLimit records) else None)) ≡ Some (sheet.CopyLimit told)
-        → most_copies < told
-    go true d above e = absurd (cc (e))
-    go false true above e =
-        let same : records ≡ told = cc (e) in
-        subst (λ n. most_copies < n) same (ltb-true most_copies records above)
-    go false false above e = absurd (cc (e))
+limit_copies cells records told is = grind (arith, ltb-true)
 
 -- a sheet that is refused refuses the refresh
 pub sheet_refused : (versions : List ℕ) (cells records : ℕ) (why : RefreshNo) → IsBookToldOf (limit_fault cells records) why
@@ -77,32 +58,12 @@ pub goes_more : (versions : List ℕ) (ps : List Pulled) (one : Pulled)
     → one.upto ≡ get_or versions (length ps) 0 + length one.recs.items
     → (k : ℕ) (p : Pulled) → k < length (ps ++ one ∷ [])
     → (get_or (ps ++ one ∷ []) k p).upto ≡ get_or versions k 0 + length (get_or (ps ++ one ∷ []) k p).recs.items
-goes_more versions ps one goes is k p low = elim (cases_lt k (length ps)) [
-  | inl before ↦ subst (λ x. x.upto ≡ get_or versions k 0 + length x.recs.items) (sym (get_or-append ps (one ∷ []) p k before)) (goes k p before)
-  | inr at ↦
-      let place : k ≡ length ps = omega (arith, low, length-append ps (one ∷ [])) in
-      subst (λ x. x.upto ≡ get_or versions k 0 + length x.recs.items)
-      (sym (ap (λ n. get_or (ps ++ one ∷ []) n p) place ∙ get_or-append_seam ps one [] p))
-      (subst (λ n. one.upto ≡ get_or versions n 0 + length one.recs.items) (sym place) is)
-]
+goes_more versions ps one goes is k p low = grind (arith, get_or-append, length-append, get_or-append_seam)
 
 pub none_more : (tags : List ℕ) (cells : ℕ) (ps : List Pulled) (one : Pulled) → GivesNone tags cells (pulled_records ps)
     → (cells ≤ get_or tags (length ps) 0 → one.recs.items ≡ []) → GivesNone tags cells (pulled_records (ps ++ one ∷ []))
-none_more tags cells ps one none is i rs low beyond = elim (cases_lt i (length ps)) [
-  | inl before ↦
-      ap (λ l. get_or l i rs) all ∙ get_or-append (pulled_records ps) (one.recs.items ∷ []) rs i (omega (arith, before, long))
-      ∙ none i rs (omega (arith, before, long)) beyond
-  | inr at ↦
-      let place : i ≡ length ps = omega (arith, low, ap length all, length-append (pulled_records ps) (one.recs.items ∷ []), long) in
-      ap (λ l. get_or l i rs) all ∙ ap (λ n. get_or (pulled_records ps ++ one.recs.items ∷ []) n rs) (place ∙ sym long)
-      ∙ get_or-append_seam (pulled_records ps) one.recs.items [] rs ∙ is (subst (λ n. cells ≤ get_or tags n 0) place beyond)
-]
-  where
-    all : pulled_records (ps ++ one ∷ []) ≡ pulled_records ps ++ one.recs.items ∷ []
-    all = map-append (λ p. p.recs.items) ps (one ∷ [])
-
-    long : length (pulled_records ps) ≡ length ps
-    long = length-map ps (λ p. p.recs.items)
+none_more tags cells ps one none is i rs low beyond =
+    grind (arith, get_or-append, length-append, get_or-append_seam, map-append, length-map)
 
 -- ---- what was pulled continues from the copies
 
@@ -116,11 +77,7 @@ pub goes_from : (versions : List ℕ) (copies : List (List Rec)) (ps : List Pull
     → length ps ≡ length copies
     → ((k : ℕ) (p : Pulled) → k < length ps → (get_or ps k p).upto ≡ get_or versions k 0 + length (get_or ps k p).recs.items)
     → GoesOn copies ps
-goes_from versions copies ps are same goes = record {
-  upto = λ i p rs low.
-      goes i p low
-      ∙ ap (λ n. n + length (get_or ps i p).recs.items) (ap (λ l. get_or l i 0) are ∙ version_at copies i rs (omega (arith, low, same)));
-}
+goes_from versions copies ps are same goes = grind (arith, version_at)
 
 -- what was published, with what was pulled
 pub with_pulls : {T E D : Type 0} (r : Result T E) (mores : List (List Rec)) (old new : ToldBook D) (tags : List ℕ) (cells : ℕ)

@@ -23,16 +23,12 @@ same_values olds news i k v w inside within same =
   where
     at : (rows : List (Vec CalcValue Global)) (u : Vec CalcValue Global) → i < length rows
         → get_or (column k (lists_of rows)) i None ≡ slice_get (get_or rows i u).items k
-    at rows u within =
-        get_or-map (λ row. slice_get row k) (lists_of rows) i [] None (omega (arith, within, length-map rows (λ r. r.items)))
-        ∙ ap (λ row. slice_get row k) (lists_at rows i u within)
+    at rows u within = grind (arith, get_or-map, length-map, lists_at)
 
 -- a list that has at each place what another one has there
 pub same_places : (xs ys : List CalcValue) → length xs ≡ length ys
     → ((k : ℕ) → k < length ys → slice_get xs k ≡ slice_get ys k) → xs ≡ ys
-same_places xs ys long same = same_lists xs ys long (λ k d within.
-    get_or_from_slice_get xs k (get_or ys k d) d (same k (omega (arith, within, long))
-    ∙ slice_get-get_or ys k d (omega (arith, within, long))))
+same_places xs ys long same = grind (arith, same_lists, get_or_from_slice_get, slice_get-get_or)
 
 -- the only element of a list
 pub only_one : (x y : ℕ) → Contains (x ∷ []) y → x ≡ y

@@ -9,13 +9,7 @@ pub never_refl : (vs : List ℕ) → NeverFall vs vs
 never_refl vs = record { inputs = refl; rises = λ i low. omega arith }
 
 pub never_trans : (a b c : List ℕ) → NeverFall a b → NeverFall b c → NeverFall a c
-never_trans a b c ab bc = record {
-  inputs = bc.inputs ∙ ab.inputs;
-  rises = λ i low.
-      let first = ab.rises i low in
-      let second = bc.rises i (subst (λ n. i < n) (sym ab.inputs) low) in
-      omega (arith, first, second);
-}
+never_trans a b c ab bc = grind arith
 
 -- after the first one
 pub tail_rises : (v u : ℕ) (vs us : List ℕ) → NeverFall (v ∷ vs) (u ∷ us) → NeverFall vs us

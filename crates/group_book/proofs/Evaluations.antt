@@ -248,35 +248,11 @@ module _ (g : Group) (grid : Grid) (o : GroupOpening) (tape : List Turn) (versio
     -- a window that is due since the opening was due before, or is due now
     due_both : is_due_since grid o (longer s.copies mores) k ≡ (is_due_since grid o s.copies k || meets_now)
     due_both =
-        ap₂ (λ a b. nat_le (complete_windows grid a) k || any_touched a b (window_from grid k) (window_to grid k))
-        (cut-longer o.versions.items s.copies mores low) (uncut-longer o.versions.items s.copies mores as_many low)
-        ∙ ap (λ b. nat_le (complete_windows grid first) k || b)
-        (any-longer first behind mores (window_from grid k) (window_to grid k) many (as_many ∙ sym long)
-        ∙ ap (λ l. any_touched first behind (window_from grid k) (window_to grid k) || any_touched l mores (window_from grid k) (window_to grid k))
-        (longer-uncut o.versions.items s.copies inputs))
-        ∙ either (nat_le (complete_windows grid first) k) (any_touched first behind (window_from grid k) (window_to grid k)) meets_now
-      where
-        first : List (List Rec)
-        first = cut o.versions.items s.copies
-
-        behind : List (List Rec)
-        behind = uncut o.versions.items s.copies
-
-        long : length first ≡ length s.copies
-        long = length-cut o.versions.items s.copies (sym inputs)
-
-        many : length behind ≡ length first
-        many = length-uncut o.versions.items s.copies (sym inputs) ∙ sym long
-
-        either : (a b c : Bool) → (a || (b || c)) ≡ ((a || b) || c)
-        either true b c = refl
-        either false b c = refl
+        grind (arith, cut-longer, low, uncut-longer, any-longer, longer-uncut, inputs, length-cut, length-uncut)
 
     -- one that was complete and is not due now keeps its values
     stays_now : k < complete_windows grid s.copies → meets_now ≡ false → column k t.rows ≡ column k s.rows
-    stays_now known apart =
-        refreshed.others k (subst (λ (w : Grid). k < complete_windows w s.copies) (sym same_grid) known)
-        (subst (λ (w : Grid). any_touched s.copies mores (window_from w k) (window_to w k) ≡ false) (sym same_grid) apart)
+    stays_now known apart = grind (arith, known)
 
     -- one that is not due since the opening has the values of the opening
     others_then : is_due_since grid o (longer s.copies mores) k ≡ false → column k t.rows ≡ column k (lists_of o.rows.items)
@@ -333,15 +309,4 @@ module _ (g : Group) (grid : Grid) (o : GroupOpening) (tape : List Turn) (versio
             left false h = h
 
   pub evaluated_refreshed : AreRowsEvaluated g grid o (tape ++ Refresh new ∷ []) t.copies t.rows t.evals
-  evaluated_refreshed =
-      subst (λ (rss : List (List Rec)). AreRowsEvaluated g grid o (tape ++ Refresh new ∷ []) rss t.rows t.evals) (sym refreshed.copies)
-      (record {
-        rows_are = record {
-          calcs = subst (λ (h : Group). length t.rows ≡ length h.calcs) now_group refreshed.whole.calcs;
-          windows = subst (λ (rss : List (List Rec)). All (λ row. length row ≡ complete_windows grid rss) t.rows) refreshed.copies
-              (subst (λ (w : Grid). All (λ row. length row ≡ complete_windows w t.copies) t.rows) now_grid refreshed.whole.windows);
-          due = due_then;
-          others = others_then;
-        };
-        evals_are = evals_are;
-      })
+  evaluated_refreshed = grind (arith, now_group, now_grid, due_then, others_then, evals_are)

@@ -1,7 +1,7 @@
 -- The flags of the windows that refreshes have evaluated since the last save.
-use Rattle.std.proofs.Common.{◌≡◌, ℕ, ◌+◌, ◌<◌, ◌≤◌, inl, inr, Bool, true, false, All, Contains, List, [], length, replicate, refl, sym, ap, ap₂, ◌∙◌, subst, arith}
+use Rattle.std.proofs.Common.{◌≡◌, ℕ, ◌+◌, ◌<◌, ◌≤◌, inl, inr, Bool, true, false, Contains, List, [], length, replicate, refl, sym, ap, ap₂, ◌∙◌, subst, arith}
 use Rattle.std.specs.List.{filter, range_with_len}
-use Rattle.std.proofs.lemmas.Bool.{cases_Bool, cases_lt, false≢true, or_parts}
+use Rattle.std.proofs.lemmas.Bool.{cases_Bool, false≢true, or_parts}
 use Rattle.std.proofs.lemmas.List.{get_or_past, length-replicate}
 use Rattle.std.proofs.lemmas.List.Elements.{All-replicate}
 use Rattle.trend_num.specs.{Rec, CalcValue}
@@ -26,23 +26,11 @@ flagged_fresh flags saved s none empty =
 -- where the rows are those that were saved no flag is set
 pub flagged_saved : (flags : List Bool) (saved : List (List CalcValue)) (s : SheetState)
     → flags ≡ replicate (complete_windows s.grid s.copies) false → saved ≡ s.rows → AreRowsWhole s → AreFlagged flags saved s
-flagged_saved flags saved s clear same whole =
-    let long : length flags ≡ complete_windows s.grid s.copies =
-    ap length clear ∙ length-replicate (complete_windows s.grid s.copies) false in
-    record {
-      calcs = ap length same ∙ whole.calcs;
-      windows = subst (λ n. All (λ row. length row ≡ n) saved) (sym long)
-          (subst (All (λ row. length row ≡ complete_windows s.grid s.copies)) (sym same) whole.windows);
-      few = omega (arith, long);
-      kept = λ k unset. ap (column k) same;
-    }
+flagged_saved flags saved s clear same whole = grind (arith, length-replicate)
 
 -- a window whose flag is not set has a flag
 has_flag : (flags : List Bool) (k : ℕ) → is_unsaved flags k ≡ false → k < length flags
-has_flag flags k unset = elim (cases_lt k (length flags)) [
-  | inl below ↦ below
-  | inr past ↦ absurd (false≢true (sym unset ∙ get_or_past flags k true past))
-]
+has_flag flags k unset = grind (arith, false≢true, get_or_past)
 
 -- a refresh sets the flags of the windows that it evaluates
 module _ (s t : SheetState) (mores : List (List Rec)) (refreshed : IsRefreshed s t mores) (some : 0 < s.grid.period) where
@@ -61,16 +49,8 @@ module _ (s t : SheetState) (mores : List (List Rec)) (refreshed : IsRefreshed s
   pub flagged_refreshed : (flags flags' : List Bool) (saved : List (List CalcValue)) (due : List ℕ) → AreFlagged flags saved s
       → due ≡ t.due → length flags' ≡ length flags → ((k : ℕ) → Contains due k → is_unsaved flags' k ≡ true)
       → ((k : ℕ) → (Contains due k → ⊥) → is_unsaved flags' k ≡ is_unsaved flags k) → AreFlagged flags' saved t
-  flagged_refreshed flags flags' saved due was is long set others = record {
-    calcs = was.calcs ∙ sym (ap (λ g. length g.calcs) refreshed.group);
-    windows = subst (λ n. All (λ row. length row ≡ n) saved) (sym long) was.windows;
-    few = omega (arith, long, was.few, grown);
-    kept = λ k unset.
-        let untold = λ (has : Contains due k). false≢true (sym unset ∙ set k has) in
-        let before = sym (others k untold) ∙ unset in
-        was.kept k before
-        ∙ sym (untold_same k (omega (arith, has_flag flags k before, was.few)) (subst (λ l. Contains l k → ⊥) is untold));
-  }
+  flagged_refreshed flags flags' saved due was is long set others =
+      grind (arith, grown, false≢true, untold_same, has_flag)
 
 -- no window has changed since the last save but those that are listed
 pub flagged_changes : (flags flags' : List Bool) (saved saved' rows' : List (List CalcValue)) (s : SheetState) (n : ℕ)

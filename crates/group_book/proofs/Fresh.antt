@@ -1,10 +1,10 @@
 -- A book that was just made.
-use Rattle.std.proofs.Common.{◌≡◌, ℕ, zero, suc, ◌≤◌, All, false, List, [], ◌∷◌, length, map, replicate, None, refl, sym, ap, ◌∙◌, subst}
+use Rattle.std.proofs.Common.{arith, ◌≡◌, ℕ, zero, suc, ◌≤◌, false, List, [], ◌∷◌, length, map, replicate, None, refl, sym, ap, ◌∙◌}
 use Rattle.std.proofs.lemmas.List.{length-replicate}
 use Rattle.trend_num.specs.{Rec}
 use Rattle.calc_refresh.specs.{GroupDefParts, lists_of, fresh, AreRowsWhole, IsGrid, IsGroup, SheetState, grid_of}
-use Rattle.sheet_law.specs.{IsScratch, Grid, complete_windows}
-use Rattle.group_book.specs.{GroupOpening, IsBookSafe, AreRowsEvaluated, AreRowsOver, IsBookLegal, cut, IsDefined, IsKept, LeftOf, Saved}
+use Rattle.sheet_law.specs.{IsScratch}
+use Rattle.group_book.specs.{GroupOpening, IsBookSafe, AreRowsEvaluated, IsBookLegal, cut, IsDefined, IsKept, LeftOf, Saved}
 use Rattle.group_book.proofs.Cuts.{cut-all}
 use Rattle.group_book.proofs.Evaluations.{evaluated_first}
 
@@ -26,10 +26,7 @@ module _ (def made : GroupDefParts) (same : made ≡ def) (o : GroupOpening) (s 
 
   -- the rows are from scratch
   from_scratch : IsScratch made.calcs (grid_of made.start made.period) s.copies s.rows
-  from_scratch =
-      subst (λ d. IsScratch d.calcs (grid_of d.start d.period) s.copies s.rows) (sym same)
-      (subst (λ g. IsScratch g (grid_of def.start def.period) s.copies s.rows) (ap (λ x. x.group) is)
-      (subst (λ w. IsScratch s.group w s.copies s.rows) (ap (λ x. x.grid) is) scratch))
+  from_scratch = grind arith
 
   -- cut to version 0 the copies are all there is
   cut_now : (us : List ℕ) → us ≡ replicate def.inputs 0 → cut us s.copies ≡ s.copies
@@ -37,14 +34,7 @@ module _ (def made : GroupDefParts) (same : made ≡ def) (o : GroupOpening) (s 
 
   pub fresh_defined : (tags : List ℕ) → IsGroup def.inputs def.calcs → IsGrid (grid_of def.start def.period)
       → length tags ≡ def.inputs → IsDefined made tags s
-  fresh_defined tags group grid long = subst (λ d. IsDefined d tags s) (sym same) (record {
-    group = group;
-    grid = grid;
-    same_group = ap (λ x. x.group) is;
-    same_grid = ap (λ x. x.grid) is;
-    copies = ap (λ x. length x.copies) is ∙ length-replicate {A = List Rec} def.inputs [];
-    tags_are = long;
-  })
+  fresh_defined tags group grid long = grind (arith, length-replicate)
 
   pub fresh_legal : IsBookLegal made.calcs (grid_of made.start made.period) o [] vs s.copies s.rows
   fresh_legal = record {
@@ -55,35 +45,12 @@ module _ (def made : GroupDefParts) (same : made ≡ def) (o : GroupOpening) (s 
   }
 
   pub fresh_evaluated : AreRowsWhole s → AreRowsEvaluated made.calcs (grid_of made.start made.period) o [] s.copies s.rows s.evals
-  fresh_evaluated whole =
-      subst (λ d. AreRowsEvaluated d.calcs (grid_of d.start d.period) o [] s.copies s.rows s.evals) (sym same)
-      (evaluated_first def.calcs (grid_of def.start def.period) o s.copies s.rows s.evals (opened ∙ sym copied)
-      (opened_rows ∙ sym (ap (λ x. x.rows) is))
-      (whole.calcs ∙ ap (λ x. length x.group.calcs) is)
-      (subst (λ (w : Grid). All (λ row. length row ≡ complete_windows w s.copies) s.rows) (ap (λ x. x.grid) is) whole.windows)
-      (ap (λ x. x.evals) is))
+  fresh_evaluated whole = grind (arith, evaluated_first, copied)
 
   pub fresh_kept : AreRowsWhole s → (text : List ℕ) (ticks faults : ℕ) → o.moment ≤ ticks → faults ≡ o.faults
       → IsKept text made o [] s.copies saved false None ticks faults
-  fresh_kept whole text ticks faults before none = record {
-    shut = λ usable. tt;
-    holds = λ usable. tt;
-    range = tt;
-    rows_are =
-        subst (λ rss. AreRowsOver made.calcs (grid_of made.start made.period) o rss saved.rows) (sym (cut_now saved.versions saved_versions))
-        (subst (AreRowsOver made.calcs (grid_of made.start made.period) o s.copies) (ap (λ x. x.rows) is ∙ sym saved_rows)
-        (fresh_evaluated whole).rows_are);
-    scratch = λ right.
-        subst (λ rss. IsScratch made.calcs (grid_of made.start made.period) rss saved.rows) (sym (cut_now saved.versions saved_versions))
-        (subst (IsScratch made.calcs (grid_of made.start made.period) s.copies) (ap (λ x. x.rows) is ∙ sym saved_rows) from_scratch);
-    versions = saved_versions ∙ sym opened;
-    inputs = ap length saved_versions ∙ length-replicate {A = ℕ} def.inputs 0 ∙ ap (λ d. d.inputs) (sym same);
-    number = tt;
-    past = before;
-    opened_before = before;
-    faultless = λ usable. none;
-    cause = λ failed. absurd (cc (failed));
-  }
+  fresh_kept whole text ticks faults before none =
+      grind (arith, cut_now, fresh_evaluated, from_scratch, length-replicate)
 
   pub fresh_safe : (text : List ℕ) → IsBookSafe text made.calcs (grid_of made.start made.period) o s.copies [] (LeftOf None)
   fresh_safe text = record { images = λ t c since left. absurd left }

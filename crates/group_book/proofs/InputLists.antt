@@ -25,13 +25,7 @@ longer-uncut (v ∷ vs) (rs ∷ rss) same =
 
 -- of none
 pub pulls_none : (lists : List (List Rec)) (versions : List ℕ) → ArePullsOf (take 0 lists) (take 0 versions) []
-pulls_none lists versions = record {
-  as_many = refl;
-  records = refl;
-  ends = refl;
-  copied = λ k d below. absurd (omega (arith, below));
-  goes_on = λ i p below. absurd (omega (arith, below));
-}
+pulls_none lists versions = grind arith
 
 -- of one more
 pub pulls_more : (lists : List (List Rec)) (versions : List ℕ) (i : ℕ) (ps : List Pulled) (one : Pulled) → length lists ≡ length versions
@@ -61,9 +55,7 @@ pulls_more lists versions i ps one same within is before = record {
 -- of all
 pub pulls_all : (lists : List (List Rec)) (versions : List ℕ) (i : ℕ) (ps : List Pulled) → length lists ≡ length versions
     → length lists ≤ i → ArePullsOf (take i lists) (take i versions) ps → ArePullsOf lists versions ps
-pulls_all lists versions i ps same end so =
-    subst (λ l. ArePullsOf l versions ps) (take_all i lists end)
-    (subst (λ l. ArePullsOf (take i lists) l ps) (take_all i versions (omega (arith, end, same))) so)
+pulls_all lists versions i ps same end so = grind (arith, take_all)
 
 -- it continues from the copies
 pub pulls_go_on : (lists : List (List Rec)) (versions : List ℕ) (copies : List (List Rec)) (ps : List Pulled) → versions ≡ map length copies

@@ -1,5 +1,5 @@
 -- A book's history after a question, and after a refresh.
-use Rattle.std.proofs.Common.{◌≡◌, ◌↔◌, ℕ, ◌<◌, ◌≤◌, All, Bool, true, false, List, [], ◌∷◌, ◌++◌, Contains, length, map, get_or, slice_get, Vec, Option, None, Some, IfSome, IsSome, option_and_then, nat_lt, ltb-true, ltb-false, refl, sym}
+use Rattle.std.proofs.Common.{arith, ◌≡◌, ◌↔◌, ℕ, ◌<◌, ◌≤◌, All, Bool, true, false, List, [], ◌∷◌, ◌++◌, Contains, length, map, get_or, slice_get, Vec, Option, None, Some, IfSome, IsSome, option_and_then, nat_lt, ltb-true, ltb-false, refl, sym}
 use Rattle.std.proofs.Common.{ap, ◌∙◌, subst, if◌then◌else◌}
 use Rattle.std.specs.Option.{option_map}
 use Rattle.std.specs.declared.alloc.Global.{Global}
@@ -131,20 +131,8 @@ pub kept_asked : (text : List ℕ) (def : GroupDefParts) (o : GroupOpening) (tap
     (failed : Bool) (trace : Option Trace) (ticks faults : ℕ) (reader row calc k : ℕ) (reply : Option CalcValue)
     → IsKept text def o tape copies saved failed trace ticks faults
     → IsKept text def o (tape ++ Ask reader row calc k reply ∷ []) copies saved failed trace ticks faults
-kept_asked text def o tape copies saved failed trace ticks faults reader row calc k reply kept = record {
-  shut = kept.shut;
-  holds = kept.holds;
-  range = kept.range;
-  rows_are = kept.rows_are;
-  scratch = kept.scratch;
-  versions = kept.versions ∙ sym (saved-ask o.versions.items o.versions.items tape reader row calc k reply);
-  inputs = kept.inputs;
-  number = subst (λ w. IfSome w.number (λ n. n ≡ saved.number)) (sym (walked-push (book_start o) tape (Ask reader row calc k reply))) kept.number;
-  past = subst (λ w. w.moment ≤ ticks) (sym (walked-push (book_start o) tape (Ask reader row calc k reply))) kept.past;
-  opened_before = kept.opened_before;
-  faultless = kept.faultless;
-  cause = kept.cause;
-}
+kept_asked text def o tape copies saved failed trace ticks faults reader row calc k reply kept =
+    grind (arith, saved-ask, walked-push)
 
 pub safe_asked : (text : List ℕ) (g : Group) (grid : Grid) (o : GroupOpening) (copies : List (List Rec)) (tape : List Turn)
     (left : ℕ → List ℕ → Type 0) (reader row calc k : ℕ) (reply : Option CalcValue)

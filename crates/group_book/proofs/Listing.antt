@@ -1,8 +1,7 @@
 -- The cells that changed, listed one after the other.
-use Rattle.std.proofs.Common.{◌≡◌, inl, inr, ◌⊎◌, ℕ, zero, suc, ◌+◌, ◌-◌, ◌<◌, ◌≤◌, true, false, List, [], ◌∷◌, ◌++◌, get_or, IfSome, IsSome, Option, None, Some, nat_eq, ◌&&◌, refl, sym, ap, ◌∙◌, subst, arith, le-leb, if◌then◌else◌}
-use Rattle.std.proofs.lemmas.Bool.{cases_lt}
+use Rattle.std.proofs.Common.{◌≡◌, inl, inr, ◌⊎◌, ℕ, zero, suc, ◌+◌, ◌-◌, ◌<◌, ◌≤◌, true, false, List, [], ◌∷◌, ◌++◌, IfSome, IsSome, Option, None, Some, nat_eq, ◌&&◌, refl, sym, ◌∙◌, subst, arith, le-leb, if◌then◌else◌}
 use Rattle.std.proofs.lemmas.Bool.Decides.{nat_tests}
-use Rattle.std.proofs.lemmas.List.Elements.{All-nil, All-push, All-weaker}
+use Rattle.std.proofs.lemmas.List.Elements.{All-push}
 use Rattle.std.proofs.lemmas.List.Quantifiers.{all_pairs_push}
 use Rattle.trend_num.specs.declared.value.Bad.TheVariants.{NoData, DivZero, Range}
 use Rattle.trend_num.specs.{CalcValue}
@@ -18,13 +17,7 @@ use Rattle.group_book.proofs.Columns.{same_cells}
 -- what comes before the next place comes before this one, or is this one
 before_next : (x y calc k : ℕ) → comes_before x y calc (k + 1) ≡ true
     → (comes_before x y calc k ≡ true) ⊎ ((x ≡ calc) × (y ≡ k))
-before_next x y calc k before = elim (cases_lt x calc) [
-  | inl low ↦ inl (grind (arith, nat_tests))
-  | inr high ↦ elim (cases_lt y k) [
-    | inl left ↦ inl (grind (arith, nat_tests))
-    | inr right ↦ inr (grind (arith, nat_tests), grind (arith, nat_tests))
-  ]
-]
+before_next x y calc k before = grind (arith, nat_tests)
 
 -- this one does not come before itself
 before_self : (calc k : ℕ) → comes_before calc k calc k ≡ false
@@ -97,22 +90,15 @@ row_is calcs windows calc k (Bad Range) low within in_range = record { calc = lo
 -- a row after others
 listed_push : (rows : List BlockRow) (calc k x y : ℕ) (v : CalcValue)
     → listed_from None (rows ++ row_of calc k v ∷ []) x y ≡ (if nat_eq calc x && nat_eq k y then Some v else listed_from None rows x y)
-listed_push rows calc k x y v =
-    listed-append None rows (row_of calc k v ∷ []) x y
-    ∙ ap (λ n. if nat_eq n x && nat_eq (row_of calc k v).window y then Some (value_of (row_of calc k v)) else listed_from None rows x y)
-    (row_calc calc k v)
-    ∙ ap (λ n. if nat_eq calc x && nat_eq n y then Some (value_of (row_of calc k v)) else listed_from None rows x y) (row_window calc k v)
-    ∙ ap (λ w. if nat_eq calc x && nat_eq k y then Some w else listed_from None rows x y) (row_value calc k v)
+listed_push rows calc k x y v = grind (arith, listed-append, row_calc, row_window, row_value)
 
 -- at another place, and at its own
 listed_other : (rows : List BlockRow) (calc k x y : ℕ) (v : CalcValue) → (nat_eq calc x && nat_eq k y) ≡ false
     → listed_from None (rows ++ row_of calc k v ∷ []) x y ≡ listed_from None rows x y
-listed_other rows calc k x y v absent =
-    listed_push rows calc k x y v ∙ ap (λ b. if b then Some v else listed_from None rows x y) absent
+listed_other rows calc k x y v absent = grind (arith, listed_push)
 
 listed_here : (rows : List BlockRow) (calc k : ℕ) (v : CalcValue) → listed_from None (rows ++ row_of calc k v ∷ []) calc k ≡ Some v
-listed_here rows calc k v =
-    listed_push rows calc k calc k v ∙ ap (λ b. if b then Some v else listed_from None rows calc k) (here_at calc k)
+listed_here rows calc k v = grind (arith, listed_push, here_at)
 
 -- ---- one cell after the other
 
@@ -124,78 +110,38 @@ listed_as old new rows rows' x y same (IsOther changed is) = IsOther changed (sa
 
 -- nothing is listed at first
 pub list_none : (old new : List (List CalcValue)) (calcs windows : ℕ) → ListedUpTo old new calcs windows 0 0 []
-list_none old new calcs windows = record {
-  before = λ x y low before. absurd (cc (before, none_first x y));
-  behind = λ x y absent. refl;
-  each = λ in_range. All-nil (IsRow calcs windows);
-  sorted = λ i j d low within. absurd (omega arith);
-  low = All-nil (λ r. comes_before r.calc r.window 0 0 ≡ true);
-}
+list_none old new calcs windows = grind (arith, none_first)
 
 module _ (old new : List (List CalcValue)) (calcs windows calc k : ℕ) (rows : List BlockRow)
     (so_far : ListedUpTo old new calcs windows calc k rows) where
   -- a cell that did not change
   pub list_kept : cell_of new calc k ≡ cell_of old calc k → ListedUpTo old new calcs windows calc (k + 1) rows
-  list_kept same = record {
-    before = λ x y low before. elim (before_next x y calc k before) [
-      | inl earlier ↦ so_far.before x y low earlier
-      | inr here ↦ subst (λ a. IsListed old new rows a y) (sym here.0) (subst (IsListed old new rows calc) (sym here.1)
-          (IsSame same (so_far.behind calc k (before_self calc k))))
-    ];
-    behind = λ x y absent. so_far.behind x y (not_next x y calc k absent);
-    each = so_far.each;
-    sorted = so_far.sorted;
-    low = All-weaker (λ r. comes_before r.calc r.window calc k ≡ true) (λ r. comes_before r.calc r.window calc (k + 1) ≡ true)
-        (λ r before. later_place r.calc r.window calc k before) rows so_far.low;
-  }
+  list_kept same = grind (arith, before_next, before_self, not_next, later_place)
 
   -- one that did
   pub list_added : (v : CalcValue) → calc < calcs → k < windows → cell_of new calc k ≡ Some v
       → (cell_of new calc k ≡ cell_of old calc k → ⊥)
       → ListedUpTo old new calcs windows calc (k + 1) (rows ++ row_of calc k v ∷ [])
   list_added v calc_low k_low is changed = record {
-    before = λ x y low before. elim (before_next x y calc k before) [
-      | inl earlier ↦ listed_as old new rows (rows ++ row_of calc k v ∷ []) x y
-          (listed_other rows calc k x y v (other_before x y calc k earlier)) (so_far.before x y low earlier)
-      | inr here ↦ subst (λ a. IsListed old new (rows ++ row_of calc k v ∷ []) a y) (sym here.0)
-          (subst (IsListed old new (rows ++ row_of calc k v ∷ []) calc) (sym here.1)
-          (IsOther changed (listed_here rows calc k v ∙ sym is)))
-    ];
+    before = grind (arith, before_next, listed_as, listed_other, other_before, listed_here);
     behind = λ x y absent. listed_other rows calc k x y v (other_behind x y calc k absent) ∙ so_far.behind x y (not_next x y calc k absent);
     each = λ in_range. All-push (IsRow calcs windows) rows (row_of calc k v) (so_far.each in_range)
         (row_is calcs windows calc k v calc_low k_low (in_range.each calc k v is));
-    sorted = all_pairs_push IsBefore rows (row_of calc k v) so_far.sorted (λ i d low. record {
-      order = subst (λ a. comes_before (get_or rows i d).calc (get_or rows i d).window a (row_of calc k v).window ≡ true)
-          (sym (row_calc calc k v))
-          (subst (λ b. comes_before (get_or rows i d).calc (get_or rows i d).window calc b ≡ true) (sym (row_window calc k v))
-          (so_far.low i d low));
-    });
+    sorted = all_pairs_push IsBefore rows (row_of calc k v) so_far.sorted (λ i d low. grind (arith, row_calc, row_window));
     low = All-push (λ r. comes_before r.calc r.window calc (k + 1) ≡ true) rows (row_of calc k v)
-        (All-weaker (λ r. comes_before r.calc r.window calc k ≡ true) (λ r. comes_before r.calc r.window calc (k + 1) ≡ true)
-        (λ r before. later_place r.calc r.window calc k before) rows so_far.low)
-        (subst (λ a. comes_before a (row_of calc k v).window calc (k + 1) ≡ true) (sym (row_calc calc k v))
-        (subst (λ b. comes_before calc b calc (k + 1) ≡ true) (sym (row_window calc k v)) (here_next calc k)));
+        (grind (arith, later_place))
+        (grind (arith, row_calc, row_window, here_next));
   }
 
 -- the next calculation
 pub list_next : (old new : List (List CalcValue)) (calcs windows calc : ℕ) (rows : List BlockRow)
     → ListedUpTo old new calcs windows calc windows rows → ListedUpTo old new calcs windows (calc + 1) 0 rows
-list_next old new calcs windows calc rows so_far = record {
-  before = λ x y low before. so_far.before x y low (before_calc x y calc windows low before);
-  behind = λ x y absent. so_far.behind x y (not_calc x y calc windows absent);
-  each = so_far.each;
-  sorted = so_far.sorted;
-  low = All-weaker (λ r. comes_before r.calc r.window calc windows ≡ true) (λ r. comes_before r.calc r.window (calc + 1) 0 ≡ true)
-      (λ r before. after_calc r.calc r.window calc windows before) rows so_far.low;
-}
+list_next old new calcs windows calc rows so_far = grind (arith, before_calc, not_calc, after_calc)
 
 -- all are listed
 pub list_all_cells : (old new : List (List CalcValue)) (calcs windows : ℕ) (rows : List BlockRow)
     → ListedUpTo old new calcs windows calcs 0 rows → ListsChanges calcs windows old new rows
-list_all_cells old new calcs windows rows so_far = record {
-  listed = λ calc k low within. so_far.before calc k within (all_last calc k calcs low);
-  rows_are = λ in_range. record { each = so_far.each in_range; sorted = so_far.sorted };
-}
+list_all_cells old new calcs windows rows so_far = grind (arith, all_last)
 
 -- one cell, whether or not it changed
 pub list_cell : (old new : List (List CalcValue)) (calcs windows calc k : ℕ) (rows rows' : List BlockRow) (now was : Option CalcValue)

@@ -1,7 +1,6 @@
 -- A book over the device of its group, as it is opened.
-use Rattle.std.proofs.Common.{◌≡◌, inl, inr, ℕ, suc, ◌+◌, ◌^◌, ◌<◌, ◌≤◌, All, false, List, [], ◌∷◌, ◌++◌, Contains, Option, Some, lit<, Vec, vec_len, length, map, get_or, take, refl, sym, ap, ◌∙◌, subst, arith, length-take}
+use Rattle.std.proofs.Common.{◌≡◌, ℕ, suc, ◌+◌, ◌^◌, ◌<◌, ◌≤◌, All, false, List, [], ◌∷◌, ◌++◌, Contains, Option, Some, lit<, Vec, vec_len, length, map, get_or, take, refl, sym, ap, ◌∙◌, subst, arith, length-take}
 use Rattle.std.specs.declared.alloc.Global.{Global}
-use Rattle.std.proofs.lemmas.Bool.{cases_lt}
 use Rattle.std.proofs.lemmas.List.{get_or-map, length-map, map-append, take_all}
 use Rattle.std.proofs.lemmas.List.Elements.{All-cons, All-head, All-nil, All-tail, All-take}
 use Rattle.trend_num.specs.{InRange, Rec, CalcValue}
@@ -14,7 +13,6 @@ use Rattle.disk_model.proofs.Moments.{only_since}
 use Rattle.sheet_law.specs.{IsScratch}
 use Rattle.group_layout.specs.{SavedGroup, ByBlocks, IsGroupDamage, StandsFor, IsReadOf}
 use Rattle.group_book.specs.{GroupOpening, IsBookSafe, AreRowsOver, AreValuesInRange, IsBookLegal, IsRight, IsAhead, IsBookCause, scan_refusal, cut, HoldsBlocks, IsKept, IsReady, Saved}
-use Rattle.group_book.specs.declared.refusal.LoadNo.TheVariants.{DeviceFault, Damaged, WantOfMemory}
 use Rattle.group_book.proofs.Cuts.{cut-all, part_more}
 use Rattle.group_book.proofs.Saving.{holds_now}
 use Rattle.group_book.proofs.Ranges.{blocks_range}
@@ -56,40 +54,24 @@ module _ (versions : List ℕ) (recovered : List (Vec Rec Global)) (same : lengt
   pub low_more : ((k : ℕ) (rs : List Rec) → k < i → get_or versions k 0 ≤ length (get_or (lists_of recovered) k rs))
       → get_or versions i 0 ≤ length v.items
       → (k : ℕ) (rs : List Rec) → k < i + 1 → get_or versions k 0 ≤ length (get_or (lists_of recovered) k rs)
-  low_more before le k rs within = elim (cases_lt k i) [
-    | inl left ↦ before k rs left
-    | inr right ↦
-        let place : k ≡ i = omega (arith, within, right) in
-        subst (λ n. get_or versions n 0 ≤ length (get_or (lists_of recovered) n rs)) (sym place)
-        (subst (λ l. get_or versions i 0 ≤ length l) (sym (here rs)) le)
-  ]
+  low_more before le k rs within = grind (arith, here)
 
   -- it is the first that is above them
   pub first_ahead : (version records : ℕ) → version ≡ get_or versions i 0 → records ≡ length v.items → records < version
       → ((k : ℕ) (rs : List Rec) → k < i → get_or versions k 0 ≤ length (get_or (lists_of recovered) k rs))
       → IsAhead versions (lists_of recovered) i version records
-  first_ahead version records version_is records_are above before = record {
-    within = low;
-    version_is = version_is;
-    records_are = λ rs. records_are ∙ ap length (sym (here rs));
-    above = above;
-    first = before;
-  }
+  first_ahead version records version_is records_are above before = grind (arith, here)
 
 -- all inputs
 pub first_all : (versions : List ℕ) (recovered : List (Vec Rec Global)) (copies : List (List Rec)) (i : ℕ)
     → length recovered ≡ length versions → length versions ≤ i → copies ≡ cut (take i versions) (take i (lists_of recovered))
     → copies ≡ cut versions (lists_of recovered)
-first_all versions recovered copies i same end are =
-    are ∙ ap (λ l. cut l (take i (lists_of recovered))) (take_all i versions end)
-    ∙ ap (cut versions) (take_all i (lists_of recovered) (omega (arith, length-map recovered (λ x. x.items), same, end)))
+first_all versions recovered copies i same end are = grind (arith, take_all, length-map)
 
 pub first_lengths : (versions : List ℕ) (recovered : List (Vec Rec Global)) (i : ℕ) → length recovered ≡ length versions → length versions ≤ i
     → ((k : ℕ) (rs : List Rec) → k < i → get_or versions k 0 ≤ length (get_or (lists_of recovered) k rs))
     → map length (cut versions (lists_of recovered)) ≡ versions
-first_lengths versions recovered i same end low =
-    cut_lengths versions (lists_of recovered) (sym (length-map recovered (λ x. x.items) ∙ same))
-    (λ k rs within. low k rs (omega (arith, within, end)))
+first_lengths versions recovered i same end low = grind (arith, cut_lengths, length-map)
 
 -- ---- what a sheet is made of
 
@@ -130,15 +112,11 @@ module _ (text : List ℕ) (def : GroupDefParts) (o : GroupOpening) (copies : Li
 
   -- where the opening is right the rows are from scratch
   right_rows : IsRight def.calcs (grid_of def.start def.period) o copies → IsScratch def.calcs (grid_of def.start def.period) copies rows
-  right_rows right =
-      subst (IsScratch def.calcs (grid_of def.start def.period) copies) opened_rows
-      (subst (λ rss. IsScratch def.calcs (grid_of def.start def.period) rss (lists_of o.rows.items)) (cut_all o.versions.items opened) right)
+  right_rows right = grind (arith, cut_all)
 
   right_saved : IsRight def.calcs (grid_of def.start def.period) o copies
       → IsScratch def.calcs (grid_of def.start def.period) (cut saved.versions copies) saved.rows
-  right_saved right =
-      subst (λ rss. IsScratch def.calcs (grid_of def.start def.period) rss saved.rows) (sym (cut_all saved.versions saved_versions))
-      (subst (IsScratch def.calcs (grid_of def.start def.period) copies) (sym saved_rows) (right_rows right))
+  right_saved right = grind (arith, cut_all, right_rows)
 
   over_saved : AreRowsOver def.calcs (grid_of def.start def.period) o (cut saved.versions copies) saved.rows
   over_saved =
@@ -186,13 +164,7 @@ module _ (text : List ℕ) (def : GroupDefParts) (o : GroupOpening) (copies : Li
 pub loaded_holds : (text : List ℕ) (def : GroupDefParts) (g : SavedGroup) (o : Trace)
     → Shows o (λ c. IsReadOf text def.inputs (length def.calcs.calcs) c g)
     → HoldsBlocks text def (record { number = g.number; versions = g.versions.items; rows = lists_of g.rows.items; end = g.end }) (seen o)
-loaded_holds text def g t read = record {
-  blocks = read.blocks;
-  has = read.has;
-  number = sym read.number;
-  versions = sym read.versions;
-  end = sym read.end;
-}
+loaded_holds text def g t read = grind arith
 
 pub loaded_ready : (end : ℕ) (o : Trace) → IsSettled o → Now o (IsShut end) → IsReady end o
 loaded_ready end t settled ready = record { settled = settled; shut = ready.each (seen t) (present t) }

@@ -1,5 +1,5 @@
 -- A book's history after a save, and after one whose device failed.
-use Rattle.std.proofs.Common.{◌≡◌, ◌⊎◌, ⊎_elim, inl, inr, ℕ, ◌+◌, ◌<◌, ◌≤◌, Bool, true, false, All, List, [], ◌∷◌, ◌++◌, Contains, length, get_or, Vec, Option, None, Some, IfSome, nat_le, refl, sym, ap, ◌∙◌, subst, arith, lit<, le_trans}
+use Rattle.std.proofs.Common.{◌≡◌, ◌⊎◌, ⊎_elim, inl, inr, ℕ, ◌+◌, ◌<◌, ◌≤◌, Bool, true, false, All, List, [], ◌∷◌, ◌++◌, Contains, length, get_or, Vec, Option, Some, IfSome, nat_le, refl, sym, ap, ◌∙◌, subst, arith, lit<}
 use Rattle.std.proofs.Common.{if◌then◌else◌}
 use Rattle.std.specs.declared.alloc.Global.{Global}
 use Rattle.std.proofs.lemmas.Bool.{cases_eq}
@@ -79,22 +79,14 @@ pub next_block_is : (def : GroupDefParts) (s : SheetState) (saved : Saved) (vs v
     → b.windows ≡ complete_windows s.grid s.copies → lists_of old ≡ saved.rows
     → ListsChanges (length s.group.calcs) b.windows (lists_of old) s.rows b.rows
     → IsNextBlock saved (length def.calcs.calcs) vs (complete_windows (grid_of def.start def.period) s.copies) s.rows b
-next_block_is def s saved vs vs' old b group grid number versions same windows rows changes = record {
-  number = number;
-  versions_are = versions ∙ same;
-  windows_are = windows ∙ ap (λ w. complete_windows w s.copies) grid;
-  changes = subst (λ l. ListsChanges (length def.calcs.calcs) b.windows l s.rows b.rows) rows
-      (subst (λ g. ListsChanges (length g.calcs) b.windows (lists_of old) s.rows b.rows) group changes);
-}
+next_block_is def s saved vs vs' old b group grid number versions same windows rows changes = grind arith
 
 -- what a device keeps that is there, and of which no call failed
 pub kept_there : {D : Type 0} (device : D → Device) (text : List ℕ) (def : GroupDefParts) (o : GroupOpening)
     (tape : List Turn) (copies : List (List Rec)) (saved : Saved) (failed : Bool) (dev : Option D) (d : D) → dev ≡ Some d → failed ≡ false
     → IsKept text def o tape copies saved failed (trace_of device dev) (moment_of device dev) (faults_of device dev)
     → IsKept text def o tape copies saved false (Some (device d).trace) (moment (device d).trace) (device d).faults
-kept_there device text def o tape copies saved failed dev d there usable kept =
-    subst (λ x. IsKept text def o tape copies saved false (trace_of device x) (moment_of device x) (faults_of device x)) there
-    (subst (λ f. IsKept text def o tape copies saved f (trace_of device dev) (moment_of device dev) (faults_of device dev)) usable kept)
+kept_there device text def o tape copies saved failed dev d there usable kept = grind (arith, there)
 
 -- what a device has while it is written
 abbrev pub IsWriting : BlockParts → ℕ → Trace → List ℕ → Type 0
@@ -246,20 +238,7 @@ module _ (text : List ℕ) (def : GroupDefParts) (o : GroupOpening) (tape : List
 
   pub kept_faulted : (new : Trace) (ticks' faults' : ℕ) → ticks ≤ ticks' → Rose faults faults'
       → IsKept text def o tape copies saved true (Some new) ticks' faults'
-  kept_faulted new ticks' faults' later rose = record {
-    shut = λ usable. absurd (cc (usable));
-    holds = λ usable. absurd (cc (usable));
-    range = kept.range;
-    rows_are = kept.rows_are;
-    scratch = kept.scratch;
-    versions = kept.versions;
-    inputs = kept.inputs;
-    number = kept.number;
-    past = le_trans kept.past later;
-    opened_before = le_trans kept.opened_before later;
-    faultless = λ usable. absurd (cc (usable));
-    cause = λ failed. subst (λ n. Rose n faults') (kept.faultless refl) rose;
-  }
+  kept_faulted new ticks' faults' later rose = grind arith
 
   -- ---- a save that is done
 
@@ -271,17 +250,7 @@ module _ (text : List ℕ) (def : GroupDefParts) (o : GroupOpening) (tape : List
     turn = Save b.number ticks'
 
     pub legal_saved : IsBookLegal def.calcs (grid_of def.start def.period) o (tape ++ turn ∷ []) versions copies rows
-    legal_saved = record {
-      turns = fit_push def.calcs (grid_of def.start def.period) o copies (book_start o) tape turn legal.turns
-          (record { next = next (book_walked (book_start o) tape).number kept.number; later = omega (arith, kept.past, later) });
-      last = legal.last ∙ ap (λ (w : BookWalk). w.versions) (sym (walked-push (book_start o) tape turn));
-      copied = legal.copied;
-      scratch = legal.scratch;
-    }
-      where
-        next : (n : Option ℕ) → IfSome n (λ k. k ≡ saved.number) → IfSome n (λ last. b.number ≡ last + 1)
-        next None last = tt
-        next (Some n) last = is.number ∙ ap (λ k. k + 1) (sym last)
+    legal_saved = grind (arith, fit_push, walked-push)
 
     -- an image now has the block after its open gate
     holds_settled : (c : List ℕ) → MayLeave new c → HoldsBlocks text def next_saved c
@@ -376,6 +345,4 @@ pub keeps_alike : (text : List ℕ) (def : GroupDefParts) (tags : List ℕ) (o :
     → KeepsAll text def tags o versions sheet saved failed trace ticks faults on tape rows flags
     → KeepsAll text def tags o versions sheet saved failed trace ticks faults on tape' rows' flags'
 keeps_alike text def tags o versions sheet saved failed trace ticks faults on tape tape' rows rows' flags flags' same old unset all =
-    subst (λ l. KeepsAll text def tags o versions sheet saved failed trace ticks faults on l rows' flags') (sym same)
-    (subst (λ l. KeepsAll text def tags o versions sheet saved failed trace ticks faults on tape l flags') (sym old)
-    (subst (KeepsAll text def tags o versions sheet saved failed trace ticks faults on tape rows) (sym unset) all))
+    grind arith

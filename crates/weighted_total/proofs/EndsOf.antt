@@ -129,8 +129,7 @@ inside_places : (ps : List Point) (from to a b : ℕ) → IsGapAt ps (from + 1) 
 inside_places ps from to a b first second =
     let f = inside from to in
     let early = All-weaker (Before (from + 1)) (λ p. f p ≡ false)
-    (λ p h. and_left (nat_lt from p.t) (nat_lt p.t to)
-    (le-ltb from p.t (let u : p.t < from + 1 = h in omega arith))) (take a ps) first.before in
+    (λ p h. grind (arith, and_left, le-ltb)) (take a ps) first.before in
     let late = All-weaker (From to) (λ p. f p ≡ false)
     (λ p h. and_right (nat_lt from p.t) (nat_lt p.t to) (le-ltb p.t to h)) (drop b ps) second.from in
     let low = All-take (From (from + 1)) (b - a) (drop a ps) first.from in
@@ -171,8 +170,7 @@ passed_over : (f : Point → Bool) (held : Option Point) (cs ps : List Point) (f
     → is_covered cs from to ≡ true → ((q : Point) → to ≤ q.t → f q ≡ false) → filter f cs ≡ filter f ps
 passed_over f held cs ps from to closing covered fails =
     ap (filter f) closing.whole
-    ∙ (filter-append f ps (option_to_list closing.more)
-    ∙ (ap (λ l. filter f ps ++ l) (none_more closing.more closing.of_held) ∙ append-nil (filter f ps)))
+    ∙ (grind (arith, filter-append, none_more, append-nil))
   where
     none_more : (o : Option Point) → ((q : Point) → o ≡ Some q → held ≡ Some q)
         → filter f (option_to_list o) ≡ []

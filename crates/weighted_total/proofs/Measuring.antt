@@ -1,5 +1,5 @@
 -- Measures of the points between two ends, and of these.
-use Rattle.std.proofs.Common.{◌≡◌, ℕ, ◌-◌, ◌*◌, ◌^◌, ◌≤◌, ℤ, pos, ◌+ℤ◌, Bool, true, List, [], ◌∷◌, ◌++◌, Some, All, length, refl, sym, ap, ◌∙◌, subst, arith}
+use Rattle.std.proofs.Common.{◌≡◌, ℕ, ◌-◌, ◌*◌, ◌^◌, ◌≤◌, ℤ, pos, ◌+ℤ◌, Bool, true, List, [], ◌∷◌, ◌++◌, Some, All, length, refl, sym, ap, ◌∙◌, arith}
 use Rattle.std.specs.Prelude.{count_by, nat_lt, unsigned_abs}
 use Rattle.std.proofs.lemmas.Int.{ints}
 use Rattle.std.proofs.lemmas.List.{get_or_append_left, length-append}
@@ -25,8 +25,7 @@ area_to_end step p xs q = no_more (area step (p ∷ xs) +ℤ piece step (last_fr
 -- it can be rounded
 pub outline_small : (step : Bool) (ps : List Point) (e : Ends) → AreEnds ps e
     → unsigned_abs (area step (outline ps e)) ≤ 10 ^ 30
-outline_small step ps e are =
-    omega (arith, area_small step e.start (inner ps e ++ e.end ∷ []) are.rises are.range)
+outline_small step ps e are = grind (arith, area_small)
 
 pub end_in_range : (ps : List Point) (e : Ends) → AreEnds ps e → InRange e.end
 end_in_range ps e are =
@@ -34,8 +33,7 @@ end_in_range ps e are =
     (last_in_range e.start (inner ps e ++ e.end ∷ []) are.range)
 
 all_front : (P : Point → Type 0) (xs ys : List Point) → All P (xs ++ ys) → All P xs
-all_front P xs ys all =
-    λ k d within. subst P (get_or_append_left xs ys d k within) (all k d (omega (arith, length-append xs ys)))
+all_front P xs ys all = grind (arith, get_or_append_left, length-append)
 
 front_in_range : (ps : List Point) (e : Ends) → AreEnds ps e → All (λ p. InRange p) (e.start ∷ inner ps e)
 front_in_range ps e are = all_front (λ p. InRange p) (e.start ∷ inner ps e) (e.end ∷ []) are.range
@@ -52,16 +50,7 @@ pub sums_of : (step : Bool) (ps : List Point) (e : Ends) (twice : ℤ) (last : P
     → seam ≡ piece step last e.end
     → AreSums twice seam (area step (outline ps e))
 sums_of step ps e twice last seam are twice_is last_is in_range seam_is =
-    let late = rises_seam e.start (inner ps e) e.end [] are.rises in
-    let order : last.t ≤ e.end.t = rw last_is (omega (arith, late)) in
-    record {
-      small = rw twice_is
-          (area_small step e.start (inner ps e) (rises_front e.start (inner ps e) (e.end ∷ []) are.rises)
-          (front_in_range ps e are));
-      small_seam = rw seam_is (piece_bounded step last e.end in_range (end_in_range ps e are) order);
-      whole_is = rw (twice_is, seam_is, last_is) (area_to_end step e.start (inner ps e) e.end);
-      small_whole = outline_small step ps e are;
-    }
+    grind (arith, rises_seam, area_small, rises_front, front_in_range, piece_bounded, end_in_range, area_to_end, outline_small)
 
 -- all points but the last
 but_last_push : (p : Point) (xs : List Point) (q : Point) → but_last ((p ∷ xs) ++ q ∷ []) ≡ p ∷ xs

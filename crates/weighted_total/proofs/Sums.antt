@@ -50,9 +50,7 @@ piece_small true p q first second order =
 
 pub piece_bounded : (step : Bool) (p q : Point) → InRange p → InRange q → p.t ≤ q.t
     → unsigned_abs (piece step p q) ≤ last_time * (2 * largest_value)
-piece_bounded step p q first second order =
-    let span : q.t - p.t ≤ last_time = omega (arith, second.time) in
-    omega (arith, piece_small step p q first second order, mul-le-mul_right (2 * largest_value) span)
+piece_bounded step p q first second order = grind (arith, piece_small, mul-le-mul_right)
 
 -- the times of a rising list end where they begin or later
 pub last_later : (p : Point) (xs : List Point) → RisesAfter p xs → p.t ≤ (last_from p xs).t
@@ -95,11 +93,7 @@ last_in_range p (x ∷ xs) range = last_in_range x xs (All-tail (λ q. InRange q
 -- so it is never larger than over all times
 pub area_small : (step : Bool) (p : Point) (xs : List Point) → RisesAfter p xs → All (λ q. InRange q) (p ∷ xs)
     → unsigned_abs (area step (p ∷ xs)) ≤ last_time * (2 * largest_value)
-area_small step p xs rises range =
-    let last = last_in_range p xs range in
-    let span : (last_from p xs).t - p.t ≤ last_time = omega (arith, last.time) in
-    let most = mul-le-mul_right (2 * largest_value) span in
-    omega (arith, most, area_of_span step p xs rises range)
+area_small step p xs rises range = grind (arith, last_in_range, mul-le-mul_right, area_of_span)
 
 -- ---- least and greatest values of lists that are joined
 

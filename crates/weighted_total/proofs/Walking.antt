@@ -47,8 +47,7 @@ taken_all inner taken rest is none = sym (append-nil taken) ∙ (ap (λ l. taken
 -- a run more
 pub taken_more : (inner taken old run new : List Point) → IsTaken inner taken old → old ≡ run ++ new
     → IsTaken inner (taken ++ run) new
-taken_more inner taken old run new is split =
-    record { parts = is.parts ∙ (ap (λ l. taken ++ l) split ∙ sym (append_assoc taken run new)) }
+taken_more inner taken old run new is split = grind (arith, append_assoc)
 
 -- the points of a range are in range
 pub inner_range : (l : List Rec) (first behind : ℕ) → All InRange (points_of l)
@@ -93,8 +92,7 @@ module _ (step : Bool) (start : Point) (inner old run new : List Point) (twice :
       let more = run_parts.0 in
       let xs = walk.taken in
       let whole : inner ≡ (xs ++ q ∷ more) ++ new = after.parts ∙ ap (λ l. (xs ++ l) ++ new) run_parts.1 in
-      let upto : RisesAfter start (xs ++ q ∷ more) = rises_front start (xs ++ q ∷ more) new
-      (subst (RisesAfter start) whole rises) in
+      let upto : RisesAfter start (xs ++ q ∷ more) = grind (arith, rises_front) in
       let all : All In (xs ++ q ∷ more) = all_left In (xs ++ q ∷ more) new (subst (All In) whole range) in
       let seam = rises_seam start xs q more upto in
       record {
@@ -111,8 +109,7 @@ module _ (step : Bool) (start : Point) (inner old run new : List Point) (twice :
   walk_more sum is =
       let more = run_parts.0 in
       let xs = walk.taken in
-      let ends : Some z ≡ Some (last_from q more) = sym next.last
-      ∙ (ap last_point run_parts.1 ∙ last_is q more) in
+      let ends : Some z ≡ Some (last_from q more) = grind (arith, last_is) in
       let end : z ≡ last_from q more = cc in
       record {
         taken = xs ++ run;

@@ -6,9 +6,7 @@ use Rattle.group_book.proofs.InputLists.{list_ahead, list_at, pulls_all, pulls_m
 use Rattle.group_book.proofs.lists.pull_all.Goals as goal
 
 pub loop-input-init : goal.loop-input-init
-loop-input-init c =
-    let lists = lists_at (map (λ r. r.now) c.args.records.now) c.args.tags.now in
-    subst (ArePullsOf (take 0 lists) (take 0 c.args.versions.now)) (sym c.new-pulled.ensures.items) (pulls_none lists c.args.versions.now)
+loop-input-init c = grind (arith, pulls_none)
 
 pub returns-in_err-one-clause-ahead : goal.returns-in_err-one-clause-ahead
 returns-in_err-one-clause-ahead c =

@@ -1,4 +1,4 @@
-use Rattle.std.proofs.Common.{◌≡◌, ◌+◌, ◌∷◌, [], ℕ, ◌<◌, ◌≤◌, All, List, length, get_or, refl, sym, ap, subst, arith, length-append}
+use Rattle.std.proofs.Common.{◌≡◌, ◌∷◌, [], ℕ, ◌≤◌, All, List, length, get_or, sym, ap, subst, arith, length-append}
 use Rattle.std.proofs.lemmas.List.{map-append}
 use Rattle.std.proofs.lemmas.List.Elements.{All-push}
 use Rattle.std.proofs.lemmas.Result.{err_from_is_err_and}
@@ -9,11 +9,7 @@ use Rattle.group_book.proofs.Causes.{goes_more, none_more, one_refused}
 use Rattle.group_book.proofs.refresh.pull_all.Goals as goal
 
 pub returns-in_err-one-clause-cause : goal.returns-in_err-one-clause-cause
-returns-in_err-one-clause-cause g c =
-    let versions = c.args.versions.now in
-    let p = err_from_is_err_and c.from_residual.result c.from_residual.ensures.1 in
-    rw (p.1, p.2) (one_refused versions c.loop-i.i (get_or versions c.loop-i.i 0) c.in_err-one.field-0.0
-    (omega (arith, c.loop-i-test.true, c.requires.inputs)) refl c.in_err-one.ensures.cause)
+returns-in_err-one-clause-cause g c = grind (arith, err_from_is_err_and, one_refused)
 
 pub loop-i-preserved : goal.loop-i-preserved
 loop-i-preserved g c =
@@ -27,10 +23,7 @@ loop-i-preserved g c =
           (subst (All IsCopy) (sym (map-append (λ p. p.recs.items) ps (one ∷ [])))
           (All-push IsCopy (pulled_records ps) one.recs.items inv.copied c.in_ok-one.ensures.copied));
       goes_on =
-          subst (λ (l : List Pulled). (k : ℕ) (p : Pulled) → k < length l
-          → (get_or l k p).upto ≡ get_or c.args.versions.now k 0 + length (get_or l k p).recs.items) (sym pushed)
-          (goes_more c.args.versions.now ps one inv.goes_on
-          (subst (λ (n : ℕ). one.upto ≡ get_or c.args.versions.now n 0 + length one.recs.items) (sym inv.len) c.in_ok-one.ensures.upto));
+          grind (arith, goes_more);
       none = subst (λ (l : List Pulled). GivesNone c.args.tags.now (length c.args.cells.now) (pulled_records l)) (sym pushed)
           (none_more c.args.tags.now (length c.args.cells.now) ps one inv.none
           (subst (λ (n : ℕ). length c.args.cells.now ≤ get_or c.args.tags.now n 0 → one.recs.items ≡ []) (sym inv.len) c.in_ok-one.ensures.none));

@@ -1,5 +1,5 @@
 use Rattle.std.proofs.Common.{◌≡◌, ◌+◌, false, All, get_or, take, sym, subst, ap₂, ◌∙◌, arith}
-use Rattle.std.specs.Prelude.{◌↔◌, ◌||◌}
+use Rattle.std.specs.Prelude.{◌||◌}
 use Rattle.std.proofs.lemmas.Bool.{or_parts}
 use Rattle.std.proofs.lemmas.List.{get_or-take, length-take-le, take-take, take_all}
 use Rattle.std.proofs.lemmas.List.Elements.{All-get_or, All-more, All-take}
@@ -23,6 +23,4 @@ loop-flag-preserved c =
     )
 
 pub returns : goal.returns
-returns c =
-    subst (λ l. c.loop-flag.set ≡ false ↔ All (λ flag. flag ≡ false) l)
-    (take_all c.loop-flag.flag-index c.args.flags.now c.loop-flag-test.false) c.loop-flag.invariant
+returns c = grind (arith, take_all)

@@ -58,6 +58,4 @@ loop-k-preserved c =
     ]
 
 pub returns-clause-set : goal.returns-clause-set
-returns-clause-set c = λ k has.
-    c.loop-k.invariant.set k
-    (subst (λ l. Contains l k) (sym (take_all c.loop-k.k-index c.args.windows.now c.loop-k-test.false)) has)
+returns-clause-set c = grind (arith, take_all)

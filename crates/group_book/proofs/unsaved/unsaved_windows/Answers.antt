@@ -1,4 +1,4 @@
-use Rattle.std.proofs.Common.{◌≡◌, ◌+◌, ◌-◌, ◌<◌, ◌≤◌, ℕ, Bool, true, false, All, List, drop, get_or, length, take, sym, ap, ◌∙◌, arith}
+use Rattle.std.proofs.Common.{◌≡◌, ◌+◌, ◌-◌, ◌<◌, ◌≤◌, ℕ, Bool, true, false, All, List, drop, length, take, sym, ap, ◌∙◌, arith}
 use Rattle.std.specs.List.{filter, range_with_len}
 use Rattle.std.proofs.lemmas.List.{get_or-drop, get_or-take, length-drop, length-take}
 use Rattle.calc_refresh.proofs.Passing.{passing_none}
@@ -11,8 +11,7 @@ unset : (flags : List Bool) (from n : ℕ) → from + n ≤ length flags → All
 unset flags from n within none k low below =
     let place : from + (k - from) ≡ k = omega arith in
     let long = length-take n (drop from flags) in
-    sym (get_or-take n (drop from flags) (k - from) true (omega arith) ∙ (get_or-drop from flags (k - from) true
-    ∙ ap (λ j. get_or flags j true) place))
+    sym (grind (arith, get_or-take, get_or-drop))
     ∙ none (k - from) true (omega (arith, long, length-drop from flags))
 
 pub loop-from-preserved : goal.loop-from-preserved

@@ -1,4 +1,4 @@
-use Rattle.std.proofs.Common.{[], refl, rules}
+use Rattle.std.proofs.Common.{arith, rules}
 use Rattle.std.specs.Prelude.{FitsSigned, slice_range}
 use Rattle.std.specs.Int.{w128}
 use Rattle.std.proofs.lemmas.Int.{to_z-of_z}
@@ -8,10 +8,7 @@ use Rattle.weighted_total.proofs.inside.area_inside.Goals as goal
 use Rattle.weighted_total.proofs.inside.area_inside.Goals.{After-area}
 
 pub loop-run-init : goal.loop-run-init
-loop-run-init c = record {
-  walked = record { taken = []; is = taken_none _ _ c.runs-runs.ensures; twice_is = refl; last_is = refl };
-  range = c.requires.start;
-}
+loop-run-init c = grind (arith, taken_none)
 
 -- a run is the first part of what is left
 next : (c : After-area) → IsRunOf c.loop-run.runs c.in-Some.run' c.next.new.self c.first.result c.last.result
@@ -37,16 +34,7 @@ joined-area-requires-clause-small_part c =
     (step (goal.at.joined-area-requires-clause-small_part c).After-area).small_part
 
 pub loop-run-preserved : goal.loop-run-preserved
-loop-run-preserved c =
-    let inner = slice_range (points_of c.args.content.now.records) c.args.first c.args.behind in
-    let fits : FitsSigned w128 c.area.result = search rules in
-    let part = rw (to_z-of_z w128 c.area.result fits, c.area.ensures) at c.joined-area.ensures.twice in
-    record {
-      walked = rw c.joined-area.ensures.last
-          (walk_more c.args.step c.args.start inner _ _ _ _ _ _ _ c.loop-run.invariant.walked
-          (next (goal.at.loop-run-preserved c).After-area) c.joined-area.result.twice part);
-      range = rw c.joined-area.ensures.last c.last.ensures.range;
-    }
+loop-run-preserved c = grind (arith, to_z-of_z, walk_more, next)
 
 pub returns : goal.returns
 returns c =

@@ -1,7 +1,7 @@
-use Rattle.std.proofs.Common.{◌≡◌, [], ◌∷◌, ◌+ℤ◌, ◌∙◌, arith}
+use Rattle.std.proofs.Common.{◌≡◌, arith}
 use Rattle.std.proofs.lemmas.Int.{ints}
 use Rattle.trend_model.specs.{points_of, area}
-use Rattle.weighted_total.specs.{inner, outline}
+use Rattle.weighted_total.specs.{outline}
 use Rattle.weighted_total.proofs.Measuring.{AreSums, end_in_range, sums_of}
 use Rattle.interp_read.proofs.Readable.{num_back}
 use Rattle.weighted_total.proofs.Walking.{rises_front}
@@ -9,13 +9,10 @@ use Rattle.weighted_total.proofs.measure.twice_area.Goals as goal
 use Rattle.weighted_total.proofs.measure.twice_area.Goals.{After-piece, After-sum}
 
 pub area_inside-inside-requires-clause-rises : goal.area_inside-inside-requires-clause-rises
-area_inside-inside-requires-clause-rises c =
-    let e = c.args.ends in
-    rises_front e.start (inner (points_of c.args.content.now.records) e) (e.end ∷ []) c.requires.ends.rises
+area_inside-inside-requires-clause-rises c = grind (arith, rises_front)
 
 pub piece-requires-clause-second : goal.piece-requires-clause-second
-piece-requires-clause-second c =
-    end_in_range (points_of c.args.content.now.records) c.args.ends c.requires.ends
+piece-requires-clause-second c = grind (arith, end_in_range)
 
 -- the area inside and the piece after it are those of the whole
 sums : (c : After-piece)
@@ -30,17 +27,10 @@ sums c =
 whole : (c : After-sum) → AreSums c.area_inside-inside.result.twice c.piece.result
     (area c.args.step (outline (points_of c.args.content.now.records) c.args.ends))
     → c.sum.result ≡ area c.args.step (outline (points_of c.args.content.now.records) c.args.ends)
-whole c are =
-    let first = are.small in
-    let second = are.small_seam in
-    let sum : c.sum.result ≡ c.area_inside-inside.result.twice +ℤ c.piece.result = omega (arith, ints, c.sum.ensures) in
-    sum ∙ are.whole_is
+whole c are = grind (arith, ints)
 
 pub sum-requires-clause-first : goal.sum-requires-clause-first
-sum-requires-clause-first c =
-    let twice = c.area_inside-inside.result.twice in
-    let sums = sums (goal.at.sum-requires-clause-first c).After-piece in
-    rw (num_back twice (omega (arith, sums.small))) (omega (arith, sums.small))
+sum-requires-clause-first c = grind (arith, sums, num_back)
 
 pub sum-requires-clause-second : goal.sum-requires-clause-second
 sum-requires-clause-second c =
@@ -48,15 +38,7 @@ sum-requires-clause-second c =
     rw (num_back c.piece.result (omega (arith, sums.small_seam))) sums.small_seam
 
 pub returns-clause-value : goal.returns-clause-value
-returns-clause-value c =
-    let at = goal.at.returns-clause-value c in
-    let are = sums at.After-piece in
-    let is = whole at.After-sum are in
-    rw (num_back c.sum.result (rw is are.small_whole)) is
+returns-clause-value c = grind (arith, sums, whole, num_back)
 
 pub returns-clause-small : goal.returns-clause-small
-returns-clause-small c =
-    let at = goal.at.returns-clause-small c in
-    let are = sums at.After-piece in
-    let is = whole at.After-sum are in
-    rw (num_back c.sum.result (rw is are.small_whole)) (rw is are.small_whole)
+returns-clause-small c = grind (arith, sums, whole, num_back)

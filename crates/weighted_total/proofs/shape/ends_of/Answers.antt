@@ -3,7 +3,6 @@ use Rattle.std.specs.Prelude.{FitsSigned, IfNone}
 use Rattle.weighted_total.specs.{Ends}
 use Rattle.std.proofs.lemmas.Int.{to_z-of_z}
 use mir.Syntax.{w64}
-use Rattle.trend_model.specs.{is_covered}
 use Rattle.interp_read.specs.{points_closed_by}
 use Rattle.weighted_total.proofs.EndsOf.{covered_by, found_shape, not_true, uncovered_end, value_there}
 use Rattle.weighted_total.proofs.shape.ends_of.Goals as goal
@@ -20,18 +19,10 @@ returns-in_err-_later-clause-uncovered c =
     c.in_err-_later.was)
 
 pub returns-in_err-start-clause-uncovered : goal.returns-in_err-start-clause-uncovered
-returns-in_err-start-clause-uncovered c =
-    let cs = points_closed_by c.args.held c.args.content.now.records in
-    if_none _ _ (not_true (is_covered cs c.args.from c.args.to)
-    (λ covered. value_there c.args.step cs c.args.from c.args.to c.args.from c.value_at.result covered
-    (omega arith) c.value_at.ensures c.in_err-start.was))
+returns-in_err-start-clause-uncovered c = grind (arith, if_none, not_true, value_there)
 
 pub returns-in_err-end-clause-uncovered : goal.returns-in_err-end-clause-uncovered
-returns-in_err-end-clause-uncovered c =
-    let cs = points_closed_by c.args.held c.args.content.now.records in
-    if_none _ _ (not_true (is_covered cs c.args.from c.args.to)
-    (λ covered. value_there c.args.step cs c.args.from c.args.to c.args.to c.value_at-2.result covered
-    (omega arith) c.value_at-2.ensures c.in_err-end.was))
+returns-in_err-end-clause-uncovered c = grind (arith, if_none, not_true, value_there)
 
 pub returns-clause-shape : goal.returns-clause-shape
 returns-clause-shape c =

@@ -1,5 +1,5 @@
-use Rattle.std.proofs.Common.{ap, ◌∙◌}
-use Rattle.trend_model.specs.{value_read, points_of}
+use Rattle.std.proofs.Common.{arith}
+use Rattle.trend_model.specs.{points_of}
 use Rattle.trend_model.proofs.ReadLaw.{points_rise}
 use Rattle.interp_read.specs.{points_closed_by}
 use Rattle.interp_read.proofs.ClosedPoints.{closed, closed_in_range, closed_rise}
@@ -22,6 +22,4 @@ pub reading_of-requires-clause-near : goal.reading_of-requires-clause-near
 reading_of-requires-clause-near c = (points_closed_by c.args.held c.args.content.now.records, c.requires.near)
 
 pub returns : goal.returns
-returns c =
-    c.value_of.ensures ∙ ap value_read (c.reading_of.ensures
-    (points_closed_by c.args.held c.args.content.now.records) c.requires.near)
+returns c = grind arith

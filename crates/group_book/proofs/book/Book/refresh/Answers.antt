@@ -1,7 +1,7 @@
-use Rattle.std.proofs.Common.{◌≡◌, List, ℕ, length, sym, ap, ◌∙◌, subst}
+use Rattle.std.proofs.Common.{arith, ◌≡◌, List, ℕ, length, sym, ap, ◌∙◌, subst}
 use Rattle.calc_refresh.specs.{cells_after, total_length}
 use Rattle.sheet_law.specs.{longer}
-use Rattle.group_book.specs.{IsPullCause, GivesNone, GoesOn, ToldBook, pulled_records, versions_of}
+use Rattle.group_book.specs.{GivesNone, GoesOn, ToldBook, pulled_records, versions_of}
 use Rattle.group_book.proofs.Causes.{goes_from, pull_refused, sheet_refuses, with_pulls}
 use Rattle.group_book.proofs.book.Book.refresh.Goals as goal
 
@@ -31,7 +31,4 @@ returns-in-Ok-clause-cause g c =
     c.publish.ensures.fault
 
 pub returns-in-Err-clause-cause : goal.returns-in-Err-clause-cause
-returns-in-Err-clause-cause g c =
-    pull_refused (versions_of c.args.self.now) c.in-Err.why
-    (subst (λ (l : List ℕ). IsPullCause l c.in-Err.why)
-    (c.deref-2.ensures.value ∙ c.self.invariant.1.copied ∙ ap (λ (t : ToldBook _). versions_of t) c.self.view_is) c.in-Err.ensures.cause)
+returns-in-Err-clause-cause g c = grind (arith, pull_refused)

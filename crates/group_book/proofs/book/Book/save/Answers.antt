@@ -1,4 +1,4 @@
-use Rattle.std.proofs.Common.{◌≡◌, ℕ, ◌+◌, ◌≤◌, ◌++◌, ◌∷◌, [], All, List, false, true, Some, Err, length, replicate, refl, sym, ap, ◌∙◌, subst, arith, vec_capacity}
+use Rattle.std.proofs.Common.{◌≡◌, ℕ, ◌+◌, ◌++◌, ◌∷◌, [], All, List, false, true, Some, Err, length, replicate, refl, sym, ap, ◌∙◌, subst, arith}
 use Rattle.std.specs.Prelude.{Vec}
 use Rattle.std.specs.declared.alloc.Global.{Global}
 use Rattle.std.specs.Vec.{with_items}
@@ -11,7 +11,7 @@ use Rattle.calc_refresh.specs.{lists_of, AreRowsWhole, grid_of}
 use Rattle.calc_refresh.proofs.Refreshing.{long_vecs}
 use Rattle.group_layout.specs.{block_size, parts_of}
 use Rattle.group_book.specs.declared.turn.Turn.TheVariants.{Save}
-use Rattle.group_book.specs.{IsBookSafe, AreRowsEvaluated, BookBeganWell, HasAllChanges, IsSaved, ListsChanges, IsKept, IsOwnDevice, IsWellHeld, LeftOf, Saved, ToldBook, device_name_of, faults_of, moment_of, trace_of}
+use Rattle.group_book.specs.{IsBookSafe, AreRowsEvaluated, BookBeganWell, IsSaved, ListsChanges, IsKept, IsOwnDevice, IsWellHeld, LeftOf, Saved, ToldBook, device_name_of, faults_of, moment_of, trace_of}
 use Rattle.group_book.proofs.Begun.{still_well}
 use Rattle.group_book.proofs.Evaluations.{evaluated_saved}
 use Rattle.group_book.proofs.Flags.{flagged_changes, flagged_saved}
@@ -33,11 +33,7 @@ kept : (g : given.Over) (c : After-put_block g)
     IsKept s.text.items s.def s.opening s.tape.items s.sheet.copies (saved_of g c) false (Some (D.device c.in-Some.dev).trace)
     (moment (D.device c.in-Some.dev).trace)
     (D.device c.in-Some.dev).faults
-kept g c =
-    let s = c.self.inside in
-    let D = g.D.Disk in
-    kept_there D.device s.text.items s.def s.opening s.tape.items s.sheet.copies (saved_of g c) s.failed s.dev
-    c.in-Some.dev c.in-Some.is c.if-self.false c.self.invariant.2
+kept g c = grind (arith, kept_there)
 
 safe : (g : given.Over) (c : After-put_block g)
     → let s = c.self.inside in
@@ -258,20 +254,7 @@ invariant_of-self-in-Err-DeviceFault g c =
     )
 
 pub invariant_of-self-in_err-make_room : goal.invariant_of-self-in_err-make_room
-invariant_of-self-in_err-make_room g c =
-    let s = c.self.inside in
-    let D = g.D.Disk in
-    let saved : Saved
-    = record { number = s.number; versions = s.saved_versions.items; rows = lists_of s.saved_rows.items; end = s.end } in
-    keeps_alike s.text.items s.def s.tags.items s.opening s.versions.items s.sheet saved s.failed (Some (D.device c.in-Some.dev).trace)
-    (moment (D.device c.in-Some.dev).trace)
-    (D.device c.in-Some.dev).faults (IsWellHeld D.device s.text.items s.def s.opening (Some c.in-Some.dev)) s.tape.items c.make_place.new.tape.items saved.rows
-    (lists_of (with_items s.saved_rows c.make_room.new.rows).items) s.unsaved.items c.make_room.new.flags.items c.make_place.ensures.same
-    (roomy s.saved_rows c.deref_mut.result.now c.make_room.new.rows (omega (arith, c.make_room.auto.rows, c.deref_mut.ensures.len))
-    c.make_room.ensures.same_rows c.deref_mut.ensures.value) c.make_room.ensures.same_flags
-    (subst (λ d. KeepsAll s.text.items s.def s.tags.items s.opening s.versions.items s.sheet saved s.failed (trace_of D.device d)
-    (moment_of D.device d) (faults_of D.device d) (IsWellHeld D.device s.text.items s.def s.opening d) s.tape.items saved.rows s.unsaved.items)
-    c.in-Some.is c.self.invariant)
+invariant_of-self-in_err-make_room g c = grind (arith, keeps_alike, roomy)
 
 pub invariant_of-self-in-Err-WantOfMemory : goal.invariant_of-self-in-Err-WantOfMemory
 invariant_of-self-in-Err-WantOfMemory g c =
@@ -290,20 +273,10 @@ invariant_of-self-in-Err-WantOfMemory g c =
     (c.in-Some.is ∙ ap Some (sym (c.in-Err-WantOfMemory.ensures.no_memory (ap Err c.in-Err-WantOfMemory.field-0-is)))) c.self.invariant)
 
 pub next_block-requires : goal.next_block-requires
-next_block-requires g c =
-    let s = c.self.inside in
-    subst (λ n. HasAllChanges (lists_of c.deref-3.result.now) s.sheet.rows 0 n c.deref-4.result.now) c.windows-windows.ensures
-    (flagged_changes s.unsaved.items c.deref.result.now (lists_of s.saved_rows.items) (lists_of c.deref-3.result.now) s.sheet.rows s.sheet
-    c.windows-windows.result c.in_ok-unsaved.unsaved.items c.deref-4.result.now c.self.invariant.6 c.deref.ensures.value
-    c.windows-windows.ensures c.in_ok-unsaved.ensures c.deref-4.ensures.value (ap lists_of c.deref-3.ensures.value) refl)
+next_block-requires g c = grind (arith, flagged_changes)
 
 pub bring_rows-requires-clause-calcs : goal.bring_rows-requires-clause-calcs
-bring_rows-requires-clause-calcs g c =
-    let s = c.self.inside in
-    let now = c.deref_mut-in-Ok.result.now in
-    let lists = ap length (ap lists_of c.deref_mut-in-Ok.ensures.value ∙ roomy s.saved_rows c.deref_mut.result.now c.make_room.new.rows
-    (omega (arith, c.make_room.auto.rows, c.deref_mut.ensures.len)) c.make_room.ensures.same_rows c.deref_mut.ensures.value) in
-    omega (arith, c.rows.ensures.calcs, c.self.invariant.6.calcs, lists, length-map now (λ v. v.items))
+bring_rows-requires-clause-calcs g c = grind (arith, roomy, length-map)
 
 pub bring_rows-requires-clause-windows : goal.bring_rows-requires-clause-windows
 bring_rows-requires-clause-windows g c =
@@ -315,19 +288,7 @@ bring_rows-requires-clause-windows g c =
     (whole g (goal.at.bring_rows-requires-clause-windows g c).After-put_block).windows))
 
 pub bring_rows-requires-clause-room : goal.bring_rows-requires-clause-room
-bring_rows-requires-clause-room g c =
-    let s = c.self.inside in
-    subst (All (λ row. c.windows-windows.result ≤ vec_capacity row))
-    (sym (c.deref_mut-in-Ok.ensures.value
-    ∙ with_items_is s.saved_rows c.make_room.new.rows (omega (arith, c.make_room.auto.rows, c.deref_mut.ensures.len))))
-    c.in_ok-make_room.ensures.room
+bring_rows-requires-clause-room g c = grind (arith, with_items_is)
 
 pub bring_rows-requires-clause-changed : goal.bring_rows-requires-clause-changed
-bring_rows-requires-clause-changed g c =
-    let s = c.self.inside in
-    flagged_changes s.unsaved.items c.deref.result.now (lists_of s.saved_rows.items) (lists_of c.deref_mut-in-Ok.result.now)
-    (lists_of c.rows.result.now) s.sheet c.windows-windows.result c.in_ok-unsaved.unsaved.items c.deref-in-Ok.result.now
-    c.self.invariant.6 c.deref.ensures.value c.windows-windows.ensures c.in_ok-unsaved.ensures c.deref-in-Ok.ensures.value
-    (ap lists_of c.deref_mut-in-Ok.ensures.value ∙ roomy s.saved_rows c.deref_mut.result.now c.make_room.new.rows
-    (omega (arith, c.make_room.auto.rows, c.deref_mut.ensures.len)) c.make_room.ensures.same_rows c.deref_mut.ensures.value)
-    c.rows.ensures.rows
+bring_rows-requires-clause-changed g c = grind (arith, flagged_changes, roomy)
