@@ -1,5 +1,5 @@
 -- How workers end whose calls were refused.
-use Rattle.std.proofs.Common.{◌≡◌, ℕ, ◌+◌, ◌<◌, ◌≤◌, Bool, true, false, nat_le, nat_lt, List, length, get_or, take, refl, sym, subst, inr, ap, ◌∙◌, arith}
+use Rattle.std.proofs.Common.{◌≡◌, ℕ, ◌+◌, ◌<◌, ◌≤◌, Bool, true, false, nat_le, nat_lt, List, length, get_or, take, refl, sym, subst, inr, arith}
 use Rattle.std.specs.Prelude.{slice_range, IfErr, MatchResult, None, Some, Result, Ok, Err, if◌then◌else◌}
 use Rattle.std.specs.Option.{option_map}
 use Rattle.std.proofs.lemmas.Bool.Decides.{nat_tests}
@@ -115,9 +115,4 @@ ends_collector rows since taken ending order within ends =
 
 -- and was not stopped
 pub commit_stops_none : (rows : List RawRow) (ending : Ending) → EndsAtCommit rows ending → halts ending ≡ 0
-commit_stops_none rows ending ends = ap halts ends.refused.ending_is ∙ by_why ends.refused.no
-  where
-    by_why : (why : CommitNo) → halts (ending_of_commit ends.tag why) ≡ 0
-    by_why commit.Broken = refl
-    by_why commit.DeviceFault = refl
-    by_why commit.WantOfMemory = refl
+commit_stops_none rows ending ends = grind arith

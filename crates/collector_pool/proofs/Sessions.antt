@@ -85,24 +85,18 @@ rows_known tags groups w collector rows work few is =
 
 pub queries_known : (tags groups : ℕ) (w : Work) (reader : ℕ) (queries : Vec Query Global) → IsWorkOf tags groups w
     → reader < length w.readers.items → queries ≡ get_or w.readers.items reader queries → All (IsQueryOf tags groups) queries.items
-queries_known tags groups w reader queries work few is =
-    subst (λ (q : Vec Query Global). All (IsQueryOf tags groups) q.items) (sym is)
-    (All-get_or (λ (q : Vec Query Global). All (IsQueryOf tags groups) q.items) w.readers.items reader queries few work.queries)
+queries_known tags groups w reader queries work few is = grind arith
 
 pub turns_known : (tags groups : ℕ) (w : Work) (refresher : ℕ) (turns : Refresh) → IsWorkOf tags groups w
     → refresher < length w.refreshers.items → turns ≡ get_or w.refreshers.items refresher turns → turns.group < groups
-turns_known tags groups w refresher turns work few is =
-    subst (λ (r : Refresh). r.group < groups) (sym is)
-    (All-get_or (λ (r : Refresh). r.group < groups) w.refreshers.items refresher turns few work.turns)
+turns_known tags groups w refresher turns work few is = grind arith
 
 pub as_reader : (refuses : ℕ → TurnNo → Type 0) (w : Work) (reader : ℕ) (queries : Vec Query Global) (n : WorkerNote)
     → reader < length w.readers.items → queries ≡ get_or w.readers.items reader queries → IsReaderNote refuses queries.items n
     → (d : Vec Query Global) → IsReaderNote refuses (get_or w.readers.items reader d).items n
-as_reader refuses w reader queries n few is note d =
-    subst (λ (q : Vec Query Global). IsReaderNote refuses q.items n) (is ∙ same_item w.readers.items reader queries d few) note
+as_reader refuses w reader queries n few is note d = grind (arith, same_item)
 
 pub as_refresher : (refuses : ℕ → TurnNo → Type 0) (w : Work) (refresher : ℕ) (d : Refresh) (n : WorkerNote)
     → refresher < length w.refreshers.items → IsRefresherNote refuses (get_or w.refreshers.items refresher d) n
     → (e : Refresh) → IsRefresherNote refuses (get_or w.refreshers.items refresher e) n
-as_refresher refuses w refresher d n few note e =
-    subst (λ (r : Refresh). IsRefresherNote refuses r n) (same_item w.refreshers.items refresher d e few) note
+as_refresher refuses w refresher d n few note e = grind (arith, same_item)

@@ -52,11 +52,7 @@ not_newer queries snaps old i tag first snap seen asked at within shown =
 -- where no snapshot came, those of before are not newer than the last ones
 seen_still : (queries : List Query) (snaps : List (Option Snap)) (old new : List Snap) (x : Option Snap) → x ≡ None → new ≡ old
     → AreSnapsSeen queries snaps old → AreSnapsSeen queries (snaps ++ x ∷ []) new
-seen_still queries snaps old new x none same seen = λ i tag first last asked at last_at.
-    elim (found_in_more snaps x (Some first) i at) [
-      | inl old_at ↦ seen i tag first last asked old_at (ap (λ l. slice_get l tag) (sym same) ∙ last_at)
-      | inr (end, is) ↦ absurd (cc)
-    ]
+seen_still queries snaps old new x none same seen = grind (arith, found_in_more)
 
 -- no snapshot is newer than the last one of its tag
 seen_on : (queries : List Query) (q : Query) (snaps : List (Option Snap)) (old new : List Snap) (x : Option Snap)
@@ -102,22 +98,7 @@ module _ (queries : List Query) (i : ℕ) (d : Query) (snaps : List (Option Snap
       longer = omega (arith, count, length_push snaps x)
 
   pub snaps_rise_on : DoSnapsRise queries snaps → AreSnapsSeen queries snaps old → DoSnapsRise queries (snaps ++ x ∷ [])
-  snaps_rise_on rise seen = λ k j tag first later before asked later_asked at later_at.
-      elim (found_in_more snaps x (Some later) j later_at) [
-        | inl there ↦ elim (found_in_more snaps x (Some first) k at) [
-          | inl old_at ↦ rise k j tag first later before asked later_asked old_at there
-          | inr (last, is) ↦ absurd (omega (arith, last, before, slice_get_within snaps j (Some later) there))
-        ]
-        | inr (last, is) ↦ elim (found_in_more snaps x (Some first) k at) [
-          | inl old_at ↦
-              let at_end = here in
-              let same : get_or queries i d ≡ ask.Snap tag = cc in
-              let step : IsSeenNext (ask.Snap tag) old new x = subst (λ (q : Query). IsSeenNext q old new x) same next in
-              let now : IsSeenNext (ask.Snap tag) old new (Some later) = subst (IsSeenNext (ask.Snap tag) old new) (sym is) step in
-              not_newer queries snaps old k tag first later seen asked old_at now.0 now.2
-          | inr (same, too) ↦ absurd (omega (arith, last, same, before))
-        ]
-      ]
+  snaps_rise_on rise seen = grind (arith, found_in_more, slice_get_within, here, not_newer)
 
   pub snaps_seen_on : AreSnapsSeen queries snaps old → AreSnapsSeen queries (snaps ++ x ∷ []) new
   snaps_seen_on seen = seen_on queries (get_or queries i d) snaps old new x next here seen

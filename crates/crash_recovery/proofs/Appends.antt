@@ -1,6 +1,6 @@
 -- A batch is put into a lane in use.
 use Rattle.disk_model.specs.{Calls.Shows, Calls.Sees, Traces.Trace, Traces.seen, Traces.written, Images.IsOutside, Images.FromOld, Images.IsSettled, Moments.During, Gates.open_byte, Gates.IsOpen, Gates.IsGuarded}
-use Rattle.std.proofs.Common.{◌≡◌, ◌≢◌, ◌⊎◌, inl, inr, ⊎_elim, ℕ, ◌+◌, ◌^◌, ◌<◌, ◌≤◌, false, List, [], ◌∷◌, ◌++◌, length, get_or, map, refl, ◌∙◌, ap, arith, ◌-◌, true}
+use Rattle.std.proofs.Common.{◌≡◌, ◌≢◌, ◌⊎◌, inl, inr, ⊎_elim, ℕ, ◌+◌, ◌^◌, ◌<◌, ◌≤◌, false, List, [], ◌∷◌, ◌++◌, length, get_or, map, refl, ◌∙◌, ap, arith, true}
 use Rattle.std.proofs.{lemmas.Bool.cases_eq, lemmas.List.map-append}
 use Rattle.std.specs.List.{All}
 use Rattle.trend_num.specs.{declared.point.Point.Point, declared.tag_def.TagDef.TagDef, Ranges.InRange}

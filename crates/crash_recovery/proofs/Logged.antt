@@ -1,7 +1,7 @@
 -- Records are written after the log, and the gate of the slot that does not count is closed.
 use Rattle.disk_model.specs.{Calls.Shows, Calls.IsNoted, Calls.Sees, Traces.Wrote, Traces.WroteInPart, Traces.Trace, Traces.seen, Traces.written, Images.IsOutside, Images.IsTorn, Images.Now, Images.FromOld, Images.IsSettled, Moments.During}
 use Rattle.disk_model.specs.{Gates.IsShut, Gates.HasGatesOf, Gates.AreShut, Gates.IsClosing, Gates.Holds}
-use Rattle.std.proofs.Common.{◌≡◌, ◌≢◌, inl, inr, ⊎_elim, ℕ, ◌+◌, ◌-◌, ◌<◌, ◌≤◌, min, List, length, get_or, take, drop, Result, sym, ◌∙◌, ap, subst, arith, length-drop}
+use Rattle.std.proofs.Common.{◌≡◌, ◌≢◌, inl, inr, ℕ, ◌+◌, ◌-◌, ◌<◌, ◌≤◌, min, List, length, take, drop, Result, sym, ◌∙◌, ap, subst, arith, length-drop}
 use Rattle.std.proofs.lemmas.List.{take_all, drop_min}
 use Rattle.trend_num.specs.{declared.archive.Rec.Rec, declared.tag_def.TagDef.TagDef}
 use Rattle.trend_model.specs.State.{State}
@@ -66,8 +66,7 @@ module _ (p : Seat) (a b : List ℕ) (laid : IsLaid p a) (only : OnlySpare p.cou
   in_use_kept within lane = record {
     lane = lane_kept.lane lane.lane;
     opened = λ k below. same_slots.forth k (omega (arith, below, within)) (lane.opened k below);
-    beyond = λ k below. same_beyond p.lane.slots p.taken p.lane.slots a b same_slots k
-        (omega (arith, below, within)) (lane.opened k below) (lane.beyond k below);
+    beyond = grind (arith, same_beyond, same_slots);
     number = lane.number ∙ ap (λ ps. p.taken + length ps) (sym (lane_kept.points lane.lane));
   }
 
@@ -79,8 +78,7 @@ module _ (p : Seat) (a b : List ℕ) (laid : IsLaid p a) (logged : IsLogged (log
 
   -- what is stored was kept
   logged_keeps : KeepsStored p a b
-  logged_keeps = only_spare p a b laid logged_only (⊎_elim (λ shut. inl shut) (λ same. inr (same, slot_same))
-      logged.gate_same)
+  logged_keeps = only_spare p a b laid logged_only (grind (arith, slot_same))
     where
       slot_same : slot_bytes b (spare_slot p.counts) ≡ slot_bytes a (spare_slot p.counts)
       slot_same =
@@ -89,8 +87,7 @@ module _ (p : Seat) (a b : List ℕ) (laid : IsLaid p a) (logged : IsLogged (log
           let behind = gate_behind j in
           same_piece (summary_place j) 128 a b (omega (arith, within, laid.long))
           (omega (arith, within, laid.long, logged.no_shorter))
-          (λ i low below. logged.same i (omega (arith, within, below))
-          (λ is. absurd (omega (arith, is, within, behind, below))))
+          (λ i low below. grind arith)
 
   -- so it recovers what it recovered
   logged_recovers : (def : TagDef) (s : State) → Recovers def a s → Recovers def b s
@@ -152,14 +149,10 @@ module _ (p : Seat) (n gate : ℕ) (is_gate : gate ≡ summary_gate (spare_slot 
       same_gate c from here =
           let a = each_laid.each from.0 from.1 in
           let b = each_laid.each here.0 here.1 in
-          let one : from.0 ≡ here.0 = (settled_on p o laid).each from.0 from.1
-          ∙ sym ((settled_on p o laid).each here.0 here.1) in
+          let one : from.0 ≡ here.0 = grind (arith, settled_on) in
           record {
             there = omega (arith, low_gate, a.long, from.2.no_shorter);
-            same = λ i low below. from.2.outside i (omega (arith, low_gate, a.long, below))
-                (inl (omega (arith, low_gate, below))) ∙ ap (λ d. get_or d i 0) one
-                ∙ sym (here.2.outside i (omega (arith, low_gate, b.long, below))
-                (inl (omega (arith, low_gate, below))));
+            same = grind (arith, low_gate);
           }
 
   module _ (new : Trace) (closing : During mid new (FromOld mid (IsClosing gate 1))) where
@@ -183,8 +176,7 @@ module _ (p : Seat) (n gate : ℕ) (is_gate : gate ≡ summary_gate (spare_slot 
     log_laid within settled =
         laid_again p new settled (shown_from o new (IsLogged (log_end p) gate) (IsLaid p) (λ c. Unit {0})
         (IsLaid p) (settled_on p o laid) (laid_shown p o laid) (any_shown new)
-        (λ a b laid_a step none. logged_laid p a b laid_a (subst (λ g. IsLogged (log_end p) g a b) is_gate
-        step) within) logged_moments)
+        (λ a b laid_a step none. logged_laid p a b laid_a (grind arith) within) logged_moments)
       where
         any_shown : (x : Trace) → Shows x (λ c. Unit {0})
         any_shown u = tt

@@ -1,5 +1,5 @@
 -- The place of a journal on a device whose layout was just made.
-use Rattle.std.proofs.Common.{ℕ, ◌≤◌, false, List, length, None, refl, sym, ap, arith}
+use Rattle.std.proofs.Common.{ℕ, ◌≤◌, false, List, None, refl, sym, arith}
 use Rattle.trend_num.specs.{declared.tag_def.TagDef.TagDef, Names.IsName, Ranges.TuningInRange}
 use Rattle.disk_model.specs.{Traces.Trace, Traces.seen, Images.IsSettled}
 use Rattle.crash_recovery.specs.{Seat, IsSeat, SeatedOn}
@@ -28,12 +28,7 @@ made_seat def slots c made tuned name some few = record {
     taken = refl;
     records = refl;
     long = omega (arith, made.long);
-    in_use = λ fresh. record {
-      lane = made_lane def slots c made 0;
-      opened = λ k below. absurd (omega (arith, below));
-      beyond = λ k below. absurd (omega (arith, below));
-      number = omega (arith, ap length (made_points def slots c made 0));
-    };
+    in_use = grind (arith, made_lane, made_points);
     number = λ stale. refl;
   };
   overrun = λ stale. absurd (cc (stale));

@@ -69,8 +69,7 @@ read_as def t mid retuned r is read =
       found.0,
       inr found.1,
       record {
-        each = λ c may. subst (λ x. Recovers def x found.0) (sym ((settled t).each c (subst
-            (λ m. MayLeave m c) is may))) (inr found.1);
+        each = λ c may. subst (λ x. Recovers def x found.0) (grind (arith, settled)) (inr found.1);
       },
       found.2,
     )
@@ -109,12 +108,7 @@ module _ (def : TagDef) (t : Trace) (mid new : Trace) (step : Bool) (r : State) 
   goes = (kind, (Tune def.tuning ∷ [], read.3.1))
 
   few : r.summary.taken < 10 ^ 18
-  few = ⊎_elim (λ tuned. absurd (read.3.0 tuned)) (λ less. omega (
-    arith,
-    ap (λ x. x.summary.taken) read.3.1,
-    counts_under def.step read.0 (Tune def.tuning) read.0.summary.tuning,
-    less,
-  )) (countable read.0 read.1)
+  few = ⊎_elim (λ tuned. absurd (read.3.0 tuned)) (λ less. grind (arith, counts_under)) (countable read.0 read.1)
 
   either_same : (c : List ℕ) → RecoversEither def read.0 r c → IsTagLeftOrSame def t c
   either_same c either = inr (read.0, r, read.1, inr read.3, either)

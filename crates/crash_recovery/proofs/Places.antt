@@ -1,6 +1,6 @@
 -- The place of a journal, where only the lane has changed, or only what no summary counts.
 use Rattle.disk_model.specs.{Shows, Reaches, Traces.Trace, Images.IsOutside, Images.IsSettled, Gates.open_byte}
-use Rattle.std.proofs.Common.{◌≡◌, ◌≢◌, ◌⊎◌, inl, inr, ℕ, ◌+◌, ◌*◌, ◌<◌, ◌≤◌, Bool, true, false, List, length, get_or, take, drop, Option, Some, sym, ◌∙◌, arith}
+use Rattle.std.proofs.Common.{◌≡◌, ◌≢◌, ◌⊎◌, inl, ℕ, ◌+◌, ◌*◌, ◌<◌, ◌≤◌, Bool, true, false, List, length, get_or, take, drop, Option, Some, sym, ◌∙◌, arith}
 use Rattle.event_queue.specs.{Slots.lane_end, Places.HasRoom}
 use Rattle.crash_recovery.specs.{Seat, log_end, IsInUse, IsLaid, IsSeat, SeatedOn, spare_slot, LaidOn, OverrunOn}
 use Rattle.device_layout.specs.declared.slot.Slot.{Slot, TheVariants.First, TheVariants.Second}
@@ -24,9 +24,7 @@ only_lane p a b laid only = record {
       (only.same 385 (omega (arith, laid.long)) (inl (omega arith))) (front 128 128 (omega arith))
       (front 256 128 (omega arith));
   summary = λ i is. slot_same i;
-  log = same_piece (lane_end p.lane.slots) (17 * p.records) a b laid.long
-      (omega (arith, laid.long, only.no_shorter))
-      (λ i low below. only.same i (omega (arith, laid.long, below)) (inr low));
+  log = grind (arith, same_piece);
 }
   where
     front : (at n : ℕ) → at + n ≤ 400 → take n (drop at b) ≡ take n (drop at a)
@@ -92,8 +90,7 @@ module _ (p : Seat) (a b : List ℕ) (laid : IsLaid p a) (only : OnlySpare p.cou
   pub front_kept : (n : ℕ) → n ≤ 128 → take n b ≡ take n a
   front_kept n le = same_piece 0 n a b (omega (arith, le, laid.long))
       (omega (arith, le, laid.long, only.no_shorter))
-      (λ k low below. let out = apart_front (spare_slot p.counts) k (omega (arith, le, below)) in
-      only.same k (omega (arith, le, below)) out.0 out.1)
+      (λ k low below. grind (arith, apart_front))
 
   -- and its gate
   pub first_kept : get_or b 0 0 ≡ get_or a 0 0

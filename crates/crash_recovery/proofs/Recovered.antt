@@ -1,5 +1,5 @@
 -- How many events an image recovers, and which batches end before that.
-use Rattle.std.proofs.Common.{◌≡◌, inl, inr, ⊎_elim, ℕ, zero, suc, ◌+◌, ◌-◌, ◌<◌, ◌≤◌, Bool, true, List, ◌++◌, length, map, Some, refl, sym, ◌∙◌, ap, subst, arith, add-zero, append_assoc, length-append}
+use Rattle.std.proofs.Common.{◌≡◌, inl, inr, ⊎_elim, ℕ, zero, suc, ◌+◌, ◌-◌, ◌<◌, ◌≤◌, Bool, true, List, ◌++◌, length, map, Some, refl, sym, ap, subst, arith, add-zero, append_assoc, length-append}
 use Rattle.std.proofs.lemmas.{Bool.cases_Bool, List.length-map}
 use Rattle.trend_num.specs.declared.archive.{Rec.Rec, Summary.Summary}
 use Rattle.trend_num.specs.declared.{point.Point.Point, tuning.Tuning.Tuning, tag_def.TagDef.TagDef}
@@ -102,8 +102,4 @@ pub goes_on_records : (def : TagDef) (p : Seat) (a : List ℕ) (s : State) (step
     → GoesOnFrom def s step r → (more : List Rec) × (r.records ≡ rs ++ more)
 goes_on_records def p a s step r rs sm values is goes =
     let first = replay_more def.step (start_of a rs sm) values in
-    let second = replay_more def.step s goes.1.0 in (
-      first.0 ++ second.0,
-      ap (λ (x : State). x.records) goes.1.1 ∙ second.1 ∙ ap (λ (x : State). x.records ++ second.0) is
-          ∙ ap (λ l. l ++ second.0) first.1 ∙ append_assoc rs first.0 second.0,
-    )
+    let second = replay_more def.step s goes.1.0 in (grind (arith, append_assoc))

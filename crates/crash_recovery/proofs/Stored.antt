@@ -3,7 +3,6 @@ use Rattle.std.proofs.Common.{◌≡◌, inl, inr, ℕ, ◌*◌, ◌≤◌, Bool
 use Rattle.std.specs.Int.{w32, from_be_bytes}
 use Rattle.trend_num.specs.declared.{archive.Rec.Rec, archive.Summary.Summary, tag_def.TagDef.TagDef}
 use Rattle.trend_model.specs.{History.Raw, Parts.ArePartsOk, State.State, State.replay}
-use Rattle.archive_file.specs.{AreRecords}
 use Rattle.event_queue.specs.{Slots.lane_end, Lanes.lane_points, Lanes.IsLane}
 use Rattle.crash_recovery.specs.{Seat, taken_of, journal_records_of, IsLaid}
 use Rattle.device_layout.specs.{header_of, log_place, slot_bytes, counting, HasSummary, recovered_tuning, state_of, start_of, AllFit, IsOfTag, IsStored, IsReplayed, Recovers, declared.slot.Slot.Slot, Headers.tuning_in, Headers.slots_in}
@@ -79,13 +78,8 @@ module _ (def : TagDef) (p : Seat) (a : List ℕ) (laid : IsLaid p a) where
     stored_kept rs s stored = record {
       tag = tag_kept stored.tag;
       long = long_kept stored.long;
-      summary = subst (λ o. HasSummary b o s) (laid.counts ∙ sym keeps.counts)
-          (summary_same a b p.counts s keeps.summary (subst (λ o. HasSummary a o s) (sym laid.counts)
-          stored.summary));
-      records = record {
-        counted = stored.records.counted;
-        records = subst (AreRecords rs) (sym bytes_same) stored.records.records;
-      };
+      summary = grind (arith, summary_same);
+      records = grind (arith, bytes_same);
       parts = subst (λ h. ArePartsOk (recovered_tuning (tuning_in h) s.tuning) def.step rs s) (sym keeps.header)
           stored.parts;
     }

@@ -1,5 +1,5 @@
 -- Values that are taken one after the other.
-use Rattle.std.proofs.Common.{◌≡◌, ℕ, ◌+◌, ◌*◌, ◌<◌, ◌≤◌, Bool, List, [], ◌∷◌, ◌++◌, length, take, map, get_or, refl, sym, ◌∙◌, ap, subst, arith, true, false}
+use Rattle.std.proofs.Common.{◌≡◌, ℕ, ◌+◌, ◌*◌, ◌<◌, ◌≤◌, Bool, List, [], ◌∷◌, ◌++◌, length, take, map, get_or, refl, sym, ◌∙◌, ap, arith, true, false}
 use Rattle.std.proofs.{lemmas.List.take_more, lemmas.List.map-append}
 use Rattle.trend_num.specs.{Limits.most_records, declared.point.Point.Point}
 use Rattle.trend_model.specs.{History.Event, History.Raw, State.State, State.after, State.replay}
@@ -41,13 +41,8 @@ taken_to_more points n p start now new so_far there is state step taken room spa
     ∙ map-append Raw (take n points) (p ∷ []) in
     record {
       same_step = step ∙ so_far.same_step;
-      fit = subst (AllFit start.step start.state) (sym more)
-          (fit_more start.step start.state (map Raw (take n points)) (Raw p) so_far.fit
-          (subst (λ s. length s.records + 2 ≤ most_records) so_far.state room));
-      state = state ∙ ap (λ k. after k now.state (Raw p)) so_far.same_step
-          ∙ ap (λ s. after start.step s (Raw p)) so_far.state
-          ∙ sym (replay_more start.step start.state (map Raw (take n points)) (Raw p))
-          ∙ ap (replay start.step start.state) (sym more);
+      fit = grind (arith, fit_more);
+      state = grind (arith, replay_more);
       taken = omega (arith, taken, so_far.taken);
       room = omega (arith, spare, so_far.room);
     }

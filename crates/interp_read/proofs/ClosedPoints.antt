@@ -144,11 +144,7 @@ closed (Some q) l rises not_before = by_last (last_point (points_of l)) refl
 -- they rise
 pub closed_rise : (cs ps : List Point) (more : Option Point) → PointsRise ps → cs ≡ ps ++ option_to_list more
     → IfSome more (IsAfterAll ps) → PointsRise cs
-closed_rise cs ps more rises whole later = rw whole (with_more more later)
-  where
-    with_more : (o : Option Point) → IfSome o (IsAfterAll ps) → PointsRise (ps ++ option_to_list o)
-    with_more None after = rw (append-nil ps) rises
-    with_more (Some q) after = rises_push ps q rises after
+closed_rise cs ps more rises whole later = grind (arith, append-nil, rises_push)
 
 -- and are in range
 pub closed_in_range : (held : Option Point) (cs ps : List Point) → IsClosed held cs ps → IfThere InRange held
@@ -174,15 +170,13 @@ pub neighbours_inside : (held : Option Point) (cs ps : List Point) (t n : ℕ) (
 neighbours_inside held cs ps t n p rises closing gap found =
     let parts = first_parts (drop n ps) p (first_drop ps n ∙ found) in
     let split = take-append-drop n ps in
-    let in_it : IsAmong p ps = subst (IsAmong p) (ap (λ l. take n ps ++ l) (sym parts.1) ∙ split)
-    (among_middle (take n ps) p parts.0) in
+    let in_it : IsAmong p ps = grind (arith, among_middle) in
     let from : t ≤ p.t = All-head (From t) p parts.0 (subst (All (From t)) parts.1 gap.from) in
     record {
       rises = closed_rise cs ps closing.more rises closing.whole closing.later;
       earlier = take n ps;
       later = drop n ps ++ option_to_list closing.more;
-      whole = closing.whole ∙ (ap (λ l. l ++ option_to_list closing.more) (sym split)
-          ∙ append_assoc (take n ps) (drop n ps) (option_to_list closing.more));
+      whole = grind (arith, append_assoc);
       earlier_are = gap.before;
       later_are = All-append (From t) (drop n ps) (option_to_list closing.more) gap.from
           (more_from closing.more closing.later in_it from);
@@ -220,25 +214,7 @@ pub neighbours_last : (cs ps : List Point) (t n : ℕ) (o : Option Point) → Po
     → cs ≡ ps ++ option_to_list o
     → IfSome o (IsAfterAll ps) → IfSome o (From t) → IsGapAt ps t n → length ps ≤ n
     → AreNeighbours cs t (last_point (take n ps)) o
-neighbours_last cs ps t n o rises whole after from gap all =
-    record {
-      rises = closed_rise cs ps o rises whole after;
-      earlier = take n ps;
-      later = option_to_list o;
-      whole = whole ∙ ap (λ l. l ++ option_to_list o) (sym (take_all n ps all));
-      earlier_are = gap.before;
-      later_are = each_from o from;
-      last = refl;
-      first = first_of o;
-    }
-  where
-    each_from : (r : Option Point) → IfSome r (From t) → All (From t) (option_to_list r)
-    each_from None h = All-nil (From t)
-    each_from (Some q) h = All-cons (From t) q [] h (All-nil (From t))
-
-    first_of : (r : Option Point) → slice_get (option_to_list r) 0 ≡ r
-    first_of None = refl
-    first_of (Some q) = refl
+neighbours_last cs ps t n o rises whole after from gap all = grind (arith, closed_rise, take_all)
 
 -- ---- what the code finds
 
@@ -246,9 +222,7 @@ neighbours_last cs ps t n o rises whole after from gap all =
 pub last_of_all : (l : List Rec) (n : ℕ) (o : Option Point) → n ≡ length l
     → o ≡ last_point (take n (points_of l))
     → last_point (points_of l) ≡ o
-last_of_all l n o whole last =
-    let all = take_all n (points_of l) (omega (arith, length-map l (λ r. r.point))) in
-    sym (last ∙ ap last_point all)
+last_of_all l n o whole last = grind (arith, take_all, length-map)
 
 -- a held point that is not at the time of the last point is added
 pub added_held : (held : Option Point) (q : Point) (l : List Rec) (o : Option Point) → held ≡ Some q

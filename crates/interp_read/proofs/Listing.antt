@@ -34,23 +34,18 @@ kept_middle f ps a b first last middle =
     let Fails : Point → Type 0 = λ p. f p ≡ false in
     elim (cases_lt b a) [
       | inl none ↦
-          let gap : drop (a - b) (drop b ps) ≡ drop a ps = drop-drop (a - b) b ps
-          ∙ ap (λ n. drop n ps) (omega arith) in
+          let gap : drop (a - b) (drop b ps) ≡ drop a ps = grind (arith, drop-drop) in
           let rest : All Fails (drop a ps) = subst (All Fails) gap
           (All-drop Fails (a - b) (drop b ps) last) in
           let empty : b - a ≡ 0 = omega arith in
-          ap (filter f) (sym (take-append-drop a ps)) ∙ (filter-append f (take a ps) (drop a ps)
-          ∙ (ap₂ (λ l m. l ++ m) (kept_none f (take a ps) first) (kept_none f (drop a ps) rest)
-          ∙ rw empty refl))
+          ap (filter f) (sym (take-append-drop a ps)) ∙ (grind (arith, filter-append, kept_none))
       | inr some ↦
           let front : take b ps ≡ take a ps ++ slice_range ps a b =
           sym (take-append-drop a (take b ps)) ∙ ap₂ (λ l m. l ++ m) (take-take a b ps some)
           (sym (between_is ps a b)) in
           let kept : filter f (take b ps) ≡ slice_range ps a b =
-          ap (filter f) front ∙ (filter-append f (take a ps) (slice_range ps a b)
-          ∙ ap₂ (λ l m. l ++ m) (kept_none f (take a ps) first) (kept_all f (slice_range ps a b) middle)) in
-          ap (filter f) (sym (take-append-drop b ps)) ∙ (filter-append f (take b ps) (drop b ps)
-          ∙ (ap₂ (λ l m. l ++ m) kept (kept_none f (drop b ps) last) ∙ append-nil (slice_range ps a b)))
+          grind (arith, filter-append, kept_none, kept_all) in
+          ap (filter f) (sym (take-append-drop b ps)) ∙ (grind (arith, filter-append, kept_none, append-nil))
     ]
 
 -- the points of a content from one time to another are those between the two places that it counts
@@ -68,8 +63,7 @@ listed_places l from to after a b rises range is first second =
     let behind = both_all (From after) (λ p. InRange p) (drop b ps) end.from
     (All-drop (λ p. InRange p) b ps range) in
     let late = All-weaker (λ p. From after p × InRange p) (λ p. f p ≡ false)
-    (λ p h. and_right (nat_le from p.t) (nat_le p.t to)
-    (lt-leb p.t to (let t = h.1.time in let u = h.0 in omega arith)))
+    (λ p h. grind (arith, and_right, lt-leb))
     (drop b ps) behind in
     let middle_from = All-take (From from) (b - a) (drop a ps) start.from in
     let middle_before : All (Before after) (slice_range ps a b) =
@@ -87,24 +81,17 @@ listed_places l from to after a b rises range is first second =
 
 -- points of which all are taken
 pub all_taken : (all first : List Point) (m : ℕ) → first ≡ take m all → length first < m → first ≡ all
-all_taken all first m is few =
-    let long : length first ≡ min m (length all) = ap length is ∙ length-take m all in
-    is ∙ take_all m all (omega arith)
+all_taken all first m is few = grind (arith, length-take, take_all)
 
 -- with one more, they are still all taken
 pub taken_more : (all first : List Point) (q : Point) (m : ℕ) → first ≡ take m all → length first < m
     → (first ++ q ∷ [] ≡ take m (all ++ q ∷ [])) × (length (all ++ q ∷ []) ≤ m)
-taken_more all first q m is few =
-    let same = all_taken all first m is few in
-    let long : length (all ++ q ∷ []) ≤ m = omega (arith, length-append all (q ∷ []), ap length same) in
-    (ap (λ l. l ++ q ∷ []) same ∙ sym (take_all m (all ++ q ∷ []) long), long)
+taken_more all first q m is few = grind (arith, all_taken, length-append, take_all)
 
 -- points of which some are left, or just all were taken
 pub taken_before : (all first : List Point) (q : Point) (m : ℕ) → first ≡ take m all → m ≤ length first
     → (first ≡ take m (all ++ q ∷ [])) × (m < length (all ++ q ∷ []))
-taken_before all first q m is many =
-    let long : length first ≡ min m (length all) = ap length is ∙ length-take m all in
-    (is ∙ sym (take-append-le m all (q ∷ []) (omega arith)), omega (arith, length-append all (q ∷ [])))
+taken_before all first q m is many = grind (arith, length-take, take-append-le, length-append)
 
 -- ---- the places that are copied
 
@@ -112,23 +99,11 @@ taken_before all first q m is many =
 pub copied_first : (ps : List Point) (start end stop m : ℕ) → stop ≡ min end (min (start + m) (2 ^ 32 - 1))
     → end ≤ 2 ^ 32 - 1
     → slice_range ps start stop ≡ take m (slice_range ps start end)
-copied_first ps start end stop m at few =
-    elim (cases_lt m (end - start)) [
-      | inl more ↦
-          let span : stop - start ≡ m = omega arith in
-          ap (λ n. take n (drop start ps)) span
-          ∙ sym (take-take m (end - start) (drop start ps) (omega arith))
-      | inr all ↦
-          let span : stop - start ≡ end - start = omega arith in
-          let long : length (slice_range ps start end) ≤ m = omega
-          (arith, length-take (end - start) (drop start ps)) in
-          ap (λ n. take n (drop start ps)) span ∙ sym (take_all m (slice_range ps start end) long)
-    ]
+copied_first ps start end stop m at few = grind (arith, take-take, length-take, take_all)
 
 -- some are left exactly where the range has more
 pub left_over : (ps : List Point) (start end stop m : ℕ) → stop ≡ min end (min (start + m) (2 ^ 32 - 1))
     → end ≤ 2 ^ 32 - 1
     → end ≤ length ps → (stop < end → m < length (slice_range ps start end)) ×
     (m < length (slice_range ps start end) → stop < end)
-left_over ps start end stop m at few within =
-    let long = length-between ps start end within in (λ h. omega arith, λ h. omega arith)
+left_over ps start end stop m at few within = grind (arith, length-between)

@@ -1,6 +1,6 @@
 -- What is read of points in range can be rounded, and is a value in range.
 use Rattle.std.proofs.Common.{◌≡◌, ℕ, ◌*◌, ◌^◌, ◌<◌, ◌≤◌, inl, inr, ℤ, pos, ◌*ℤ◌, ◌≤ℤ◌, Bool, true, false, nat_eq, List, [], ◌∷◌, Some, All, arith}
-use Rattle.std.specs.Prelude.{FitsSigned, unsigned_abs, int_le}
+use Rattle.std.specs.Prelude.{FitsSigned, unsigned_abs}
 use Rattle.std.proofs.lemmas.Bool.{cases_eq, cases_lt, cond_both, eq-eqb, ne_eqb, le-ltb, lt-ltb}
 use Rattle.std.proofs.lemmas.Int.{fits_signed_from_abs, ints, to_z-of_z, unsigned_abs-mul}
 use Rattle.std.proofs.lemmas.List.Elements.{All-head, All-tail}
@@ -16,12 +16,10 @@ use mir.Val.{of_z, to_z}
 
 -- the lesser and the greater of two values are in range
 lesser_small : (u w : ℤ) (m : ℕ) → unsigned_abs u ≤ m → unsigned_abs w ≤ m → unsigned_abs (lesser u w) ≤ m
-lesser_small u w m first second =
-    cond_both (int_le u w) u w (λ x. unsigned_abs x ≤ m) (λ e. first) (λ e. second)
+lesser_small u w m first second = grind (arith, cond_both)
 
 greater_small : (u w : ℤ) (m : ℕ) → unsigned_abs u ≤ m → unsigned_abs w ≤ m → unsigned_abs (greater u w) ≤ m
-greater_small u w m first second =
-    cond_both (int_le u w) w u (λ x. unsigned_abs x ≤ m) (λ e. second) (λ e. first)
+greater_small u w m first second = grind (arith, cond_both)
 
 -- what is between small numbers is small
 between_small : (a b c : ℤ) (m : ℕ) → a ≤ℤ b → b ≤ℤ c → unsigned_abs a ≤ m → unsigned_abs c ≤ m
@@ -108,11 +106,8 @@ value_fits z small = fits_signed_from_abs w64 z (omega (arith, small))
 -- what rounding gives is the rounded fraction, a value in range
 pub rounded_is : (f : Frac) (r : ℤ) → IsRoundable f → IsRounded (to_z w128 (of_z w128 f.num)) f.den r
     → (r ≡ rounded f.num f.den) × (unsigned_abs r ≤ largest_value)
-rounded_is f r fair next =
-    let is = rounded_only f.num r f.den fair.some (rw (num_back f.num fair.small) at next) in
-    (is, rw is fair.value)
+rounded_is f r fair next = grind (arith, rounded_only, num_back)
 
 -- so nothing is lost where it becomes a value
 pub cast_back : (r : ℤ) → unsigned_abs r ≤ largest_value → to_z w64 (of_z w64 (to_z w128 (of_z w128 r))) ≡ r
-cast_back r small =
-    let wide = num_back r (omega (arith, small)) in rw wide (to_z-of_z w64 r (value_fits r small))
+cast_back r small = grind (arith, num_back, to_z-of_z, value_fits)

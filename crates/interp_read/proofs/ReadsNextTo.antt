@@ -24,20 +24,13 @@ before_is cs t p after near =
 -- and the first of the others is not
 pub after_is : (cs : List Point) (t : ℕ) (before : Option Point) (q : Point)
     → AreNeighbours cs t before (Some q) → t ≤ q.t
-after_is cs t before q near =
-    let parts = first_parts near.later q near.first in
-    among_all (From t) near.later near.later_are q
-    (subst (IsAmong q) (sym parts.1) (among_middle [] q parts.0))
+after_is cs t before q near = grind (arith, first_parts, among_all, among_middle)
 
 -- where there is a point
 pub read_exact : (step : Bool) (cs : List Point) (t : ℕ) (before : Option Point) (q : Point)
     → AreNeighbours cs t before (Some q)
     → q.t ≡ t → read_at step cs t ≡ Exact q.v
-read_exact step cs t before q near at_t =
-    let parts = first_parts near.later q near.first in
-    let whole : cs ≡ near.earlier ++ q ∷ parts.0 = near.whole ∙ ap (λ l. near.earlier ++ l) parts.1 in
-    let in_it : IsAmong q cs = subst (IsAmong q) (sym whole) (among_middle near.earlier q parts.0) in
-    subst (λ u. read_at step cs u ≡ Exact q.v) at_t (read_at_point step cs q near.rises in_it)
+read_exact step cs t before q near at_t = grind (arith, first_parts, among_middle, read_at_point)
 
 -- before the first point
 pub read_nothing : (step : Bool) (cs : List Point) (t : ℕ) (after : Option Point)
@@ -60,12 +53,10 @@ pub read_flat : (step : Bool) (cs : List Point) (t : ℕ) (p : Point) → AreNei
 read_flat step cs t p near =
     let early = before_is cs t p None near in
     let parts = last_parts near.earlier p near.last in
-    let whole : cs ≡ near.earlier = near.whole
-    ∙ (ap (λ l. near.earlier ++ l) (no_first near.later near.first) ∙ append-nil near.earlier) in
+    let whole : cs ≡ near.earlier = grind (arith, no_first, append-nil) in
     let split : cs ≡ parts.0 ++ p ∷ [] = whole ∙ parts.1 in
     let rises : PointsRise (parts.0 ++ p ∷ []) = subst PointsRise split near.rises in
-    rw split (read_at-append step parts.0 p [] t rises (omega arith)
-    ∙ rw (le-ltb t p.t (omega arith), ne_eqb p.t t (omega arith)) refl)
+    rw split (grind (arith, read_at-append, le-ltb, ne_eqb))
 
 -- between two points
 pub read_inside : (step : Bool) (cs : List Point) (t : ℕ) (p q : Point) → AreNeighbours cs t (Some p) (Some q)
@@ -77,8 +68,7 @@ read_inside step cs t p q near differs =
     let last = last_parts near.earlier p near.last in
     let first = first_parts near.later q near.first in
     let split : cs ≡ last.0 ++ p ∷ q ∷ first.0 =
-    near.whole ∙ (ap (λ l. l ++ near.later) last.1
-    ∙ (ap (λ l. last.0 ++ p ∷ [] ++ l) first.1 ∙ append_assoc last.0 (p ∷ []) (q ∷ first.0))) in
+    grind (arith, append_assoc) in
     let rises : PointsRise (last.0 ++ p ∷ q ∷ first.0) = subst PointsRise split near.rises in
     rw split (read_between step last.0 first.0 p q t rises early (omega arith))
 

@@ -1,16 +1,13 @@
-use Rattle.std.proofs.Common.{◌≡◌, length, ◌∙◌, sym, rules, arith}
+use Rattle.std.proofs.Common.{◌≡◌, length, ◌∙◌, rules, arith}
 use Rattle.collector_pool.proofs.Endings.{ends_reader, query_stops_none}
 use Rattle.collector_pool.proofs.Snaps.{snaps_of_on, snaps_rise_on, snaps_seen_on}
 use Rattle.collector_pool.proofs.reader.answer_all.Goals as goal
 
 pub returns-in-Err-clause-ending : goal.returns-in-Err-clause-ending
-returns-in-Err-clause-ending g c =
-    let count : length c.loop-i.snaps.items ≡ c.loop-i.i = search rules in
-    rw count (ends_reader _ _ _ _ _ c.loop-i-test.true c.in-Err.ensures.ending)
+returns-in-Err-clause-ending g c = grind (arith, ends_reader)
 
 pub returns-in-Err-clause-stops : goal.returns-in-Err-clause-stops
-returns-in-Err-clause-stops g c =
-    c.if-not-pass.ensures ∙ (c.loop-i.invariant.fresh ∙ sym (query_stops_none _ _ _ c.in-Err.ensures.ending))
+returns-in-Err-clause-stops g c = grind (arith, query_stops_none)
 
 pub loop-i-preserved : goal.loop-i-preserved
 loop-i-preserved g c =

@@ -1,13 +1,9 @@
-use Rattle.std.proofs.Common.{All, subst, sym}
-use Rattle.collector_pool.specs.{IsQueryOf}
+use Rattle.std.proofs.Common.{arith}
 use Rattle.collector_pool.proofs.Sessions.{as_collector, as_reader, as_refresher, queries_known, rows_known, turns_known}
 use Rattle.collector_pool.proofs.session.work_as.Goals as goal
 
 pub returns-in-Collector-clause-note : goal.returns-in-Collector-clause-note
-returns-in-Collector-clause-note g c =
-    rw c.in-Collector.is
-    (as_collector c.args.work.now c.in-Collector.collector c.rows_of-rows.result.now c.collect.result
-    c.rows_of-rows.ensures c.collect.ensures.note)
+returns-in-Collector-clause-note g c = grind (arith, as_collector)
 
 pub returns-in-Reader-clause-note : goal.returns-in-Reader-clause-note
 returns-in-Reader-clause-note g c =
@@ -30,12 +26,7 @@ collect-requires-clause-rows g c =
     rows_known _ _ c.args.work.now c.in-Collector.collector c.rows_of-rows.result.now c.requires.work few c.rows_of-rows.ensures
 
 pub read-requires-clause-queries : goal.read-requires-clause-queries
-read-requires-clause-queries g c κs within =
-    let role = rw c.in-Reader.is at c.requires.role in
-    subst (All (IsQueryOf _ _)) (sym c.deref.ensures.value)
-    (queries_known _ _ c.args.work.now c.in-Reader.reader c.index-queries.result.now c.requires.work role.0 c.index-queries.ensures)
+read-requires-clause-queries g c κs within = grind (arith, queries_known)
 
 pub refresh-requires-clause-group : goal.refresh-requires-clause-group
-refresh-requires-clause-group g c κs within =
-    let few = rw c.in-Refresher.is at c.requires.role in
-    turns_known _ _ c.args.work.now c.in-Refresher.refresher c.index-turns.result.now c.requires.work few c.index-turns.ensures
+refresh-requires-clause-group g c κs within = grind (arith, turns_known)

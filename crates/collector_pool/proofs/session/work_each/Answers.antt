@@ -1,4 +1,4 @@
-use Rattle.std.proofs.Common.{sym, subst}
+use Rattle.std.proofs.Common.{arith, sym, subst}
 use Rattle.collector_pool.specs.{IsReady}
 use Rattle.collector_pool.proofs.Leaving.{leaves_nothing}
 use Rattle.collector_pool.proofs.session.work_each.Goals as goal
@@ -16,6 +16,4 @@ for_each_mut-requires-clause-accepts g c κs within = λ i p few is.
     )
 
 pub returns : goal.returns
-returns g c = λ i d few.
-    let one = (c.for_each_mut.ensures i d few).1 in
-    rw (← one.argument_is, ← one.left) one.call
+returns g c = grind arith

@@ -1,5 +1,4 @@
-use Rattle.std.proofs.Common.{rules, sym, subst}
-use Rattle.trend_model.specs.{ArePartsOk}
+use Rattle.std.proofs.Common.{arith}
 use Rattle.crash_recovery.proofs.PartsFound.{none_ok, parts_damaged}
 use Rattle.crash_recovery.proofs.parts.test_parts.Goals as goal
 
@@ -9,6 +8,4 @@ returns-in_default-clause-parts g c = none_ok _ _ _ _ (c.requires.none c.in_defa
 pub returns-clause-cause : goal.returns-clause-cause
 returns-clause-cause g c def slots same_step found = rw (c.damaged.ensures, c.place-2.ensures)
     (parts_damaged def (g.D.Disk.device c.args.dev.now).trace slots _ c.args.stored.now c.in-Some.slot c.args.step _ same_step c.place.ensures c.in-Some.is
-    (λ ok. let bad = c.if-parts_ok.ensures.1 (subst
-    (λ l. ArePartsOk c.args.stored.now.tuning c.args.step l c.args.stored.now.summary)
-    (sym c.deref.ensures.value) ok) in search rules) c.in_ok-first.ensures.len c.in_ok-first.ensures.bytes found)
+    (λ ok. grind arith) c.in_ok-first.ensures.len c.in_ok-first.ensures.bytes found)

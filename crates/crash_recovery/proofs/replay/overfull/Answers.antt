@@ -7,6 +7,4 @@ pub returns-in-Ok-read_part-clause-value : goal.returns-in-Ok-read_part-clause-v
 returns-in-Ok-read_part-clause-value g c taken holds =
     let there = shows (g.D.Disk.device c.args.dev.now).trace (λ c'. 400 + 1035 * c.args.slots ≤ length c') (λ c'. c.in-Ok.at < length c')
     (λ c' long. omega (arith, long, c.in-Ok.ensures.end)) c.requires.there in
-    rw c.damaged.ensures (value_told (g.D.Disk.device c.args.dev.now).trace c.args.slots taken c.args.number c.in-Ok.at c.in-Ok-read_part.bytes
-    c.in-Ok-read_part.ensures.len (reads_before _ _ _ _ c.in-Ok.ensures.same c.in-Ok-read_part.ensures.bytes) there
-    (c.in-Ok.ensures.place taken holds))
+    rw c.damaged.ensures (grind (arith, value_told, reads_before))

@@ -1,4 +1,4 @@
-use Rattle.std.proofs.Common.{◌≡◌, ◌+◌, ◌-◌, ◌++◌, [], ◌∷◌, ap, sym, ◌∙◌, take, drop, arith}
+use Rattle.std.proofs.Common.{◌≡◌, ◌+◌, ◌++◌, [], ◌∷◌, ap, sym, ◌∙◌, arith}
 use Rattle.std.specs.Prelude.{slice_range}
 use Rattle.std.proofs.lemmas.List.{length-map}
 use Rattle.std.proofs.lemmas.List.Edits.{between_more}
@@ -14,16 +14,11 @@ loop-i-preserved c =
     let is = get_or_from_slice_get ps i p p c.point.ensures.value in
     let long = length-map c.args.content.now.records (λ r. r.point) in
     let more = between_more ps c.args.start i p c.loop-i.auto.i (omega arith) in
-    let last : slice_range ps c.args.start (i + 1) ≡ slice_range ps c.args.start i ++ p ∷ [] = rw is at
-    more in
+    let last : slice_range ps c.args.start (i + 1) ≡ slice_range ps c.args.start i ++ p ∷ [] = grind arith in
     record {
       items = c.in_ok-push_point.ensures ∙ (ap (λ l. l ++ p ∷ []) c.loop-i.invariant.items ∙ sym last);
       reach = omega arith;
     }
 
 pub returns : goal.returns
-returns c =
-    let span : c.loop-i.i - c.args.start ≡ c.args.stop - c.args.start = omega
-    (arith, c.loop-i.invariant.reach) in
-    c.loop-i.invariant.items ∙ ap (λ n. take n (drop c.args.start (points_of c.args.content.now.records)))
-    span
+returns c = grind arith

@@ -1,15 +1,13 @@
-use Rattle.std.proofs.Common.{sym, subst}
-use Rattle.interp_read.specs.{points_closed_by, IsReadable}
+use Rattle.std.proofs.Common.{arith, sym, subst}
+use Rattle.interp_read.specs.{IsReadable}
 use Rattle.interp_read.proofs.ClosedPoints.{closed_readable}
 use Rattle.interp_read.proofs.read.read_at.Goals as goal
 
 pub reading_of-requires-clause-near : goal.reading_of-requires-clause-near
-reading_of-requires-clause-near c =
-    (points_closed_by c.args.held c.args.content.now.records, c.neighbours_at.ensures.neighbours)
+reading_of-requires-clause-near c = grind arith
 
 pub returns-clause-value : goal.returns-clause-value
-returns-clause-value c = c.reading_of.ensures (points_closed_by c.args.held c.args.content.now.records)
-    c.neighbours_at.ensures.neighbours
+returns-clause-value c = grind arith
 
 pub returns-clause-readable : goal.returns-clause-readable
 returns-clause-readable c =

@@ -1,4 +1,4 @@
-use Rattle.std.proofs.Common.{◌≡◌, ◌≢◌, Some, ap, sym, ◌∙◌}
+use Rattle.std.proofs.Common.{arith, ◌≡◌, ◌≢◌, Some, ap, sym, ◌∙◌}
 use Rattle.trend_num.specs.{Point}
 use Rattle.trend_num.specs.declared.reading.Reading.TheVariants.{Exact, Flat}
 use Rattle.interp_read.proofs.ReadsNextTo.{before_is, read_exact, read_flat, read_inside, read_nothing, value_back}
@@ -18,11 +18,7 @@ returns-in_default-Some c = λ cs given.
     ∙ sym (read_exact c.args.step cs c.args.t c.args.next.before q near c.if-q-t.true)
 
 pub returns-in-Some-Some : goal.returns-in-Some-Some
-returns-in-Some-Some c = λ cs given.
-    let q = c.in_default-Some.q in
-    let near = rw (c.in-Some-Some.is-0, c.in_default-Some.is-1) at given in
-    c.reading_between.ensures ∙ sym (read_inside c.args.step cs c.args.t c.in-Some-Some.p q near
-    c.if-q-t.false)
+returns-in-Some-Some c = grind (arith, read_inside)
 
 pub returns-in-Some-None : goal.returns-in-Some-None
 returns-in-Some-None c = λ cs given.

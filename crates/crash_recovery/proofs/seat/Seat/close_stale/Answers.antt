@@ -1,4 +1,4 @@
-use Rattle.std.proofs.Common.{false, arith}
+use Rattle.std.proofs.Common.{arith}
 use Rattle.disk_model.proofs.Moments.{after_self, started}
 use Rattle.device_layout.specs.{Recovers}
 use Rattle.crash_recovery.proofs.Restarts.{gates_now, restart_moments, restart_laid, room_now}

@@ -1,4 +1,4 @@
-use Rattle.std.proofs.Common.{◌-◌, arith}
+use Rattle.std.proofs.Common.{arith}
 use Rattle.crash_recovery.proofs.Logged.{new_records, torn_kept, torn_moments}
 use Rattle.crash_recovery.proofs.seat.Seat.put_new_records.Goals as goal
 

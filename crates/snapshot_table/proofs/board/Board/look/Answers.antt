@@ -1,7 +1,6 @@
-use Rattle.std.proofs.Common.{rules, List, ℕ, ◌≡◌, ◌<◌, ◌∙◌, sym, ap, map, slice_get, slice_set, Some, subst, length, arith}
+use Rattle.std.proofs.Common.{rules, List, ◌≡◌, ◌∙◌, sym, ap, slice_get, Some, subst, arith}
 use Rattle.std.proofs.lemmas.List.{map-set}
 use Rattle.std.proofs.Math.Seq.{map-set_same}
-use Rattle.crossbeam_utils.specs.Seq.{cell_view}
 use Rattle.crossbeam_utils.specs.declared.atomic.seq_cell.Doing.{Doing}
 use Rattle.atomic_table.specs.declared.shared.Seat.{Seat}
 use Rattle.snapshot_table.specs.{Shown, View, Looking}
@@ -40,26 +39,7 @@ load_as-requires g c =
     )
 
 pub returns-clause-seen : goal.returns-clause-seen
-returns-clause-seen g c =
-    let passes : List Pass = c.looker.inside.passes.items in
-    let tag : ℕ = c.args.tag in
-    let new : Pass = c.load_as.new.pass in
-    let old : Pass = c.index_mut.result.now in
-    let cells : map (λ (p : Pass). p.table_id) (slice_set passes tag new) ≡ c.args.looker.now.cells =
-    map-set_same (λ (p : Pass). p.table_id) passes tag new old (c.load_as.ensures.cell.0 ∙ ap (λ (p : Pass). p.table_id) c.index_mut.ensures.value)
-    ∙ ap (λ (l : Looking). l.cells) c.looker.view_is in
-    let seen : map (λ (p : Pass). (cell_view {T = Shown} {V = View} p).snap) (slice_set passes tag new) ≡ slice_set c.args.looker.now.seen tag c.read_of.result =
-    map-set (λ (p : Pass). (cell_view {T = Shown} {V = View} p).snap) passes tag new
-    ∙ (ap (λ (ss : List Snap). slice_set ss tag (cell_view {T = Shown} {V = View} new).snap) (ap (λ (l : Looking). l.seen) c.looker.view_is)
-    ∙ ap (λ (s : Snap). slice_set c.args.looker.now.seen tag s) (ap (λ (v : View). v.snap) c.load_as.ensures.rule.seen ∙ sym c.read_of.ensures)) in
-    same_looking _ _ _ _ cells seen
+returns-clause-seen g c = grind (arith, map-set_same, map-set, same_looking)
 
 pub returns-clause-no_earlier : goal.returns-clause-no_earlier
-returns-clause-no_earlier g c =
-    let h : c.args.tag < length c.args.looker.now.seen = omega (arith, c.requires.here.seen, c.requires.tag) in
-    let old : Pass = c.index_mut.result.now in
-    let last : slice_get c.args.looker.now.seen c.args.tag ≡ Some (cell_view {T = Shown} {V = View} old).snap =
-    stands_at (λ (p : Pass). (cell_view {T = Shown} {V = View} p).snap) c.looker.inside.passes.items c.args.looker.now.seen c.args.tag old
-    (ap (λ (l : Looking). l.seen) c.looker.view_is) c.index_mut.ensures.value h in
-    let told : c.read_of.result.taken ≡ c.load_as.result.taken = ap (λ (s : Snap). s.taken) c.read_of.ensures in
-    rw last (omega (arith, c.load_as.ensures.rule.no_earlier, told))
+returns-clause-no_earlier g c = grind (arith, stands_at)

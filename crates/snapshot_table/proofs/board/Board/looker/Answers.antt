@@ -25,32 +25,14 @@ index_mut-requires c = omega (arith, within c, ap length (c.loop-i.invariant.0 �
 
 -- the poster at the loop's place is that of the tag
 pub onlooker-pass-requires : goal.onlooker-pass-requires
-onlooker-pass-requires c = record {
-  posts = posts_at c.args.self.now c.loop-i.i c.index_mut.result.now
-      (omega (
-        arith,
-        c.loop-i-test.true,
-        c.len-i-end.ensures,
-        ap length c.self.view_is,
-        length-map c.self.inside.shelves.items (λ (s : _). s.table.shared.table_id),
-        c.self.inside.shelves.ok,
-      ))
-      (subst (λ (ps : List Posting). c.index_mut.result.now ≡ get_or ps c.loop-i.i c.index_mut.result.now) (c.loop-i.invariant.0 ∙ c.requires) c.index_mut.ensures.value);
-}
+onlooker-pass-requires c = grind (arith, posts_at, length-map)
 
 pub loop-i-preserved : goal.loop-i-preserved
 loop-i-preserved c =
     let poster : Posting = c.index_mut.result.now in
     let new : poster ≡ get_or (new_posters 0 c.args.self.now) c.loop-i.i poster =
     subst (λ (ps : List Posting). poster ≡ get_or ps c.loop-i.i poster) (c.loop-i.invariant.0 ∙ c.requires) c.index_mut.ensures.value in
-    let h : c.loop-i.i < length c.args.self.now = omega (
-      arith,
-      c.loop-i-test.true,
-      c.len-i-end.ensures,
-      ap length c.self.view_is,
-      length-map c.self.inside.shelves.items (λ (s : _). s.table.shared.table_id),
-      c.self.inside.shelves.ok,
-    ) in
+    let h : c.loop-i.i < length c.args.self.now = grind (arith, length-map) in
     let last : poster.last ≡ nothing = ap (λ (p : Posting). p.last) (poster_at c.args.self.now c.loop-i.i poster h new) in (
       ap (λ (p : Posting). Rattle.std.proofs.Common.set c.loop-i.posters.items c.loop-i.i p) (c.onlooker-pass.ensures.same ∙ c.index_mut.ensures.value)
           ∙ (set-get_or c.loop-i.posters.items c.loop-i.i poster ∙ c.loop-i.invariant.0),

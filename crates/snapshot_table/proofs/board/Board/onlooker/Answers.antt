@@ -1,5 +1,4 @@
-use Rattle.std.proofs.Common.{rules, List, ◌≡◌, ◌∙◌, sym, ap, slice_get, Some, subst}
-use Rattle.atomic_table.specs.Seated.{TableId}
+use Rattle.std.proofs.Common.{arith, rules, ◌≡◌, sym, ap}
 use Rattle.snapshot_table.proofs.Steps.{forks}
 use Rattle.snapshot_table.proofs.Places.{seen_at}
 use Rattle.snapshot_table.specs.{Posting}
@@ -12,8 +11,7 @@ split_pass-requires c =
       (
         search rules,
         (
-          sym (seen_at _ c.self.inside.shelves.items c.args.i c.index.result.now _ c.index.ensures
-              (subst (λ (b : List TableId). slice_get b c.args.i ≡ Some c.args.poster.now.cell) (sym c.self.view_is) c.requires.posts) ∙ cell),
+          sym (grind (arith, seen_at)),
           forks _ _,
         ),
       ),

@@ -1,5 +1,4 @@
-use Rattle.std.proofs.Common.{rules, ap, sym, ◌≡◌, ◌≤◌, List, subst, slice_get, Some, arith}
-use Rattle.atomic_table.specs.Seated.{TableId}
+use Rattle.std.proofs.Common.{rules, ap, sym, ◌≡◌, ◌≤◌, subst, slice_get, Some, arith}
 use Rattle.trend_num.specs.{Snap}
 use Rattle.snapshot_table.specs.{View, Posting}
 use Rattle.snapshot_table.proofs.Steps.{post_turns}
@@ -18,8 +17,7 @@ swap_as-requires g c =
       (
         search rules,
         (
-          sym (seen_at _ c.self.inside.shelves.items c.poster.inside.tag c.index-shelf.result.now _ c.index-shelf.ensures
-              (subst (λ (b : List TableId). slice_get b c.poster.inside.tag ≡ Some c.poster.inside.pass.table_id) (sym c.self.view_is) here)),
+          sym (grind (arith, seen_at)),
           post_turns _ _ _ (ap (λ (v : View). v.posts) c.poster.invariant) c.shown_of.ensures.fits (omega (arith, knows, same)),
         ),
       ),
