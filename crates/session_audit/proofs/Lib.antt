@@ -1,4 +1,5 @@
 pub mod Numbers
+pub mod Leaving
 pub mod Links
 pub mod Walking
 pub mod Catching

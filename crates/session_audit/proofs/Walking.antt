@@ -139,20 +139,6 @@ followed_here works worker unit kept c d q within due step = record {
   changed = refl;
 }
 
--- another row of that worker was due, or none
-pub other_here : (works : List Reached) (worker unit : ℕ) (kept told : Seen) (d : Reached) (o : Option Seen)
-    → worker < length works → o ≡ next_due (get_or works worker d) unit → told ≡ unwrap_or o Nothing
-    → IsNext unit (get_or works worker d).items (place_at (get_or works worker d) unit) (place_at (get_or works worker d) unit)
-    → kept ≢ told → IsOtherDue works worker unit kept told
-other_here works worker unit kept told d o within due told_is next differ =
-    let there = slice_get-get_or works worker d within in
-    record {
-      told_is = told_is ∙ ap (λ x. unwrap_or x Nothing) (due ∙ sym (ap (λ x. option_and_then (λ p. next_due p unit) x) there));
-      next = λ p at. (let same : get_or works worker d ≡ p = get_or_from_slice_get works worker p d at in
-          subst (λ r. IsNext unit r.items (place_at r unit) (place_at r unit)) same next);
-      differ = differ;
-    }
-
 -- ---- tapes
 
 -- an entry of no worker shows nothing more

@@ -1,5 +1,6 @@
 -- What the rows of a worker leave on tapes, and where they are due.
 use Rattle.std.specs.Prelude.{◌≡◌, ℕ, zero, suc, ◌+◌, ◌-◌, ◌<◌, ◌≤◌, List, [], ◌∷◌, length, filter_map, slice_index_or, Option, None, Some, IsSome, nat_eq, nat_le, if◌then◌else◌}
+use Rattle.std.specs.Option.{option_map}
 use Rattle.value_rows.specs.{Query, RawRow}
 use Rattle.value_rows.specs.declared.asked.Query.TheVariants as query
 use Rattle.plant_status.specs.{Seen}
@@ -63,6 +64,13 @@ due unit items = filter_map (seen_at unit) items
 -- what the row at a place leaves at a unit, if it is due there
 abbrev pub due_at : ℕ → List (Option Item) → ℕ → Option Seen
 due_at unit items place = seen_at unit (slice_index_or items place None)
+
+-- the unit at which the row at a place is due, and what it leaves there
+abbrev pub unit_of : List (Option Item) → ℕ → Option ℕ
+unit_of items place = option_map (λ item. item.unit) (slice_index_or items place None)
+
+abbrev pub left_by : List (Option Item) → ℕ → Option Seen
+left_by items place = option_map (λ item. item.seen) (slice_index_or items place None)
 
 -- the first place, from one on, at which a row is due at a unit, or the number of rows if there is none
 pub record IsNext (unit : ℕ) (items : List (Option Item)) (from to : ℕ) : Type 0 where

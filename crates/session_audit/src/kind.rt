@@ -1,9 +1,10 @@
 // A kind of work: what the rows of a worker leave on tapes, and what the entries of a tape show of workers.
-ghost use Rattle.std.specs.Prelude.{◌≡◌, ℕ, IfSome, List, Option};
-ghost use Rattle.session_audit.specs.Agendas.{items_in, numbered};
+ghost use Rattle.std.specs.Prelude.{◌≡◌, ◌↔◌, ◌<◌, ◌^◌, ℕ, IfSome, IsSomeAnd, IsTrue, List, Option, Some, length};
+ghost use Rattle.std.specs.Option.{option_map};
+ghost use Rattle.session_audit.specs.Agendas.{items_in, items_of, left_by, numbered};
 ghost use Rattle.session_audit.specs.Found.{IsWork};
 
-use crate::agenda::Rows;
+use crate::agenda::{Agenda, Rows};
 use disk_model::Disk;
 use group_book::{Book, Turn};
 use plant_status::Seen;
@@ -80,6 +81,17 @@ pub trait Kind {
     fn shown(entry: &Self::Entry) -> Option<Shown>
         ensures value { result ≡ shows entry.now }
         ensures work { IfSome result (λ s. IsWork s.seen) };
+
+    /// Returns the worker of an entry, if the entry is of this kind.
+    fn worker(entry: &Self::Entry) -> Option<u32>
+        ensures { result ≡ option_map (λ s. s.worker) (shows entry.now) };
+
+    /// Returns whether an entry shows what the row at a place of an agenda leaves.
+    fn is_due(entry: &Self::Entry, agenda: &Agenda<'_>, place: usize) -> bool
+        requires within { place < length (items_of agenda.now) }
+        requires few { length (items_of agenda.now) < 2 ^ 32 }
+        ensures { IsTrue result ↔ IsSomeAnd (shows entry.now)
+            (λ s. left_by (items_of agenda.now) place ≡ Some s.seen) };
 }
 
 /// The values of collectors, on the tapes of tags.
@@ -117,6 +129,25 @@ impl Kind for Takes {
                 },
             }),
             _ => None,
+        }
+    }
+
+    fn worker(entry: &Entry) -> Option<u32> {
+        match entry {
+            Entry::Take { collector, .. } => Some(*collector),
+            _ => None,
+        }
+    }
+
+    fn is_due(entry: &Entry, agenda: &Agenda<'_>, place: usize) -> bool {
+        match entry {
+            Entry::Take {
+                collector,
+                row,
+                point,
+                ..
+            } => agenda.is_take(place, *collector, *row, *point),
+            _ => false,
         }
     }
 }
@@ -158,6 +189,25 @@ impl Kind for Asks {
             _ => None,
         }
     }
+
+    fn worker(entry: &Entry) -> Option<u32> {
+        match entry {
+            Entry::Ask { reader, .. } => Some(*reader),
+            _ => None,
+        }
+    }
+
+    fn is_due(entry: &Entry, agenda: &Agenda<'_>, place: usize) -> bool {
+        match entry {
+            Entry::Ask {
+                reader,
+                row,
+                query,
+                ..
+            } => agenda.is_ask(place, *reader, *row, query),
+            _ => false,
+        }
+    }
 }
 
 /// The questions of readers for values of calculations, on the tapes of groups.
@@ -197,6 +247,26 @@ impl Kind for RowAsks {
                 },
             }),
             _ => None,
+        }
+    }
+
+    fn worker(turn: &Turn) -> Option<u32> {
+        match turn {
+            Turn::Ask { reader, .. } => Some(*reader),
+            _ => None,
+        }
+    }
+
+    fn is_due(turn: &Turn, agenda: &Agenda<'_>, place: usize) -> bool {
+        match turn {
+            Turn::Ask {
+                reader,
+                row,
+                calc,
+                k,
+                ..
+            } => agenda.is_row_ask(place, *reader, *row, *calc, *k),
+            _ => false,
         }
     }
 }

@@ -1,10 +1,11 @@
 // Which rows of a worker were found, and which are due next.
-ghost use Rattle.std.specs.Prelude.{◌≡◌, ◌<◌, ◌+◌, ◌^◌, ℕ, IfNone, IfOk, IfSome, IsSome, None, false, length, replicate, slice_index_or};
+ghost use Rattle.std.specs.Prelude.{◌≡◌, ◌↔◌, ◌<◌, ◌+◌, ◌^◌, ℕ, IfNone, IfOk, IfSome, IsFalse, IsSome, IsSomeAnd, IsTrue, None, Some, false, length, replicate, slice_index_or};
 ghost use Rattle.session_audit.specs.Agendas.{IsNext, items_of};
 ghost use Rattle.session_audit.specs.Adding.{IsLacking};
 ghost use Rattle.session_audit.specs.Found.{AreLinked, IsAdvanced, IsChained, IsUnfound, lacks, next_due, place_at};
 
 use crate::agenda::Agenda;
+use crate::kind::Kind;
 use plant_status::Seen;
 use std::alloc::Global;
 use std::marker::Model;
@@ -76,8 +77,8 @@ impl<'a> Progress<'a> {
         ensures missing { IfSome result (IsLacking self.now place) }
         ensures none { IfNone result (lacks self.now place ≡ false) }
     {
-        match self.agenda.item(place) {
-            Some(item) if self.at[item.unit as usize] as usize <= place => Some(item.unit),
+        match self.agenda.unit(place) {
+            Some(unit) if self.at[unit as usize] as usize <= place => Some(unit),
             _ => None,
         }
     }
@@ -90,6 +91,22 @@ impl<'a> Progress<'a> {
     {
         let place = self.at[unit as usize] as usize;
         self.at[unit as usize] = self.next[place];
+    }
+
+    /// Marks the row that is due next at a unit as found if an entry shows this row. Returns whether it does.
+    pub fn follow<K: Kind>(&mut self, unit: u32, entry: &K::Entry) -> bool
+        requires { unit < length self.old.at }
+        ensures due { IsTrue result ↔ IsSomeAnd (K.shows entry.now) (λ s. next_due self.old unit ≡ Some s.seen) }
+        ensures found { IsTrue result → IsAdvanced unit self.old self.new }
+        ensures stays { IsFalse result → self.new ≡ self.old }
+    {
+        let place = self.at[unit as usize] as usize;
+        if place < self.agenda.len() && K::is_due(entry, &self.agenda, place) {
+            self.at[unit as usize] = self.next[place];
+            true
+        } else {
+            false
+        }
     }
 }
 
@@ -130,8 +147,8 @@ fn link(agenda: &Agenda<'_>, at: &mut [u32], next: &mut [u32], place: usize)
     ensures units { length at.new ≡ length at.old }
     ensures as_many { length next.new ≡ length next.old }
 {
-    if let Some(item) = agenda.item(place) {
-        next[place] = at[item.unit as usize];
-        at[item.unit as usize] = place as u32;
+    if let Some(unit) = agenda.unit(place) {
+        next[place] = at[unit as usize];
+        at[unit as usize] = place as u32;
     }
 }

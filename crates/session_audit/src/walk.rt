@@ -1,6 +1,9 @@
 // One walk over a tape, which updates the progress of each worker.
-ghost use Rattle.std.specs.Prelude.{◌≡◌, ◌↔◌, ◌<◌, All, IfErr, IfNone, IfSome, IsSomeAnd, IsTrue, MatchOption, OnErr, OnOk, OnSome, length};
-ghost use Rattle.session_audit.specs.Found.{AreFound, AreFurther, IsDifference, IsFollowed, IsOtherDue, IsUnfound, IsWork, due_of};
+ghost use Rattle.std.specs.Prelude.{◌≡◌, ◌≢◌, ◌<◌, All, IfErr, IsFalse, IsSomeAnd, IsTrue, MatchOption, OnOk, Some, length, slice_get};
+ghost use Rattle.std.specs.Option.{unwrap_or};
+ghost use Rattle.plant_status.specs.declared.mismatch.Seen.TheVariants.{Nothing};
+ghost use Rattle.session_audit.specs.Agendas.{IsNext};
+ghost use Rattle.session_audit.specs.Found.{AreFound, AreFurther, IsDifference, IsFollowed, IsOtherDue, IsUnfound, Reached, due_of, expected, place_at};
 
 use crate::kind::{Kind, Shown};
 use crate::progress::Progress;
@@ -31,102 +34,71 @@ pub fn find<K: Kind>(
     ensures differs { IfErr result (λ d. IsDifference K.shows (due_of works.old unit) tape.now d.place d.kept d.told) }
 {
     for (place, entry) in tape.iter().enumerate() {
-        follow(works, unit, place, K::shown(entry))?;
+        if !follow::<K>(works, unit, entry) {
+            return Err(difference::<K>(works, unit, place, entry));
+        }
     }
     Ok(())
 }
 
-// Marks the row that the entry at a place shows as found, if it is the worker's next row at this unit. Otherwise it
-// returns what was due. If the entry shows no row, nothing changes.
-fn follow(
-    works: &mut [Progress<'_>],
-    unit: u32,
-    place: usize,
-    shown: Option<Shown>,
-) -> Result<(), Differs>
+// Marks the row that an entry shows as found if it is its worker's next row at this unit. Returns false if it is
+// another row. If the entry shows no row, nothing changes.
+fn follow<K: Kind>(works: &mut [Progress<'_>], unit: u32, entry: &K::Entry) -> bool
     requires known { All (λ p. unit < length p.at) works.old }
-    requires work { IfSome shown (λ s. IsWork s.seen) }
-    ensures followed { OnOk result (MatchOption shown (works.new ≡ works.old)
-        (λ s. IsFollowed s.worker unit s.seen works.old works.new)) }
-    ensures unchanged { OnErr result (works.new ≡ works.old) }
-    ensures differs { IfErr result (λ d. (d.place ≡ place) × IsSomeAnd shown (λ s.
-        (d.kept ≡ s.seen) × IsOtherDue works.old s.worker unit d.kept d.told)) }
+    ensures followed { IsTrue result → MatchOption (K.shows entry.now) (works.new ≡ works.old)
+        (λ s. IsFollowed s.worker unit s.seen works.old works.new) }
+    ensures other { IsFalse result → IsSomeAnd (K.shows entry.now)
+        (λ s. expected works.old s.worker unit ≢ Some s.seen) }
+    ensures unchanged { IsFalse result → works.new ≡ works.old }
 {
-    let Some(Shown { worker, seen }) = shown else {
-        return Ok(());
-    };
-    match found_next(works, worker, unit, &seen) {
-        None => Ok(()),
-        Some(told) => Err(Differs {
-            place: place as u64,
-            kept: seen,
-            told,
-        }),
+    match K::worker(entry) {
+        Some(worker) => found_next::<K>(works, worker, unit, entry),
+        None => true,
     }
 }
 
-// Marks a worker's next row at a unit as found if it is this one. Otherwise it returns what was due.
-fn found_next(works: &mut [Progress<'_>], worker: u32, unit: u32, seen: &Seen) -> Option<Seen>
+// Marks a worker's next row at a unit as found if its entry shows this row. Returns whether it does.
+fn found_next<K: Kind>(works: &mut [Progress<'_>], worker: u32, unit: u32, entry: &K::Entry) -> bool
     requires known { All (λ p. unit < length p.at) works.old }
-    requires work { IsWork seen.now }
-    ensures followed { IfNone result (IsFollowed worker unit seen.now works.old works.new) }
-    ensures unchanged { OnSome result (works.new ≡ works.old) }
-    ensures told { IfSome result (IsOtherDue works.old worker unit seen.now) }
+    requires worker { IsSomeAnd (K.shows entry.now) (λ s. s.worker ≡ worker) }
+    ensures followed { IsTrue result → IsSomeAnd (K.shows entry.now)
+        (λ s. IsFollowed s.worker unit s.seen works.old works.new) }
+    ensures other { IsFalse result → IsSomeAnd (K.shows entry.now)
+        (λ s. expected works.old s.worker unit ≢ Some s.seen) }
+    ensures unchanged { IsFalse result → works.new ≡ works.old }
+{
+    let place = worker as usize;
+    place < works.len() && works[place].follow::<K>(unit, entry)
+}
+
+// Returns the entry at a place, which is not its worker's next row at this unit, with the row that was due.
+fn difference<K: Kind>(works: &[Progress<'_>], unit: u32, place: usize, entry: &K::Entry) -> Differs
+    requires known { All (λ p. unit < length p.at) works.now }
+    requires other { IsSomeAnd (K.shows entry.now) (λ s. expected works.now s.worker unit ≢ Some s.seen) }
+    ensures place { result.place ≡ place }
+    ensures differs { IsSomeAnd (K.shows entry.now) (λ s. (result.kept ≡ s.seen)
+        × IsOtherDue works.now s.worker unit result.kept result.told) }
+{
+    let Some(Shown { worker, seen }) = K::shown(entry) else {
+        unreachable!();
+    };
+    Differs {
+        place: place as u64,
+        kept: seen,
+        told: due_next(works, worker, unit),
+    }
+}
+
+// Returns a worker's next row at a unit, or nothing if none is left.
+fn due_next(works: &[Progress<'_>], worker: u32, unit: u32) -> Seen
+    requires known { All (λ p. unit < length p.at) works.now }
+    ensures due { result ≡ unwrap_or (expected works.now worker unit) Nothing }
+    ensures next { (p : Reached) → slice_get works.now worker ≡ Some p
+        → IsNext unit p.items (place_at p unit) (place_at p unit) }
 {
     let place = worker as usize;
     if place >= works.len() {
-        return Some(Seen::Nothing);
+        return Seen::Nothing;
     }
-    match works[place].next_due(unit) {
-        Some(due) if is_same(&due, seen) => {
-            works[place].advance(unit);
-            None
-        }
-        Some(due) => Some(due),
-        None => Some(Seen::Nothing),
-    }
-}
-
-// Returns whether the row that is due is this one.
-fn is_same(due: &Seen, seen: &Seen) -> bool
-    requires { IsWork seen.now }
-    ensures { IsTrue result ↔ (due.now ≡ seen.now) }
-{
-    match (*due, *seen) {
-        (
-            Seen::Take {
-                collector,
-                row,
-                point,
-            },
-            Seen::Take {
-                collector: its_collector,
-                row: its_row,
-                point: its_point,
-            },
-        ) => collector == its_collector && row == its_row && point == its_point,
-        (
-            Seen::Ask { reader, row, query },
-            Seen::Ask {
-                reader: its_reader,
-                row: its_row,
-                query: its_query,
-            },
-        ) => reader == its_reader && row == its_row && query == its_query,
-        (
-            Seen::Row {
-                reader,
-                row,
-                calc,
-                k,
-            },
-            Seen::Row {
-                reader: its_reader,
-                row: its_row,
-                calc: its_calc,
-                k: its_k,
-            },
-        ) => reader == its_reader && row == its_row && calc == its_calc && k == its_k,
-        _ => false,
-    }
+    works[place].next_due(unit).unwrap_or(Seen::Nothing)
 }
