@@ -9,7 +9,7 @@ use Rattle.session_audit.specs.Agendas.{IsNext, due, due_at, seen_at}
 use Rattle.session_audit.proofs.Walking.{due_passed}
 
 -- whether a row lacks, by what it is
-lacks_some : (p : Reached) (i : ℕ) (item : Item) → get_or p.items i None ≡ Some item
+pub lacks_some : (p : Reached) (i : ℕ) (item : Item) → get_or p.items i None ≡ Some item
     → lacks p i ≡ nat_le (place_at p item.unit) i
 lacks_some p i item is = rw is refl
 

@@ -1,10 +1,13 @@
 -- Cells that have gained entries of a kind, one after another.
-use Rattle.std.proofs.Common.{◌≡◌, ◌⊎◌, ℕ, ◌<◌, inl, inr, List, length, get_or, set, Some, true, refl, sym, ap, subst, ◌∙◌, arith}
+use Rattle.std.proofs.Common.{◌≡◌, ◌⊎◌, ℕ, ◌<◌, inl, inr, Bool, List, [], ◌∷◌, length, get_or, set, Some, true, false, nat_eq, refl, sym, ap, subst, ◌∙◌, arith}
+use Rattle.std.specs.Bool.{MatchBool}
+use Rattle.std.proofs.lemmas.List.Elements.{All-cons, All-nil}
 use Rattle.std.proofs.lemmas.List.{get_or-set_other, get_or-set_same, length-set}
 use Rattle.std.proofs.lemmas.Option.{slice_get-get_or}
-use Rattle.tag_cell.specs.{Entry, CommitNo, ToldCell}
+use Rattle.tag_cell.specs.{Acked, AreTakesAcknowledged, CommitNo, Entry, IsCommitted, ToldCell, takes_waiting}
+use Rattle.tag_cell.specs.declared.entry.Entry.TheVariants.{Commit}
 use Rattle.tag_cell.specs.declared.entry.CommitNo.TheVariants as commit
-use Rattle.session_audit.specs.{AreLonger, IsLonger, longer_trans, IsCellRefusal, IsCommittedCell, IsSo, OfFault, OfMemory, commit_status}
+use Rattle.session_audit.specs.{AreLonger, IsCommitEntry, IsLonger, longer_trans, IsCellRefusal, IsCommittedCell, IsSo, OfFault, OfMemory, commit_status}
 use Rattle.session_audit.proofs.Each.{each_set}
 
 -- one of the cells gained entries
@@ -12,6 +15,22 @@ pub longer_set : {D : Type 0} (IsOf : Entry → Type 0) (first now : List (ToldC
     → tag < length now → IsLonger IsOf (get_or now tag d) c → AreLonger IsOf first now → AreLonger IsOf first (set now tag c)
 longer_set IsOf first now tag c d within step before =
     each_set (IsLonger IsOf) (longer_trans IsOf) first now tag c d within step before
+
+-- a commit leaves an entry of its own, if values waited
+pub longer_committed : {D : Type 0} (before now : ℕ) (a : Acked) (first old new : ToldCell D) → IsCommitted before now a old new
+    → IsLonger IsCommitEntry first old → IsLonger IsCommitEntry first new
+longer_committed before now a first old new step longer = by (nat_eq (takes_waiting old) 0) step
+  where
+    by : (none : Bool) → MatchBool none ((new ≡ old) × (a ≡ record { acked = old.journal.acked; waiting = 0 }))
+        (AreTakesAcknowledged before now a old new) → IsLonger IsCommitEntry first new
+    by true (same, _) = subst (IsLonger IsCommitEntry first) (sym same) longer
+    by false done = longer_trans IsCommitEntry first old new longer (record {
+      more = Commit now a.acked ∷ [];
+      each = All-cons IsCommitEntry (Commit now a.acked) [] tt (All-nil IsCommitEntry);
+      tape = ap (λ c. c.tape) done.same;
+      same_def = ap (λ c. c.def) done.same;
+      same_opening = ap (λ c. c.opening) done.same;
+    })
 
 -- the cell of a tag that was just looked at
 so_here : {D : Type 0} (P : ToldCell D → Type 0) (now : List (ToldCell D)) (tag : ℕ) (c : ToldCell D) → tag < length now → P c

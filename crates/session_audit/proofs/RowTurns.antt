@@ -1,14 +1,16 @@
 -- A row that a tape lacks, once its call has left the entry.
-use Rattle.std.proofs.Common.{◌≡◌, ◌≢◌, ℕ, ◌<◌, inl, inr, true, List, [], ◌∷◌, ◌++◌, All, length, get_or, set, Option, None, Some, refl, sym, ap, subst, ◌∙◌, arith}
+use Rattle.std.proofs.Common.{◌≡◌, ◌≢◌, ℕ, ◌+◌, ◌<◌, ◌≤◌, inl, inr, true, false, nat_le, List, [], ◌∷◌, ◌++◌, All, length, get_or, set, Option, None, Some, refl, sym, ap, subst, ◌∙◌, arith}
 use Rattle.std.specs.Prelude.{slice_get}
-use Rattle.std.proofs.lemmas.Bool.{cases_eq}
+use Rattle.std.specs.Option.{option_map_or}
+use Rattle.std.proofs.lemmas.Bool.{cases_eq, cases_lt}
+use Rattle.std.proofs.lemmas.Bool.Decides.{nat_tests}
 use Rattle.std.proofs.lemmas.List.{get_or-set_same, get_or-set_other, length-set}
 use Rattle.std.proofs.lemmas.List.Elements.{All-from_get_or}
 use Rattle.std.proofs.lemmas.Option.{get_or_from_slice_get, slice_get_within}
 use Rattle.plant_status.specs.{Seen}
 use Rattle.session_audit.specs.{Item, Shown, AreFound, IsAdvanced, IsCaughtUp, IsFollowed, Reached, lacks, next_due, place_at, AreOthersSame, AreTapesFound, IsOver}
 use Rattle.session_audit.specs.Agendas.{IsNext}
-use Rattle.session_audit.proofs.Catching.{caught_due, caught_here}
+use Rattle.session_audit.proofs.Catching.{caught_due, caught_here, lacks_some}
 use Rattle.session_audit.proofs.Numbers.{length-numbered}
 use Rattle.session_audit.proofs.Walking.{all_further, all_further_step, followed_here, found_beside, found_step}
 
@@ -49,6 +51,38 @@ followed : (worker place tag : ℕ) (seen : Seen) (works : List Reached) (p q : 
 followed worker place tag seen works p q m step =
     followed_here works worker tag seen p p q m.there
     (ap (λ r. next_due r tag) (sym m.is) ∙ due_next worker place tag seen works p m) (subst (λ r. IsAdvanced tag r q) m.is step)
+
+-- so none of the rows up to it lacks any more
+pub caught_more : (worker place tag : ℕ) (seen : Seen) (works : List Reached) (p q : Reached)
+    → IsMissing worker place tag seen works p → IsAdvanced tag p q → IsCaughtUp (place + 1) q
+caught_more worker place tag seen works p q m step i below =
+    subst (λ r. lacks r i ≡ false) (sym step.changed) (of (get_or p.items i None) refl)
+  where
+    now : Reached
+    now = record p { at = set p.at tag step.place }
+
+    none : i < step.place → nat_le step.place i ≡ false
+    none h = grind (arith, nat_tests, h)
+
+    -- the row at that place is due at the tag
+    here : (item : Item) → get_or p.items i None ≡ Some item → place ≤ i → item.unit ≡ tag
+    here item is from =
+        let same : place ≡ i = omega (arith, below, from) in
+        ap (λ o. option_map_or (λ x. x.unit) o 0) (sym is ∙ (ap (λ n. get_or p.items n None) (sym same) ∙ m.item))
+
+    of : (o : Option Item) → get_or p.items i None ≡ o → lacks now i ≡ false
+    of None is = rw is refl
+    of (Some item) is = elim (cases_eq item.unit tag) [
+      | inl same ↦ lacks_some now i item is ∙ (ap (λ u. nat_le (place_at now u) i) same
+          ∙ (ap (λ n. nat_le n i) (get_or-set_same p.at tag step.place 0 m.known)
+          ∙ none (omega (arith, below, step.is_next.order, stands worker place tag seen works p m))))
+      | inr differ ↦ lacks_some now i item is
+          ∙ (ap (λ n. nat_le n i) (get_or-set_other p.at tag item.unit step.place 0 differ)
+          ∙ (sym (lacks_some p i item is) ∙ elim (cases_lt i place) [
+            | inl before ↦ m.caught i before
+            | inr from ↦ absurd (differ (here item is from))
+          ]))
+    ]
 
 -- what is found on all tapes with the entry that the row's call left
 pub found_turn : {C E : Type 0} (tape_of : C → List E) (work : E → Option Shown) (worker place tag : ℕ) (seen : Seen) (e : E)

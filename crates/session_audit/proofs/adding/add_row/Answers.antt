@@ -1,6 +1,8 @@
-use Rattle.std.proofs.Common.{is_some, ap, sym, subst, length, get_or}
+use Rattle.std.proofs.Common.{◌+◌, is_some, ap, sym, subst, length, get_or}
+use Rattle.std.proofs.lemmas.List.{get_or-set_same}
+use Rattle.session_audit.specs.{IsCaughtUp}
 use Rattle.session_audit.proofs.AddedRows.{added_entry, added_shows, row_due, row_known, row_missing, row_stopped}
-use Rattle.session_audit.proofs.RowTurns.{all_known, found_turn, row_within}
+use Rattle.session_audit.proofs.RowTurns.{all_known, caught_more, found_turn, row_within}
 use Rattle.session_audit.proofs.adding.add_row.Goals as goal
 
 pub missing-requires : goal.missing-requires
@@ -25,6 +27,18 @@ returns-in-Err-clause-refused g c =
     g.A.Adding.refuses c.args.units.now c.add.new.unit c.in-Err.no c.requires.caught
     (row_known item_of many c.args.worker c.args.place c.in-Some.unit c.args.rows.now works d c.requires.over c.requires.within lack)
     (subst (λ u. g.A.Adding.refuses u c.in-Err.no) (sym c.in-Err.ensures.unchanged) c.in-Err.ensures.refused)
+
+pub returns-clause-caught : goal.returns-clause-caught
+returns-clause-caught g c = λ p.
+    let item_of = g.A.Adding.item_of c.args.how.now in
+    let many = length c.args.units.now in
+    let works = c.args.works.now in
+    let lack = c.in-Some.ensures.missing in
+    subst (IsCaughtUp (c.args.place + 1)) (sym (get_or-set_same works c.args.worker c.advance.new.self p c.requires.over.there))
+    (caught_more c.args.worker c.args.place c.in-Some.unit lack.due.seen works (get_or works c.args.worker c.index-works-worker-2.result)
+    c.advance.new.self (row_missing item_of many c.args.worker c.args.place c.in-Some.unit c.args.rows.now works
+    c.index-works-worker.result c.requires.over c.requires.within lack c.index-works-worker-2.result c.requires.caught)
+    c.advance.ensures)
 
 pub returns-clause-found : goal.returns-clause-found
 returns-clause-found g c =
