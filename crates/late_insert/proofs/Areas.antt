@@ -76,7 +76,7 @@ product_small t a b long first second =
     let high : unsigned_abs (a +ℤ b) ≤ 2 * largest_value = omega (arith, ints) in
     rw unsigned_abs-mul (mul-le t (unsigned_abs (a +ℤ b)) last_time (2 * largest_value) long high)
 
-piece_small : (step : Bool) (p q : Point) → InRange p → InRange q → unsigned_abs (piece step p q) ≤ most
+pub piece_small : (step : Bool) (p q : Point) → InRange p → InRange q → unsigned_abs (piece step p q) ≤ most
 piece_small false p q first second = product_small (q.t - p.t) p.v q.v (omega (arith, second.time))
     first.value second.value
 piece_small true p q first second = product_small (q.t - p.t) p.v p.v (omega (arith, second.time)) first.value
@@ -85,7 +85,7 @@ piece_small true p q first second = product_small (q.t - p.t) p.v p.v (omega (ar
 abs_sum : (a b : ℤ) (m n : ℕ) → unsigned_abs a ≤ m → unsigned_abs b ≤ n → unsigned_abs (a +ℤ b) ≤ m + n
 abs_sum a b m n first second = omega (arith, ints)
 
-area_small : (step : Bool) (l : List Point) → All InRange l → unsigned_abs (area step l) ≤ length l * most
+pub area_small : (step : Bool) (l : List Point) → All InRange l → unsigned_abs (area step l) ≤ length l * most
 area_small step [] range = omega arith
 area_small step (x ∷ []) range = omega arith
 area_small step (x ∷ y ∷ l) range =

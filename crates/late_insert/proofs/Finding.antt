@@ -6,8 +6,8 @@ use Rattle.std.proofs.lemmas.Bool.{cases_lt}
 use Rattle.trend_num.specs.{Rec}
 use Rattle.trend_num.specs.declared.archive.Kind.TheVariants.{Kept}
 use Rattle.page_pool.specs.{Frame}
+use Rattle.late_insert.specs.{no_summary, Page, IsLastUpto, frame_records_in, records_at, page_in, page_records_of, IsPageAt, ArePagesFrom, ArePages, IsFor}
 use Rattle.late_insert.specs.declared.directory.Key.TheVariants.{Time}
-use Rattle.late_insert.specs.{Page, IsLastUpto, frame_records_in, records_at, page_in, page_records_of, IsPageAt, ArePagesFrom, ArePages, IsFor}
 use Rattle.trend_model.specs.{IsRising}
 use Rattle.trend_model.proofs.Placing.{time, AllBefore, AllAfter, rising_right, rising_across}
 use Rattle.late_insert.proofs.Summing.{length-records_in, get_or-records_in}
@@ -18,7 +18,7 @@ abbrev pub no_rec : Rec
 no_rec = record { kind = Kept; point = record { t = 0; v = pos 0 } }
 
 abbrev pub no_page : Page
-no_page = record { id = 0; first = 0; start = 0; stair = pos 0 }
+no_page = record { id = 0; first = 0; start = 0; summary = no_summary }
 
 -- a page that has records
 abbrev pub HasSome : List (Option Frame) → Page → Type 0

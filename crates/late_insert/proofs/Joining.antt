@@ -86,7 +86,7 @@ page_agrees pool new place p same at = record {
   page = at.page;
   first = at.first;
   start = at.start;
-  stair = at.stair;
+  summary = at.summary;
 }
 
 pub pages_agree : (pool new : List (Option Frame)) (place : ℕ) (pages : List Page) → Agree pool new pages
@@ -165,7 +165,7 @@ pages_moved pool place by (p ∷ ps) each =
         first = ap
             (λ n. n + by) each.0.first;
         start = each.0.start;
-        stair = each.0.stair;
+        summary = each.0.summary;
       },
       subst (λ n. ArePagesFrom pool n (map (moved by) ps)) place'
           (pages_moved pool (place + length (page_in pool p)) by ps each.1),

@@ -1,9 +1,12 @@
 pub mod Marks
 pub mod Areas
 pub mod Summing
+pub mod Summaries
 pub mod Halving
 pub mod Moving
 pub mod Listing
+pub mod Blocks
+pub mod Joined
 pub mod Sorted
 pub mod Storing
 pub mod Joining

@@ -1,15 +1,15 @@
 -- Pages and their places, which are kept apart.
-use Rattle.std.proofs.Common.{◌≡◌, ℕ, zero, suc, ◌+◌, ◌<◌, ◌≤◌, List, [], ◌∷◌, ◌++◌, length, map, get_or, set, take, drop, ◌≢◌, All, pos, refl, ap, ap₂, sym, ◌∙◌, subst, arith, length-append}
+use Rattle.std.proofs.Common.{◌≡◌, ℕ, zero, suc, ◌+◌, ◌<◌, ◌≤◌, List, [], ◌∷◌, ◌++◌, length, map, get_or, set, take, drop, ◌≢◌, All, refl, ap, ap₂, sym, ◌∙◌, subst, arith, length-append}
 use Rattle.std.specs.Prelude.{insert}
 use Rattle.std.proofs.lemmas.List.{get_or_append_left, get_or_at, get_or-map, get_or-set_same, get_or-set_other, get_or_default, length-map, take-append-drop}
 use Rattle.std.proofs.lemmas.List.Edits.{length-insert}
 use Rattle.std.proofs.lemmas.List.Elements.{All-append, All-cons, All-head, All-tail, All-weaker}
 use Rattle.late_insert.proofs.Joining.{all_left, all_right, apart_insert}
-use Rattle.late_insert.specs.{AreApart, Leaf, Page, AreOrdered, no_leaf, picked, placed_pages, moved, rewritten}
+use Rattle.late_insert.specs.{AreApart, Leaf, Page, no_summary, AreOrdered, no_leaf, picked, placed_pages, moved, rewritten}
 
 -- a page with its place
 abbrev pub with_place : Leaf → ℕ → Page
-with_place l n = record { id = l.id; first = n; start = l.start; stair = l.stair }
+with_place l n = record { id = l.id; first = n; start = l.start; summary = l.summary }
 
 -- there are as many pages
 pub length-placed_pages : (ls : List Leaf) (ns : List ℕ) → length ns ≡ length ls
@@ -42,11 +42,11 @@ placed_pages-insert (x ∷ ls) (m ∷ ns) (suc i) l n long within =
 pub placed_pages-set : (ls : List Leaf) (ns : List ℕ) (k : ℕ) (l : Leaf) (d : Page) → length ns ≡ length ls
     → k < length ls → l.id ≡ (get_or ls k l).id
     → placed_pages (set ls k l) ns ≡ set (placed_pages ls ns) k
-    (rewritten l.start l.stair (get_or (placed_pages ls ns) k d))
+    (rewritten l.start l.summary (get_or (placed_pages ls ns) k d))
 placed_pages-set [] ns k l d long within same = absurd (omega arith)
 placed_pages-set (x ∷ ls) [] k l d long within same = absurd (omega (arith, long))
 placed_pages-set (x ∷ ls) (m ∷ ns) zero l d long within same =
-    ap (λ i. record { id = i; first = m; start = l.start; stair = l.stair } ∷ placed_pages ls ns) same
+    ap (λ i. record { id = i; first = m; start = l.start; summary = l.summary } ∷ placed_pages ls ns) same
 placed_pages-set (x ∷ ls) (m ∷ ns) (suc k) l d long within same =
     ap (λ ps. with_place x m ∷ ps) (placed_pages-set ls ns k l d (omega (arith, long)) (omega arith) same)
 
@@ -67,7 +67,7 @@ placed_pages-move (x ∷ ls) (m ∷ ns) (suc k) by long =
 pub small_firsts : (ls : List Leaf) (ns : List ℕ) (by top : ℕ) → length ns ≡ length ls
     → All (λ p. p.first + by < top) (placed_pages ls ns) → All (λ n. n + by < top) ns
 small_firsts ls ns by top long small = λ k d inside.
-    let l : Leaf = record { id = 0; start = 0; stair = pos 0 } in
+    let l : Leaf = record { id = 0; start = 0; summary = no_summary } in
     let p : Page = with_place l 0 in
     let here = small k p (omega (arith, inside, length-placed_pages ls ns long)) in
     subst (λ (q : Page). q.first + by < top)

@@ -1,12 +1,12 @@
 -- A page in a frame that was taken: the first one, and one after all others.
-use Rattle.std.proofs.Common.{◌≡◌, ◌≢◌, true, ℕ, ℤ, pos, suc, ◌+◌, ◌-◌, ◌<◌, ◌≤◌, inl, inr, List, [], ◌∷◌, ◌++◌, length, get_or, set, Option, Some, None, All, refl, sym, ap, ap₂, ◌∙◌, subst, arith, append-nil, length-append}
+use Rattle.std.proofs.Common.{◌≡◌, ◌≢◌, ℕ, pos, suc, ◌+◌, ◌-◌, ◌<◌, ◌≤◌, inl, inr, List, [], ◌∷◌, ◌++◌, length, get_or, set, Option, Some, None, All, refl, sym, ap, ap₂, ◌∙◌, subst, arith, append-nil, length-append}
 use Rattle.std.proofs.lemmas.List.{get_or-set_same, get_or-set_other, length-replicate, length-set, map-append}
 use Rattle.std.proofs.lemmas.List.Elements.{All-nil, All-cons, All-head, All-tail, All-append}
 use Rattle.std.proofs.lemmas.Bool.{cases_lt}
 use Rattle.trend_num.specs.{Rec, InRange}
 use Rattle.page_pool.specs.{Frame, frame_at, TakesFrame, empty_frame}
-use Rattle.late_insert.specs.{Page, AreApart, ids_of, frame_records_in, records_at, page_in, page_records_of, IsPage, IsPageAt, ArePagesFrom, ArePages, AreHalves, lengths_of}
-use Rattle.trend_model.specs.{IsRising, points_of, area}
+use Rattle.late_insert.specs.{Page, Summary, summary_of, no_summary, AreApart, ids_of, frame_records_in, records_at, page_in, page_records_of, IsPage, IsPageAt, ArePagesFrom, ArePages, AreHalves, lengths_of}
+use Rattle.trend_model.specs.{IsRising, points_of}
 use Rattle.trend_model.proofs.Placing.{rising_nil}
 use Rattle.late_insert.proofs.Finding.{HasSome}
 use Rattle.late_insert.proofs.Joining.{Agree, records-agree, pages_agree, records-append, pages_join, apart_insert, each_id, lengths-agree, lengths-append}
@@ -40,12 +40,12 @@ empty_start : get_or empty_frame.times 0 0 ≡ 0
 unfolding empty_frame
 empty_start = refl
 
--- with no stair
-pub empty_stair : area true (points_of (frame_records_in empty_frame)) ≡ pos 0
-empty_stair = ap (λ l. area true (points_of l)) empty_records
+-- with no points
+pub empty_summary : summary_of (points_of (frame_records_in empty_frame)) ≡ no_summary
+empty_summary = ap (λ l. summary_of (points_of l)) empty_records
 
 module _ (pool new : List (Option Frame)) (pages : List Page) (id : ℕ) (takes : TakesFrame pool id new)
-    (list : pages ≡ record { id = id; first = 0; start = 0; stair = pos 0 } ∷ []) where
+    (list : pages ≡ record { id = id; first = 0; start = 0; summary = no_summary } ∷ []) where
   -- the frame that was taken is empty
   empty_there : frame_at new id ≡ Some empty_frame
   empty_there = ap (λ ps. frame_at ps id) takes.now_empty
@@ -71,7 +71,7 @@ module _ (pool new : List (Option Frame)) (pages : List Page) (id : ℕ) (takes 
         first = refl;
         start =
             sym empty_start;
-        stair = sym empty_stair;
+        summary = sym empty_summary;
       },
       tt,
     );
@@ -114,14 +114,14 @@ halves_end pool new (p ∷ o ∷ ps) q agree halves last =
 -- what is left where a frame was taken and written with a run of records, and its page put after the others
 module _ (pool taken : List (Option Frame)) (pages : List Page) (id first : ℕ) (g : Frame) (run : List Rec)
     (paged : ArePages pool pages)
-    (takes : TakesFrame pool id taken) (page : IsPage g) (stair : ℤ)
-    (stair_is : stair ≡ area true (points_of (frame_records_in g)))
+    (takes : TakesFrame pool id taken) (page : IsPage g) (summary : Summary)
+    (summary_is : summary ≡ summary_of (points_of (frame_records_in g)))
     (records : frame_records_in g ≡ run) (counted : first ≡ length (page_records_of pool pages)) (some : 0 < length run)
     (rising : IsRising (page_records_of pool pages ++ run))
     (full : (d : Page) → length (page_in pool (get_or pages (length pages - 1) d)) ≡ 128) where
   -- the page
   abbrev pub opened_page : Page
-  opened_page = record { id = id; first = first; start = get_or g.times 0 0; stair = stair }
+  opened_page = record { id = id; first = first; start = get_or g.times 0 0; summary = summary }
 
   -- the pool
   abbrev pub opened_pool : List (Option Frame)
@@ -170,7 +170,7 @@ module _ (pool taken : List (Option Frame)) (pages : List Page) (id first : ℕ)
     page = page;
     first = omega (arith, counted, ap length (records-agree pool opened_pool pages agree));
     start = refl;
-    stair = stair_is;
+    summary = summary_is;
   }
 
   apart_there : AreApart (ids_of (pages ++ opened_page ∷ []))

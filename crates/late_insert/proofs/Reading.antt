@@ -8,7 +8,7 @@ use Rattle.std.proofs.lemmas.Bool.{cases_lt, cases_eq, lt-ltb, le-ltb}
 use Rattle.trend_num.specs.{Rec}
 use Rattle.page_pool.specs.{Frame, IsHeld, frame_at}
 use Rattle.late_insert.specs.declared.directory.Key.TheVariants.{Place}
-use Rattle.late_insert.specs.{Page, IsLastUpto, rec_in, frame_records_in, records_at, page_in, page_records_of, IsPage, IsPageAt, ArePages, IsPageRead, IsFor, IsOn}
+use Rattle.late_insert.specs.{Page, IsLastUpto, Summary, summary_of, rec_in, frame_records_in, records_at, page_in, page_records_of, IsPage, IsPageAt, ArePages, IsPageRead, IsFor, IsOn}
 use Rattle.trend_model.specs.{IsRising, points_of, area}
 use Rattle.trend_model.proofs.Placing.{time, AllBefore, rising_left, rising_right}
 use Rattle.late_insert.proofs.Summing.{length-records_in, get_or-records_in}
@@ -85,9 +85,12 @@ module _ (pool : List (Option Frame)) (pages : List Page) (k : ℕ) (p : Page) (
   pub frame_page : IsPage f
   frame_page = subst IsPage same_frame at_place.page
 
-  -- its stair
-  pub page_stair : p.stair ≡ area true (points_of (frame_records_in f))
-  page_stair = at_place.stair ∙ ap (λ g. area true (points_of (frame_records_in g))) same_frame
+  -- its summary
+  pub page_summary : p.summary ≡ summary_of (points_of (frame_records_in f))
+  page_summary = at_place.summary ∙ ap (λ g. summary_of (points_of (frame_records_in g))) same_frame
+
+  pub page_stair : p.summary.stair ≡ area true (points_of (frame_records_in f))
+  page_stair = ap (λ (s : Summary). s.stair) page_summary
 
   parts : page_records_of pool pages ≡ front ++ (frame_records_in f ++ behind)
   parts =

@@ -1,5 +1,5 @@
 -- A page in the middle that is replaced by others.
-use Rattle.std.proofs.Common.{◌≡◌, ◌≢◌, inl, inr, true, ℕ, ℤ, ◌+◌, ◌<◌, ◌≤◌, List, [], ◌∷◌, ◌++◌, length, map, get_or, set, take, drop, Option, Some, None, All, refl, sym, ap, ap₂, ◌∙◌, subst, arith, append_assoc, append-nil, length-append}
+use Rattle.std.proofs.Common.{◌≡◌, ◌≢◌, inl, inr, ℕ, ◌+◌, ◌<◌, ◌≤◌, List, [], ◌∷◌, ◌++◌, length, map, get_or, set, take, drop, Option, Some, None, All, refl, sym, ap, ap₂, ◌∙◌, subst, arith, append_assoc, append-nil, length-append}
 use Rattle.std.proofs.Common.{add-zero, zero-add}
 use Rattle.std.specs.Prelude.{is_some}
 use Rattle.std.proofs.lemmas.List.{get_or-set_same, get_or-set_other, map-append, length-map, take-append-drop, length-set, length-take-le, length-drop, get_or-take, nil_from_length}
@@ -8,8 +8,8 @@ use Rattle.std.proofs.lemmas.List.Elements.{All-nil, All-cons, All-head, All-tai
 use Rattle.trend_num.specs.{Rec}
 use Rattle.page_pool.specs.{Frame, frame_at, IsHeld}
 use Rattle.page_pool.proofs.Stored.{held_within}
-use Rattle.late_insert.specs.{Page, moved, frame_records_in, records_at, page_in, page_records_of, IsPage, IsPageAt, ArePagesFrom, ArePages, AreApart, AreHalves, ids_of, lengths_of}
-use Rattle.trend_model.specs.{IsRising, placed, points_of, area}
+use Rattle.late_insert.specs.{Page, Summary, summary_of, moved, frame_records_in, records_at, page_in, page_records_of, IsPage, IsPageAt, ArePagesFrom, ArePages, AreApart, AreHalves, ids_of, lengths_of}
+use Rattle.trend_model.specs.{IsRising, placed, points_of}
 use Rattle.late_insert.proofs.Summing.{length-records_in, get_or-records_in}
 use Rattle.late_insert.proofs.Finding.{no_rec, HasSome}
 use Rattle.trend_model.proofs.Placing.{time, placed_middle, rising_placed, length-placed}
@@ -111,15 +111,15 @@ write_there pool id f g there =
 
 -- ---- one record more
 
-module _ (pool : List (Option Frame)) (A B : List Page) (p : Page) (g : Frame) (r : Rec) (by : ℕ) (s : ℤ)
-    (stair : s ≡ area true (points_of (frame_records_in g))) (paged : ArePages pool (A ++ p ∷ B))
+module _ (pool : List (Option Frame)) (A B : List Page) (p : Page) (g : Frame) (r : Rec) (by : ℕ) (s : Summary)
+    (summary : s ≡ summary_of (points_of (frame_records_in g))) (paged : ArePages pool (A ++ p ∷ B))
     (page : IsPage g) (records : frame_records_in g ≡ placed r (page_in pool p))
     (grown : length (frame_records_in g) ≡ length (page_in pool p) + by)
     (before : All (λ x. time x < time r) (page_records_of pool A))
     (after : All (λ x. time r < time x) (page_records_of pool B)) where
   -- the page with the record
   abbrev pub put_page : Page
-  put_page = record { id = p.id; first = p.first; start = get_or g.times 0 0; stair = s }
+  put_page = record { id = p.id; first = p.first; start = get_or g.times 0 0; summary = s }
 
   abbrev pub put_pages : List Page
   put_pages = A ++ put_page ∷ map (moved by) B
@@ -142,7 +142,7 @@ module _ (pool : List (Option Frame)) (A B : List Page) (p : Page) (g : Frame) (
           first = at.first
               ∙ zero-add (length (page_records_of pool A));
           start = refl;
-          stair = stair;
+          summary = summary;
         },
         tt,
       )
@@ -218,7 +218,7 @@ module _ (pool : List (Option Frame)) (A B : List Page) (p : Page) (g : Frame) (
 moved_none : (pages : List Page) → map (moved 0) pages ≡ pages
 moved_none [] = refl
 moved_none (p ∷ ps) =
-    ap₂ (λ x xs. x ∷ xs) (ap (λ n. record { id = p.id; first = n; start = p.start; stair = p.stair })
+    ap₂ (λ x xs. x ∷ xs) (ap (λ n. record { id = p.id; first = n; start = p.start; summary = p.summary })
     (add-zero p.first)) (moved_none ps)
 
 -- no page has an id that is spare
@@ -232,19 +232,19 @@ spare_apart pool place (p ∷ ps) id each spare =
     absurd cc)
     (spare_apart pool (place + length (page_in pool p)) ps id each.1 spare)
 
-module _ (pool : List (Option Frame)) (A B : List Page) (p : Page) (lo hi e : Frame) (id : ℕ) (s t : ℤ)
-    (lower_stair : s ≡ area true (points_of (frame_records_in lo)))
-    (upper_stair : t ≡ area true (points_of (frame_records_in hi))) (paged : ArePages pool (A ++ p ∷ B))
+module _ (pool : List (Option Frame)) (A B : List Page) (p : Page) (lo hi e : Frame) (id : ℕ) (s t : Summary)
+    (lower_summary : s ≡ summary_of (points_of (frame_records_in lo)))
+    (upper_summary : t ≡ summary_of (points_of (frame_records_in hi))) (paged : ArePages pool (A ++ p ∷ B))
     (lower : IsPage lo) (upper : IsPage hi) (lower_records : frame_records_in lo ≡ take 64 (page_in pool p))
     (upper_records : frame_records_in hi ≡ drop 64 (page_in pool p)) (full : length (page_in pool p) ≡ 128)
     (within : id < length (set pool p.id (Some lo))) (spare : frame_at (set pool p.id (Some lo)) id ≡ None)
   where
     -- the pages of both halves
     abbrev pub lower_page : Page
-    lower_page = record { id = p.id; first = p.first; start = p.start; stair = s }
+    lower_page = record { id = p.id; first = p.first; start = p.start; summary = s }
 
     abbrev pub upper_page : Page
-    upper_page = record { id = id; first = p.first + 64; start = get_or hi.times 0 0; stair = t }
+    upper_page = record { id = id; first = p.first + 64; start = get_or hi.times 0 0; summary = t }
 
     abbrev pub split_pool : List (Option Frame)
     split_pool = set (set (set pool p.id (Some lo)) id (Some e)) id (Some hi)
@@ -337,7 +337,7 @@ module _ (pool : List (Option Frame)) (A B : List Page) (p : Page) (lo hi e : Fr
             page = lower;
             first = at_p.first ∙ place;
             start = at_p.start ∙ sym first_time;
-            stair = lower_stair;
+            summary = lower_summary;
           },
           (
             record {
@@ -346,7 +346,7 @@ module _ (pool : List (Option Frame)) (A B : List Page) (p : Page) (lo hi e : Fr
               page = upper;
               first = omega (arith, at_p.first, low_len);
               start = refl;
-              stair = upper_stair;
+              summary = upper_summary;
             },
             tt,
           ),

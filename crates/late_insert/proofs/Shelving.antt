@@ -1,6 +1,6 @@
 -- What the code makes of a list of pages.
-use Rattle.std.proofs.Common.{◌≡◌, true, ℕ, ℤ, zero, suc, ◌+◌, ◌-◌, ◌^◌, ◌<◌, ◌≤◌, List, [], ◌∷◌, ◌++◌, length, map, get_or, set, take, drop, Option, Some, All, sym, ap, ap₂, ◌∙◌, subst, arith, append_assoc, append-nil, length-append}
-use Rattle.std.proofs.Common.{add-one, inl, inr}
+use Rattle.std.proofs.Common.{◌≡◌, ℕ, zero, suc, ◌+◌, ◌-◌, ◌^◌, ◌<◌, ◌≤◌, List, [], ◌∷◌, ◌++◌, length, map, get_or, set, take, drop, Option, Some, All, sym, ap, ap₂, ◌∙◌, subst, arith, append_assoc, append-nil, length-append, add-one, inl}
+use Rattle.std.proofs.Common.{inr}
 use Rattle.std.proofs.lemmas.List.{take_more_set, drop-set-lt, get_or_default, length-set, length-take-le, get_or_at, get_or-set_same, drop_all, take_all, get_or-set_other}
 use Rattle.std.proofs.lemmas.List.Edits.{get_or-insert_at, get_or-insert_below, get_or-insert_above, length-insert}
 use Rattle.std.proofs.lemmas.Bool.{cases_eq, cases_lt}
@@ -9,8 +9,8 @@ use Rattle.std.specs.Prelude.{insert}
 use Rattle.std.proofs.lemmas.List.Elements.{All-nil, All-cons, All-set}
 use Rattle.trend_num.specs.{Rec}
 use Rattle.page_pool.specs.{Frame, TakesFrame, empty_frame}
-use Rattle.late_insert.specs.{Page, IsLastUpto, moved, frame_records_in, records_at, page_in, page_records_of, IsPage, ArePagesFrom, IsPageRead, ArePages, IsFor, IsHalfFor, IsSplit, lengths_of, IsGrown, place_in}
-use Rattle.trend_model.specs.{placed, points_of, area}
+use Rattle.late_insert.specs.{Page, Summary, summary_of, IsLastUpto, moved, frame_records_in, records_at, page_in, page_records_of, IsPage, ArePagesFrom, IsPageRead, ArePages, IsFor, IsHalfFor, IsSplit, lengths_of, IsGrown, place_in}
+use Rattle.trend_model.specs.{placed, points_of}
 use Rattle.late_insert.specs.declared.directory.Key.TheVariants.{Time}
 use Rattle.trend_model.proofs.Placing.{time, placed_middle, AllBefore}
 use Rattle.late_insert.proofs.Summing.{length-records_in}
@@ -38,15 +38,15 @@ pub none_moved : (by : ℕ) (S : List Page) (k : ℕ) → length S ≤ k + 1 →
 none_moved by S k last =
     rw (take_all (k + 1) S last, drop_all (k + 1) S last) (sym (append-nil S))
 
--- the pages after a record was put into the page at k: its start and stair are written, and the others are
+-- the pages after a record was put into the page at k: its start and summary are written, and the others are
 -- moved on
-pub record IsShelved (pages M S : List Page) (k by : ℕ) (q : Page) (g : Frame) (s : ℤ) : Type 0 where
+pub record IsShelved (pages M S : List Page) (k by : ℕ) (q : Page) (g : Frame) (s : Summary) : Type 0 where
   pub again : q ≡ get_or pages k q
-  pub wrote : S ≡ set pages k (record { id = q.id; first = q.first; start = get_or g.times 0 0; stair = s })
+  pub wrote : S ≡ set pages k (record { id = q.id; first = q.first; start = get_or g.times 0 0; summary = s })
   pub moves : M ≡ take (k + 1) S ++ map (moved by) (drop (k + 1) S)
 
 module _ (pool : List (Option Frame)) (pages M S : List Page) (k by : ℕ) (p q : Page) (f g : Frame)
-    (r : Rec) (s : ℤ) (stair : s ≡ area true (points_of (frame_records_in g)))
+    (r : Rec) (s : Summary) (summary : s ≡ summary_of (points_of (frame_records_in g)))
     (is : IsPageRead pool pages k p f) (found : IsFor pool pages k (time r)) (page : IsPage g)
     (records : frame_records_in g ≡ placed r (frame_records_in f)) (grown : g.len ≡ f.len + by)
     (shelved : IsShelved pages M S k by q g s) where
@@ -70,10 +70,10 @@ module _ (pool : List (Option Frame)) (pages M S : List Page) (k by : ℕ) (p q 
 
   -- the pages as the code leaves them
   final : M ≡ take k pages ++ record
-      { id = p.id; first = p.first; start = get_or g.times 0 0; stair = s } ∷ map (moved by)
+      { id = p.id; first = p.first; start = get_or g.times 0 0; summary = s } ∷ map (moved by)
       (drop (k + 1) pages)
   final =
-      let now : Page = record { id = q.id; first = q.first; start = get_or g.times 0 0; stair = s } in
+      let now : Page = record { id = q.id; first = q.first; start = get_or g.times 0 0; summary = s } in
       let front : take (k + 1) S ≡ take k pages ++ now ∷ [] = ap (take (k + 1)) shelved.wrote
       ∙ take_more_set pages k now is.within in
       let back : drop (k + 1) S ≡ drop (k + 1) pages = ap (drop (k + 1)) shelved.wrote
@@ -82,20 +82,20 @@ module _ (pool : List (Option Frame)) (pages M S : List Page) (k by : ℕ) (p q 
       shelved.moves ∙ (ap₂ (λ xs ys. xs ++ map (moved by) ys) front back
       ∙ append_assoc (take k pages) (now ∷ []) (map (moved by) (drop (k + 1) pages))) in
       whole ∙ ap (λ (x : Page). take k pages ++ record
-      { id = x.id; first = x.first; start = get_or g.times 0 0; stair = s } ∷ map (moved by)
+      { id = x.id; first = x.first; start = get_or g.times 0 0; summary = s } ∷ map (moved by)
       (drop (k + 1) pages)) same_page
 
   pub pages_shelved : ArePages (set pool p.id (Some g)) (M)
   pages_shelved =
       subst (ArePages (set pool p.id (Some g))) (sym final)
-      (pages_put pool (take k pages) (drop (k + 1) pages) p g r by s stair as_pages page in_page in_len
+      (pages_put pool (take k pages) (drop (k + 1) pages) p g r by s summary as_pages page in_page in_len
       found.before found.after)
 
   pub records-shelved : page_records_of (set pool p.id (Some g)) (M) ≡ placed r
       (page_records_of pool pages)
   records-shelved =
       ap (page_records_of (set pool p.id (Some g))) final
-      ∙ (records-put pool (take k pages) (drop (k + 1) pages) p g r by s stair as_pages page in_page in_len
+      ∙ (records-put pool (take k pages) (drop (k + 1) pages) p g r by s summary as_pages page in_page in_len
       found.before found.after
       ∙ ap (λ ps. placed r (page_records_of pool ps)) (sym around))
 
@@ -133,7 +133,7 @@ module _ (pool : List (Option Frame)) (pages M S : List Page) (k by : ℕ) (p q 
         was = lengths-around pool pages k p is.within
             ∙ ap (λ m. lengths_of pool (take k pages) ++ m ∷ lengths_of pool (drop (k + 1) pages)) here;
         now = ap (lengths_of (set pool p.id (Some g))) final
-            ∙ lengths-put pool (take k pages) (drop (k + 1) pages) p g r by s stair as_pages page in_page in_len
+            ∙ lengths-put pool (take k pages) (drop (k + 1) pages) p g r by s summary as_pages page in_page in_len
             found.before found.after;
         room = omega (arith, long);
         from = place_from pool pages k (time r) p found;
@@ -154,9 +154,9 @@ first_fits pool place (p ∷ ps) each =
     arith)
 
 -- nor does one whose start is written
-pub small_places : (pool : List (Option Frame)) (pages S : List Page) (k by : ℕ) (q : Page) (s : ℕ) (z : ℤ)
+pub small_places : (pool : List (Option Frame)) (pages S : List Page) (k by : ℕ) (q : Page) (s : ℕ) (z : Summary)
     → ArePages pool pages → k < length pages
-    → q ≡ get_or pages k q → S ≡ set pages k (record { id = q.id; first = q.first; start = s; stair = z })
+    → q ≡ get_or pages k q → S ≡ set pages k (record { id = q.id; first = q.first; start = s; summary = z })
     → length (page_records_of pool pages) + 1 < 2 ^ 32 → by ≤ 1
     → All (λ p. p.first + by < 2 ^ 32) S
 small_places pool pages S k by q s z paged within again wrote few one =
@@ -165,7 +165,7 @@ small_places pool pages S k by q s z paged within again wrote few one =
     let all : All Small pages = λ i d inside. let first = firsts i d inside in omega arith in
     let here : q.first + by < 2 ^ 32 = subst Small (sym again) (all k q within) in
     subst (All Small) (sym wrote) (All-set Small pages k
-    (record { id = q.id; first = q.first; start = s; stair = z }) here all)
+    (record { id = q.id; first = q.first; start = s; summary = z }) here all)
 
 -- ---- a page that was split
 
@@ -179,9 +179,9 @@ pub record IsCut (pool_old pool : List (Option Frame)) (old now : List Page) (k 
 
 -- what a split leaves: the lower half, a frame that was taken for the upper half, and the upper half there
 module _ (pool taken : List (Option Frame)) (pages : List Page) (k id : ℕ) (p q : Page) (f lo hi : Frame)
-    (s t : ℤ)
-    (lower_stair : s ≡ area true (points_of (frame_records_in lo)))
-    (upper_stair : t ≡ area true (points_of (frame_records_in hi))) (is : IsPageRead pool pages k p f)
+    (s t : Summary)
+    (lower_summary : s ≡ summary_of (points_of (frame_records_in lo)))
+    (upper_summary : t ≡ summary_of (points_of (frame_records_in hi))) (is : IsPageRead pool pages k p f)
     (full : f.len ≡ 128) (lower : IsPage lo) (upper : IsPage hi)
     (low : frame_records_in lo ≡ take 64 (frame_records_in f))
     (high : frame_records_in hi ≡ drop 64 (frame_records_in f)) (takes : TakesFrame (set pool p.id (Some lo)) id taken)
@@ -201,11 +201,11 @@ module _ (pool taken : List (Option Frame)) (pages : List Page) (k id : ℕ) (p 
 
   -- the new page
   abbrev pub new_page : Page
-  new_page = record { id = id; first = q.first + 64; start = get_or hi.times 0 0; stair = t }
+  new_page = record { id = id; first = q.first + 64; start = get_or hi.times 0 0; summary = t }
 
-  -- the page that was split, with the stair of its lower half
+  -- the page that was split, with the summary of its lower half
   abbrev pub old_page : Page
-  old_page = record { id = q.id; first = q.first; start = q.start; stair = s }
+  old_page = record { id = q.id; first = q.first; start = q.start; summary = s }
 
   split_same : q ≡ p
   split_same = again ∙ (get_or_default pages k q p is.within ∙ sym is.read)
@@ -214,14 +214,14 @@ module _ (pool taken : List (Option Frame)) (pages : List Page) (k id : ℕ) (p 
   abbrev pub split_list : List Page
   split_list = insert (set pages k old_page) (k + 1) new_page
 
-  split_is : split_list ≡ take k pages ++ record { id = p.id; first = p.first; start = p.start; stair = s }
-      ∷ record { id = id; first = p.first + 64; start = get_or hi.times 0 0; stair = t } ∷ drop (k + 1) pages
+  split_is : split_list ≡ take k pages ++ record { id = p.id; first = p.first; start = p.start; summary = s }
+      ∷ record { id = id; first = p.first + 64; start = get_or hi.times 0 0; summary = t } ∷ drop (k + 1) pages
   split_is =
       ap₂ (λ xs ys. xs ++ new_page ∷ ys) (take_more_set pages k old_page is.within)
       (drop-set-lt (k + 1) pages k old_page (omega arith))
       ∙ (append_assoc (take k pages) (old_page ∷ []) (new_page ∷ drop (k + 1) pages)
-      ∙ ap (λ (x : Page). take k pages ++ record { id = x.id; first = x.first; start = x.start; stair = s }
-      ∷ record { id = id; first = x.first + 64; start = get_or hi.times 0 0; stair = t } ∷ drop (k + 1) pages)
+      ∙ ap (λ (x : Page). take k pages ++ record { id = x.id; first = x.first; start = x.start; summary = s }
+      ∷ record { id = id; first = x.first + 64; start = get_or hi.times 0 0; summary = t } ∷ drop (k + 1) pages)
       split_same)
 
   split_pool_is : set taken id (Some hi) ≡ set (set (set pool p.id (Some lo)) id (Some empty_frame)) id
@@ -239,31 +239,31 @@ module _ (pool taken : List (Option Frame)) (pages : List Page) (k id : ℕ) (p 
       subst (λ ps. ArePages ps split_list) (sym split_pool_is)
       (subst (ArePages (set (set (set pool p.id (Some lo)) id (Some empty_frame)) id (Some hi)))
       (sym split_is)
-      (pages_in_halves pool (take k pages) (drop (k + 1) pages) p lo hi empty_frame id s t lower_stair
-      upper_stair split_paged lower upper low_part high_part split_full takes.within takes.was_spare))
+      (pages_in_halves pool (take k pages) (drop (k + 1) pages) p lo hi empty_frame id s t lower_summary
+      upper_summary split_paged lower upper low_part high_part split_full takes.within takes.was_spare))
 
   records-cut : page_records_of (set taken id (Some hi)) split_list ≡ page_records_of pool pages
   records-cut =
       ap₂ page_records_of split_pool_is split_is
-      ∙ (records-split pool (take k pages) (drop (k + 1) pages) p lo hi empty_frame id s t lower_stair
-      upper_stair split_paged lower upper low_part high_part split_full takes.within takes.was_spare
+      ∙ (records-split pool (take k pages) (drop (k + 1) pages) p lo hi empty_frame id s t lower_summary
+      upper_summary split_paged lower upper low_part high_part split_full takes.within takes.was_spare
       ∙ ap (page_records_of pool) (sym split_around))
 
   lengths-cut : lengths_of (set taken id (Some hi)) split_list ≡ lengths_of pool (take k pages) ++ 64 ∷ 64
       ∷ lengths_of pool (drop (k + 1) pages)
   lengths-cut =
       ap₂ lengths_of split_pool_is split_is
-      ∙ lengths-split pool (take k pages) (drop (k + 1) pages) p lo hi empty_frame id s t lower_stair
-      upper_stair split_paged lower upper low_part high_part split_full takes.within takes.was_spare
+      ∙ lengths-split pool (take k pages) (drop (k + 1) pages) p lo hi empty_frame id s t lower_summary
+      upper_summary split_paged lower upper low_part high_part split_full takes.within takes.was_spare
 
   -- how many records the halves have
   lower_len : (d : Page) → length (page_in (set taken id (Some hi)) (get_or split_list k d)) ≡ 64
   lower_len d =
-      let here : get_or split_list k d ≡ record { id = p.id; first = p.first; start = p.start; stair = s } =
+      let here : get_or split_list k d ≡ record { id = p.id; first = p.first; start = p.start; summary = s } =
       ap (λ ps. get_or ps k d) split_is ∙ get_or_at (take k pages) _ _ d k
       (length-take-le k pages (omega (arith, is.within))) in
       ap₂ (λ ps x. length (page_in ps x)) split_pool_is here
-      ∙ low_len pool (take k pages) (drop (k + 1) pages) p lo hi empty_frame id s t lower_stair upper_stair
+      ∙ low_len pool (take k pages) (drop (k + 1) pages) p lo hi empty_frame id s t lower_summary upper_summary
       split_paged lower upper low_part high_part split_full takes.within takes.was_spare
 
   upper_len : (d : Page) → length (page_in (set taken id (Some hi)) (get_or split_list (k + 1) d)) ≡ 64
@@ -272,7 +272,7 @@ module _ (pool taken : List (Option Frame)) (pages : List Page) (k id : ℕ) (p 
       get_or-insert_at (set pages k old_page) (k + 1) new_page d
       (omega (arith, is.within, length-set pages k old_page)) in
       ap₂ (λ ps x. length (page_in ps x)) split_pool_is here
-      ∙ high_len pool (take k pages) (drop (k + 1) pages) p lo hi empty_frame id s t lower_stair upper_stair
+      ∙ high_len pool (take k pages) (drop (k + 1) pages) p lo hi empty_frame id s t lower_summary upper_summary
       split_paged lower upper low_part high_part split_full takes.within takes.was_spare
 
   -- all that a split says

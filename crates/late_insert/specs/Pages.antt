@@ -1,5 +1,5 @@
 -- How a content is kept in pages, each in a frame.
-use Rattle.std.specs.Prelude.{◌≡◌, ◌≢◌, true, false, ℕ, ℤ, zero, suc, pos, ◌+◌, ◌*◌, ◌/◌, ◌^◌, ◌<◌, ◌≤◌, ◌⊎◌, List, [], ◌∷◌, Option, None, Some, length, map, slice_index, slice_index_or, take, drop, insert, slice_set, All}
+use Rattle.std.specs.Prelude.{◌≡◌, ◌≢◌, false, ℕ, zero, suc, pos, ◌+◌, ◌*◌, ◌/◌, ◌^◌, ◌<◌, ◌≤◌, ◌⊎◌, List, [], ◌∷◌, Option, None, Some, length, map, slice_index, slice_index_or, take, drop, insert, slice_set, slice_range, All}
 use Rattle.std.specs.Int.{bit_at}
 use Rattle.std.specs.List.{flat_map, range_with_len}
 use Rattle.trend_num.specs.{Rec, Kind, InRange}
@@ -7,7 +7,8 @@ use Rattle.trend_num.specs.declared.archive.Kind.TheVariants.{Kept, Late}
 use Rattle.page_pool.specs.{Frame, frame_at, full_page, spare_of}
 use Rattle.late_insert.specs.declared.directory.Page.{Page}
 use Rattle.trend_model.specs.{IsRising, points_of, area}
-use Rattle.late_insert.specs.Totals.{least_of, greatest_of}
+use Rattle.late_insert.specs.declared.total.Summary.{Summary}
+use Rattle.late_insert.specs.Totals.{least_of, greatest_of, joined_of, summary_of}
 
 -- ---- a page in a frame
 
@@ -72,7 +73,7 @@ pub record IsPageAt (pool : List (Option Frame)) (place : ℕ) (p : Page) : Type
   pub page : IsPage frame
   pub first : p.first ≡ place
   pub start : p.start ≡ slice_index frame.times 0
-  pub stair : p.stair ≡ area true (points_of (frame_records_in frame))
+  pub summary : p.summary ≡ summary_of (points_of (frame_records_in frame))
 
 -- pages that follow one another from this place on
 abbrev pub ArePagesFrom : List (Option Frame) → ℕ → List Page → Type 0
@@ -145,12 +146,12 @@ pub record IsWalk (pool : List (Option Frame)) (pages : List Page) (k place end 
   pub few : end < 2 ^ 32
   pub at : place < end → IsOn pool pages k place
 
--- some records of a frame, and twice the area under the stair of all of them
-pub record IsRun (f : Frame) (stair : ℤ) (start end : ℕ) : Type 0 where
-  pub page : IsPage f
-  pub stair_is : stair ≡ area true (points_of (frame_records_in f))
-  pub some : start < end
-  pub within : end ≤ f.len
+-- the points of pages from one place to another, and their summary
+pub record IsRun (pool : List (Option Frame)) (pages : List Page) (place end : ℕ) (summary : Summary) : Type 0 where
+  pub paged : ArePages pool pages
+  pub some : place < end
+  pub within : end ≤ length (page_records_of pool pages)
+  pub is : summary ≡ summary_of (slice_range (points_of (page_records_of pool pages)) place end)
 
 -- a content of `len` records in pages, with room for `room` in all
 pub record IsKept (pool : List (Option Frame)) (pages : List Page) (places len room : ℕ) : Type 0 where
@@ -163,3 +164,12 @@ pub record IsKept (pool : List (Option Frame)) (pages : List Page) (places len r
   pub reserved : length pages + spare_of pool ≤ places
   -- and the list of pages has as many places as were made for this room, so it never grows
   pub exact : places ≡ room / half_page + 2
+
+-- the block of 64 pages from the page k on begins at a place, and a page comes after it at the place `behind`, which is
+-- not after the end
+pub record IsBlock (pages : List Page) (k place end behind : ℕ) (summary : Summary) : Type 0 where
+  pub begins : (d : Page) → (slice_index_or pages k d).first ≡ place
+  pub inside : k + 64 < length pages
+  pub ends : (d : Page) → (slice_index_or pages (k + 64) d).first ≡ behind
+  pub before : behind ≤ end
+  pub is : summary ≡ joined_of (map (λ p. p.summary) (take 64 (drop k pages)))

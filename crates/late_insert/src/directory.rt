@@ -1,21 +1,23 @@
 // The list of a content's pages, in order of time.
-ghost use Rattle.std.specs.Prelude.{◌≡◌, ◌+◌, ◌-◌, ◌^◌, ◌<◌, ◌≤◌, [], ◌∷◌, length, map, take, drop, ◌++◌, All, slice_index_or, slice_set, insert, vec_len, vec_capacity, AllPairs, IfOk};
+ghost use Rattle.std.specs.Prelude.{◌≡◌, ◌+◌, ◌-◌, ◌^◌, ◌<◌, ◌≤◌, [], ◌∷◌, length, map, take, drop, ◌++◌, All, IfSome, slice_index_or, slice_set, insert, vec_len, vec_capacity, AllPairs, IfOk};
 ghost use Rattle.late_insert.specs.declared.directory.Page.{Page};
 ghost use Rattle.late_insert.specs.declared.directory.Key.TheVariants.{Place, Time};
-ghost use Rattle.late_insert.specs.Moves.{IsLastUpto, begin_of, leaf_of, moved, rewritten};
+ghost use Rattle.late_insert.specs.Totals.{IsSmall, joined_of, page_most};
+ghost use Rattle.late_insert.specs.Moves.{AreBlocks, AreBlocksBut, summaries_of, IsLastUpto, begin_of, leaf_of, moved, rewritten};
 
+use crate::total::{Summary, joined};
 use page_pool::FrameId;
 use std::alloc::{AllocError, Global};
 use std::marker::Model;
 
-// A page of a content: its frame, the place of its first record, and that record's time. The totals of the line through
-// its points are in the frame. Twice the area under their stair is here.
+// A page of a content: its frame, the place of its first record, that record's time, and the summary of its points.
+// Summaries lie side by side here, so that a walk over whole pages reads no frame.
 #[derive(Drop)]
 pub(crate) struct Page {
     pub(crate) id: FrameId,
     pub(crate) first: u32,
     pub(crate) start: u64,
-    pub(crate) stair: i128,
+    pub(crate) summary: Summary,
 }
 
 // A page without its place.
@@ -23,7 +25,7 @@ pub(crate) struct Page {
 struct Leaf {
     id: FrameId,
     start: u64,
-    stair: i128,
+    summary: Summary,
 }
 
 // The list of a content's pages. A page stays where it was first put; a list of page numbers gives the order of time.
@@ -34,11 +36,13 @@ pub(crate) struct Directory {
     leaves: Vec<Leaf>,
     order: Vec<u32>,
     firsts: Vec<u32>,
+    // The summaries of the first blocks of pages in order of time. Blocks that have none are walked page by page.
+    blocks: Vec<Summary>,
 }
 
 impl Model for Directory {
-    ghost use Rattle.std.specs.Prelude.{◌≡◌, ◌^◌, ◌<◌, vec_capacity};
-    ghost use Rattle.late_insert.specs.Moves.{AreOrdered, Listed, picked, placed_pages};
+    ghost use Rattle.std.specs.Prelude.{◌≡◌, ◌/◌, ◌^◌, ◌<◌, vec_capacity};
+    ghost use Rattle.late_insert.specs.Moves.{AreBlocks, AreOrdered, Listed, picked, placed_pages, summaries_of};
 
     ghost Value = { Listed };
 
@@ -49,7 +53,9 @@ impl Model for Directory {
 
     ghost invariant = { λ d. AreOrdered d.leaves.items d.order.items d.firsts.items
         × (vec_capacity d.order ≡ vec_capacity d.leaves) × (vec_capacity d.firsts ≡ vec_capacity d.leaves)
-        × (vec_capacity d.leaves < 2 ^ 32) };
+        × (vec_capacity d.leaves < 2 ^ 32)
+        × AreBlocks (summaries_of d.leaves.items d.order.items) d.blocks.items
+        × (vec_capacity d.blocks ≡ vec_capacity d.leaves / 64) };
 }
 
 // The property of a page's first record by which pages are searched.
@@ -59,6 +65,9 @@ enum Key {
     Place,
 }
 
+// How many pages a block has. The summary of a block is kept, so that a walk over many pages reads one for 64.
+pub(crate) const BLOCK: usize = 64;
+
 impl Directory {
     // An empty list with room for `places` pages.
     pub(crate) fn with_capacity(alloc: Global, places: u32) -> Result<Directory, AllocError>
@@ -67,10 +76,12 @@ impl Directory {
         let leaves = Vec::with_capacity(alloc, places as usize)?;
         let order = Vec::with_capacity(alloc, places as usize)?;
         let firsts = Vec::with_capacity(alloc, places as usize)?;
+        let blocks = Vec::with_capacity(alloc, places as usize / BLOCK)?;
         Ok(Directory {
             leaves,
             order,
             firsts,
+            blocks,
         })
     }
 
@@ -118,9 +129,17 @@ impl Directory {
     // Twice the area under a page's stair.
     pub(crate) fn stair(&self, k: usize) -> i128
         requires { k < length self.now.items }
-        ensures { (d : Page) → (slice_index_or self.now.items k d).stair ≡ result }
+        ensures { (d : Page) → (slice_index_or self.now.items k d).summary.stair ≡ result }
     {
-        self.leaf(k).stair
+        self.leaf(k).summary.stair
+    }
+
+    // The summary of a page's points.
+    pub(crate) fn summary(&self, k: usize) -> Summary
+        requires { k < length self.now.items }
+        ensures { (d : Page) → (slice_index_or self.now.items k d).summary ≡ result }
+    {
+        self.leaf(k).summary
     }
 
     // The time or the place at which a page begins.
@@ -181,7 +200,8 @@ impl Directory {
 
     // Puts a page after the others.
     pub(crate) fn push(&mut self, page: Page)
-        requires { length self.old.items < self.old.places }
+        requires room { length self.old.items < self.old.places }
+        requires small { IsSmall page_most page.summary }
         ensures { self.new ≡ record self.old { items = self.old.items ++ page ∷ [] } }
     {
         let behind = self.len();
@@ -192,29 +212,58 @@ impl Directory {
     pub(crate) fn insert(&mut self, at: usize, page: Page)
         requires within { at ≤ length self.old.items }
         requires room { length self.old.items < self.old.places }
+        requires small { IsSmall page_most page.summary }
         ensures { self.new ≡ record self.old { items = insert self.old.items at page } }
     {
         let Page {
             id,
             first,
             start,
-            stair,
+            summary,
         } = page;
         put_in(&mut self.order, at, self.leaves.len() as u32);
         put_in(&mut self.firsts, at, first);
-        self.leaves.push_reserved(Leaf { id, start, stair });
+        self.leaves.push_reserved(Leaf { id, start, summary });
+        self.blocks.truncate(at / BLOCK);
+        self.close();
     }
 
-    // Sets the start and the stair of a page.
-    pub(crate) fn write(&mut self, k: usize, start: u64, stair: i128)
-        requires { k < length self.old.items }
+    // Sets the start and the summary of a page.
+    pub(crate) fn write(&mut self, k: usize, start: u64, summary: Summary)
+        requires within { k < length self.old.items }
+        requires small { IsSmall page_most summary }
         ensures { (d : Page) → self.new ≡ record self.old {
-          items = slice_set self.old.items k (rewritten start stair (slice_index_or self.old.items k d));
+          items = slice_set self.old.items k (rewritten start summary (slice_index_or self.old.items k d));
         } }
     {
         let leaf = &mut self.leaves[self.order[k] as usize];
         leaf.start = start;
-        leaf.stair = stair;
+        leaf.summary = summary;
+        renew(&mut self.blocks, &self.leaves, &self.order, k);
+    }
+
+    // Keeps the summary of one more block, if a page comes after its pages. The last page changes most often.
+    fn close(&mut self)
+        ensures { self.new ≡ self.old }
+    {
+        let start = self.blocks.len() * BLOCK;
+        if start + BLOCK < self.order.len() {
+            let block = joined_by(&self.leaves, &self.order[start..start + BLOCK]);
+            self.blocks.push_reserved(block);
+        }
+    }
+
+    // The summary of the block that begins with the page k, if it is kept.
+    pub(crate) fn block(&self, k: usize) -> Option<Summary>
+        ensures within { IfSome result (λ s. k + 64 ≤ length self.now.items) }
+        ensures value { IfSome result (λ s. s
+            ≡ joined_of (map (λ p. p.summary) (take 64 (drop k self.now.items)))) }
+    {
+        let block = k / BLOCK;
+        if block * BLOCK != k || block >= self.blocks.len() {
+            return None;
+        }
+        Some(self.blocks[block])
     }
 
     // Adds `by` to the places of the pages after the page k.
@@ -226,6 +275,36 @@ impl Directory {
         } }
     {
         move_places(&mut self.firsts, k, by);
+        self.close();
+    }
+}
+
+// The joined summary of the pages with these numbers.
+fn joined_by(leaves: &[Leaf], order: &[u32]) -> Summary
+    requires some { 0 < length order.now }
+    requires few { length order.now ≤ 64 }
+    requires within { All (λ i. i < length leaves.now) order.now }
+    requires small { All (IsSmall page_most) (summaries_of leaves.now order.now) }
+    ensures { result ≡ joined_of (summaries_of leaves.now order.now) }
+{
+    let mut all = leaves[order[0] as usize].summary;
+    for i in 1..order.len() {
+        all = joined(all, leaves[order[i] as usize].summary);
+    }
+    all
+}
+
+// Sums the block of the page k anew, if its summary is kept.
+fn renew(blocks: &mut [Summary], leaves: &[Leaf], order: &[u32], k: usize)
+    requires others { AreBlocksBut (summaries_of leaves.now order.now) blocks.old k }
+    requires within { All (λ i. i < length leaves.now) order.now }
+    ensures blocks { AreBlocks (summaries_of leaves.now order.now) blocks.new }
+    ensures len { length blocks.new ≡ length blocks.old }
+{
+    let block = k / BLOCK;
+    if block < blocks.len() {
+        let start = block * BLOCK;
+        blocks[block] = joined_by(leaves, &order[start..start + BLOCK]);
     }
 }
 
@@ -234,11 +313,8 @@ fn shift_in(numbers: &mut [u32], x: u32)
     requires { 0 < length numbers.old }
     ensures { numbers.new ≡ x ∷ take (length numbers.old - 1) numbers.old }
 {
-    let mut i = numbers.len() - 1;
-    while 0 < i {
-        numbers[i] = numbers[i - 1];
-        i -= 1;
-    }
+    let last = numbers.len() - 1;
+    numbers.copy_within(0..last, 1);
     numbers[0] = x;
 }
 

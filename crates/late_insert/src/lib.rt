@@ -13,9 +13,12 @@
 //! No contract says how a content is kept. Each page is a frame of a pool. A put tries the last page first: a record
 //! after all others moves nothing there. Any other put moves the records of one page, and the places of the pages after
 //! it: four bytes a page. A split also moves their numbers: four more bytes a page. A run of records after all others is
-//! written into a fresh page at once. Each page keeps totals of its points: the areas under their line and under their
-//! stair, the least value and the greatest. A run that is a whole page answers with these totals. The list of pages
-//! keeps the place and the time of each page's first record, so a look-up is a search in it.
+//! written into a fresh page at once. The list of pages keeps the place and the time of each page's first record, so a
+//! look-up is a search in it. It also keeps a summary of each page's points: their ends, the areas under their line and
+//! under their stair, the least value and the greatest. A run that is a whole page answers with this summary, so a walk
+//! over many pages reads the list and not the frames. Blocks of 64 pages have summaries too, and a run may be a whole
+//! block. A page that is put among the others drops the summaries of its block and of the later ones. Each put of a
+//! page, and each put among the others, sums one more block.
 #![tactic(auto)]
 
 mod array;

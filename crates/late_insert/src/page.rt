@@ -248,6 +248,8 @@ pub(crate) fn cut(frame: &mut Frame) -> Halves
     ensures upper_records { frame_records_in result.upper ≡ drop half_page (frame_records_in frame.old) }
     ensures lower_stair { result.lower_stair ≡ area true (points_of (frame_records_in frame.new)) }
     ensures upper_stair { result.upper_stair ≡ area true (points_of (frame_records_in result.upper)) }
+    ensures lower_len { frame.new.len ≡ half_page }
+    ensures upper_len { result.upper.len ≡ half_page }
 {
     let mut upper = *frame;
     rotate(&mut upper.times, HALF as usize);

@@ -11,7 +11,7 @@ ghost use Rattle.late_insert.specs.PageLengths.{AreBefore, IsGrown, IsHalved, pl
 use crate::directory::{Directory, Page};
 use crate::gap::frame_of;
 use crate::page::{HALF, append, cut, put_rec, store_run};
-use crate::total::refresh;
+use crate::total::{NO_SUMMARY, refresh, summary_in};
 use page_pool::{PAGE, Pool};
 use trend_num::Rec;
 
@@ -32,7 +32,7 @@ pub(crate) fn first_page(pool: &mut Pool, pages: &mut Directory)
         id,
         first: 0,
         start: 0,
-        stair: 0,
+        summary: NO_SUMMARY,
     });
 }
 
@@ -85,12 +85,13 @@ pub(crate) fn open_page(pool: &mut Pool, pages: &mut Directory, len: u32, run: &
     let frame = pool.frame_mut(&id);
     store_run(frame, run);
     let stair = refresh(frame);
+    let summary = summary_in(frame, stair);
     let start = frame.times[0];
     pages.push(Page {
         id,
         first: len,
         start,
-        stair,
+        summary,
     });
 }
 
@@ -145,17 +146,19 @@ fn split(pool: &mut Pool, pages: &mut Directory, k: usize)
     ensures frames { spare_of pool.new + 1 ≡ spare_of pool.old }
     ensures capacity { pages.new.places ≡ pages.old.places }
 {
-    let halves = cut(pool.frame_mut(pages.id(k)));
+    let lower = pool.frame_mut(pages.id(k));
+    let halves = cut(lower);
+    let summary = summary_in(lower, halves.lower_stair);
     let start = pages.start(k);
     let first = pages.first(k) + HALF;
-    pages.write(k, start, halves.lower_stair);
+    pages.write(k, start, summary);
     let id = pool.take_frame().unwrap();
     *pool.frame_mut(&id) = halves.upper;
     let page = Page {
         id,
         first,
         start: halves.upper.times[0],
-        stair: halves.upper_stair,
+        summary: summary_in(&halves.upper, halves.upper_stair),
     };
     pages.insert(k + 1, page);
 }
@@ -181,8 +184,9 @@ pub(crate) fn put_behind(pool: &mut Pool, pages: &mut Directory, rec: Rec)
     let last = pages.len() - 1;
     let frame = pool.frame_mut(pages.id(last));
     let stair = append(frame, pages.stair(last), rec);
+    let summary = summary_in(frame, stair);
     let start = frame.times[0];
-    pages.write(last, start, stair);
+    pages.write(last, start, summary);
 }
 
 // Puts a record into page k, which is the page for its time. Returns how many records were added: 0 or 1.
@@ -204,8 +208,9 @@ pub(crate) fn put_at(pool: &mut Pool, pages: &mut Directory, k: usize, rec: Rec)
 {
     let frame = pool.frame_mut(pages.id(k));
     let grown = put_rec(frame, pages.stair(k), rec);
+    let summary = summary_in(frame, grown.stair);
     let start = frame.times[0];
-    pages.write(k, start, grown.stair);
+    pages.write(k, start, summary);
     pages.move_on(k, grown.by);
     grown.by
 }

@@ -3,7 +3,7 @@ ghost use Rattle.std.specs.Prelude.{◌≡◌, ◌<◌, ◌≤◌, pos, true, fa
 ghost use Rattle.trend_num.specs.{InRange, largest_value, last_time};
 ghost use Rattle.trend_model.specs.{points_of, area, piece};
 ghost use Rattle.late_insert.specs.Pages.{IsPage, IsRecorded, rec_in, frame_records_in};
-ghost use Rattle.late_insert.specs.Totals.{extreme_of, greatest_of, least_of, outer};
+ghost use Rattle.late_insert.specs.Totals.{extreme_of, greatest_of, least_of, joined, outer, page_most, pages_most, summary_of, IsSmall};
 
 use page_pool::Frame;
 use trend_num::Point;
@@ -94,6 +94,80 @@ pub(crate) fn extreme_between(frame: &Frame, extreme: Extreme, start: usize, end
     value
 }
 
+// What points in order of time come to: their ends and their totals.
+#[derive(Clone, Copy)]
+pub(crate) struct Summary {
+    pub first: Point,
+    pub last: Point,
+    /// Twice the areas under their line and under their stair.
+    pub line: i128,
+    pub stair: i128,
+    /// The least and the greatest value.
+    pub low: i64,
+    pub high: i64,
+}
+
+// The summary of no points.
+pub(crate) const NO_SUMMARY: Summary = Summary {
+    first: Point { t: 0, v: 0 },
+    last: Point { t: 0, v: 0 },
+    line: 0,
+    stair: 0,
+    low: 0,
+    high: 0,
+};
+
+// The summary of points and of those after them.
+pub(crate) fn joined(a: Summary, b: Summary) -> Summary
+    requires first { IsSmall (pages_most 63) a }
+    requires second { IsSmall page_most b }
+    ensures { result ≡ joined a b }
+{
+    Summary {
+        first: a.first,
+        last: b.last,
+        line: a.line + b.line + piece(false, a.last, b.first),
+        stair: a.stair + b.stair + piece(true, a.last, b.first),
+        low: a.low.min(b.low),
+        high: a.high.max(b.high),
+    }
+}
+
+// The summary of all points of a page. `stair` is twice the area under their stair. The other totals are in the frame.
+pub(crate) fn summary_in(frame: &Frame, stair: i128) -> Summary
+    requires page { IsPage frame.now }
+    requires some { 0 < frame.now.len }
+    requires stair { stair ≡ area true (points_of (frame_records_in frame.now)) }
+    ensures value { result ≡ summary_of (points_of (frame_records_in frame.now)) }
+    ensures small { IsSmall page_most result }
+{
+    Summary {
+        first: point_at(frame, 0),
+        last: point_at(frame, frame.len as usize - 1),
+        line: frame.area,
+        stair,
+        low: frame.low,
+        high: frame.high,
+    }
+}
+
+// The summary of the points at the places from `start` to `end`, the latter excluded.
+pub(crate) fn summary_between(frame: &Frame, start: usize, end: usize) -> Summary
+    requires recorded { IsRecorded frame.now }
+    requires some { start < end }
+    requires within { end ≤ frame.now.len }
+    ensures { result ≡ summary_of (slice_range (points_of (frame_records_in frame.now)) start end) }
+{
+    Summary {
+        first: point_at(frame, start),
+        last: point_at(frame, end - 1),
+        line: area_between(frame, false, start, end),
+        stair: area_between(frame, true, start, end),
+        low: extreme_between(frame, Extreme::Least, start, end),
+        high: extreme_between(frame, Extreme::Greatest, start, end),
+    }
+}
+
 // Totals of all points of a page.
 #[derive(Clone, Copy)]
 struct Totals {
@@ -137,6 +211,7 @@ pub(crate) fn refresh(frame: &mut Frame) -> i128
     ensures records { frame_records_in frame.new ≡ frame_records_in frame.old }
     ensures page { IsPage frame.new }
     ensures stair { result ≡ area true (points_of (frame_records_in frame.old)) }
+    ensures len { frame.new.len ≡ frame.old.len }
 {
     let all = totals_of(frame);
     frame.area = all.line;

@@ -1,7 +1,7 @@
-use Rattle.std.proofs.Common.{◌≡◌, pos, [], ◌∷◌, ◌++◌, ap, ◌∙◌}
+use Rattle.std.proofs.Common.{◌≡◌, [], ◌∷◌, ◌++◌, ap, ◌∙◌}
 use Rattle.page_pool.specs.{TakesFrame}
 use Rattle.late_insert.proofs.Opening.{first_page_is, no_records, no_lengths}
-use Rattle.late_insert.specs.{Listed}
+use Rattle.late_insert.specs.{Listed, no_summary}
 use Rattle.late_insert.proofs.shelf.first_page.Goals as goal
 
 -- the frame that was taken, and the list of its page alone
@@ -9,10 +9,10 @@ takes_here : (c : goal.After-push) → TakesFrame c.args.pool.now c.unwrap-id.re
 takes_here c = rw c.unwrap-id.ensures at c.take_frame.ensures.taken
 
 alone : (c : goal.After-push) → c.push.new.self.items ≡ record
-    { id = c.unwrap-id.result; first = 0; start = 0; stair = pos 0 } ∷ []
+    { id = c.unwrap-id.result; first = 0; start = 0; summary = no_summary } ∷ []
 alone c =
     ap (λ (s : Listed). s.items) c.push.ensures ∙ ap
-    (λ ps. ps ++ record { id = c.unwrap-id.result; first = 0; start = 0; stair = pos 0 } ∷ [])
+    (λ ps. ps ++ record { id = c.unwrap-id.result; first = 0; start = 0; summary = no_summary } ∷ [])
     c.requires.none
 
 pub returns-clause-pages : goal.returns-clause-pages

@@ -1,11 +1,10 @@
-use Rattle.std.proofs.Common.{◌+◌, ◌<◌, get_or, subst, ap, sym, ◌∙◌, length, rules, arith, true, ◌≡◌}
+use Rattle.std.proofs.Common.{◌+◌, ◌<◌, get_or, subst, ap, sym, ◌∙◌, length, rules, arith, ◌≡◌}
 use Rattle.std.specs.Prelude.{FitsSigned, is_some}
 use Rattle.page_pool.proofs.Stored.{spare-written}
 use Rattle.std.proofs.lemmas.Int.{to_z-of_z}
 use mir.Syntax.{w128}
-use mir.Val.{of_z, to_z}
-use Rattle.trend_model.specs.{points_of, area}
-use Rattle.late_insert.specs.{frame_records_in, IsPageRead, Listed}
+use Rattle.trend_model.specs.{points_of}
+use Rattle.late_insert.specs.{summary_of, frame_records_in, IsPageRead, Listed}
 use Rattle.std.proofs.lemmas.List.{get_or_default, length-set}
 use Rattle.late_insert.proofs.Moving.{length-moved}
 use Rattle.late_insert.proofs.Finding.{no_page}
@@ -56,24 +55,21 @@ move_on-requires-clause-small c =
     (ap (λ (s : Listed). s.items) (c.write.ensures no_page))
     c.requires.few c.put_rec-grown.ensures.by_one
 
--- the page that is written, its stair, and the pages after that
+-- the page that is written, its summary, and the pages after that
 read_here : (c : goal.After-move_on)
     → IsPageRead c.args.pool.now c.args.pages.now.items c.args.k (get_or c.args.pages.now.items c.args.k no_page)
     c.frame_mut-frame.result.now
 read_here c = read_by c.args.pool.now c.args.pages.now.items c.args.k c.id.result.now c.frame_mut-frame.result.now
     c.requires.pages c.requires.page.within (c.id.ensures.value no_page) c.frame_mut-frame.ensures.value
 
-stair_here : (c : goal.After-move_on)
-    → to_z w128 (of_z w128 c.put_rec-grown.result.stair) ≡ area true
-    (points_of (frame_records_in c.put_rec-grown.new.frame))
-stair_here c =
-    let fits : FitsSigned w128 c.put_rec-grown.result.stair = search rules in
-    to_z-of_z w128 c.put_rec-grown.result.stair fits ∙ c.put_rec-grown.ensures.stair
+summary_here : (c : goal.After-move_on)
+    → c.summary_in-summary.result ≡ summary_of (points_of (frame_records_in c.put_rec-grown.new.frame))
+summary_here c = c.summary_in-summary.ensures.value
 
 shelved_here : (c : goal.After-move_on)
     → IsShelved c.args.pages.now.items c.move_on.new.self.items c.write.new.self.items c.args.k
     c.put_rec-grown.result.by (get_or c.args.pages.now.items c.args.k no_page) c.put_rec-grown.new.frame
-    (to_z w128 (of_z w128 c.put_rec-grown.result.stair))
+    c.summary_in-summary.result
 shelved_here c = record {
   again = get_or_default c.args.pages.now.items c.args.k no_page _ c.requires.page.within;
   wrote = ap (λ (s : Listed). s.items) (c.write.ensures no_page);
@@ -82,19 +78,19 @@ shelved_here c = record {
 
 pub returns-clause-pages : goal.returns-clause-pages
 returns-clause-pages c =
-    rw (sym (c.id.ensures.value no_page)) (pages_shelved _ _ _ _ _ _ _ _ _ _ c.args.rec _ (stair_here c) (read_here c)
+    rw (sym (c.id.ensures.value no_page)) (pages_shelved _ _ _ _ _ _ _ _ _ _ c.args.rec _ (summary_here c) (read_here c)
     c.requires.page c.put_rec-grown.ensures.page c.put_rec-grown.ensures.records c.put_rec-grown.ensures.grown
     (shelved_here c))
 
 pub returns-clause-records : goal.returns-clause-records
 returns-clause-records c =
-    rw (sym (c.id.ensures.value no_page)) (records-shelved _ _ _ _ _ _ _ _ _ _ c.args.rec _ (stair_here c) (read_here c)
+    rw (sym (c.id.ensures.value no_page)) (records-shelved _ _ _ _ _ _ _ _ _ _ c.args.rec _ (summary_here c) (read_here c)
     c.requires.page c.put_rec-grown.ensures.page c.put_rec-grown.ensures.records c.put_rec-grown.ensures.grown
     (shelved_here c))
 
 pub returns-clause-grown : goal.returns-clause-grown
 returns-clause-grown c =
-    rw (sym (c.id.ensures.value no_page)) (len-shelved _ _ _ _ _ _ _ _ _ _ c.args.rec _ (stair_here c) (read_here c)
+    rw (sym (c.id.ensures.value no_page)) (len-shelved _ _ _ _ _ _ _ _ _ _ c.args.rec _ (summary_here c) (read_here c)
     c.requires.page c.put_rec-grown.ensures.page c.put_rec-grown.ensures.records c.put_rec-grown.ensures.grown
     (shelved_here c))
 
@@ -102,7 +98,7 @@ pub returns-clause-lengths : goal.returns-clause-lengths
 returns-clause-lengths c =
     let is = read_here c in
     let short = c.requires.room no_page in
-    rw (sym (c.id.ensures.value no_page)) (grown-shelved _ _ _ _ _ _ _ _ _ _ c.args.rec _ (stair_here c) is
+    rw (sym (c.id.ensures.value no_page)) (grown-shelved _ _ _ _ _ _ _ _ _ _ c.args.rec _ (summary_here c) is
     c.requires.page c.put_rec-grown.ensures.page c.put_rec-grown.ensures.records c.put_rec-grown.ensures.grown
     (shelved_here c) (omega (arith, page_len _ _ _ _ _ is no_page)))
 

@@ -1,11 +1,10 @@
-use Rattle.std.proofs.Common.{◌≡◌, ◌+◌, ◌-◌, ◌<◌, get_or, ap, sym, ◌∙◌, length, rules, arith, true}
+use Rattle.std.proofs.Common.{◌≡◌, ◌+◌, ◌-◌, ◌<◌, get_or, ap, sym, ◌∙◌, length, rules, arith}
 use Rattle.std.specs.Prelude.{FitsSigned, is_some}
 use Rattle.page_pool.proofs.Stored.{spare-written}
 use Rattle.std.proofs.lemmas.Int.{to_z-of_z}
 use mir.Syntax.{w128}
-use mir.Val.{of_z, to_z}
-use Rattle.trend_model.specs.{placed, points_of, area}
-use Rattle.late_insert.specs.{frame_records_in, IsFor, IsPageRead, Listed}
+use Rattle.trend_model.specs.{placed, points_of}
+use Rattle.late_insert.specs.{summary_of, frame_records_in, IsFor, IsPageRead, Listed}
 use Rattle.std.proofs.lemmas.List.{get_or_default, length_push, length-set}
 use Rattle.late_insert.proofs.Finding.{no_page}
 use Rattle.late_insert.proofs.Reading.{before_on, held_by, read_by, read_last, frame_page, page_stair, page_len}
@@ -50,7 +49,7 @@ append-stair-requires-clause-stair c =
     let fits : FitsSigned w128 c.stair.result = search rules in
     to_z-of_z w128 c.stair.result fits ∙ (sym (c.stair.ensures no_page) ∙ page_stair _ _ _ _ _ is)
 
--- the page that is written, with its records and its stair
+-- the page that is written, with its records and its summary
 read_here : (c : goal.After-write) → IsPageRead c.args.pool.now c.args.pages.now.items (c.len-last.result - 1)
     (get_or c.args.pages.now.items (c.len-last.result - 1) no_page) c.frame_mut-frame.result.now
 read_here c = read_by c.args.pool.now c.args.pages.now.items (c.len-last.result - 1) c.id.result.now
@@ -71,11 +70,9 @@ grown : (c : goal.After-write) → c.append-stair.new.frame.len ≡ c.frame_mut-
 grown c = grown_by c.frame_mut-frame.result.now c.append-stair.new.frame c.args.rec 1
     (ap length c.append-stair.ensures.records ∙ length_push (frame_records_in c.frame_mut-frame.result.now) c.args.rec)
 
-stair_here : (c : goal.After-write) → to_z w128 (of_z w128 c.append-stair.result)
-    ≡ area true (points_of (frame_records_in c.append-stair.new.frame))
-stair_here c =
-    let fits : FitsSigned w128 c.append-stair.result = search rules in
-    to_z-of_z w128 c.append-stair.result fits ∙ c.append-stair.ensures.stair
+summary_here : (c : goal.After-write) → c.summary_in-summary.result
+    ≡ summary_of (points_of (frame_records_in c.append-stair.new.frame))
+summary_here c = c.summary_in-summary.ensures.value
 
 -- there are as many pages as before, so none is after it
 as_many : (c : goal.After-write) → length c.write.new.self.items ≡ length c.args.pages.now.items
@@ -85,7 +82,7 @@ as_many c = ap (λ (s : Listed). length s.items) (c.write.ensures no_page)
 shelved_here : (c : goal.After-write)
     → IsShelved c.args.pages.now.items c.write.new.self.items c.write.new.self.items (c.len-last.result - 1) 1
     (get_or c.args.pages.now.items (c.len-last.result - 1) no_page) c.append-stair.new.frame
-    (to_z w128 (of_z w128 c.append-stair.result))
+    c.summary_in-summary.result
 shelved_here c = record {
   again = get_or_default c.args.pages.now.items (c.len-last.result - 1) no_page _
       (omega (arith, c.len-last.ensures, c.requires.pages.some));
@@ -95,23 +92,23 @@ shelved_here c = record {
 
 pub returns-clause-pages : goal.returns-clause-pages
 returns-clause-pages c =
-    rw (sym (c.id.ensures.value no_page)) (pages_shelved _ _ _ _ _ _ _ _ _ _ c.args.rec _ (stair_here c) (read_here c)
+    rw (sym (c.id.ensures.value no_page)) (pages_shelved _ _ _ _ _ _ _ _ _ _ c.args.rec _ (summary_here c) (read_here c)
     (found c) c.append-stair.ensures.page (records c) (grown c) (shelved_here c))
 
 pub returns-clause-records : goal.returns-clause-records
 returns-clause-records c =
-    rw (sym (c.id.ensures.value no_page)) (records-shelved _ _ _ _ _ _ _ _ _ _ c.args.rec _ (stair_here c) (read_here c)
+    rw (sym (c.id.ensures.value no_page)) (records-shelved _ _ _ _ _ _ _ _ _ _ c.args.rec _ (summary_here c) (read_here c)
     (found c) c.append-stair.ensures.page (records c) (grown c) (shelved_here c))
 
 pub returns-clause-grown : goal.returns-clause-grown
 returns-clause-grown c =
-    rw (sym (c.id.ensures.value no_page)) (len-shelved _ _ _ _ _ _ _ _ _ _ c.args.rec _ (stair_here c) (read_here c)
+    rw (sym (c.id.ensures.value no_page)) (len-shelved _ _ _ _ _ _ _ _ _ _ c.args.rec _ (summary_here c) (read_here c)
     (found c) c.append-stair.ensures.page (records c) (grown c) (shelved_here c))
 
 pub returns-clause-lengths : goal.returns-clause-lengths
 returns-clause-lengths c =
     let is = read_last _ _ _ _ c.len-last.ensures (read_here c) in
-    rw (sym (c.id.ensures.value no_page)) (grown-shelved _ _ _ _ _ _ _ _ _ _ c.args.rec _ (stair_here c) (read_here c)
+    rw (sym (c.id.ensures.value no_page)) (grown-shelved _ _ _ _ _ _ _ _ _ _ c.args.rec _ (summary_here c) (read_here c)
     (found c) c.append-stair.ensures.page (records c) (grown c) (shelved_here c)
     (omega (arith, page_len _ _ _ _ _ is no_page, c.requires.room no_page)))
 

@@ -1,10 +1,9 @@
-use Rattle.std.proofs.Common.{◌≡◌, ◌^◌, ◌<◌, ◌≤◌, length, get_or, ◌++◌, [], ◌∷◌, ap, ap₂, sym, ◌∙◌, subst, rules, arith}
-use Rattle.std.specs.Prelude.{insert, FitsSigned}
-use Rattle.std.specs.Int.{w128}
-use Rattle.std.proofs.lemmas.Int.{to_z-of_z}
+use Rattle.std.proofs.Common.{◌≡◌, ◌^◌, ◌<◌, ◌≤◌, length, take, ◌/◌, get_or, ◌++◌, [], ◌∷◌, ap, ap₂, sym, ◌∙◌, subst, arith}
+use Rattle.std.specs.Prelude.{insert}
 use Rattle.std.proofs.lemmas.List.{length-map}
-use Rattle.late_insert.specs.{Leaf, Listed, AreOrdered, no_leaf, picked, placed_pages}
+use Rattle.late_insert.specs.{Leaf, summaries_of, AreBlocks, Listed, AreOrdered, no_leaf, picked, placed_pages}
 use Rattle.late_insert.proofs.Listing.{even_length, listed_length, placed_pages-insert, picked-insert, ordered-insert}
+use Rattle.late_insert.proofs.Blocks.{blocks_before, length-summaries, summaries-insert}
 use Rattle.late_insert.proofs.directory.Directory.insert.Goals as goal
 use Rattle.late_insert.proofs.directory.Directory.insert.Goals.{After-push_reserved}
 
@@ -38,14 +37,10 @@ upto c =
 
 -- the page without its place, and what the lists are with it
 abbrev leaf_of : (c : After-push_reserved) → Leaf
-leaf_of c = record { id = c.args.page.id; start = c.args.page.start; stair = c.args.page.stair }
+leaf_of c = record { id = c.args.page.id; start = c.args.page.start; summary = c.args.page.summary }
 
 leaves : (c : After-push_reserved) → c.push_reserved.new.self.items ≡ c.self.inside.leaves.items ++ leaf_of c ∷ []
-leaves c =
-    let p = c.args.page in
-    let fits : FitsSigned w128 p.stair = search rules in
-    c.push_reserved.ensures.items
-    ∙ ap (λ z. c.self.inside.leaves.items ++ record { id = p.id; start = p.start; stair = z } ∷ []) (to_z-of_z w128 p.stair fits)
+leaves c = c.push_reserved.ensures.items
 
 order : (c : After-push_reserved)
     → c.put_in.new.list.items ≡ insert c.self.inside.order.items c.args.at (length c.self.inside.leaves.items)
@@ -65,6 +60,13 @@ invariant_of-self c =
       c.put_in.ensures.capacity ∙ (c.self.invariant.1 ∙ sym c.push_reserved.ensures.capacity),
       c.put_in-2.ensures.capacity ∙ (c.self.invariant.2 ∙ sym c.push_reserved.ensures.capacity),
       subst (λ n. n < 2 ^ 32) (sym c.push_reserved.ensures.capacity) c.self.invariant.3,
+      subst (λ l. AreBlocks (summaries_of l c.put_in.new.list.items) c.truncate.new.self.items) (sym (leaves at))
+          (subst (λ o. AreBlocks (summaries_of (ls ++ leaf ∷ []) o) c.truncate.new.self.items) (sym (order at))
+          (subst (AreBlocks (summaries_of (ls ++ leaf ∷ []) (insert is c.args.at (length ls)))) (sym c.truncate.ensures.items)
+          (subst (λ a. AreBlocks a (take (c.args.at / 64) c.self.inside.blocks.items)) (sym (summaries-insert ls is c.args.at leaf c.self.invariant.0.within))
+          (blocks_before (summaries_of ls is) c.self.inside.blocks.items c.args.at leaf.summary c.self.invariant.4 c.requires.small
+          (omega (arith, upto at, c.self.invariant.0.numbers, length-summaries ls is)))))),
+      c.truncate.ensures.capacity ∙ (c.self.invariant.5 ∙ ap (λ n. n / 64) (sym c.push_reserved.ensures.capacity)),
     )
 
 pub returns : goal.returns
@@ -83,4 +85,4 @@ returns c =
     ∙ (placed_pages-insert (picked ls is) ns c.args.at leaf c.args.page.first (even_length _ _ _ ordered) long
     ∙ ap (λ (s : Listed). insert s.items c.args.at c.args.page) c.self.view_is) in
     let places = c.push_reserved.ensures.capacity ∙ ap (λ (s : Listed). s.places) c.self.view_is in
-    ap₂ (λ is n. record { items = is; places = n }) items places
+    c.close.ensures ∙ ap₂ (λ is n. record { items = is; places = n }) items places

@@ -45,4 +45,4 @@ returns c =
     let items = ap (placed_pages leaves) stands
     ∙ (placed_pages-move leaves ns k c.args.by (even_length c.self.inside.leaves.items c.self.inside.order.items c.self.inside.firsts.items c.self.invariant.0)
     ∙ ap (λ (s : Listed). take k s.items ++ map (moved c.args.by) (drop k s.items)) c.self.view_is) in
-    ap₂ (λ is n. record { items = is; places = n }) items (ap (λ (s : Listed). s.places) c.self.view_is)
+    c.close.ensures ∙ ap₂ (λ is n. record { items = is; places = n }) items (ap (λ (s : Listed). s.places) c.self.view_is)

@@ -7,5 +7,5 @@ use Rattle.late_insert.proofs.directory.Directory.stair.Goals as goal
 
 pub returns : goal.returns
 returns c = λ d.
-    let fits : FitsSigned w128 c.leaf.result.now.stair = search rules in
-    ap (λ (l : Leaf). l.stair) (c.leaf.ensures.value d) ∙ sym (to_z-of_z w128 c.leaf.result.now.stair fits)
+    let fits : FitsSigned w128 c.leaf.result.now.summary.stair = search rules in
+    ap (λ (l : Leaf). l.summary.stair) (c.leaf.ensures.value d) ∙ sym (to_z-of_z w128 c.leaf.result.now.summary.stair fits)
