@@ -6,6 +6,7 @@ pub mod Logs
 pub mod Spellings
 pub mod Beginnings
 pub mod FieldLaws
+pub mod FirstFields
 pub mod PlacedBytes
 pub mod ReadImages
 pub mod LayoutSpellings

@@ -1,23 +1,21 @@
 -- The header of a tag, after a gate, keeps the layout, and reads as what it was made of.
-use Rattle.std.proofs.Common.{◌≡◌, ℕ, ◌+◌, ◌-◌, ◌^◌, ◌<◌, ◌≤◌, Bool, true, false, cond, ◌&&◌, eqb, leb, List, [], ◌∷◌, ◌++◌, length, get_or, take, drop, replicate, refl, sym, ◌∙◌, ap, arith, append_assoc, length-append, drop-drop, take_at}
-use Rattle.std.proofs.Common.{drop_at, get_or-drop}
-use Rattle.std.proofs.lemmas.{List.get_or_append_left, List.get_or-append_right, List.get_or-replicate, List.length-replicate, List.Elements.All-get_or, List.Sums.AllPass-from_list_all, Nat.from_be_bytes-to_be_bytes_8}
-use Rattle.std.proofs.lemmas.{Nat.from_be_bytes-to_be_bytes_4}
-use Rattle.std.proofs.lemmas.Bool.{eq-eqb, eqb-true, eqb-false, le-leb, leb-true, leb-false, and_from}
+use Rattle.std.proofs.Common.{◌≡◌, inl, inr, ℕ, ◌+◌, ◌-◌, ◌^◌, ◌<◌, ◌≤◌, Bool, true, cond, ◌&&◌, eqb, leb, All, List, [], ◌∷◌, ◌++◌, length, get_or, take, drop, replicate, refl, sym, ◌∙◌, ap, subst, arith, append_assoc, length-append}
+use Rattle.std.proofs.Common.{drop-drop, take_at, drop_at, get_or-drop}
+use Rattle.std.proofs.lemmas.{List.get_or_append_left, List.get_or-append_right, List.get_or-replicate, List.length-replicate, List.Elements.All-append, List.Elements.All-get_or, List.Sums.AllPass-from_list_all}
+use Rattle.std.proofs.lemmas.{Nat.from_be_bytes-to_be_bytes_8, Nat.from_be_bytes-to_be_bytes_4}
+use Rattle.std.proofs.lemmas.Bool.{and_from, cases_lt, eq-eqb, le-leb, lt-ltb, le-ltb}
 use Rattle.std.specs.Int.{w64, from_be_bytes, from_bool}
-use Rattle.trend_num.specs.{declared.tag_def.TagDef.TagDef, Names.is_name_byte, Names.IsName, Ranges.last_time, Ranges.largest_value, Ranges.TuningInRange}
-use Rattle.archive_file.specs.{number_bytes}
+use Rattle.trend_num.specs.{declared.tag_def.TagDef.TagDef, Names.is_name_byte, Names.IsName, Ranges.TuningInRange}
+use Rattle.archive_file.specs.{number_bytes, Keeps, long_at}
 use Rattle.archive_file.proofs.Joins.{joined, joined_5}
-use Rattle.device_layout.specs.{HoldsFrom, letters, most_slots, header_number_at, name_in, tuning_in, slots_in, is_step_in, def_in, is_field_ok, IsHeader, tuning_image, header_image}
+use Rattle.archive_file.proofs.FirstFields.{kept_in}
+use Rattle.device_layout.specs.{letters, name_in, tuning_in, slots_in, is_step_in, def_in, is_name_at, front_fields, name_fields, number_fields, zero_fields, IsHeader, tuning_image, header_image}
+use Rattle.device_layout.proofs.HeaderFields.{all_kept, kept_bytes}
 
 -- what comes after the name and its zeros
 abbrev numbers_image : TagDef → ℕ → List ℕ
 numbers_image def slots =
     tuning_image def.tuning ++ (number_bytes 4 slots ++ (cond def.step 1 0 ∷ replicate 13 0))
-
--- the same but for the zeros at the end
-abbrev numbers_front : TagDef → ℕ → List ℕ
-numbers_front def slots = tuning_image def.tuning ++ (number_bytes 4 slots ++ (cond def.step 1 0 ∷ []))
 
 -- the zeros after the name
 abbrev padding_of : TagDef → List ℕ
@@ -45,10 +43,6 @@ name_built name a b c d zeros counted named padded is =
 pub flag_byte : (b : Bool) → from_bool b ≡ cond b 1 0
 flag_byte b = grind arith
 
--- a test by cases passes where each case does
-either_ok : (b : Bool) (x y : Bool) → (b ≡ true → x ≡ true) → (b ≡ false → y ≡ true) → cond b x y ≡ true
-either_ok b x y here there = grind arith
-
 -- a flag is read of its byte
 flag_read : (b : Bool) → eqb (cond b 1 0) 1 ≡ b
 flag_read b = grind arith
@@ -62,6 +56,10 @@ pub length-header_image : (def : TagDef) (slots : ℕ) → IsName def.name → l
 length-header_image def slots name = grind (arith, length-append, length-replicate)
 
 module _ (gate : ℕ) (def : TagDef) (slots : ℕ) (name : IsName def.name) where
+  -- a header has 128 bytes
+  size : length (header_with gate def slots) ≡ 128
+  size = omega (arith, length-header_image def slots name)
+
   -- the numbers come after the name
   behind_name : drop 70 (header_with gate def slots) ≡ numbers_image def slots
   behind_name =
@@ -71,60 +69,24 @@ module _ (gate : ℕ) (def : TagDef) (slots : ℕ) (name : IsName def.name) wher
 
   -- each at its place
   number_there : (k n : ℕ) → n < 2 ^ 64 → take 8 (drop k (numbers_image def slots)) ≡ number_bytes 8 n
-      → header_number_at (header_with gate def slots) (70 + k) ≡ n
+      → long_at (header_with gate def slots) (70 + k) ≡ n
   number_there k n small is =
       ap (λ l. from_be_bytes w64 (take 8 l)) (sym (drop-drop k 70 (header_with gate def slots))
       ∙ ap (drop k) behind_name)
       ∙ ap (from_be_bytes w64) is ∙ from_be_bytes-to_be_bytes_8 n small
 
-  -- a byte of the name, or of the zeros after it
-  byte_named : (i : ℕ) → 6 ≤ i → get_or (header_with gate def slots) i 0
-      ≡ get_or (def.name ++ (padding_of def ++ numbers_image def slots)) (i - 6) 0
-  byte_named i low = grind (arith, get_or-drop)
-
-  -- a byte after these
-  byte_behind : (i : ℕ) → 70 ≤ i
-      → get_or (header_with gate def slots) i 0 ≡ get_or (numbers_image def slots) (i - 70) 0
-  byte_behind i low =
-      let place : i ≡ 70 + (i - 70) = omega arith in
-      ap (λ k. get_or (header_with gate def slots) k 0) place
-      ∙ sym (get_or-drop 70 (header_with gate def slots) (i - 70) 0)
-      ∙ ap (λ l. get_or l (i - 70) 0) behind_name
-
-  -- the zeros after the name
-  padding_zero : (i : ℕ) → 5 + length def.name < i → i < 70 → get_or (header_with gate def slots) i 0 ≡ 0
-  padding_zero i low high =
-      let n = length def.name in
-      byte_named i (omega arith)
-      ∙ get_or-append_right def.name (padding_of def ++ numbers_image def slots) n (i - 6) 0 refl
-      (omega arith)
-      ∙ get_or_append_left (padding_of def) (numbers_image def slots) 0 (i - 6 - n)
-      (omega (arith, length-replicate {A = ℕ} (64 - n) 0))
-      ∙ get_or-replicate (64 - n) (i - 6 - n) 0 0 (omega arith)
-
-  -- the zeros at the end
-  tail_zero : (i : ℕ) → 115 ≤ i → i < 128 → get_or (header_with gate def slots) i 0 ≡ 0
-  tail_zero i low high =
-      byte_behind i (omega arith)
-      ∙ get_or-append_right (numbers_front def slots) (replicate 13 0) 45 (i - 70) 0 refl (omega arith)
-      ∙ get_or-replicate 13 (i - 70 - 45) 0 0 (omega arith)
-
-  -- a byte of the name
-  name_spelled : (i : ℕ) → 6 ≤ i → i ≤ 5 + length def.name
-      → is_name_byte (get_or (header_with gate def slots) i 0) ≡ true
-  name_spelled i low high =
-      ap is_name_byte (byte_named i low
-      ∙ get_or_append_left def.name (padding_of def ++ numbers_image def slots) 0 (i - 6) (omega arith))
-      ∙ All-get_or (λ x. is_name_byte x ≡ true) def.name (i - 6) 0 (omega arith)
-      (AllPass-from_list_all is_name_byte def.name name.spelled)
-
   -- the flag
   step_there : get_or (header_with gate def slots) 114 0 ≡ cond def.step 1 0
-  step_there = byte_behind 114 (omega arith)
+  step_there = sym (get_or-drop 70 (header_with gate def slots) 44 0) ∙ ap (λ l. get_or l 44 0) behind_name
 
   -- the number of lane slots
   pub slots_image : slots < 2 ^ 32 → slots_in (header_with gate def slots) ≡ slots
-  slots_image small = grind (arith, drop-drop 40 70 (header_with gate def slots), behind_name, from_be_bytes-to_be_bytes_4 slots small)
+  slots_image small = grind (
+    arith,
+    drop-drop 40 70 (header_with gate def slots),
+    behind_name,
+    from_be_bytes-to_be_bytes_4 slots small,
+  )
 
   -- the definition of the tag
   pub def_image : TuningInRange def.tuning → def_in (header_with gate def slots) ≡ def
@@ -133,80 +95,81 @@ module _ (gate : ℕ) (def : TagDef) (slots : ℕ) (name : IsName def.name) wher
       same_name : name_in (header_with gate def slots) ≡ def.name
       same_name = take_at def.name (padding_of def ++ numbers_image def slots) (length def.name) refl
 
-      exc_dev : header_number_at (header_with gate def slots) 70 ≡ def.tuning.exc_dev
-      exc_dev = number_there 0 def.tuning.exc_dev (omega (arith, tuned.exc_dev)) refl
-
-      exc_max : header_number_at (header_with gate def slots) 78 ≡ def.tuning.exc_max
-      exc_max = number_there 8 def.tuning.exc_max (omega (arith, tuned.exc_max)) refl
-
-      comp_dev : header_number_at (header_with gate def slots) 86 ≡ def.tuning.comp_dev
-      comp_dev = number_there 16 def.tuning.comp_dev (omega (arith, tuned.comp_dev)) refl
-
-      comp_min : header_number_at (header_with gate def slots) 94 ≡ def.tuning.comp_min
-      comp_min = number_there 24 def.tuning.comp_min (omega (arith, tuned.comp_min)) refl
-
-      comp_max : header_number_at (header_with gate def slots) 102 ≡ def.tuning.comp_max
-      comp_max = number_there 32 def.tuning.comp_max (omega (arith, tuned.comp_max)) refl
-
       same_tuning : tuning_in (header_with gate def slots) ≡ def.tuning
-      same_tuning = grind (arith, exc_dev, exc_max, comp_dev, comp_min, comp_max)
+      same_tuning = λ i. record {
+        exc_dev = number_there 0 def.tuning.exc_dev (omega (arith, tuned.exc_dev)) refl i;
+        exc_max = number_there 8 def.tuning.exc_max (omega (arith, tuned.exc_max)) refl i;
+        comp_dev = number_there 16 def.tuning.comp_dev (omega (arith, tuned.comp_dev)) refl i;
+        comp_min = number_there 24 def.tuning.comp_min (omega (arith, tuned.comp_min)) refl i;
+        comp_max = number_there 32 def.tuning.comp_max (omega (arith, tuned.comp_max)) refl i;
+      }
 
       same_step : is_step_in (header_with gate def slots) ≡ def.step
       same_step = ap (λ b. eqb b 1) step_there ∙ flag_read def.step
 
-  -- the letters
-  letter_ok : (i : ℕ) → 1 ≤ i → i ≤ 4
-      → eqb (get_or (header_with gate def slots) i 0) (get_or letters (i - 1) 0) ≡ true
-  letter_ok i low high = grind arith
+  -- the letters are kept, and the length of the name
+  front_kept : All (Keeps (header_with gate def slots)) (front_fields (header_with gate def slots))
+  front_kept =
+      let length_ok : (leb 1 (length def.name) && leb (length def.name) 64) ≡ true = grind (arith, and_from, le-leb) in
+      kept_in (header_with gate def slots) (front_fields (header_with gate def slots)) 128 size refl
+      (and_from _ _ length_ok refl)
 
-  -- the length of the name
-  length_ok : (leb 1 (length def.name) && leb (length def.name) 64) ≡ true
-  length_ok = grind (arith, and_from, le-leb)
+  -- each byte of the name, and each zero after it
+  name_kept : All (Keeps (header_with gate def slots)) (name_fields (header_with gate def slots))
+  name_kept =
+      kept_bytes (header_with gate def slots) (is_name_at (header_with gate def slots)) 6 64 (omega (arith, size)) there
+    where
+      behind : List ℕ
+      behind = padding_of def ++ numbers_image def slots
 
-  -- a number below its bound
-  number_ok : (k bound i n : ℕ) → header_number_at (header_with gate def slots) (70 + k) ≡ n → n ≤ bound
-      → eqb i (70 + k) ≡ true → leb (header_number_at (header_with gate def slots) i) bound ≡ true
-  number_ok k bound i n says small here = grind (arith, eqb-true, le-leb)
+      byte : (k : ℕ) → get_or (header_with gate def slots) (6 + k) 0 ≡ get_or (def.name ++ behind) k 0
+      byte k = sym (get_or-drop 6 (header_with gate def slots) k 0)
 
-  -- the number of lane slots
-  slots_ok : 1 ≤ slots → slots ≤ 65536 → (leb 1 (slots_in (header_with gate def slots))
-      && leb (slots_in (header_with gate def slots)) most_slots) ≡ true
-  slots_ok some few = grind (arith, slots_image, and_from, le-leb)
+      there : (k : ℕ) → k < 64 → is_name_at (header_with gate def slots) (6 + k) ≡ true
+      there k low = elim (cases_lt k (length def.name)) [
+        | inl inside ↦ rw (lt-ltb (6 + k) (6 + length def.name) (omega (arith, inside)))
+            (ap is_name_byte (byte k ∙ get_or_append_left def.name behind 0 k inside)
+            ∙ All-get_or (λ x. is_name_byte x ≡ true) def.name k 0 inside
+            (AllPass-from_list_all is_name_byte def.name name.spelled))
+        | inr after ↦ rw (le-ltb (6 + k) (6 + length def.name) (omega (arith, after)))
+            (eq-eqb _ _ (byte k ∙ get_or-append_right def.name behind (length def.name) k 0 refl after
+            ∙ get_or_append_left (padding_of def) (numbers_image def slots) 0 (k - length def.name)
+            (omega (arith, length-replicate {A = ℕ} (64 - length def.name) 0, after))
+            ∙ get_or-replicate (64 - length def.name) (k - length def.name) 0 0 (omega (arith, after))))
+      ]
 
-  -- the flag
-  step_ok : (i : ℕ) → i ≡ 114 → leb (get_or (header_with gate def slots) i 0) 1 ≡ true
-  step_ok i is = grind (arith, step_there, flag_small)
+  -- the tuning, the number of lane slots, and the flag
+  numbers_kept : TuningInRange def.tuning → 1 ≤ slots → slots ≤ 65536
+      → All (Keeps (header_with gate def slots)) (number_fields (header_with gate def slots))
+  numbers_kept tuned some few =
+      let fits = subst TuningInRange (sym (ap (λ d. d.tuning) (def_image tuned))) tuned in
+      let lane = slots_image (omega (arith, few)) in
+      kept_in (header_with gate def slots) (number_fields (header_with gate def slots)) 128 size refl
+      (and_from _ _ (le-leb _ _ fits.exc_dev) (and_from _ _ (le-leb _ _ fits.exc_max)
+      (and_from _ _ (le-leb _ _ fits.comp_dev) (and_from _ _ (le-leb _ _ fits.comp_min)
+      (and_from _ _ (le-leb _ _ fits.comp_max) (and_from _ _ (and_from _ _
+      (le-leb 1 _ (subst (λ n. 1 ≤ n) (sym lane) some)) (le-leb _ 65536 (subst (λ n. n ≤ 65536) (sym lane) few)))
+      (and_from _ _ (ap (λ n. leb n 1) step_there ∙ flag_small def.step) refl)))))))
 
-  -- each field keeps the layout
-  fields_ok : TuningInRange def.tuning → 1 ≤ slots → slots ≤ 65536
-      → HoldsFrom (is_field_ok (header_with gate def slots)) 1 128
-  fields_ok tuned some few i low high =
-      let h = header_with gate def slots in
-      let n = length def.name in
-      let u = def.tuning in
-      let said = def_image tuned in
-      either_ok (leb i 4) _ _ (λ letter. letter_ok i low (leb-true i 4 letter)) (λ behind.
-      either_ok (eqb i 5) _ _ (λ here. length_ok) (λ other.
-      either_ok (leb i (5 + n)) _ _ (λ named. name_spelled i
-      (omega (arith, leb-false i 4 behind, eqb-false i 5 other)) (leb-true i (5 + n) named)) (λ unnamed.
-      either_ok (leb i 69) _ _ (λ padding. eq-eqb (get_or h i 0) 0
-      (padding_zero i (leb-false i (5 + n) unnamed) (omega (arith, leb-true i 69 padding)))) (λ numbers.
-      either_ok (eqb i 70) _ _
-      (number_ok 0 largest_value i u.exc_dev (ap (λ d. d.tuning.exc_dev) said) tuned.exc_dev)
-      (λ not_70.
-      either_ok (eqb i 78) _ _
-      (number_ok 8 last_time i u.exc_max (ap (λ d. d.tuning.exc_max) said) tuned.exc_max)
-      (λ not_78.
-      either_ok (eqb i 86) _ _
-      (number_ok 16 largest_value i u.comp_dev (ap (λ d. d.tuning.comp_dev) said) tuned.comp_dev)
-      (λ not_86.
-      either_ok (eqb i 94) _ _
-      (number_ok 24 last_time i u.comp_min (ap (λ d. d.tuning.comp_min) said) tuned.comp_min)
-      (λ not_94. grind (arith, either_ok, number_ok, slots_ok, step_ok, eqb-true, eq-eqb, tail_zero, leb-true)))))))))
+  -- the zeros at the end
+  zeros_kept : All (Keeps (header_with gate def slots)) (zero_fields (header_with gate def slots))
+  zeros_kept =
+      kept_bytes (header_with gate def slots) (λ at. eqb (get_or (header_with gate def slots) at 0) 0) 115 13
+      (omega (arith, size)) there
+    where
+      behind : drop 115 (header_with gate def slots) ≡ replicate 13 0
+      behind = sym (drop-drop 45 70 (header_with gate def slots)) ∙ ap (drop 45) behind_name
+
+      there : (k : ℕ) → k < 13 → eqb (get_or (header_with gate def slots) (115 + k) 0) 0 ≡ true
+      there k low =
+          eq-eqb _ _ (sym (get_or-drop 115 (header_with gate def slots) k 0) ∙ ap (λ l. get_or l k 0) behind
+          ∙ get_or-replicate 13 k 0 0 low)
 
   -- all of it is a header
   pub header_made : TuningInRange def.tuning → 1 ≤ slots → slots ≤ 65536 → IsHeader (header_with gate def slots)
   header_made tuned some few = record {
-    size = omega (arith, length-header_image def slots name);
-    fields = fields_ok tuned some few;
+    size = size;
+    fields = all_kept (header_with gate def slots) front_kept name_kept
+        (All-append (Keeps (header_with gate def slots)) (number_fields (header_with gate def slots))
+        (zero_fields (header_with gate def slots)) (numbers_kept tuned some few) zeros_kept);
   }

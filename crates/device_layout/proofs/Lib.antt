@@ -1,5 +1,4 @@
 pub mod Causes
-pub mod Firsts
 pub mod HeaderFields
 pub mod HeaderImages
 pub mod LayoutMoments

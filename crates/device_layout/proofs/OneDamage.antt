@@ -1,33 +1,20 @@
 -- A device has at most one damage: a later rule is reported only if all before it hold, and each rule has one first
 -- place.
-use Rattle.std.proofs.Common.{◌≡◌, inl, inr, ℕ, zero, suc, ◌+◌, ◌-◌, ◌*◌, ◌<◌, ◌≤◌, min, Bool, true, false, List, [], length, get_or, take, drop, map, Option, Some, refl, sym, ◌∙◌, ap, ap₂, subst, arith, length-take, add-zero, add-suc}
-use Rattle.std.proofs.lemmas.{Bool.cases_order, List.get_or-take, List.take-take, List.length-take-le, List.drop-drop}
+use Rattle.std.proofs.Common.{◌≡◌, inl, inr, ℕ, zero, suc, ◌+◌, ◌-◌, ◌<◌, ◌≤◌, List, [], length, get_or, take, map, Option, Some, refl, sym, ◌∙◌, ap, ap₂, subst, arith, length-take, add-zero, add-suc}
+use Rattle.std.proofs.lemmas.{Bool.cases_order, List.get_or-take, List.take-take, List.length-take-le}
 use Rattle.trend_num.specs.{Limits.most_records, declared.archive.Rec.Rec, declared.archive.Summary.Summary, declared.tag_def.TagDef.TagDef, Ranges.InRange}
 use Rattle.trend_model.specs.{History.Raw, State.replay}
 use Rattle.disk_model.specs.{IsBegun}
 use Rattle.archive_file.specs.{Fields.point_at, Places.HasRecords, Places.BreaksAt, Places.IsRecordBroken, Places.IsDamage}
-use Rattle.event_queue.specs.{Slots.place_of, Slots.slot_at, Slots.batch_at, Lanes.points_before, Lanes.lane_points, Lanes.IsLane, Damages.BreaksSlotAt as SlotBreaksAt, Damages.IsPointBroken, Damages.IsLaneDamage}
-use Rattle.event_queue.proofs.Batches.{length-points_in}
-use Rattle.device_layout.specs.{declared.slot.Slot.Slot, HoldsFrom, FailsFirst, is_field_ok, slots_in, IsHeader, IsSlotBroken, header_of, log_place, counting, slot_bytes, summary_place, HasSummary, start_of, IsStored, EndsBefore}
-use Rattle.device_layout.specs.{StandsThere, IsTagDamage, IsHeaderDamage, IsLayoutDamage, IsSummaryDamage, IsLogDamage, ArePartsDamaged, IsQueueDamage, IsValuePlace, IsValueDamage}
+use Rattle.archive_file.proofs.FirstFields.{none_broken, one_broken}
+use Rattle.event_queue.specs.{Slots.place_of, Slots.batch_at, Lanes.points_before, Lanes.lane_points, Lanes.IsLane, Damages.BreaksSlotAt as SlotBreaksAt, Damages.IsPointBroken, Damages.IsLaneDamage}
+use Rattle.device_layout.specs.{declared.slot.Slot.Slot, slots_in, header_fields, summary_fields, IsHeader, IsSlotBroken, header_of, log_place, counting, slot_bytes, summary_place, HasSummary, start_of, IsStored, EndsBefore, StandsThere}
+use Rattle.device_layout.specs.{IsTagDamage, IsHeaderDamage, IsLayoutDamage, IsSummaryDamage, IsLogDamage, ArePartsDamaged, IsQueueDamage, IsValuePlace, IsValueDamage}
 use Rattle.device_layout.specs.Damages.IsTagDamage.{EndsShort, BadHeader, BadLayout, BadSummary, BadLog, BadParts, BadQueue, BadValue}
-use Rattle.device_layout.proofs.{SlotExact.spelled_not_broken, OneState.summary_is_one, OneState.records_are_one}
-use Rattle.device_layout.proofs.Undamaged.{log_undamaged, lane_undamaged, slot_holds, point_there, fits_at, grows, value_among, before_and_at}
+use Rattle.device_layout.proofs.{OneState.summary_is_one, OneState.records_are_one}
+use Rattle.device_layout.proofs.Undamaged.{summary_undamaged, log_undamaged, lane_undamaged, slot_holds, batch_point, fits_at, grows, value_among, before_and_at}
 
 -- ---- the first place of each rule
-
-never : (b : Bool) → b ≡ false → b ≡ true → ⊥
-never b fails holds = cc (fails, holds)
-
-one_first : (test : ℕ → Bool) (from end a b : ℕ) → FailsFirst test from end a → FailsFirst test from end b → a ≡ b
-one_first test from end a b x y = grind (arith, never)
-
--- a test that fails somewhere does not hold everywhere
-not_all : (test : ℕ → Bool) (end a : ℕ) → FailsFirst test 0 end a → HoldsFrom test 0 end → ⊥
-not_all test end a x all = never (test a) x.fails (all a x.low x.within)
-
-one_field : (b : List ℕ) (a k : ℕ) → IsSlotBroken b a → IsSlotBroken b k → a ≡ k
-one_field b a k h g = grind (arith, one_first, not_all)
 
 -- of a record
 one_break : (b : List ℕ) (a k : ℕ) → BreaksAt b a → BreaksAt b k → a ≡ k
@@ -52,8 +39,7 @@ earlier c at count a b byte other rs xs k j long x y less =
 
 one_record : (c : List ℕ) (at count a b : ℕ) (byte other : Option ℕ) → at ≤ length c → IsDamage c at count a byte
     → IsDamage c at count b other → a ≡ b
-one_record c at count a b byte other long (inl x) (inl y) = x.place ∙ sym y.place
-one_record c at count a b byte other long (inl x) (inr (xs, j, y)) = absurd (omega (arith, x.short, y.within))
+one_record c at count a b byte other long (inl x) y = grind arith
 one_record c at count a b byte other long (inr (rs, k, x)) (inl y) = absurd (omega (arith, y.short, x.within))
 one_record c at count a b byte other long (inr (rs, k, x)) (inr (xs, j, y)) = elim (cases_order (length rs) (length xs)) [
   | inl same ↦
@@ -73,24 +59,15 @@ point_before : (slots : ℕ) (c : List ℕ) (taken k o q i j : ℕ) → IsPointB
 point_before slots c taken k o q i j x y less =
     let b = batch_at slots c k in
     let d = point_at [] in
-    let few : min 64 b.count ≡ b.count = omega (arith, x.counted.few) in
-    let long : length b.points ≡ b.count = length-points_in (min 64 b.count) (drop 10 (slot_at slots c k)) ∙ few in
+    let (long, there) = batch_point slots c k i d x.there x.counted.few in
     let inside = y.before i d (omega (arith, less, long, y.there, length-take j b.points)) in
-    let there : get_or (take j b.points) i d ≡ point_at (drop (10 + 16 * i) (slot_at slots c k)) =
-    get_or-take j b.points i d less
-    ∙ point_there (min 64 b.count) i (drop 10 (slot_at slots c k)) d (omega (arith, few, x.there))
-    ∙ ap point_at (drop-drop (16 * i) 10 (slot_at slots c k)) in
-    x.broken (subst InRange there inside)
+    x.broken (subst InRange (get_or-take j b.points i d less ∙ there) inside)
 
 one_slot_field : (slots : ℕ) (c : List ℕ) (taken k o q : ℕ) → SlotBreaksAt slots c taken k o
     → SlotBreaksAt slots c taken k q → o ≡ q
-one_slot_field slots c taken k o q (inl x) (inl y) = x.field ∙ sym y.field
-one_slot_field slots c taken k o q (inl x) (inr (inl y)) = absurd (x.broken y.counted)
-one_slot_field slots c taken k o q (inl x) (inr (inr (j, y))) = absurd (x.broken y.counted)
-one_slot_field slots c taken k o q (inr (inl x)) (inl y) = absurd (y.broken x.counted)
+one_slot_field slots c taken k o q (inl x) y = grind arith
+one_slot_field slots c taken k o q (inr (inl x)) y = grind arith
 one_slot_field slots c taken k o q (inr (inr (i, x))) (inl y) = absurd (y.broken x.counted)
-one_slot_field slots c taken k o q (inr (inl x)) (inr (inl y)) = x.field ∙ sym y.field
-one_slot_field slots c taken k o q (inr (inl x)) (inr (inr (j, y))) = absurd (x.broken y.follows)
 one_slot_field slots c taken k o q (inr (inr (i, x))) (inr (inl y)) = absurd (y.broken x.follows)
 one_slot_field slots c taken k o q (inr (inr (i, x))) (inr (inr (j, y))) = elim (cases_order i j) [
   | inl same ↦ omega (arith, x.field, y.field, same)
@@ -210,9 +187,10 @@ module _ (def : TagDef) (c : List ℕ) where
   -- if rule k holds, it is not reported
   refuted : (k a : ℕ) (byte : Option ℕ) → At k a byte → Held k → ⊥
   refuted zero a byte d h = omega (arith, d.1.short, h)
-  refuted (suc zero) a byte d h = never (is_field_ok (header_of c) a) d.broken.fails (h.fields a d.broken.low d.broken.within)
+  refuted (suc zero) a byte d h = none_broken (header_of c) (header_fields (header_of c)) a byte d.broken h.fields
   refuted (suc (suc zero)) a byte d h = omega (arith, d.ends.short, h.1)
-  refuted (suc (suc (suc zero))) a byte (i, o, d) h = grind (arith, spelled_not_broken)
+  refuted (suc (suc (suc zero))) a byte (i, o, d) (header, long, (s, summary)) =
+      summary_undamaged c i s o byte d.counts summary d.broken
   refuted (suc (suc (suc (suc zero)))) a byte (s, d) (header, long, (x, xs, summary, records)) =
       log_undamaged c (log_place c) x.records a byte xs long records
       (subst (λ y. IsDamage c (log_place c) y.records a byte) (same_sum s x d.summary summary) d.broken)
@@ -235,13 +213,14 @@ module _ (def : TagDef) (c : List ℕ) where
   -- each rule reports one place
   one_at : (k a b : ℕ) (byte other : Option ℕ) → At k a byte → At k b other → (a ≡ b) × (byte ≡ other)
   one_at zero a b byte other x y = (x.1.place ∙ sym y.1.place, x.1.none_there ∙ sym y.1.none_there)
-  one_at (suc zero) a b byte other x y = grind (arith, one_there, one_first)
+  one_at (suc zero) a b byte other x y = one_broken (header_of c) (header_fields (header_of c)) a b byte other x.broken y.broken
   one_at (suc (suc zero)) a b byte other x y = (x.ends.place ∙ sym y.ends.place, x.ends.none_there ∙ sym y.ends.none_there)
   one_at (suc (suc (suc zero))) a b byte other (i, o, x) (j, q, y) =
       let slot = one_count i j x.counts y.counts in
-      let field = one_field (slot_bytes c j) o q (subst (λ k. IsSlotBroken (slot_bytes c k) o) slot x.broken) y.broken in
-      one_there a b byte other x.there y.there
-      (x.place ∙ ap₂ (λ k n. summary_place k + n) slot field ∙ sym y.place)
+      let bytes = slot_bytes c j in
+      let one = one_broken bytes (summary_fields bytes) o q byte other
+      (subst (λ k. IsSlotBroken (slot_bytes c k) o byte) slot x.broken) y.broken in
+      (x.place ∙ ap₂ (λ k n. summary_place k + n) slot one.0 ∙ sym y.place, one.1)
   one_at (suc (suc (suc (suc zero)))) a b byte other (s, x) (z, y) =
       let broken = subst (λ v. IsDamage c (log_place c) v.records a byte) (same_sum s z x.summary y.summary) x.broken in
       let place = one_record c (log_place c) z.records a b byte other x.long broken y.broken in

@@ -8,8 +8,8 @@ use Rattle.disk_model.specs.{Gates.open_byte, Gates.IsOpen, Traces.Trace, Calls.
 use Rattle.archive_file.specs.{Places.HasRecords, Places.IsDamage, Summaries.summary_image, Summaries.IsSummary, declared.failure.ScanNo.ScanNo}
 use Rattle.event_queue.specs.{lane_end}
 use Rattle.device_layout.specs.{declared.header.Header.Header, declared.layout_reader.Stored.Stored, declared.slot.Slot.Slot, def_in, slots_in, IsHeader, IsHeaderBroken, IsSlotBroken, header_of, summary_place, slot_bytes, taken_in, chosen}
-use Rattle.device_layout.specs.{counting, recovered_tuning, IsOfTag, IsTagDamage, IsOther, HasHeader, HasLayout, CountsSummary, IsFoundOn, IsCause, refusal_of, Damages.IsTagDamage.BadSummary, Damages.IsTagDamage.BadLog}
-use Rattle.device_layout.specs.{Damages.IsTagDamage.BadParts, declared.failure.OpenNo.OpenNo}
+use Rattle.device_layout.specs.{counting, recovered_tuning, IsOfTag, IsTagDamage, IsOther, HasHeader, HasLayout, CountsSummary, IsFoundOn, IsCause, refusal_of, Damages.IsTagDamage.BadHeader, Damages.IsTagDamage.BadSummary}
+use Rattle.device_layout.specs.{Damages.IsTagDamage.BadLog, Damages.IsTagDamage.BadParts, declared.failure.OpenNo.OpenNo}
 use Rattle.device_layout.specs.declared.slot.Slot.TheVariants.{First, Second}
 use Rattle.archive_file.specs.declared.failure.ScanNo.TheVariants as scan
 
@@ -53,10 +53,14 @@ pub has_header : (bytes c : List ℕ) (h : Header) → length bytes ≡ 128 → 
     → IsHeader bytes → h.def ≡ def_in bytes → h.slots ≡ slots_in bytes → HasHeader h c
 has_header bytes c h size here ok def_is slots_are = grind (arith, here_128)
 
-pub header_broken : (def : TagDef) (bytes c : List ℕ) (at : ℕ) → length bytes ≡ 128
-    → bytes ≡ take (length bytes) (drop 0 c) → 128 ≤ length c → at < 128 → IsHeaderBroken bytes at → IsOpen 0 c
-    → IsTagDamage def c at (Some (get_or bytes at 0))
-header_broken def bytes c at size here long within broken opened = grind (arith, here_128 bytes 0 c size here, byte_here bytes 0 c at (omega (arith, size, within)) here)
+pub header_broken : (def : TagDef) (bytes c : List ℕ) (at : ℕ) (byte : Option ℕ) → length bytes ≡ 128
+    → bytes ≡ take (length bytes) (drop 0 c) → 128 ≤ length c → IsHeaderBroken bytes at byte → IsOpen 0 c
+    → IsTagDamage def c at byte
+header_broken def bytes c at byte size here long broken opened = BadHeader (record {
+  opened = opened;
+  long = long;
+  broken = subst (λ l. IsHeaderBroken l at byte) (sym (here_128 bytes 0 c size here)) broken;
+})
 
 pub of_tag : (def : TagDef) (c : List ℕ) (h : Header) → IsOpen 0 c → HasHeader h c → h.def.name ≡ def.name
     → h.def.step ≡ def.step → IsOfTag def c
@@ -88,19 +92,16 @@ slot_end i = grind arith
 front_end : (slots : ℕ) → 400 ≤ lane_end slots
 front_end slots = omega arith
 
-pub summary_broken : (def : TagDef) (slots : ℕ) (made : Tuning) (i : Slot) (bytes c : List ℕ) (at : ℕ)
-    → length bytes ≡ 128 → bytes ≡ take (length bytes) (drop (summary_place i) c) → at < 128 → IsSlotBroken bytes at
-    → HasLayout def slots made c → counting c ≡ Some i
-    → IsTagDamage def c (summary_place i + at) (Some (get_or bytes at 0))
-summary_broken def slots made i bytes c at size here within broken has counts =
-    BadSummary i at (record {
-      tag = has.tag;
-      long = has.long;
-      counts = counts;
-      broken = subst (λ l. IsSlotBroken l at) (sym (here_128 bytes (summary_place i) c size here)) broken;
-      place = refl;
-      there = grind (arith, front_end, slot_end, byte_here);
-    })
+pub summary_broken : (def : TagDef) (slots : ℕ) (made : Tuning) (i : Slot) (bytes c : List ℕ) (at : ℕ) (byte : Option ℕ)
+    → length bytes ≡ 128 → bytes ≡ take (length bytes) (drop (summary_place i) c) → IsSlotBroken bytes at byte
+    → HasLayout def slots made c → counting c ≡ Some i → IsTagDamage def c (summary_place i + at) byte
+summary_broken def slots made i bytes c at byte size here broken has counts = BadSummary i at (record {
+  tag = has.tag;
+  long = has.long;
+  counts = counts;
+  broken = subst (λ l. IsSlotBroken l at byte) (sym (here_128 bytes (summary_place i) c size here)) broken;
+  place = refl;
+})
 
 -- ---- the records
 

@@ -1,13 +1,13 @@
 -- The bytes of a summary break the layout of a slot at no field.
-use Rattle.std.proofs.Common.{◌≡◌, ℕ, ◌+◌, ◌≤◌, Bool, true, not, ◌||◌, leb, eqb, List, ◌∷◌, ◌++◌, length, get_or, take, drop, Option, None, Some, is_some, IfSome, refl, sym, ap, ◌∙◌, arith}
+use Rattle.std.proofs.Common.{◌≡◌, ℕ, ◌+◌, ◌≤◌, Bool, true, not, ◌||◌, leb, eqb, All, List, ◌∷◌, ◌++◌, length, get_or, take, drop, Option, None, Some, is_some, IfSome, refl, sym, ap, ◌∙◌, arith}
 use Rattle.std.proofs.lemmas.List.{drop-drop, drop_at}
-use Rattle.std.proofs.lemmas.Bool.{and_from, or_left, or_right, not_from_false, le-leb, both_ways}
+use Rattle.std.proofs.lemmas.Bool.{and_from, or_left, or_right, not_from_false, le-leb}
 use Rattle.std.specs.{Int.w64, Int.from_be_bytes, List.list_all}
 use Rattle.trend_num.specs.{declared.point.Point.Point, declared.archive.Summary.Summary, declared.tuning.Tuning.Tuning, Ranges.InRange, Ranges.TuningInRange, Ranges.last_time, Ranges.largest_value}
-use Rattle.archive_file.specs.{Fields.number_bytes, Fields.place_bytes, Fields.point_at, Summaries.tuning_bytes, Summaries.summary_image, Summaries.IsSummary}
-use Rattle.archive_file.proofs.Points.{point_at-bytes}
-use Rattle.device_layout.specs.{HoldsFrom, has_flag, are_flags_ok, are_zeros, is_in_range, short_number, is_form_ok, is_point_ok, is_number_ok, IsSlotBroken, IsSlotWhole}
-use Rattle.device_layout.proofs.{Firsts.by_case, SlotNumbers.length-place, SlotTests.inside_is, SlotFlags.beside_passes, SlotFlags.AreBits, SlotFlags.bits_of_flags, SlotPieces.five_and_more}
+use Rattle.archive_file.specs.{Fields.number_bytes, Fields.place_bytes, Fields.point_at, Summaries.tuning_bytes, Summaries.summary_image, Summaries.IsSummary, Keeps}
+use Rattle.archive_file.proofs.{FirstFields.kept_in, FirstFields.none_broken, Points.point_at-bytes}
+use Rattle.device_layout.specs.{has_flag, are_flags_ok, are_zeros, is_in_range, summary_fields, IsSlotBroken}
+use Rattle.device_layout.proofs.{SlotNumbers.length-place, SlotNumbers.length-summary_image, SlotTests.inside_is, SlotFlags.beside_passes, SlotFlags.AreBits, SlotFlags.bits_of_flags, SlotPieces.five_and_more}
 
 -- what is after a piece
 behind_piece : (b piece rest : List ℕ) (at n : ℕ) → length piece ≡ n → drop at b ≡ piece ++ rest
@@ -40,26 +40,14 @@ seven_read n small = omega arith
 six_read : (n : ℕ) → n ≤ last_time → from_be_bytes w64 (0 ∷ 0 ∷ number_bytes 6 n) ≡ n
 six_read n small = omega arith
 
--- the five numbers of a tuning pass where it is there
-record DoNumbersPass (there : Bool) (b : List ℕ) : Type 0 where
-  exc_dev : (not there || leb (short_number b 96 7) largest_value) ≡ true
-  exc_max : (not there || leb (short_number b 103 6) last_time) ≡ true
-  comp_dev : (not there || leb (short_number b 109 7) largest_value) ≡ true
-  comp_min : (not there || leb (short_number b 116 6) last_time) ≡ true
-  comp_max : (not there || leb (short_number b 122 6) last_time) ≡ true
-
--- those of one that is absent
-numbers_absent : (there : Bool) (b : List ℕ) → not there ≡ true → DoNumbersPass there b
-numbers_absent there b absent = grind (arith, or_left)
-
 -- a number passes that is read and small
 number_passes : (there : Bool) (n m most : ℕ) → n ≡ m → m ≤ most → (not there || leb n most) ≡ true
 number_passes there n m most is small = or_right (not there) _ (le-leb n most (omega (arith, is)))
 
--- those of one that is there
-numbers_there : (t : Tuning) (there : Bool) (b : List ℕ) → TuningInRange t → drop 96 b ≡ tuning_bytes (Some t)
-    → DoNumbersPass there b
-numbers_there t there b tuned is =
+-- the five numbers of a tuning that is there pass
+numbers_there : (t : Tuning) (b : List ℕ) → TuningInRange t → drop 96 b ≡ tuning_bytes (Some t)
+    → list_all (λ f. f.is_kept) (drop 13 (summary_fields b)) ≡ true
+numbers_there t b tuned is =
     let r5 = number_bytes 6 t.comp_max in
     let r4 = number_bytes 6 t.comp_min ++ r5 in
     let r3 = number_bytes 7 t.comp_dev ++ r4 in
@@ -68,14 +56,20 @@ numbers_there t there b tuned is =
     let s3 : drop 109 b ≡ r3 = behind_piece b (number_bytes 6 t.exc_max) r3 103 6 refl s2 in
     let s4 : drop 116 b ≡ r4 = behind_piece b (number_bytes 7 t.comp_dev) r4 109 7 refl s3 in
     let s5 : drop 122 b ≡ r5 = behind_piece b (number_bytes 6 t.comp_min) r5 116 6 refl s4 in
+    let there = has_flag b 16 in
     let seven = λ (l : List ℕ). from_be_bytes w64 (0 ∷ take 7 l) in
     let six = λ (l : List ℕ). from_be_bytes w64 (0 ∷ 0 ∷ take 6 l) in
-    grind (arith, number_passes, seven_read, six_read)
+    and_from _ _ (number_passes there _ _ _ (ap seven is ∙ seven_read t.exc_dev tuned.exc_dev) tuned.exc_dev)
+    (and_from _ _ (number_passes there _ _ _ (ap six s2 ∙ six_read t.exc_max tuned.exc_max) tuned.exc_max)
+    (and_from _ _ (number_passes there _ _ _ (ap seven s3 ∙ seven_read t.comp_dev tuned.comp_dev) tuned.comp_dev)
+    (and_from _ _ (number_passes there _ _ _ (ap six s4 ∙ six_read t.comp_min tuned.comp_min) tuned.comp_min)
+    (and_from _ _ (number_passes there _ _ _ (ap six s5 ∙ six_read t.comp_max tuned.comp_max) tuned.comp_max) refl))))
 
-numbers_pass : (o : Option Tuning) (there : Bool) (b : List ℕ) → there ≡ is_some o → IfSome o TuningInRange
-    → drop 96 b ≡ tuning_bytes o → DoNumbersPass there b
-numbers_pass None there b flag tuned is = numbers_absent there b (not_from_false there flag)
-numbers_pass (Some t) there b flag tuned is = numbers_there t there b tuned is
+-- and so do those of one that is absent
+numbers_pass : (o : Option Tuning) (b : List ℕ) → has_flag b 16 ≡ is_some o → IfSome o TuningInRange
+    → drop 96 b ≡ tuning_bytes o → list_all (λ f. f.is_kept) (drop 13 (summary_fields b)) ≡ true
+numbers_pass None b flag tuned is = rw flag refl
+numbers_pass (Some t) b flag tuned is = numbers_there t b tuned is
 
 -- ---- a summary
 
@@ -117,52 +111,30 @@ module _ (s : Summary) (b : List ℕ) (summary : IsSummary s) (is : b ≡ summar
   flags_pass : are_flags_ok b ≡ true
   flags_pass = grind (arith, flags_say, and_from, beside_passes)
 
-  -- each field has a form that it may have
-  forms_pass : HoldsFrom (is_form_ok b) 0 128
-  forms_pass = λ i low below.
-      let says = flags_say in
-      let parts = parts_of s b is in
-      let zeros : are_zeros b 13 3 ≡ true = ap (λ l. list_all (λ x. eqb x 0) (take 3 (drop 13 l))) is in
-      let lower : has_flag b 8 ≡ is_some s.lower = says.doors_bit ∙ summary.doors in
-      by_case i 12 _ _ (λ e. flags_pass)
-      (by_case i 13 _ _ (λ e. zeros)
-      (by_case i 16 _ _ (λ e. grind (arith, place_passes))
-      (by_case i 32 _ _ (λ e. grind (arith, place_passes))
-      (by_case i 48 _ _ (λ e. grind (arith, place_passes))
-      (by_case i 64 _ _ (λ e. grind (arith, place_passes))
-      (by_case i 80 _ _ (λ e. grind (arith, place_passes))
-      (by_case i 96 _ _ (λ e. grind (arith, tuning_passes)) refl)))))))
-
-  -- each point that is there is in range
-  points_pass : HoldsFrom (is_point_ok b) 0 128
-  points_pass = λ i low below.
+  -- each field keeps the layout
+  pub spelled_kept : All (Keeps b) (summary_fields b)
+  spelled_kept =
       let says = flags_say in
       let parts = parts_of s b is in
       let lower : has_flag b 8 ≡ is_some s.lower = says.doors_bit ∙ summary.doors in
-      by_case i 16 _ _ (λ e. grind (arith, point_passes))
-      (by_case i 32 _ _ (λ e. grind (arith, point_passes)) (grind (arith, by_case, point_passes)))
-
-  -- each number of a tuning that is there is in range
-  tuning_in_range : HoldsFrom (is_number_ok b) 0 128
-  tuning_in_range = λ i low below.
-      let numbers = numbers_pass s.tuning (has_flag b 16) b flags_say.tuning_bit summary.tuning
-      (parts_of s b is).at_96 in
-      let none = not (has_flag b 16) in
-      by_case i 96 _ _ (λ e. ap (λ k. none || leb (short_number b k 7) largest_value) e ∙ numbers.exc_dev)
-      (by_case i 103 _ _ (λ e. ap (λ k. none || leb (short_number b k 6) last_time) e ∙ numbers.exc_max)
-      (by_case i 109 _ _ (λ e. ap (λ k. none || leb (short_number b k 7) largest_value) e ∙ numbers.comp_dev)
-      (by_case i 116 _ _ (λ e. ap (λ k. none || leb (short_number b k 6) last_time) e ∙ numbers.comp_min)
-      (by_case i 122 _ _ (λ e. ap (λ k. none || leb (short_number b k 6) last_time) e ∙ numbers.comp_max) refl))))
-
-  -- the bytes of a summary break the layout nowhere
-  pub spelled_whole : IsSlotWhole b
-  spelled_whole = record { forms = forms_pass; points = points_pass; numbers = tuning_in_range }
-
--- a slot that breaks the layout nowhere does not break it
-pub not_broken : (b : List ℕ) (at : ℕ) → IsSlotWhole b → IsSlotBroken b at → ⊥
-not_broken b at whole h3 = grind (arith, both_ways)
+      let numbers = numbers_pass s.tuning b says.tuning_bit summary.tuning parts.at_96 in
+      kept_in b (summary_fields b) 128 (ap length is ∙ length-summary_image s) refl
+      (and_from _ _ flags_pass
+      (and_from _ _ (ap (λ l. list_all (λ x. eqb x 0) (take 3 (drop 13 l))) is)
+      (and_from _ _ (place_passes s.held _ b _ 16 says.held_bit parts.at_16)
+      (and_from _ _ (place_passes s.pending _ b _ 32 says.pending_bit parts.at_32)
+      (and_from _ _ (place_passes s.hinge _ b _ 48 says.hinge_bit parts.at_48)
+      (and_from _ _ (place_passes s.upper _ b _ 64 says.doors_bit parts.at_64)
+      (and_from _ _ (place_passes s.lower _ b _ 80 lower parts.at_80)
+      (and_from _ _ (tuning_passes s.tuning _ b says.tuning_bit parts.at_96)
+      (and_from _ _ (point_passes s.held _ b _ 16 summary.held says.held_bit parts.at_16)
+      (and_from _ _ (point_passes s.pending _ b _ 32 summary.pending says.pending_bit parts.at_32)
+      (and_from _ _ (point_passes s.hinge _ b _ 48 summary.hinge says.hinge_bit parts.at_48)
+      (and_from _ _ (point_passes s.upper _ b _ 64 summary.upper says.doors_bit parts.at_64)
+      (and_from _ _ (point_passes s.lower _ b _ 80 summary.lower lower parts.at_80) numbers)))))))))))))
 
 -- so no slot that spells a summary is broken
-pub spelled_not_broken : (s : Summary) (b : List ℕ) (at : ℕ) → IsSummary s → b ≡ summary_image s
-    → IsSlotBroken b at → ⊥
-spelled_not_broken s b at summary is broken = not_broken b at (spelled_whole s b summary is) broken
+pub spelled_not_broken : (s : Summary) (b : List ℕ) (at : ℕ) (byte : Option ℕ) → IsSummary s → b ≡ summary_image s
+    → IsSlotBroken b at byte → ⊥
+spelled_not_broken s b at byte summary is broken =
+    none_broken b (summary_fields b) at byte broken (spelled_kept s b summary is)

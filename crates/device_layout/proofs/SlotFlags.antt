@@ -1,6 +1,6 @@
 -- The flags of a summary as bits of a number.
-use Rattle.std.proofs.Common.{◌≡◌, ℕ, ◌+◌, ◌/◌, ◌%◌, ◌≤◌, Bool, true, false, cond, not, ◌&&◌, ◌||◌, leb, eqb, is_some, refl, arith}
-use Rattle.std.proofs.lemmas.Bool.{and_parts, eqb-true, not-true, agree_below_at}
+use Rattle.std.proofs.Common.{◌≡◌, ℕ, ◌+◌, ◌*◌, ◌/◌, ◌%◌, ◌≤◌, Bool, true, cond, not, ◌||◌, leb, eqb, is_some, ap, ◌∙◌, arith}
+use Rattle.std.proofs.lemmas.Bool.{agree_below_at, eqb-true, le-leb}
 use Rattle.trend_num.specs.{Summary}
 use Rattle.archive_file.specs.{flag, flags}
 
@@ -46,20 +46,6 @@ pub flags_are : (s : Summary) (h p a d u : Bool) → is_some s.held ≡ h → is
     → is_some s.hinge ≡ a → is_some s.upper ≡ d → is_some s.tuning ≡ u → flags s ≡ five_flags h p a d u
 flags_are s h p a d u eh ep ea ed eu = λ i. five_flags (eh i) (ep i) (ea i) (ed i) (eu i)
 
--- a test of both truth values
-abbrev of_both : (Bool → Bool) → Bool
-of_both test = test true && test false
-
-of_both_at : (test : Bool → Bool) → of_both test ≡ true → (b : Bool) → test b ≡ true
-of_both_at test all b = grind (arith, and_parts)
-
--- two are one
-abbrev are_same : Bool → Bool → Bool
-are_same x y = cond y x (not x)
-
-same_from : (x y : Bool) → are_same x y ≡ true → x ≡ y
-same_from x y ok = grind (arith, not-true)
-
 -- the bits of the number of five bits are these
 pub record AreBits (n : ℕ) (held pending hinge doors tuning : Bool) : Type 0 where
   pub small : leb n 31 ≡ true
@@ -69,19 +55,28 @@ pub record AreBits (n : ℕ) (held pending hinge doors tuning : Bool) : Type 0 w
   pub doors_bit : bit_of n 8 ≡ doors
   pub tuning_bit : bit_of n 16 ≡ tuning
 
-abbrev are_bits : ℕ → Bool → Bool → Bool → Bool → Bool → Bool
-are_bits n h p a d u = leb n 31 && (are_same (bit_of n 1) h && (are_same (bit_of n 2) p
-    && (are_same (bit_of n 4) a && (are_same (bit_of n 8) d && are_same (bit_of n 16) u))))
+-- a flag is one bit, at its place
+abbrev bit : Bool → ℕ
+bit there = flag there 1
 
-bits_from : (n : ℕ) (h p a d u : Bool) → are_bits n h p a d u ≡ true → AreBits n h p a d u
-bits_from n h p a d u ok = grind (arith, and_parts, same_from)
+one_bit : (there : Bool) (k : ℕ) → (flag there k ≡ k * bit there) × (bit there ≤ 1) × (eqb (bit there) 1 ≡ there)
+one_bit there k = grind arith
 
--- they are, in all 32 cases
+-- so they are those of the number
 pub bits_of_flags : (h p a d u : Bool) → AreBits (five_flags h p a d u) h p a d u
-bits_of_flags h p a d u = bits_from (five_flags h p a d u) h p a d u
-    (of_both_at (λ y. are_bits (five_flags h p a d y) h p a d y)
-    (of_both_at (λ x. of_both (λ y. are_bits (five_flags h p a x y) h p a x y))
-    (of_both_at (λ w. of_both (λ x. of_both (λ y. are_bits (five_flags h p w x y) h p w x y)))
-    (of_both_at (λ v. of_both (λ w. of_both (λ x. of_both (λ y. are_bits (five_flags h v w x y) h v w x y))))
-    (of_both_at (λ z. of_both (λ v. of_both (λ w. of_both (λ x. of_both (λ y.
-    are_bits (five_flags z v w x y) z v w x y))))) refl h) p) a) d) u)
+bits_of_flags h p a d u =
+    let n = five_flags h p a d u in
+    let x = one_bit h 1 in
+    let y = one_bit p 2 in
+    let z = one_bit a 4 in
+    let v = one_bit d 8 in
+    let w = one_bit u 16 in
+    let sum : n ≡ bit h + 2 * bit p + 4 * bit a + 8 * bit d + 16 * bit u = omega (arith, y.0, z.0, v.0, w.0) in
+    record {
+      small = le-leb n 31 (omega (arith, sum, x.1, y.1, z.1, v.1, w.1));
+      held_bit = ap (λ k. eqb k 1) (omega (arith, sum, x.1, y.1, z.1, v.1, w.1)) ∙ x.2;
+      pending_bit = ap (λ k. eqb k 1) (omega (arith, sum, x.1, y.1, z.1, v.1, w.1)) ∙ y.2;
+      hinge_bit = ap (λ k. eqb k 1) (omega (arith, sum, x.1, y.1, z.1, v.1, w.1)) ∙ z.2;
+      doors_bit = ap (λ k. eqb k 1) (omega (arith, sum, x.1, y.1, z.1, v.1, w.1)) ∙ v.2;
+      tuning_bit = ap (λ k. eqb k 1) (omega (arith, sum, x.1, y.1, z.1, v.1, w.1)) ∙ w.2;
+    }

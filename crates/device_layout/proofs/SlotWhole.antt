@@ -1,11 +1,11 @@
 -- A slot of which no field breaks the layout spells a summary.
-use Rattle.std.proofs.Common.{◌≡◌, ℕ, ◌+◌, ◌<◌, ◌≤◌, Bool, true, false, cond, not, ◌||◌, leb, List, [], ◌∷◌, ◌++◌, length, get_or, take, drop, Option, None, Some, is_some, IfSome, refl, sym, ap, ◌∙◌, arith}
+use Rattle.std.proofs.Common.{◌≡◌, ℕ, ◌+◌, ◌≤◌, Bool, true, false, cond, not, ◌||◌, leb, All, List, [], ◌∷◌, ◌++◌, length, get_or, take, drop, Option, None, Some, is_some, IfSome, refl, sym, ap, ◌∙◌, arith, lit<}
 use Rattle.std.proofs.lemmas.{Bool.and_parts, Bool.leb-true, List.drop_more}
 use Rattle.std.specs.Int.{w32, w64, from_be_bytes}
 use Rattle.trend_num.specs.{declared.point.Point.Point, declared.archive.Summary.Summary, declared.tuning.Tuning.Tuning, Ranges.InRange, Ranges.TuningInRange, Ranges.last_time, Ranges.largest_value}
-use Rattle.archive_file.specs.{place_bytes, point_at, flags, places_image, tuning_bytes, summary_image, IsSummary}
-use Rattle.archive_file.proofs.Points.{IsBytes}
-use Rattle.device_layout.specs.{HoldsFrom, has_flag, are_flags_ok, are_zeros, is_in_range, is_form_ok, short_number, IsSlotWhole}
+use Rattle.archive_file.specs.{place_bytes, point_at, flags, places_image, tuning_bytes, summary_image, IsSummary, Keeps}
+use Rattle.archive_file.proofs.{FieldLaws.field_of, Points.IsBytes}
+use Rattle.device_layout.specs.{has_flag, are_flags_ok, are_zeros, is_in_range, short_number, summary_fields}
 use Rattle.device_layout.proofs.{SlotTests.is_inside, SlotFlags.beside, SlotFlags.flags_in_is, SlotFlags.flags_are}
 use Rattle.device_layout.proofs.SlotPieces.{cut, five_and_more, zeros_are, eight_below, four_below, length-piece, bytes_of_piece, last_piece, eight, four, seven, six, sixteen}
 
@@ -91,26 +91,27 @@ module _ (b : List ℕ) (long : length b ≡ 128) (bytes : IsBytes b) where
       ∙ ap (λ k. k ∷ 0 ∷ 0 ∷ 0 ∷ []) (sym same)
 
   -- all of them
-  all_spelled : HoldsFrom (is_form_ok b) 0 128 → b ≡ summary_image (summary_there b)
-  all_spelled forms =
+  all_spelled : All (Keeps b) (summary_fields b) → b ≡ summary_image (summary_there b)
+  all_spelled kept =
       let s = summary_there b in
-      let form : (at : ℕ) → at < 128 → is_form_ok b at ≡ true = λ at below. forms at (omega arith) below in
+      let d = field_of 0 0 true in
       let places : drop 16 b ≡ places_image s ++ tuning_bytes s.tuning =
-      cut b 16 16 _ _ (place_spelled (has_flag b 1) 16 (omega arith) (form 16 (omega arith)))
-      (cut b 32 16 _ _ (place_spelled (has_flag b 2) 32 (omega arith) (form 32 (omega arith)))
-      (cut b 48 16 _ _ (place_spelled (has_flag b 4) 48 (omega arith) (form 48 (omega arith)))
-      (cut b 64 16 _ _ (place_spelled (has_flag b 8) 64 (omega arith) (form 64 (omega arith)))
-      (cut b 80 16 _ _ (place_spelled (has_flag b 8) 80 (omega arith) (form 80 (omega arith)))
-      (tuning_spelled (has_flag b 16) (form 96 (omega arith)))))))
+      cut b 16 16 _ _ (place_spelled (has_flag b 1) 16 (omega arith) (kept 2 d (lit< tt)).kept)
+      (cut b 32 16 _ _ (place_spelled (has_flag b 2) 32 (omega arith) (kept 3 d (lit< tt)).kept)
+      (cut b 48 16 _ _ (place_spelled (has_flag b 4) 48 (omega arith) (kept 4 d (lit< tt)).kept)
+      (cut b 64 16 _ _ (place_spelled (has_flag b 8) 64 (omega arith) (kept 5 d (lit< tt)).kept)
+      (cut b 80 16 _ _ (place_spelled (has_flag b 8) 80 (omega arith) (kept 6 d (lit< tt)).kept)
+      (tuning_spelled (has_flag b 16) (kept 7 d (lit< tt)).kept)))))
       ∙ sym (grind (arith, five_and_more)) in
       cut b 0 8 _ _ (eight b long bytes 0 (omega arith))
       (cut b 8 4 _ _ (four b long bytes 8 (omega arith))
-      (cut b 12 4 _ _ (flags_spelled (form 12 (omega arith)) (form 13 (omega arith))) places))
+      (cut b 12 4 _ _ (flags_spelled (kept 0 d (lit< tt)).kept (kept 1 d (lit< tt)).kept) places))
 
   -- and it is a summary that has a spelling
-  is_summary : IsSlotWhole b → IsSummary (summary_there b)
-  is_summary whole =
-      let flags_ok : are_flags_ok b ≡ true = whole.forms 12 (omega arith) (omega arith) in
+  is_summary : All (Keeps b) (summary_fields b) → IsSummary (summary_there b)
+  is_summary kept =
+      let d = field_of 0 0 true in
+      let flags_ok : are_flags_ok b ≡ true = (kept 0 d (lit< tt)).kept in
       let with_held = beside (has_flag b 1) (has_flag b 4) (has_flag b 2) (has_flag b 8)
       (and_parts (leb (get_or b 12 0) 31) _ flags_ok).1 in
       let held = there_is (has_flag b 1) (point_at (drop 16 b)) in
@@ -125,16 +126,16 @@ module _ (b : List ℕ) (long : length b ≡ 128) (bytes : IsBytes b) where
         pending_after = λ there. held ∙ with_held.pending_after (sym pending ∙ there);
         doors = upper ∙ sym lower;
         doors_after = λ there. held ∙ with_held.doors_after (sym upper ∙ there);
-        held = point_inside (has_flag b 1) _ (whole.points 16 (omega arith) (omega arith));
-        pending = point_inside (has_flag b 2) _ (whole.points 32 (omega arith) (omega arith));
-        hinge = point_inside (has_flag b 4) _ (whole.points 48 (omega arith) (omega arith));
-        upper = point_inside (has_flag b 8) _ (whole.points 64 (omega arith) (omega arith));
-        lower = point_inside (has_flag b 8) _ (whole.points 80 (omega arith) (omega arith));
-        tuning = tuning_inside (has_flag b 16) (tuning_there b) (whole.numbers 96 (omega arith) (omega arith))
-            (whole.numbers 103 (omega arith) (omega arith)) (whole.numbers 109 (omega arith) (omega arith))
-            (whole.numbers 116 (omega arith) (omega arith)) (whole.numbers 122 (omega arith) (omega arith));
+        held = point_inside (has_flag b 1) _ (kept 8 d (lit< tt)).kept;
+        pending = point_inside (has_flag b 2) _ (kept 9 d (lit< tt)).kept;
+        hinge = point_inside (has_flag b 4) _ (kept 10 d (lit< tt)).kept;
+        upper = point_inside (has_flag b 8) _ (kept 11 d (lit< tt)).kept;
+        lower = point_inside (has_flag b 8) _ (kept 12 d (lit< tt)).kept;
+        tuning = tuning_inside (has_flag b 16) (tuning_there b) (kept 13 d (lit< tt)).kept
+            (kept 14 d (lit< tt)).kept (kept 15 d (lit< tt)).kept
+            (kept 16 d (lit< tt)).kept (kept 17 d (lit< tt)).kept;
       }
 
   -- a slot of which no field breaks the layout spells a summary
-  pub spells_one : IsSlotWhole b → (s : Summary) × IsSummary s × (b ≡ summary_image s)
-  spells_one whole = (summary_there b, is_summary whole, all_spelled whole.forms)
+  pub spells_one : All (Keeps b) (summary_fields b) → (s : Summary) × IsSummary s × (b ≡ summary_image s)
+  spells_one kept = (summary_there b, is_summary kept, all_spelled kept)

@@ -1,15 +1,15 @@
 -- What recovers is not damaged.
-use Rattle.std.proofs.Common.{◌≡◌, inl, inr, ℕ, zero, suc, ◌+◌, ◌-◌, ◌*◌, ◌<◌, ◌≤◌, min, Bool, true, false, List, [], ◌∷◌, length, get_or, take, drop, map, Option, refl, sym, ◌∙◌, ap, subst, arith, add-zero, length-take, length-drop}
+use Rattle.std.proofs.Common.{◌≡◌, inl, inr, ℕ, zero, suc, ◌+◌, ◌-◌, ◌*◌, ◌<◌, ◌≤◌, min, Bool, List, [], ◌∷◌, length, get_or, take, drop, map, Option, Some, refl, sym, ◌∙◌, ap, subst, arith, add-zero, length-take, length-drop}
 use Rattle.std.proofs.Common.{length-append}
 use Rattle.std.proofs.lemmas.List.{append-nil, drop-drop}
 use Rattle.trend_num.specs.{Limits.most_records, declared.archive.Rec.Rec, declared.archive.Summary.Summary, declared.point.Point.Point, declared.tag_def.TagDef.TagDef, Ranges.InRange}
 use Rattle.trend_model.specs.{History.Raw, State.State, State.after, State.replay}
 use Rattle.disk_model.specs.{IsBegun}
 use Rattle.archive_file.specs.{Fields.point_bytes, Fields.point_at, Records.rec_image, Records.recs_image, Places.AreInRange, Places.HasRecords, Places.BreaksAt, Places.IsDamage}
-use Rattle.archive_file.proofs.{Points.point_at-bytes, Logs.part_of, Beginnings.not_new}
+use Rattle.archive_file.proofs.{Points.point_at-bytes, Logs.part_of, Beginnings.not_new, FirstFields.none_broken}
 use Rattle.event_queue.specs.{Slots.slot_at, Slots.batch_at, Slots.slot_points, Damages.BreaksSlotAt as SlotBreaksAt, Damages.IsLaneDamage, slot_points_of, points_before, lane_points, IsSound, IsLane}
 use Rattle.event_queue.proofs.{Batches.length-points_in, Steps.points_open, Steps.points_more}
-use Rattle.device_layout.specs.{slots_in, header_of, log_place, counting, HasSummary, start_of, AllFit, IsOfTag, IsStored, IsReplayed, Recovers, IsTagDamage, IsValuePlace}
+use Rattle.device_layout.specs.{declared.slot.Slot.Slot, slots_in, header_fields, header_of, log_place, slot_bytes, counting, IsSlotBroken, HasSummary, start_of, AllFit, IsOfTag, IsStored, IsReplayed, Recovers, IsTagDamage, IsValuePlace}
 use Rattle.device_layout.specs.Damages.IsTagDamage.{EndsShort, BadHeader, BadLayout, BadSummary, BadLog, BadParts, BadQueue, BadValue}
 use Rattle.device_layout.proofs.{SlotExact.spelled_not_broken, OneState.summary_is_one, OneState.records_are_one}
 
@@ -20,6 +20,15 @@ tag_begun def c tag = record { long = omega (arith, tag.header.size, length-take
 
 damaged_begun : (def : TagDef) (c : List ℕ) (a : ℕ) (byte : Option ℕ) → IsTagDamage def c a byte → IsBegun c
 damaged_begun def c a byte h = grind (arith, tag_begun)
+
+-- ---- the summary
+
+-- the slot that counts spells its summary
+pub summary_undamaged : (c : List ℕ) (i : Slot) (s : Summary) (o : ℕ) (byte : Option ℕ) → counting c ≡ Some i
+    → HasSummary c (counting c) s → IsSlotBroken (slot_bytes c i) o byte → ⊥
+summary_undamaged c i s o byte counts summary broken =
+    let has = subst (λ k. HasSummary c k s) counts summary in
+    spelled_not_broken s (slot_bytes c i) o byte has.0 has.1 broken
 
 -- ---- the log
 
@@ -77,19 +86,26 @@ point_there (suc n) (suc i) bytes d below =
     point_there n i (drop 16 bytes) d (omega (arith, below))
     ∙ ap point_at (drop-drop (16 * i) 16 bytes ∙ ap (λ m. drop m bytes) place)
 
+-- so is a point of a batch
+pub batch_point : (slots : ℕ) (c : List ℕ) (k i : ℕ) (d : Point) → i < (batch_at slots c k).count → (batch_at slots c k).count ≤ 64
+    → (length (batch_at slots c k).points ≡ (batch_at slots c k).count)
+    × (get_or (batch_at slots c k).points i d ≡ point_at (drop (10 + 16 * i) (slot_at slots c k)))
+batch_point slots c k i d below few =
+    let n = (batch_at slots c k).count in
+    let same : min 64 n ≡ n = omega (arith, few) in (
+      length-points_in (min 64 n) (drop 10 (slot_at slots c k)) ∙ same,
+      point_there (min 64 n) i (drop 10 (slot_at slots c k)) d (omega (arith, same, below))
+          ∙ ap point_at (drop-drop (16 * i) 10 (slot_at slots c k)),
+    )
+
 -- an open slot that keeps the layout breaks it nowhere
 pub slot_holds : (slots : ℕ) (c : List ℕ) (taken k o : ℕ) → IsSound slots c taken k → SlotBreaksAt slots c taken k o → ⊥
 slot_holds slots c taken k o sound (inl count) = count.broken sound.counted
 slot_holds slots c taken k o sound (inr (inl first)) = first.broken sound.follows
 slot_holds slots c taken k o sound (inr (inr (i, point))) =
-    let b = batch_at slots c k in
     let d = point_at [] in
-    let few : min 64 b.count ≡ b.count = omega (arith, sound.counted.few) in
-    let below : i < length b.points = omega (arith, length-points_in (min 64 b.count) (drop 10 (slot_at slots c k)), few, point.there) in
-    let there : get_or b.points i d ≡ point_at (drop (10 + 16 * i) (slot_at slots c k)) =
-    point_there (min 64 b.count) i (drop 10 (slot_at slots c k)) d (omega (arith, few, point.there))
-    ∙ ap point_at (drop-drop (16 * i) 10 (slot_at slots c k)) in
-    point.broken (subst InRange there (sound.in_range i d below))
+    let (long, there) = batch_point slots c k i d point.there sound.counted.few in
+    point.broken (subst InRange there (sound.in_range i d (omega (arith, long, point.there))))
 
 pub lane_undamaged : (slots : ℕ) (c : List ℕ) (taken a : ℕ) (byte : Option ℕ) → IsLane slots c taken slots
     → IsLaneDamage slots c taken a byte → ⊥
@@ -146,14 +162,12 @@ module _ (def : TagDef) (c : List ℕ) (rs : List Rec) (sum : Summary) (s : Stat
   one_recs : (x : Summary) (xs : List Rec) → x ≡ sum → HasRecords c (log_place c) x.records xs → xs ≡ rs
   one_recs x xs same has = records_are_one c (log_place c) x.records sum.records xs rs (ap (λ y. y.records) same) has stored.records
 
-  both_ways : (b : Bool) → b ≡ false → b ≡ true → ⊥
-  both_ways b fails holds = cc (fails, holds)
-
   not_damaged : (a : ℕ) (byte : Option ℕ) → IsTagDamage def c a byte → ⊥
   not_damaged a byte (EndsShort begun ends) = omega (arith, ends.short, stored.tag.header.size, length-take 128 c)
-  not_damaged a byte (BadHeader d) = grind (arith, both_ways)
+  not_damaged a byte (BadHeader d) =
+      none_broken (header_of c) (header_fields (header_of c)) a byte d.broken stored.tag.header.fields
   not_damaged a byte (BadLayout d) = omega (arith, d.ends.short, stored.long)
-  not_damaged a byte (BadSummary i o d) = grind (arith, spelled_not_broken)
+  not_damaged a byte (BadSummary i o d) = summary_undamaged c i sum o byte d.counts stored.summary d.broken
   not_damaged a byte (BadLog x d) =
       let same = one_sum x d.summary in
       log_undamaged c (log_place c) sum.records a byte rs stored.long stored.records

@@ -27,8 +27,7 @@ pub record StandsThere (c : List ℕ) (a : ℕ) (byte : Option ℕ) : Type 0 whe
 pub record IsHeaderDamage (c : List ℕ) (a : ℕ) (byte : Option ℕ) : Type 0 where
   pub opened : IsOpen 0 c
   pub long : 128 ≤ length c
-  pub broken : IsHeaderBroken (header_of c) a
-  pub there : StandsThere c a byte
+  pub broken : IsHeaderBroken (header_of c) a byte
 
 -- the layout is not as long as it says
 pub record IsLayoutDamage (def : TagDef) (c : List ℕ) (a : ℕ) (byte : Option ℕ) : Type 0 where
@@ -40,9 +39,8 @@ pub record IsSummaryDamage (def : TagDef) (c : List ℕ) (a : ℕ) (byte : Optio
   pub tag : IsOfTag def c
   pub long : log_place c ≤ length c
   pub counts : counting c ≡ Some i
-  pub broken : IsSlotBroken (slot_bytes c i) o
+  pub broken : IsSlotBroken (slot_bytes c i) o byte
   pub place : a ≡ summary_place i + o
-  pub there : StandsThere c a byte
 
 -- the log is broken, or ends before all records that the summary counts
 pub record IsLogDamage (def : TagDef) (c : List ℕ) (a : ℕ) (byte : Option ℕ) (s : Summary) : Type 0 where

@@ -1,10 +1,13 @@
 // The header of a tag's device: its first 128 bytes.
-ghost use Rattle.std.specs.Prelude.{◌≡◌, ◌+◌, ◌-◌, ◌<◌, ◌≤◌, ◌&&◌, ◌∷◌, ◌++◌, nat_le, IfOk, IfErr, length, replicate, slice_index};
+ghost use Rattle.std.specs.Prelude.{◌≡◌, ◌+◌, ◌-◌, ◌<◌, ◌≤◌, ◌&&◌, ◌∷◌, ◌++◌, nat_le, IfOk, IsErrOf, ℕ, Option, All, OnOk, length, replicate};
 ghost use Rattle.arrayvec.specs.ArrayVec.{array_vec_len};
 ghost use Rattle.trend_num.specs.{is_name_byte, IsName, TuningInRange};
-ghost use Rattle.device_layout.specs.Headers.{most_slots, header_number_at, name_in, tuning_in, slots_in, def_in, is_field_ok, IsHeader, IsHeaderBroken, tuning_image, header_image};
+ghost use Rattle.archive_file.specs.{Keeps};
+ghost use Rattle.archive_file.specs.declared.failure.ScanNo.TheVariants.{Damaged, DeviceFault};
+ghost use Rattle.device_layout.specs.Headers.{most_slots, name_in, tuning_in, slots_in, def_in, front_fields, is_name_at, name_fields, number_fields, zero_fields, byte_field, number_field, header_fields, IsHeader, IsHeaderBroken};
+ghost use Rattle.device_layout.specs.Headers.{tuning_image, header_image};
 
-use archive_file::{put, take_number};
+use archive_file::{Field, ScanNo, check, long_at, put, short_at};
 use arrayvec::ArrayVec;
 use trend_num::{MAX_DEV, MAX_T, Name, TagDef, Tuning, name_from};
 
@@ -32,58 +35,105 @@ pub struct Header {
     pub slots: u32,
 }
 
-/// Reads the 128 bytes at a device's beginning, except for the gate. If a field breaks the layout, the error is the
-/// place of the first byte of the first such field.
-pub fn read_header(h: &[u8; HEADER_LEN]) -> Result<Header, usize>
+/// Reads the 128 bytes at a device's beginning, except for the gate. If a field breaks the layout, the error has the
+/// place of the first such field and the byte there.
+pub fn read_header(h: &[u8; HEADER_LEN]) -> Result<Header, ScanNo>
     ensures header { IfOk result (λ x. IsHeader h.now × (x.def ≡ def_in h.now) × (x.slots ≡ slots_in h.now)) }
     ensures tuned { IfOk result (λ x. TuningInRange x.def.tuning) }
     ensures slots { IfOk result (λ x. (1 ≤ x.slots) × (x.slots ≤ 65536)) }
-    ensures broken { IfErr result (IsHeaderBroken h.now) }
-    ensures within { IfErr result (λ at. at < 128) }
+    ensures broken { (a : ℕ) (byte : Option ℕ) → IsErrOf result (Damaged a byte) → IsHeaderBroken h.now a byte }
+    ensures no_fault { IsErrOf result DeviceFault → ⊥ }
 {
-    for at in 1..HEADER_LEN {
-        if !is_field_ok(h, at) {
-            return Err(at);
-        }
-    }
+    check_fields(h)?;
     Ok(header_in(h))
 }
 
-// Returns whether the field that begins at a place keeps the layout. No field begins within a number.
-fn is_field_ok(h: &[u8; HEADER_LEN], at: usize) -> bool
-    requires low { 1 ≤ at }
-    requires within { at < 128 }
-    ensures { result ≡ is_field_ok h.now at }
+// Refuses the first field that breaks the layout.
+fn check_fields(h: &[u8; HEADER_LEN]) -> Result<(), ScanNo>
+    ensures kept { OnOk result (All (Keeps h.now) (header_fields h.now)) }
+    ensures broken { (a : ℕ) (byte : Option ℕ) → IsErrOf result (Damaged a byte) → IsHeaderBroken h.now a byte }
+    ensures no_fault { IsErrOf result DeviceFault → ⊥ }
 {
-    if at <= 4 {
-        return h[at] == LETTERS[at - 1];
-    }
-    if at == 5 {
-        return 1 <= h[5] && h[5] <= NAME_MOST;
-    }
-    if at <= 5 + usize::from(h[5]) {
-        return is_name_byte(h[at]);
-    }
-    if at <= 69 {
-        return h[at] == 0;
-    }
-    is_rest_ok(h, at)
+    check(h, &front_fields(h))?;
+    check(h, &name_fields(h))?;
+    check(h, &rest_fields(h))
 }
 
-// The same after the name and its zeros.
-fn is_rest_ok(h: &[u8; HEADER_LEN], at: usize) -> bool
-    requires behind { 5 + slice_index h.now 5 < at }
-    requires low { 70 ≤ at }
-    requires within { at < 128 }
-    ensures { result ≡ is_field_ok h.now at }
+// The fields of the letters, and of the length of the name.
+fn front_fields(h: &[u8; HEADER_LEN]) -> [Field; 5]
+    ensures { result ≡ front_fields h.now }
 {
-    match at {
-        70 | 86 => number_at(h, at) <= MAX_DEV,
-        78 | 94 | 102 => number_at(h, at) <= MAX_T,
-        110 => are_slots(slots_in(h)),
-        114 => h[at] <= 1,
-        115.. => h[at] == 0,
-        _ => true,
+    [
+        byte_field(1, h[1] == LETTERS[0]),
+        byte_field(2, h[2] == LETTERS[1]),
+        byte_field(3, h[3] == LETTERS[2]),
+        byte_field(4, h[4] == LETTERS[3]),
+        byte_field(5, 1 <= h[5] && h[5] <= NAME_MOST),
+    ]
+}
+
+// The fields of the name's bytes, and of the zeros after them.
+fn name_fields(h: &[u8; HEADER_LEN]) -> [Field; 64]
+    ensures { result ≡ name_fields h.now }
+{
+    let mut fields = [byte_field(6, true); 64];
+    for i in 0..64 {
+        fields[i] = byte_field(6 + i, is_name_at(h, 6 + i));
+    }
+    fields
+}
+
+// The fields of the tuning, the number of lane slots, the step flag, and the zeros.
+fn rest_fields(h: &[u8; HEADER_LEN]) -> [Field; 20]
+    ensures { result ≡ number_fields h.now ++ zero_fields h.now }
+{
+    [
+        number_field(h, 70, MAX_DEV),
+        number_field(h, 78, MAX_T),
+        number_field(h, 86, MAX_DEV),
+        number_field(h, 94, MAX_T),
+        number_field(h, 102, MAX_T),
+        Field::new(110, 4, are_slots(short_at(h, 110))),
+        byte_field(114, h[114] <= 1),
+        byte_field(115, h[115] == 0),
+        byte_field(116, h[116] == 0),
+        byte_field(117, h[117] == 0),
+        byte_field(118, h[118] == 0),
+        byte_field(119, h[119] == 0),
+        byte_field(120, h[120] == 0),
+        byte_field(121, h[121] == 0),
+        byte_field(122, h[122] == 0),
+        byte_field(123, h[123] == 0),
+        byte_field(124, h[124] == 0),
+        byte_field(125, h[125] == 0),
+        byte_field(126, h[126] == 0),
+        byte_field(127, h[127] == 0),
+    ]
+}
+
+// The field of one byte at a place.
+fn byte_field(at: usize, is_kept: bool) -> Field
+    ensures { result ≡ byte_field at is_kept }
+{
+    Field::new(at, 1, is_kept)
+}
+
+// The field of the 8 bytes at a place, whose number is at most this.
+fn number_field(h: &[u8; HEADER_LEN], at: usize, most: u64) -> Field
+    ensures { result ≡ number_field h.now at most }
+{
+    Field::new(at, 8, long_at(h, at) <= most)
+}
+
+// Returns whether the byte at a place may be of the name, or is zero after the name.
+fn is_name_at(h: &[u8; HEADER_LEN], at: usize) -> bool
+    requires { at < 128 }
+    ensures { result ≡ is_name_at h.now at }
+{
+    if at < 6 + usize::from(h[5]) {
+        is_name_byte(h[at])
+    } else {
+        h[at] == 0
     }
 }
 
@@ -113,7 +163,7 @@ fn header_in(h: &[u8; HEADER_LEN]) -> Header
             tuning: tuning_in(h),
             step: h[114] == 1,
         },
-        slots: slots_in(h),
+        slots: short_at(h, 110),
     }
 }
 
@@ -133,31 +183,12 @@ fn tuning_in(h: &[u8; HEADER_LEN]) -> Tuning
     ensures { result ≡ tuning_in h.now }
 {
     Tuning {
-        exc_dev: number_at(h, 70),
-        exc_max: number_at(h, 78),
-        comp_dev: number_at(h, 86),
-        comp_min: number_at(h, 94),
-        comp_max: number_at(h, 102),
+        exc_dev: long_at(h, 70),
+        exc_max: long_at(h, 78),
+        comp_dev: long_at(h, 86),
+        comp_min: long_at(h, 94),
+        comp_max: long_at(h, 102),
     }
-}
-
-// The number of 8 bytes at a place.
-fn number_at(h: &[u8; HEADER_LEN], at: usize) -> u64
-    requires { at + 8 ≤ 128 }
-    ensures { result ≡ header_number_at h.now at }
-{
-    let (number, _) = take_number(&h[at..]);
-    number
-}
-
-// How many lane slots there are.
-fn slots_in(h: &[u8; HEADER_LEN]) -> u32
-    ensures { result ≡ slots_in h.now }
-{
-    let Some((slots, _)) = h[110..].split_first_chunk::<4>() else {
-        unreachable!();
-    };
-    u32::from_be_bytes(*slots)
 }
 
 /// Returns the bytes of the header after the gate.

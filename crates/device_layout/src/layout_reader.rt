@@ -1,5 +1,5 @@
 // Reads a tag's device: its header, the summary that counts, and the records.
-ghost use Rattle.std.specs.Prelude.{◌≡◌, ◌+◌, ◌*◌, ◌<◌, ◌≤◌, ℕ, [], None, Some, Err, IfOk, IfErr, OnOk, OnErr};
+ghost use Rattle.std.specs.Prelude.{◌≡◌, ◌+◌, ◌*◌, ◌<◌, ◌≤◌, ℕ, [], None, Some, Err, IfOk, IfErr, IfSome, OnOk, OnErr};
 ghost use Rattle.trend_num.specs.{Tuning, TagDef, TuningInRange};
 ghost use Rattle.disk_model.specs.{CountsFault, HasCause, HasLength, Reaches, IsBegun, Shows};
 ghost use Rattle.archive_file.specs.{HasRecords, summary_image, IsSummary};
@@ -88,7 +88,7 @@ fn header_of<D: Disk>(dev: &mut D, len: u64) -> Result<Header, OpenNo>
     let bytes = read_part::<HEADER_LEN, D>(dev, 0)?;
     match read_header(&bytes) {
         Ok(header) => Ok(header),
-        Err(at) => Err(damaged(at as u64, bytes[at])),
+        Err(why) => Err(refusal_of(why)),
     }
 }
 
@@ -169,7 +169,12 @@ fn counted<D: Disk>(dev: &mut D, slot: Slot) -> Result<Summary, OpenNo>
     let bytes = read_part::<SUMMARY_LEN, D>(dev, slot.place())?;
     match read_summary(&bytes) {
         Ok(summary) => Ok(summary),
-        Err(at) => Err(damaged(slot.place() + at as u64, bytes[at])),
+        Err(ScanNo::Damaged { at, byte }) => Err(OpenNo::Damaged {
+            at: slot.place() + at,
+            byte,
+        }),
+        Err(ScanNo::DeviceFault) => Err(OpenNo::DeviceFault),
+        Err(ScanNo::WantOfMemory) => Err(OpenNo::WantOfMemory),
     }
 }
 
@@ -207,7 +212,8 @@ pub fn damaged(at: u64, byte: u8) -> OpenNo
 
 // The tuning in force, of a tag that was made with the given one.
 fn in_force(made: Tuning, tuning: Option<Tuning>) -> Tuning
-    ensures { result ≡ recovered_tuning made tuning }
+    ensures value { result ≡ recovered_tuning made tuning }
+    ensures tuned { TuningInRange made → IfSome tuning TuningInRange → TuningInRange result }
 {
     match tuning {
         None => made,

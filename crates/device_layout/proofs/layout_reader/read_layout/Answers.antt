@@ -1,7 +1,7 @@
 use Rattle.std.proofs.Common.{arith}
 use Rattle.std.proofs.lemmas.Result.{err_from_is_err_and}
 use Rattle.disk_model.specs.{IsBegun}
-use Rattle.device_layout.proofs.{Shows.shows_before, Shows.shows_after, Reading.cause_before, Reading.of_tag, Causes.other_cause}
+use Rattle.device_layout.proofs.{Shows.shows_before, Shows.shows_after, Reading.cause_before, Reading.of_tag, Reading.is_other}
 use Rattle.device_layout.proofs.layout_reader.read_layout.Goals as goal
 
 pub returns-in_err-header-clause-cause : goal.returns-in_err-header-clause-cause
@@ -16,7 +16,7 @@ returns-in_err-check_tag-clause-cause g c =
     let h = c.in_ok-header.header in
     let p = err_from_is_err_and c.from_residual-in_err-check_tag.result c.from_residual-in_err-check_tag.ensures.1 in
     rw (p.1, p.2)
-    (grind (arith, other_cause, shows_before))
+    (grind (arith, is_other, shows_before))
 
 pub returns-in_err-check_tag-clause-counts : goal.returns-in_err-check_tag-clause-counts
 returns-in_err-check_tag-clause-counts g c = grind (arith, err_from_is_err_and)
