@@ -10,7 +10,7 @@ use std::os::unix::fs::{MetadataExt, symlink};
 use std::process::Abort;
 use std::rt::Files;
 use std::test::Fail;
-use told_store::{DirStore, Wanted};
+use told_store::DirStore;
 
 // How long a file is, which of its bytes are not zero, and whether the store hands it out.
 //
@@ -108,6 +108,18 @@ where
     }
 }
 
+// Returns a store that reads the devices with these names, between which are blanks.
+fn reading<'r, R: Files<File = File> + AllocGlobal>(
+    rt: &'r R,
+    names: &str,
+) -> Result<DirStore<&'r R>, Fail> {
+    let mut list = Vec::new(rt.alloc());
+    for name in names.split(' ') {
+        list.push(String::from_str(rt.alloc(), name)?)?;
+    }
+    Ok(DirStore::read(rt, &list))
+}
+
 // Checks that the file `a.tag` has these bytes.
 fn file_holds<R: Files<File = File> + AllocGlobal + Abort>(rt: &R, bytes: &[u8]) -> io::Result<()> {
     assert!(rt; fs::read(rt, "historian.d/a.tag")?.as_slice() == bytes);
@@ -122,7 +134,7 @@ fn answer<R: Files<File = File> + AllocGlobal + Abort>(
 ) -> Result<&'static str, Fail> {
     begin(rt)?;
     fs::write(rt, "historian.d/a.tag", bytes)?;
-    let mut store = DirStore::read(rt, Wanted::Archives);
+    let mut store = reading(rt, "a.tag")?;
     let told = told_of(rt, rt.alloc(), &mut store, bytes)?;
     file_holds(rt, bytes)?;
     end(rt)?;
@@ -241,13 +253,13 @@ where
 fn files_of_a_folder_are_devices(rt: HostRuntime) -> Result<(), Fail> {
     begin(&rt)?;
     end(&rt)?;
-    let mut store = DirStore::read(&rt, Wanted::Archives);
+    let mut store = reading(&rt, "a.tag")?;
     make(&rt, &mut store)?;
     drop(store);
-    let mut store = DirStore::read(&rt, Wanted::Archives);
+    let mut store = reading(&rt, "a.tag")?;
     add(&rt, rt.alloc(), &mut store)?;
     drop(store);
-    let mut store = DirStore::read(&rt, Wanted::Archives);
+    let mut store = reading(&rt, "a.tag")?;
     finds(&rt, rt.alloc(), &mut store, b"\xa5b-")?;
     end(&rt)?;
     Ok(())
@@ -290,24 +302,24 @@ where
 #[test]
 fn each_call_after_a_failed_one_is_a_fault(rt: HostRuntime) -> Result<(), Fail> {
     begin(&rt)?;
-    let mut store = DirStore::read(&rt, Wanted::Archives);
+    let mut store = reading(&rt, "a.tag")?;
     break_one(&rt, &mut store)?;
     drop(store);
-    let mut store = DirStore::read(&rt, Wanted::Archives);
+    let mut store = reading(&rt, "a.tag")?;
     let mut dev = handed(&mut store, "a.tag")?;
     holds(&rt, rt.alloc(), &mut dev, b"\xa5bc")?;
     end(&rt)?;
     Ok(())
 }
 
-// Whether a store that reads the wanted devices hands out that of a tag, that of a group, and the log.
-fn handed_out<R: Files<File = File> + AllocGlobal>(rt: &R, wanted: Wanted) -> [bool; 3] {
-    let mut store = DirStore::read(rt, wanted);
-    [
+// Whether a store that reads the devices with these names hands out that of a tag, that of a group, and the log.
+fn handed_out<R: Files<File = File> + AllocGlobal>(rt: &R, names: &str) -> Result<[bool; 3], Fail> {
+    let mut store = reading(rt, names)?;
+    Ok([
         store.device("a.tag").is_ok(),
         store.device("b.grp").is_ok(),
         store.device("plant.log").is_ok(),
-    ]
+    ])
 }
 
 // Writes a file of three bytes.
@@ -323,8 +335,8 @@ fn a_device_that_was_not_read_is_refused(rt: HostRuntime) -> Result<(), Fail> {
     write_three(&rt, "a.tag")?;
     write_three(&rt, "b.grp")?;
     write_three(&rt, "plant.log")?;
-    assert!(rt; handed_out(&rt, Wanted::Archives) == [true, true, false]);
-    assert!(rt; handed_out(&rt, Wanted::Log) == [false, false, true]);
+    assert!(rt; handed_out(&rt, "a.tag b.grp")? == [true, true, false]);
+    assert!(rt; handed_out(&rt, "plant.log")? == [false, false, true]);
     end(&rt)?;
     Ok(())
 }
@@ -336,7 +348,7 @@ fn a_device_with_a_mark_is_written_anew(rt: HostRuntime) -> Result<(), Fail> {
     fs::write(&rt, "historian.d/a.tag", b"\xa5bc")?;
     fs::write(&rt, "historian.d/a.tag.new", b"\xa5bcdef")?;
     fs::write(&rt, "historian.d/a.tag.fault", b"")?;
-    let mut store = DirStore::read(&rt, Wanted::Archives);
+    let mut store = reading(&rt, "a.tag")?;
     let mut dev = handed(&mut store, "a.tag")?;
     holds(&rt, rt.alloc(), &mut dev, b"\xa5bc")?;
     assert!(rt; !fs::exists(&rt, "historian.d/a.tag.new")?);
@@ -349,18 +361,18 @@ fn a_device_with_a_mark_is_written_anew(rt: HostRuntime) -> Result<(), Fail> {
 fn a_second_store_is_refused_while_the_first_one_lives(rt: HostRuntime) -> Result<(), Fail> {
     begin(&rt)?;
     end(&rt)?;
-    let mut early = DirStore::read(&rt, Wanted::Archives);
+    let mut early = reading(&rt, "a.tag")?;
     let mut first = DirStore::new(&rt);
     assert!(rt; first.device("a.tag").is_ok());
     assert!(rt; early.device("a.tag").is_err());
-    let mut second = DirStore::read(&rt, Wanted::Archives);
+    let mut second = reading(&rt, "a.tag")?;
     assert!(rt; second.device("a.tag").is_err());
     assert!(rt; second.device("b.tag").is_err());
     assert!(rt; !fs::exists(&rt, "historian.d/b.tag")?);
     assert!(rt; first.device("b.tag").is_ok());
     drop(first);
     assert!(rt; second.device("b.tag").is_err());
-    let mut third = DirStore::read(&rt, Wanted::Archives);
+    let mut third = reading(&rt, "a.tag b.tag")?;
     assert!(rt; third.device("b.tag").is_ok());
     end(&rt)?;
     Ok(())
@@ -384,7 +396,7 @@ fn what_is_no_plain_file_of_one_name_is_refused(rt: HostRuntime) -> Result<(), F
     symlink(&rt, "kept", "historian.d/link.tag")?;
     symlink(&rt, "missing", "historian.d/nothing.grp")?;
     fs::hard_link(&rt, "historian.d/kept", "historian.d/second.tag")?;
-    let mut store = DirStore::read(&rt, Wanted::Archives);
+    let mut store = reading(&rt, "folder.tag link.tag nothing.grp second.tag")?;
     are_refused(&rt, &mut store);
     drop(store);
     let mut store = DirStore::new(&rt);
@@ -404,14 +416,14 @@ fn a_file_that_is_not_as_it_was_told_is_refused(rt: HostRuntime) -> Result<(), F
     let mut store = DirStore::new(&rt);
     assert!(rt; store.device("a.tag").is_err());
     drop(store);
-    let mut store = DirStore::read(&rt, Wanted::Archives);
+    let mut store = reading(&rt, "a.tag")?;
     fs::write(&rt, "historian.d/a.tag", b"\xa5bcd")?;
     fs::write(&rt, "historian.d/b.tag", b"\xa5")?;
     assert!(rt; store.device("a.tag").is_err());
     assert!(rt; store.device("b.tag").is_err());
     file_holds(&rt, b"\xa5bcd")?;
     drop(store);
-    let mut store = DirStore::read(&rt, Wanted::Archives);
+    let mut store = reading(&rt, "a.tag")?;
     fs::write(&rt, "historian.d/other", b"\xa5bce")?;
     fs::rename(&rt, "historian.d/other", "historian.d/a.tag")?;
     assert!(rt; store.device("a.tag").is_err());

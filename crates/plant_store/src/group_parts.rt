@@ -18,14 +18,14 @@ pub fn group_device_names(alloc: Global, groups: &[GroupDef]) -> Result<Vec<Stri
 {
     let mut names = Vec::new(alloc);
     for group in groups {
-        let name = device_name(alloc, &group.name)?;
+        let name = group_device_name(alloc, &group.name)?;
         names.push(name)?;
     }
     Ok(names)
 }
 
 // Returns the name of a group's device.
-fn device_name(alloc: Global, name: &Name) -> Result<String, WantOfMemory>
+pub(crate) fn group_device_name(alloc: Global, name: &Name) -> Result<String, WantOfMemory>
     ensures text { IfOk result (λ text. string_bytes text ≡ device_name name.now) }
     ensures name { OnOk result (IsName name.now) }
 {

@@ -7,7 +7,7 @@
 //! tag's name, and recovers what the device holds. It gives the device back at once, even if the tag is refused.
 //!
 //! **All at once.** A session holds the devices of all tags and groups together. [`shelf_for`] makes what giving them
-//! back needs: the names of the devices, and room for the histories. [`open_plant`] opens the tags as cells
+//! back needs: the names of the devices ([`device_names`] has them too), and room for the histories. [`open_plant`] opens the tags as cells
 //! ([`open_cells`]), and then the groups as books over the records of those cells ([`open_books`]). While a device is
 //! out, the store's model says nothing about it. [`close_plant`] gives every device back, and returns what happened to
 //! each tag and group ([`close_cells`], [`close_books`]). It takes no memory, so it cannot be refused.
@@ -56,5 +56,5 @@ pub use cell_opening::open_cells;
 pub use closing::close_plant;
 pub use group_parts::group_device_names;
 pub use opening::{OpenPlant, open_plant};
-pub use shelf::{Shelf, shelf_for};
+pub use shelf::{Shelf, device_names, shelf_for};
 pub use single_book::{close_book, open_book};

@@ -1,11 +1,12 @@
 // What is needed to give a plant's devices back.
-ghost use Rattle.std.specs.Prelude.{◌≡◌, ◌≤◌, [], IfOk, vec_capacity};
+ghost use Rattle.std.specs.Prelude.{◌≡◌, ◌≤◌, ◌++◌, [], IfOk, map, vec_capacity};
 ghost use Rattle.plant_store.specs.Tags.{AreDistinct};
-ghost use Rattle.plant_store.specs.Groups.{AreDistinct as AreDistinctGroups};
+ghost use Rattle.plant_store.specs.Groups.{AreDistinct as AreDistinctGroups, device_name};
+ghost use Rattle.plant_store.specs.CellNames.{device_names_of, texts};
 ghost use Rattle.plant_store.specs.Shelves.{IsShelfFor};
 
 use crate::cell_naming::tag_device_names;
-use crate::group_parts::group_device_names;
+use crate::group_parts::{group_device_name, group_device_names};
 use group_book::GroupHistory;
 use std::alloc::Global;
 use tag_base::Base;
@@ -38,6 +39,19 @@ pub fn shelf_for(alloc: Global, base: &Base) -> Result<Shelf, WantOfMemory>
         tags,
         groups,
     })
+}
+
+/// Returns the names of a base's devices: those of its tags, then those of its groups, each in order.
+pub fn device_names(alloc: Global, base: &Base) -> Result<Vec<String>, WantOfMemory>
+    ensures { IfOk result (λ names. texts names.items
+        ≡ device_names_of base.now.tags.items ++ map (λ g. device_name g.name) base.now.groups.items) }
+{
+    let mut names = tag_device_names(alloc, &base.tags)?;
+    for group in &base.groups {
+        let name = group_device_name(alloc, &group.name)?;
+        names.push(name)?;
+    }
+    Ok(names)
 }
 
 // Returns an empty list with room for so many items.

@@ -5,35 +5,16 @@ ghost use Rattle.disk_model.specs.{empty_trace};
 ghost use Rattle.told_store.specs.Notes.{IsFresh, told_by};
 ghost use Rattle.told_store.specs.Places.{AllFresh, is_placed, is_stopped_in, told_in};
 
-use crate::folder::{FOLDER, Folder, MOST_TRIES};
+use crate::folder::Folder;
 use crate::host::Host;
 use crate::kept::Kept;
 use crate::places::{file_of, insert, is_stopped, make_place, put_back, take};
 use crate::told_disk::DirDisk;
 use disk_model::{Failed, Store};
 use std::collections::BTreeMap;
-use std::fs::{self, File};
+use std::fs::File;
 use std::io::{self, ErrorKind};
 use std::rt::Files;
-
-/// Which devices of the folder a command opens.
-#[derive(Clone, Copy)]
-pub enum Wanted {
-    /// Those of tags and of groups.
-    Archives,
-    /// The log of the plant.
-    Log,
-}
-
-impl Wanted {
-    // Returns whether the device of a name is one of these.
-    fn has(self, name: &str) -> bool {
-        match self {
-            Wanted::Archives => name.ends_with(".tag") || name.ends_with(".grp"),
-            Wanted::Log => name == "plant.log",
-        }
-    }
-}
 
 /// The files of the folder `historian.d` in the working folder. The store makes the folder if it is missing. The name
 /// of a device is the name of its file. The store hands out each device once, and none whose file is refused. Once a
@@ -64,25 +45,21 @@ impl<R: Files<File = File> + AllocGlobal> DirStore<R> {
         }
     }
 
-    /// Locks the folder and reads each wanted device as it is now. The trace of any other device is empty, and it is
-    /// refused if its file has a byte. If another process has the folder, or the folder cannot be read, every device is
-    /// refused.
-    pub fn read(rt: R, wanted: Wanted) -> DirStore<R>
-    where
-        R: Clone + Drop,
+    /// Locks the folder and reads each of these devices that has a file, as it is now. The trace of any other device is
+    /// empty, and it is refused if its file has a byte. If another process has the folder, or the folder cannot be
+    /// locked and synced, every device is refused.
+    pub fn read(rt: R, names: &[String]) -> DirStore<R>
         ensures told { (n : List ℕ) → IsFresh (told_at result n) }
         ensures faults { folder_faults result ≡ 0 }
     {
         let mut store = DirStore::new(rt);
-        store.is_refused = store.read_all(wanted).is_err();
+        store.is_refused = store.read_all(names).is_err();
         store
     }
 
-    // Locks the folder if there is one, reads its wanted devices, and syncs the names in it: a run that was killed may
-    // have left that undone. If a signal interrupts the read of the names, it reads them again; no device is read twice.
-    fn read_all(&mut self, wanted: Wanted) -> io::Result<()>
-    where
-        R: Clone + Drop,
+    // Locks the folder if there is one, reads these devices in it, and syncs the names in it: a run that was killed may
+    // have left that undone.
+    fn read_all(&mut self, names: &[String]) -> io::Result<()>
         requires { AllFresh self.old.places }
         ensures told { AllFresh self.new.places }
         ensures faults { self.new.faults ≡ self.old.faults }
@@ -90,14 +67,8 @@ impl<R: Files<File = File> + AllocGlobal> DirStore<R> {
         if !self.folder.lock_if_there()? {
             return Ok(());
         }
-        for _ in 0..MOST_TRIES {
-            match read_devices(&self.folder, wanted, &mut self.places) {
-                Err(error) if error.kind() == ErrorKind::Interrupted => {}
-                Err(error) => return Err(error),
-                Ok(()) => return self.folder.sync_names(),
-            }
-        }
-        Err(ErrorKind::Interrupted.into())
+        read_devices(&self.folder, names, &mut self.places)?;
+        self.folder.sync_names()
     }
 
     // Returns the device of a name, over its file.
@@ -129,30 +100,23 @@ impl<R: Files<File = File> + AllocGlobal> DirStore<R> {
     }
 }
 
-// Reads the wanted devices of the folder.
-fn read_devices<R: Files<File = File> + AllocGlobal + Clone + Drop>(
+// Reads the devices with these names.
+fn read_devices<R: Files<File = File> + AllocGlobal>(
     folder: &Folder<R>,
-    wanted: Wanted,
+    names: &[String],
     places: &mut BTreeMap<String, Kept>,
 ) -> io::Result<()>
     requires { AllFresh places.old }
     ensures { AllFresh places.new }
 {
-    for entry in fs::read_dir(&folder.rt, FOLDER)? {
-        match entry {
-            Ok(entry) if wanted.has(entry.file_name()) => {
-                keep(folder, places, entry.file_name())?;
-            }
-            Ok(_) => {}
-            // No device has such a name.
-            Err(error) if error.kind() == ErrorKind::InvalidFilename => {}
-            Err(error) => return Err(error),
-        }
+    for name in names {
+        keep(folder, places, name)?;
     }
     Ok(())
 }
 
-// Reads the file of a device, unless that was done before, and puts what was read at the device's name.
+// Reads the file of a device, if it has one and unless that was done before, and puts what was read at the device's
+// name.
 fn keep<R: Files<File = File> + AllocGlobal>(
     folder: &Folder<R>,
     places: &mut BTreeMap<String, Kept>,
@@ -165,7 +129,10 @@ fn keep<R: Files<File = File> + AllocGlobal>(
     if places.contains_key(name) {
         return Ok(());
     }
-    let kept = Kept::of_file(name, folder.read(name));
+    let kept = match folder.read(name) {
+        Err(error) if error.kind() == ErrorKind::NotFound => return Ok(()),
+        answer => Kept::of_file(name, answer),
+    };
     insert(folder.rt.alloc(), places, name, kept)?;
     Ok(())
 }

@@ -110,6 +110,7 @@ impl<R: Files<File = File> + AllocGlobal> Folder<R> {
 
     /// Opens the file of a device that was read, or makes the file of one that had none. It fails if it is no longer the
     /// file that was read, or no longer of that length, or if a file is there that was not read.
+    /// The name of a file without bytes is synced.
     pub(crate) fn open(&mut self, name: &str, read: Option<FileId>) -> io::Result<File> {
         let file = match read {
             Some(id) => self.reopen(name, id)?,

@@ -1,9 +1,10 @@
 //! The devices of a plant as files. Each device records what was read of its file and the calls on it since.
 //!
-//! [`DirStore::read`] locks the folder `historian.d`. It syncs each wanted device once and reads it whole, and then syncs
-//! the names in the folder. From then on the store reads a device from memory. Each write, cut or sync is a call on the
-//! device's file, and is noted with its answer. So the store relies on each answer of the disk only once, and the noted
-//! calls need no premise on the disk's answers.
+//! [`DirStore::read`] locks the folder `historian.d`. It syncs each device that it is given the name of and reads it
+//! whole, and then syncs the names in the folder. From then on the store reads a device from memory. Each write, cut or
+//! sync is a call on the device's file, and is noted with its answer; only a sync of a file that nothing has changed
+//! since its last sync makes no call. So the store relies on each answer of the disk only once, and the noted calls need
+//! no premise on the disk's answers.
 //!
 //! **Proved**: after [`DirStore::read`] the trace of each device is the bytes that were read of it, with no call since
 //! (`IsFresh`). A name without a device has an empty trace. A [`DirDisk`] is a [`disk_model::Disk`] and a [`DirStore`]
@@ -14,7 +15,7 @@
 //!
 //! **Only trusted, and to be read**, because no clause knows what the system does:
 //!
-//! - `host.rt`: each method makes the one call that it notes.
+//! - `host.rt`: each method makes the one call that it notes, but a sync that has nothing to write makes none.
 //! - `folder.rt`: it locks the folder, and reads and opens the file of a device's name. It refuses a link, a file with
 //!   two names, a file of more than 1 GB, and a file that is not the one that was read, or not of that length.
 //! - `dir_store.rt`: it gives a device the file of its name. That a device comes back under its name is proved above.
@@ -52,7 +53,7 @@ mod record;
 mod told_disk;
 
 pub use calls::Calls;
-pub use dir_store::{DirStore, Wanted};
+pub use dir_store::DirStore;
 pub use host::Host;
 pub use law::a_fresh_device_is_what_was_read;
 pub use told_disk::DirDisk;
