@@ -1,14 +1,13 @@
 -- What the token that bytes begin with can be, and how many of them its spelling takes.
-use Rattle.std.proofs.Common.{◌≡◌, ℕ, zero, suc, ◌+◌, ◌-◌, ◌*◌, ◌^◌, ◌<◌, ◌≤◌, min, Bool, true, false, cond, List, [], ◌∷◌, ◌++◌, length, take, drop, map, get_or, nat_eq, Option, None, Some, refl, sym, ap}
-use Rattle.std.proofs.Common.{subst, arith, length-append, length-take, length-drop, lit<}
+use Rattle.std.proofs.Common.{◌≡◌, ℕ, zero, suc, ◌+◌, ◌-◌, ◌*◌, ◌^◌, ◌<◌, ◌≤◌, min, Bool, true, false, cond, List, [], ◌∷◌, ◌++◌, length, take, drop, map, get_or, nat_eq, Option, None, Some, refl, sym, ap, subst, arith, length-append}
+use Rattle.std.proofs.Common.{length-take, length-drop, lit<}
 use Rattle.std.proofs.lemmas.Bool.Decides.{nat_tests}
 use Rattle.std.proofs.lemmas.Fmt.{decimal_by_steps, length-decimal-le}
 use Rattle.std.proofs.lemmas.List.Quantifiers.{position-Some}
 use Rattle.std.proofs.Math.Nat.{pow-suc}
 use Rattle.trend_num.specs.{Measure, digits_value}
 use Rattle.trend_num.specs.declared.measure.Measure.TheVariants.{Area}
-use Rattle.calc_parser.specs.{SyntaxKind, Token, spelling, spelled, measure_word, Piece, is_name, ill, measured_or, numeral_of, measure_word_of, other_word, quoted_of, less_of, greater_of, sign_of}
-use Rattle.calc_parser.specs.{or_ill, token_at, lexemes}
+use Rattle.calc_parser.specs.{SyntaxKind, Token, spelling, spelled, measure_word, Piece, is_name, ill, measured_or, numeral_of, measure_word_of, other_word, quoted_of, less_of, greater_of, sign_of, or_ill, token_at, lexemes}
 use Rattle.calc_parser.specs.declared.refusal.SyntaxKind.TheVariants as kind
 use Rattle.calc_parser.specs.declared.token.Token.TheVariants.{Quoted}
 use Rattle.std.proofs.lemmas.List.Sums.{fold-append, prefix_len-le-length}

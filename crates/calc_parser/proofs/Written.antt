@@ -1,8 +1,8 @@
 -- Which tokens and trees can be written: those that a text has.
 use Rattle.std.proofs.Common.{arith, ◌≡◌, ℕ, ◌≤◌, Bool, true, false, cond, nat_lt, pos, List, [], ◌∷◌, ◌++◌}
 use Rattle.trend_num.specs.declared.measure.Measure.TheVariants.{Area}
-use Rattle.calc_parser.specs.{Op, Token, binds, is_call, op_token, fit, joined, canonical, Level, Reading, plain, compared, one_term, more_terms, one_factor, more_factors, negated, numeral, grouped, measured, calculated, absolute}
-use Rattle.calc_parser.specs.{picked, chosen, words, tree, is_name, largest_number}
+use Rattle.calc_parser.specs.{Op, Token, binds, is_call, op_token, fit, joined, canonical, Level, Reading, plain, compared, one_term, more_terms, one_factor, more_factors, negated, numeral, grouped, measured, calculated, absolute, picked}
+use Rattle.calc_parser.specs.{chosen, words, tree, is_name, largest_number}
 use Rattle.calc_parser.specs.declared.tree.Op.TheVariants.{Add, Sub, Mul, Div, Rem, Min, Max}
 use Rattle.calc_parser.specs.declared.token.Token.TheVariants.{Number, Quoted, Measuring, Close, Comma, Ill, End}
 use Rattle.calc_parser.specs.Tree.{Tree, num, window, calc, neg, abs, two, compare, choose}

@@ -7,8 +7,8 @@ use Rattle.disk_model.specs.{Rose, Sees, IsGuarded, IsOpen, IsShut, open_byte, F
 use Rattle.disk_model.proofs.Bytes.{length-written}
 use Rattle.disk_model.proofs.Images.{present}
 use Rattle.disk_model.proofs.Moments.{during_now, only_since, parted}
-use Rattle.commit_log.specs.{LogRow, LogTurn, AreBlockRows, log_block_image, log_block_size, most_in_block, ByBlocks, StandsForRows, Stores, LogWalk, acked_at, after_turn, puts, log_begin, log_walked, IsBlockOf, IsLogLegal}
-use Rattle.commit_log.specs.{IsLogSafe, StandsForPart, HasRoomForPuts, IsKept, IsReady, Waits}
+use Rattle.commit_log.specs.{LogRow, LogTurn, AreBlockRows, log_block_image, log_block_size, most_in_block, ByBlocks, StandsForRows, Stores, LogWalk, acked_at, after_turn, puts, log_begin, log_walked, IsBlockOf, IsLogLegal, IsLogSafe}
+use Rattle.commit_log.specs.{StandsForPart, HasRoomForPuts, IsKept, IsReady, Waits}
 use Rattle.commit_log.specs.declared.history.LogTurn.TheVariants.{Commit}
 use Rattle.archive_file.proofs.PlacedBytes.{written_byte}
 use Rattle.commit_log.proofs.BlockAdded.{block_either, block_opened}

@@ -1,6 +1,6 @@
 -- A book's history after a question, and after a refresh.
-use Rattle.std.proofs.Common.{arith, ◌≡◌, ◌↔◌, ℕ, ◌<◌, ◌≤◌, All, Bool, true, false, List, [], ◌∷◌, ◌++◌, Contains, length, map, get_or, slice_get, Vec, Option, None, Some, IfSome, IsSome, option_and_then, nat_lt, ltb-true, ltb-false, refl, sym}
-use Rattle.std.proofs.Common.{ap, ◌∙◌, subst, if◌then◌else◌}
+use Rattle.std.proofs.Common.{arith, ◌≡◌, ◌↔◌, ℕ, ◌<◌, ◌≤◌, All, Bool, true, false, List, [], ◌∷◌, ◌++◌, Contains, length, map, get_or, slice_get, Vec, Option, None, Some, IfSome, IsSome, option_and_then, nat_lt, ltb-true, ltb-false, refl}
+use Rattle.std.proofs.Common.{sym, ap, ◌∙◌, subst, if◌then◌else◌}
 use Rattle.std.specs.Option.{option_map}
 use Rattle.std.specs.declared.alloc.Global.{Global}
 use Rattle.std.proofs.lemmas.List.Elements.{All-cons, All-nil}

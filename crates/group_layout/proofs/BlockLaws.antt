@@ -1,6 +1,5 @@
 -- A block, read in turn: its number, the versions, how many windows and rows, the rows, and the next gate.
-use Rattle.std.proofs.Common.{◌≡◌, ℕ, zero, suc, ◌+◌, ◌*◌, ◌<◌, ◌≤◌, Bool, true, All, List, [], ◌∷◌, ◌++◌, drop, length, get_or, map, Option, None, Some, refl, sym, ap, ◌∙◌, subst, arith, nat_eq, nat_le, lit<, eqb-true}
-use Rattle.std.proofs.Common.{leb-true}
+use Rattle.std.proofs.Common.{◌≡◌, ℕ, zero, suc, ◌+◌, ◌*◌, ◌<◌, ◌≤◌, Bool, true, All, List, [], ◌∷◌, ◌++◌, drop, length, get_or, map, Option, None, Some, refl, sym, ap, ◌∙◌, subst, arith, nat_eq, nat_le, lit<, eqb-true, leb-true}
 use Rattle.std.proofs.lemmas.List.{get_or-drop, map-append}
 use Rattle.archive_file.specs.{moved, number_bytes, Field, Keeps, Spells, long_at, short_at}
 use Rattle.archive_file.proofs.FieldLaws.{KeptUpTo, field_of, kept_more, kept_none}

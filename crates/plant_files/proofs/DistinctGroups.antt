@@ -12,8 +12,7 @@ use Rattle.toml.specs.Data.{Members}
 use Rattle.toml_tables.specs.{document}
 use Rattle.trend_num.specs.declared.refusal.What.TheVariants.{Calcs}
 use Rattle.trend_num.specs.{TagDef}
-use Rattle.tag_base.specs.{Base, GroupDef, TextNo, where_held, limited, where_given, Follows, CalcForm, GroupForm, GroupRead, GroupsRead, TextRead, group_place}
-use Rattle.tag_base.specs.{most_calcs, tags_after}
+use Rattle.tag_base.specs.{Base, GroupDef, TextNo, where_held, limited, where_given, Follows, CalcForm, GroupForm, GroupRead, GroupsRead, TextRead, group_place, most_calcs, tags_after}
 use Rattle.tag_base.specs.declared.refusal.TextNo.TheVariants.{Limit}
 use Rattle.tag_base.specs.Bases.{BaseForm, BaseRead, IsBaseOf, TablesRead, base_tables}
 use Rattle.plant_files.proofs.Distinct.{nobody}

@@ -1,6 +1,6 @@
 -- Lemmas on a line that is too long to have a point.
-use Rattle.std.proofs.Common.{◌≡◌, ℕ, ◌+◌, ◌-◌, ◌<◌, ℤ, pos, neg_ℤ, ◌⊎◌, inl, inr, Bool, ◌&&◌, suc, nat_le, drop, true, false, cond, List, [], ◌∷◌, ◌++◌, length, take, get_or, map, nat_eq, position, Option, Some, None, Result, Err}
-use Rattle.std.proofs.Common.{arith, refl, sym, ap, ◌∙◌, append_assoc, length-append, length-take}
+use Rattle.std.proofs.Common.{◌≡◌, ℕ, ◌+◌, ◌-◌, ◌<◌, ℤ, pos, neg_ℤ, ◌⊎◌, inl, inr, Bool, ◌&&◌, suc, nat_le, drop, true, false, cond, List, [], ◌∷◌, ◌++◌, length, take, get_or, map, nat_eq, position, Option, Some, None, Result, Err, arith}
+use Rattle.std.proofs.Common.{refl, sym, ap, ◌∙◌, append_assoc, length-append, length-take}
 use Rattle.std.proofs.lemmas.Bool.Decides.{nat_tests}
 use Rattle.std.proofs.lemmas.Bool.{eqb-true, ltb-true, ltb-false}
 use Rattle.std.proofs.lemmas.List.{take_more, take_all}

@@ -1,6 +1,6 @@
 -- Lemmas on a plain line, which a text begins with.
-use Rattle.std.proofs.Common.{◌≡◌, ◌⊎◌, inl, inr, ℕ, zero, suc, ◌+◌, ◌-◌, ◌<◌, ◌≤◌, ℤ, pos, neg_ℤ, true, false, List, [], ◌∷◌, ◌++◌, length, get_or, take, drop, nat_eq, unsigned_abs, Some, Result, Ok, All, arith, refl, sym, ap, ◌∙◌}
-use Rattle.std.proofs.Common.{subst, append_assoc, add-one, length-append, length-drop, le-leb}
+use Rattle.std.proofs.Common.{◌≡◌, ◌⊎◌, inl, inr, ℕ, zero, suc, ◌+◌, ◌-◌, ◌<◌, ◌≤◌, ℤ, pos, neg_ℤ, true, false, List, [], ◌∷◌, ◌++◌, length, get_or, take, drop, nat_eq, unsigned_abs, Some, Result, Ok, All, arith, refl, sym, ap, ◌∙◌, subst}
+use Rattle.std.proofs.Common.{append_assoc, add-one, length-append, length-drop, le-leb}
 use Rattle.std.proofs.lemmas.Bool.Decides.{nat_tests}
 use Rattle.std.proofs.lemmas.List.{take-append-drop, drop-drop, length-take-le, take_at, get_or_at, drop_more}
 use Rattle.std.proofs.lemmas.List.Elements.{All-from_get_or, All-weaker, All-append, All-cons, All-nil}

@@ -7,8 +7,7 @@ use Rattle.value_rows.specs.{Query, RawRow}
 use Rattle.value_rows.specs.declared.asked.Query.TheVariants as query
 use Rattle.plant_status.specs.{Seen}
 use Rattle.plant_status.specs.declared.mismatch.Seen.TheVariants.{Take, Ask, Row}
-use Rattle.session_audit.specs.{Item}
-use Rattle.session_audit.specs.declared.agenda.Rows.{Rows}
+use Rattle.session_audit.specs.{Item, Rows}
 use Rattle.session_audit.specs.declared.agenda.Rows.TheVariants.{Takes, Asks, RowAsks}
 use Rattle.session_audit.specs.Agendas.{ask_item, items_in, left_by, numbered, phase_item, row_item}
 

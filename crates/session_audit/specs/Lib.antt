@@ -45,6 +45,7 @@ pub use GroupTurns.{turns_for, IsWithinTurns, IsAboveTurns, IsBookAbove, IsTurns
 pub use Gains.{longer_trans}
 pub use declared.agenda.Agenda.{Agenda}
 pub use declared.agenda.Item.{Item}
+pub use declared.agenda.Rows.{Rows}
 pub use declared.book_opening.KeptGroup.{KeptGroup}
 pub use declared.cell_opening.Kept.{Kept}
 pub use declared.kind.Shown.{Shown}

@@ -6,8 +6,8 @@ use Rattle.std.proofs.lemmas.Int.{ints}
 use Rattle.std.proofs.Math.Nat.{mul-le-mul_left}
 use Rattle.trend_num.specs.{Rec, Frac, Point, Reading, line_value}
 use Rattle.trend_num.specs.declared.reading.Reading.TheVariants.{Exact, Line, Flat, Nothing}
-use Rattle.trend_model.specs.{content_at, is_late_record, kept_at, late_at, IsClosedContentOf, IsRising, points_of, IsAmong, PointsRise, RisesAfter, IsBetween, IsFracBetween, between, read_at, read_from, rounded, value_read}
-use Rattle.trend_model.specs.{lesser, greater}
+use Rattle.trend_model.specs.{content_at, is_late_record, kept_at, late_at, IsClosedContentOf, IsRising, points_of, IsAmong, PointsRise, RisesAfter, IsBetween, IsFracBetween, between, read_at, read_from, rounded, value_read, lesser}
+use Rattle.trend_model.specs.{greater}
 use Rattle.trend_model.proofs.Rounding.{add_times, not_under, rounded_next}
 
 -- ---- exact reads

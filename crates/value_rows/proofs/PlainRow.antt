@@ -1,6 +1,5 @@
 -- Lemmas on a plain row: its line is the next record of its text.
-use Rattle.std.proofs.Common.{◌≡◌, ◌⊎◌, inl, inr, ℕ, ◌<◌, ℤ, pos, neg_ℤ, Bool, ◌&&◌, true, false, cond, List, [], ◌∷◌, ◌++◌, All, length, get_or, nat_eq, nat_le, Option, Some, None, Ok, refl, sym, ap, ◌∙◌, append_assoc}
-use Rattle.std.proofs.Common.{subst, arith}
+use Rattle.std.proofs.Common.{◌≡◌, ◌⊎◌, inl, inr, ℕ, ◌<◌, ℤ, pos, neg_ℤ, Bool, ◌&&◌, true, false, cond, List, [], ◌∷◌, ◌++◌, All, length, get_or, nat_eq, nat_le, Option, Some, None, Ok, refl, sym, ap, ◌∙◌, append_assoc, subst, arith}
 use Rattle.std.proofs.lemmas.Bool.Decides.{nat_tests}
 use Rattle.std.proofs.lemmas.Bool.{eqb-true, false≢true}
 use Rattle.std.proofs.lemmas.List.{take_more, take_all}

@@ -1,6 +1,5 @@
 -- What a reader has of a text that was scanned so far, and what it then reads of the text that is cut there.
-use Rattle.std.proofs.Common.{All, ◌≡◌, inr, ℕ, ◌+◌, ◌<◌, ◌≤◌, ◌==◌, ◌||◌, true, false, cond, List, [], ◌∷◌, ◌++◌, Some, length, get_or, take, drop, refl, sym, ap, ◌∙◌, append_assoc, length-append, take-append-drop, arith}
-use Rattle.std.proofs.Common.{subst}
+use Rattle.std.proofs.Common.{All, ◌≡◌, inr, ℕ, ◌+◌, ◌<◌, ◌≤◌, ◌==◌, ◌||◌, true, false, cond, List, [], ◌∷◌, ◌++◌, Some, length, get_or, take, drop, refl, sym, ap, ◌∙◌, append_assoc, length-append, take-append-drop, arith, subst}
 use Rattle.std.proofs.lemmas.List.{append-nil, take_more}
 use Rattle.std.proofs.lemmas.List.Elements.{All-append, All-nil, All-push}
 use Rattle.csv.specs.Machine.{Read, ends_at_end, field_after, fields_after, is_end, next_record, step}
