@@ -13,13 +13,13 @@ from disk_plant import COMMANDS, HALF, NOTHING, ROWS, UNITS, Plant
 from trial import check_same
 
 NAMED = ("openat", "mkdir", "statx", "rename", "renameat", "renameat2", "unlink", "unlinkat")
-TRACED = "pread64,pwrite64,ftruncate,fsync,fdatasync,read,write,flock,getdents64," + ",".join(NAMED)
+TRACED = "pread64,pwrite64,ftruncate,fsync,fdatasync,read,write,flock," + ",".join(NAMED)
 CHANGES = ("pwrite64", "fdatasync", "ftruncate")
 FAILING = {"pwrite64": 10, "fdatasync": 10, "fsync": 1, "openat": 2, "pread64": 1}  # of a thread's first so many calls, one fails
-FOLDER = {"openat": 2, "flock": 1, "fsync": 5, "getdents64": 2, "mkdir": 1}  # the same on the folder
+FOLDER = {"openat": 2, "flock": 1, "fsync": 5, "mkdir": 1}  # the same on the folder
 DEVICE = ("openat", "statx", "fsync", "fdatasync", "pread64", "pwrite64")
 INTERRUPTED = [(kind, "historian.d/T1.tag") for kind in DEVICE] + [
-    ("mkdir", "historian.d"), ("statx", "historian.d"), ("openat", "historian.d"), ("getdents64", "historian.d"), ("fsync", "historian.d"),
+    ("mkdir", "historian.d"), ("statx", "historian.d"), ("openat", "historian.d"), ("fsync", "historian.d"),
     ("openat", "base.toml"), ("read", "base.toml"), ("read", "plan.toml"), ("read", "c1.csv"), ("read", "asks.csv"), ("write", "")]
 
 

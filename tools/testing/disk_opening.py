@@ -44,23 +44,22 @@ def calls_before_writing(plant, verb):
 
 
 def failed_sync_leaves_mark(folder, program, settings):
-    """If the sync of a device fails as it is opened, the device is refused and gets a mark, also if the names are read twice. The next
-    command writes it anew, and nothing is lost."""
+    """If the sync of a device fails as it is opened, the device is refused and gets a mark. The next command writes it anew,
+    and nothing is lost."""
     if not shutil.which("strace"):
         return "no strace here: not tried"
     count = 0
     for verb, device, audit in SESSIONS:
         old = stood(os.path.join(folder, verb), program, verb)
-        for again in ([], ["getdents64:error=EINTR:when=2"]):
-            plant = old.copy(os.path.join(folder, verb + str(count)))
-            before = node(plant, device)
-            paths = ["historian.d", "historian.d/" + device]
-            status, text, _ = injected(plant, verb, ["fsync:error=EIO:when=1"] + again, paths)
-            assert (status, text) == (7, "fault: device %s\n" % UNITS[device]), (again, status, text)
-            assert left_over(plant) == [device + MARK] and node(plant, device) == before, left_over(plant)
-            audit(plant, HALF, True)
-            assert not left_over(plant) and node(plant, device) != before, left_over(plant)
-            count += 1
+        plant = old.copy(os.path.join(folder, verb + str(count)))
+        before = node(plant, device)
+        paths = ["historian.d", "historian.d/" + device]
+        status, text, _ = injected(plant, verb, ["fsync:error=EIO:when=1"], paths)
+        assert (status, text) == (7, "fault: device %s\n" % UNITS[device]), (status, text)
+        assert left_over(plant) == [device + MARK] and node(plant, device) == before, left_over(plant)
+        audit(plant, HALF, True)
+        assert not left_over(plant) and node(plant, device) != before, left_over(plant)
+        count += 1
     return "%d devices" % count
 
 
