@@ -3,7 +3,6 @@ pub mod HeaderFields
 pub mod HeaderImages
 pub mod LayoutMoments
 pub mod NewLayout
-pub mod OldFields
 pub mod OneState
 pub mod Reading
 pub mod Shows
